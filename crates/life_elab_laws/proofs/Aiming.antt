@@ -72,7 +72,7 @@ module _ (types : Types) (texts : ℕ) (so_far : Bool) (fs : List Function) (f :
 
   -- nullptr is taken by each raw pointer
   pub null_given : IsGivenAs types texts so_far fs f NullPointer (aimed Null)
-  null_given = λ u l loc at taken. record { plain = λ so. refl; formed = ap is_raw at.typed ∙ raw u taken; served = λ so. and_from (is_served_location l) true (at.served so) refl }
+  null_given = λ u l loc at taken. record { plain = λ so. refl; given = refl; formed = ap is_raw at.typed ∙ raw u taken; served = λ so. and_from (is_served_location l) true (at.served so) refl }
     where
       clash : (u : Ty) → NullPointer ≡ Of u → ⊥
       clash u e = cc
@@ -85,6 +85,7 @@ module _ (types : Types) (texts : ℕ) (so_far : Bool) (fs : List Function) (f :
   pub literal_given : (n : ℕ) → nat_lt n texts ≡ true → IsGivenAs types texts so_far fs f TextLiteral (aimed (Text n))
   literal_given n few = λ u l loc at taken. record {
     plain = λ so. refl;
+    given = refl;
     formed = and_from (is_view (type_in types f l)) (nat_lt n texts) (ap is_view at.typed ∙ view u taken) few;
     served = λ so. and_from (is_served_location l) true (at.served so) refl;
   }
@@ -100,6 +101,7 @@ module _ (types : Types) (texts : ℕ) (so_far : Bool) (fs : List Function) (f :
   pub place_given : (t : Ty) (o : Operand) → (aims_at types t (type_of types f o) && keeps_const (is_constant t) (is_const_place types f o)) ≡ true → (so_far ≡ true → is_served_operand o ≡ true) → IsGivenAs types texts so_far fs f (Of t) (aimed (Aimed o))
   place_given t o fits served = λ u l raw at taken. record {
     plain = λ so. refl;
+    given = refl;
     formed = ap (λ (w : Ty). is_source_of types texts fs f w (Aimed o)) at.typed ∙ go u raw taken;
     served = λ so. and_from (is_served_location l) (is_served_operand o) (at.served so) (served so);
   }
@@ -115,6 +117,7 @@ module _ (types : Types) (texts : ℕ) (so_far : Bool) (fs : List Function) (f :
   pointed_fine l u t (By step) raw at taken given = given u l raw at (inr taken)
   pointed_fine l u (Of v) (As q) raw at taken given = record {
     plain = λ so. refl;
+    given = refl;
     formed = ap (λ (w : Ty). takes types w (type_in types f q)) at.typed ∙ ap (takes types u) given.typed ∙ taken;
     served = λ so. and_from (is_served_location l) (is_served_location q) (at.served so) (given.served so);
   }

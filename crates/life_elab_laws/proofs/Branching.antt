@@ -138,7 +138,7 @@ module _ (types : Types) (texts : ℕ) (so_far : Bool) (fs : List Function) (f :
       stated =
           stated_alone types texts so_far fs f in_loop (Choice w.given Skip (Stops keyword))
           (stated_choice types texts so_far fs f in_loop w.given Skip (Stops keyword) asks.fine (stated_none types texts so_far fs f in_loop)
-          (record { statement = refl; tests = refl; breaks = refl; plain = λ so. refl; formed = refl; served = λ so. refl }));
+          (record { statement = refl; tests = refl; breaks = refl; plain = λ so. refl; given = refl; formed = refl; served = λ so. refl }));
       ways = leaves_may types f in_loop s.living w.state.living (take s.outside s.living) (trees (Choice w.given Skip (Stops keyword) ∷ [])) went;
     }
       where

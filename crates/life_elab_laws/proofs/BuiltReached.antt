@@ -10,11 +10,19 @@ use Rattle.life_typed.specs.Programs.{FunctionForm}
 use Rattle.life_typed.specs.TypedForm.{Form, Typed, number, character, boolean, text, null, local, call, construct, paren, move, make_unique, text_of, input, member, dereference, index, method, negate, not as negation, address_of, binary, typed, nothing, ◌⨟◌, whole}
 use Rattle.life_typed.specs.TypedStatement.{StmtForm, DeclarationForm, ForStartForm, InitialForm, ItemForm, SimpleForm, one, several, assign, compound, step, discarded, declared_first, done_first, printed, line_end, block, empty, sentence, branching, while_loop, for_loop, range_loop, loop_break, loop_continue, returned, print, assertion, branch, declaration, no_more, chain}
 use Rattle.life_typed.specs.declared.typed_program.TypedLocal.{TypedLocal}
-use Rattle.life_elab_laws.specs.Reached.{are_reached_functions, are_reached_items, are_reached_variables, is_reached_declaration, is_reached_declared, is_reached_expression, is_reached_form, is_reached_function, is_reached_if_any, is_reached_initial, is_reached_item, is_reached_simple, is_reached_start, is_reached_statement, is_reached_step, is_reached_value, is_reached_variable}
+use Rattle.life_elab_laws.specs.Reached.{are_reached_functions, are_reached_items, are_reached_variables, is_reached_declaration, is_reached_declared, is_reached_expression, is_reached_form, is_reached_function, is_reached_if_any, is_reached_initial, is_reached_item, is_reached_simple, is_reached_start, is_reached_statement, is_reached_step, is_reached_value, is_reached_variable, is_reached_type, is_reached_change}
+use Rattle.life_typed.specs.declared.typed_expr.ExprType.{ExprType}
+use Rattle.life_typed.specs.declared.typed_expr.ExprType.TheVariants.{NullPointer, Of, TextLiteral}
 
 -- two tests that both hold
 both : (a b c d : Bool) → (a ≡ true → c ≡ true) → (b ≡ true → d ≡ true) → (a && b) ≡ true → (c && d) ≡ true
 both a b c d first second h = let parts = and_parts a b h in and_from c d (first parts.0) (second parts.1)
+
+-- each type is one of a value there
+type_as : (t : ExprType) → is_reached_type true t ≡ true
+type_as (Of t) = refl
+type_as NullPointer = refl
+type_as TextLiteral = refl
 
 module _ (texts : ℕ) where
   pub form_as : (form : Form) → is_built_form form ≡ true → is_reached_form texts true form ≡ true
@@ -39,7 +47,7 @@ module _ (texts : ℕ) where
   form_as (negation e) h = form_as e h
   form_as (address_of e) h = form_as e h
   form_as (binary operator left right) h = both (is_built_form left) (is_built_form right) (is_reached_form texts true left) (is_reached_form texts true right) (form_as left) (form_as right) h
-  form_as (typed place t category form) h = form_as form h
+  form_as (typed place t category form) h = and_from (is_reached_type true t) (is_reached_form texts true form) (type_as t) (form_as form h)
   form_as nothing h = refl
   form_as (e ⨟ es) h = both (is_built_form e) (is_built_form es) (is_reached_form texts true e) (is_reached_form texts true es) (form_as e) (form_as es) h
 
@@ -67,7 +75,7 @@ module _ (texts : ℕ) where
   simple_as (assign target equals initial) h = both (is_built_expression target) (is_built_value initial) (is_reached_expression texts true target) (is_reached_value texts true initial) (expression_as target) (value_as initial) h
   simple_as (compound target operator place e) h = both (is_built_expression target) (is_built_expression e) (is_reached_expression texts true target) (is_reached_expression texts true e) (expression_as target) (expression_as e) h
   simple_as (step target operator place) h = expression_as target h
-  simple_as (discarded e) h = both (is_call e.form) (is_built_expression e) (is_call e.form) (is_reached_expression texts true e) (λ h. h) (expression_as e) h
+  simple_as (discarded e) h = or_left _ (is_reached_change texts true e.form) (both (is_call e.form) (is_built_expression e) (is_call e.form) (is_reached_expression texts true e) (λ h. h) (expression_as e) h)
 
   step_as : (it : Option SimpleForm) → is_built_step it ≡ true → is_reached_step texts true it ≡ true
   step_as None h = refl

@@ -1,6 +1,7 @@
 -- Calls: each argument is a number of the parameter's type in a register, and the result goes to a register of its type.
-use Rattle.std.proofs.Common.{◌≡◌, ℕ, Bool, true, false, ◌&&◌, ◌||◌, if◌then◌else◌, List, [], ◌∷◌, slice_get, Option, Some, None, refl, ap, ◌∙◌}
+use Rattle.std.proofs.Common.{◌≡◌, ℕ, Bool, true, false, ◌&&◌, ◌||◌, if◌then◌else◌, List, [], ◌∷◌, flat_map, slice_get, Option, Some, None, refl, ap, ◌∙◌}
 use Rattle.std.proofs.lemmas.Bool.{and_from, and_parts, or_left, or_right}
+use Rattle.std.specs.List.{list_all}
 use Rattle.life_types.specs.Pointees.{ty_of}
 use Rattle.life_types.specs.TypeTests.{is_pointer, is_value}
 use Rattle.life_types.specs.Types.{Types}
@@ -13,6 +14,7 @@ use Rattle.life_core.specs.ByValue.{is_pointer as points}
 use Rattle.life_core.specs.Function.{Function}
 use Rattle.life_core.specs.Holdings.{sort_of}
 use Rattle.life_core.specs.Operands.{Argument, Location, Value, whole}
+use Rattle.life_proper.specs.GivenOver.{given_argument}
 use Rattle.life_proper.specs.OperandTypes.{same}
 use Rattle.life_proper.specs.OperandTypes as operands
 use Rattle.life_proper.specs.Placed.{is_number, is_number_of, object_at, register_at, type_in}
@@ -28,7 +30,7 @@ use Rattle.life_elab_laws.proofs.Instructions.{Computes, IsIntoOf, computed_part
 use Rattle.life_elab_laws.proofs.Making.{IsOpen}
 use Rattle.life_elab_laws.proofs.OperandsThere.{number_any, number_sort, value_same}
 use Rattle.life_elab_laws.proofs.Parts.{Makes, and_part, leaf_part, seen_part, then_part}
-use Rattle.life_elab_laws.proofs.Shaping.{IsFineStep}
+use Rattle.life_elab_laws.proofs.Shaping.{IsFineStep, is_no_object}
 use Rattle.life_elab_laws.proofs.Values.{by_values}
 
 value_no_pointer : (t : Ty) → is_value t ≡ true → is_pointer t ≡ false
@@ -38,7 +40,7 @@ module _ (types : Types) (texts : ℕ) (so_far : Bool) (fs : List Function) (f :
   -- ---- arguments
 
   pub none_handed : (s : State) → Makes types texts so_far fs f None s (gives [] s) (arguments types texts so_far fs f [])
-  none_handed s = leaf_part types texts so_far fs f [] s (arguments types texts so_far fs f []) (λ b. record { fit = refl; own = refl; served = λ so. refl }) (λ b k alive. tt)
+  none_handed s = leaf_part types texts so_far fs f [] s (arguments types texts so_far fs f []) (λ b. record { fit = refl; own = refl; given = refl; served = λ so. refl }) (λ b k alive. tt)
 
   -- one before the others
   pub handed_part : (id : TyId) (t : Ty) (ids : List TyId) (first : State → Gives ℕ) (others : State → Gives (List Argument)) (s : State) → ty_of types id ≡ t → IsOpen s
@@ -53,6 +55,7 @@ module _ (types : Types) (texts : ℕ) (so_far : Bool) (fs : List Function) (f :
       (λ b h. record {
         fit = and_from (is_argument_for types texts fs f id (Value r.given)) (are_arguments_for types texts fs f ids xs.given) (ap (λ (u : Ty). is_number_of types f u r.given) at ∙ h.0) h.1.fit;
         own = h.1.own;
+        given = h.1.given;
         served = h.1.served;
       })
       (λ n k h. h)
@@ -85,6 +88,7 @@ module _ (types : Types) (texts : ℕ) (so_far : Bool) (fs : List Function) (f :
       → IsFineStep types texts so_far fs f (called_alone g xs)
   alone_fine g xs of callee h void = record {
     plain = λ so. alone_plain types fs f g of callee xs;
+    given = and_from (list_all (is_no_object types f) (flat_map given_argument xs)) true h.given refl;
     formed = called_formed g xs of None callee h (ap (λ (u : Ty). goes_to types texts fs f u None) void);
     served = h.served;
   }
@@ -94,6 +98,7 @@ module _ (types : Types) (texts : ℕ) (so_far : Bool) (fs : List Function) (f :
       → goes_to types texts fs f (ty_of types of.result) (Some (whole x)) ≡ true → IsFineStep types texts so_far fs f (called g xs (whole x))
   called_fine g xs of x callee h sort goes = record {
     plain = λ so. call_plain types fs f g of callee xs x sort;
+    given = and_from (list_all (is_no_object types f) (flat_map given_argument xs)) true h.given refl;
     formed = called_formed g xs of (Some (whole x)) callee h goes;
     served = h.served;
   }

@@ -65,7 +65,7 @@ one_local : (object : Bool) (x : ℕ) → cond object (x ∷ []) [] ++ cond obje
 one_local true x = refl
 one_local false x = refl
 
-no_object : (o : Option Local) → has_kind is_register o ≡ true → has_kind is_object o ≡ false
+pub no_object : (o : Option Local) → has_kind is_register o ≡ true → has_kind is_object o ≡ false
 no_object None e = refl
 no_object (Some l) e = go l.kind e
   where

@@ -1,5 +1,5 @@
 -- What is written for a declaration is ready and well formed: the variable lives, and is given what typing lets it be given.
-use Rattle.std.proofs.Common.{◌≡◌, ◌<◌, ℕ, Bool, true, false, ◌&&◌, cond, not, List, [], ◌∷◌, ◌++◌, length, slice_get, slice_set, Option, Some, None, refl, sym, ap, ◌∙◌, subst, unwrap_or, arith, append_assoc}
+use Rattle.std.proofs.Common.{◌≡◌, ◌<◌, ℕ, Bool, true, false, ◌&&◌, ◌||◌, cond, not, List, [], ◌∷◌, ◌++◌, length, slice_get, slice_set, Option, Some, None, refl, sym, ap, ◌∙◌, subst, unwrap_or, arith, append_assoc}
 use Rattle.std.proofs.lemmas.Bool.{and_parts, false≢true}
 use Rattle.life_types.specs.Pointees.{ty_of}
 use Rattle.life_types.specs.TypeTests.{is_value}
@@ -10,7 +10,7 @@ use Rattle.life_types.specs.declared.ty.Ty.{Ty}
 use Rattle.life_types.specs.declared.ty.Ty.TheVariants as ty
 use Rattle.life_types.specs.declared.ty.TyId.{TyId}
 use Rattle.life_built.specs.Built.{needs_no_temporary}
-use Rattle.life_elab_laws.specs.Reached.{is_reached_declaration, is_reached_declared, is_reached_expression, is_reached_initial, is_reached_variable}
+use Rattle.life_elab_laws.specs.Reached.{is_owner_of_values, is_reached_declaration, is_reached_declared, is_reached_expression, is_reached_initial, is_reached_variable}
 use Rattle.life_typed.specs.BaseTypes.{type_at}
 use Rattle.life_typed.specs.Conversions.{is_place}
 use Rattle.life_typed.specs.Programs.{FunctionForm}
@@ -29,7 +29,7 @@ use Rattle.life_core.specs.declared.instr.Form.TheVariants.{Plain}
 use Rattle.life_proper.specs.declared.known.Known.{Known}
 use Rattle.life_proper.specs.declared.known.Known.TheVariants as known
 use Rattle.life_proper.specs.Knowing.{known_at}
-use Rattle.life_proper.specs.OperandTypes.{is_range}
+use Rattle.life_proper.specs.OperandTypes.{is_owner, is_range}
 use Rattle.life_proper.proofs.ReadyTests.{one_known, uses_ready}
 use Rattle.life_proper.specs.WellFormed.{can_live, goes_to, is_source_of}
 use Rattle.life_well_typed.specs.Expressions.{IsExpression, parameter_types}
@@ -60,7 +60,7 @@ use Rattle.life_elab_laws.proofs.Doing.{Does}
 use Rattle.life_elab_laws.proofs.ExpressionKinds.{variable_built}
 use Rattle.life_elab_laws.proofs.ExpressionForms.{IsWhole}
 use Rattle.life_elab_laws.proofs.ExpressionTypes.{seen_kind}
-use Rattle.life_elab_laws.proofs.Expressions.{expression, whole_expression}
+use Rattle.life_elab_laws.proofs.Expressions.{whole_expression}
 use Rattle.life_elab_laws.proofs.PointerForms.{points_whole, result_later}
 use Rattle.life_elab_laws.proofs.GivenKinds.{given_number, given_pointer, given_view}
 use Rattle.life_elab_laws.proofs.Falling.{Falls, Fills, falls_acts, falls_append, falls_filling}
@@ -72,7 +72,7 @@ use Rattle.life_elab_laws.proofs.Growing.{Begins, Grows, grows_none}
 use Rattle.life_elab_laws.proofs.Held.{blank_there, two_there}
 use Rattle.life_elab_laws.proofs.Knowledge.{at_set, beside_set}
 use Rattle.life_elab_laws.proofs.Locations.{is_location, is_pointed, seen_pointed}
-use Rattle.life_elab_laws.proofs.NewVariables.{bound_given, location_declared, raw_lives, reference_declared, value_goes, value_lives, value_saved}
+use Rattle.life_elab_laws.proofs.NewVariables.{bound_given, location_declared, owner_lives, raw_lives, reference_declared, value_goes, value_lives, value_saved}
 use Rattle.life_elab_laws.proofs.Parts.{Makes, leaf_part}
 use Rattle.life_elab_laws.proofs.Pending.{same_pending}
 use Rattle.life_elab_laws.proofs.Reaching.{variable_any}
@@ -81,7 +81,7 @@ use Rattle.life_elab_laws.proofs.Shaping.{IsFineStep, fine_acts, fine_append}
 use Rattle.life_elab_laws.proofs.TypedKinds.{none_some}
 use Rattle.life_elab_laws.proofs.Types.{same_types, value_held}
 use Rattle.life_elab_laws.proofs.Values.{by_values}
-use Rattle.life_elab_laws.proofs.VariablePlaces.{IsVariableType, a_raw, a_reference, a_value, a_view, variable_type}
+use Rattle.life_elab_laws.proofs.VariablePlaces.{IsVariableType, a_raw, a_reference, a_value, a_view, an_owner, owner_is, variable_type}
 
 module _ (a : Around) (types : Types) (texts : ℕ) (so_far : Bool) (fs : List Function) (f : Function) (setting : Setting so_far a types fs f) (v : Visible) (in_loop : Bool) where
   module _ (u : TypedLocal) (s : State) (h : Follows types f a v s) (at : slice_get a.function.locals v.declared ≡ Some u) (built : is_reached_variable so_far a.program.types u.ty ≡ true) where
@@ -115,13 +115,13 @@ module _ (a : Around) (types : Types) (texts : ℕ) (so_far : Bool) (fs : List F
     live_fills : (x : ℕ) (k : List Known) → known_at k x ≡ known.Blank → Fills f k (Live x Plain) x
     live_fills x k e = record { ready = one_known known.Blank k x (blank_there k x e); after = refl }
 
-    live_fine : (s' : State) → can_live types texts fs f (length s'.locals) ≡ true → is_served_birth (sort_of types f (length s'.locals)) ≡ true → IsFineStep types texts so_far fs f (Live (length s'.locals) Plain)
-    live_fine s' lives born = record { plain = λ so. refl; formed = lives; served = λ so. born }
+    live_fine : (s' : State) → can_live types texts fs f (length s'.locals) ≡ true → (so_far ≡ true → is_served_birth (sort_of types f (length s'.locals)) ≡ true) → IsFineStep types texts so_far fs f (Live (length s'.locals) Plain)
+    live_fine s' lives born = record { plain = λ so. refl; given = refl; formed = lives; served = born }
 
     value_born : (t : Ty) → slice_get a.program.types.types u.ty.0 ≡ Some t → is_value t ≡ true → (s' : State) → Grows s s' → New s' → is_served_birth (sort_of types f (length s'.locals)) ≡ true
     value_born t is w s' g b = ap is_served_birth (object_sort t is w s' g b)
 
-    live_does : (New s → can_live types texts fs f (length s.locals) ≡ true) → (New s → is_served_birth (sort_of types f (length s.locals)) ≡ true) → Born (live (home a u) s).state
+    live_does : (New s → can_live types texts fs f (length s.locals) ≡ true) → (New s → so_far ≡ true → is_served_birth (sort_of types f (length s.locals)) ≡ true) → Born (live (home a u) s).state
     live_does lives born =
         declared_does types texts so_far fs f a setting.front v in_loop u s (gives tt s) (nothing types texts so_far fs f) (Acts u.place (Live (length s.locals) Plain) ∷ []) h at any
         (leaf_part types texts so_far fs f tt s (nothing types texts so_far fs f) (λ b. tt) (λ b k alive. tt))
@@ -153,7 +153,7 @@ module _ (a : Around) (types : Types) (texts : ℕ) (so_far : Bool) (fs : List F
         (declared_does types texts so_far fs f a setting.front v in_loop u s w (a_number types texts so_far fs f (type_of a u.ty)) (lives ++ saves) h at any typed
         (λ b q.
         fine_append types texts so_far fs f lives saves
-        (fine_acts types texts so_far fs f u.place (Live x Plain) (live_fine w.state (value_lives a types texts so_far fs f setting.front u w.state b value) (value_born t is worth w.state made.grown b)))
+        (fine_acts types texts so_far fs f u.place (Live x Plain) (live_fine w.state (value_lives a types texts so_far fs f setting.front u w.state b value) (λ so. value_born t is worth w.state made.grown b)))
         (fine_acts types texts so_far fs f u.place (Save (object_named x) w.given) (value_saved a types texts so_far fs f setting.front u w.state b value w.given q)))
         (λ b k size q blank. saved x w.given k (omega (arith, size, below w.state made.grown b)) blank q.0 q.1))
 
@@ -201,7 +201,7 @@ module _ (a : Around) (types : Types) (texts : ℕ) (so_far : Bool) (fs : List F
 
         by_call_does : (c : Called) → form_call e.form ≡ Some c → compared.eq (own_type e.ty) t ≡ true → Born (By (Some c))
         by_call_does c found same =
-            let k = (expression a v.visible types texts so_far fs f setting e.form e b he).calls c found in
+            let k = whole_is.calls c found in
             called_does t is worth c.function k.of e.place k.there
             (result_later a v.visible types texts so_far fs f setting c.function k.of k.there ∙ sym (ap own_type k.own) ∙ same_types (own_type e.ty) t same ∙ sym (type_is t is))
             (giving.arguments a (all_uses a c.arguments) c.delimiters (around.parameter_types a c.function) s) (k.hands s h.stands)
@@ -255,6 +255,7 @@ module _ (a : Around) (types : Types) (texts : ℕ) (so_far : Bool) (fs : List F
           (filled_does e.place w (a_place types texts so_far fs f (type_at a.program.types target) bound.held) (λ o l. pointed (aimed (Aimed o)) l) (whole_is.names target bound.held bound.place worth s h.stands)
           (λ b q. record {
             plain = λ so. refl;
+            given = refl;
             formed =
                 ap (λ (t : Ty). is_source_of types texts fs f t (Aimed w.given)) (reference_declared a types texts so_far fs f setting.front u w.state b target constant is worth)
                 ∙ bound_given a types texts so_far fs f setting.front target constant bound.held w.given worth bound.kept q;
@@ -262,8 +263,8 @@ module _ (a : Around) (types : Types) (texts : ℕ) (so_far : Bool) (fs : List F
           })
           (λ b k q blank. filling_fills f (λ p. Aim p (Aimed w.given)) (length w.state.locals) k (aimed_filling f w.given (length w.state.locals) k q) (length w.state.locals)))
 
-      one_does : needs_no_temporary (type_of a u.ty) e ≡ true → is_given a.program.types (type_of a u.ty) e ≡ true → Born (GivenOne (type_of a u.ty))
-      one_does temporary given = go (variable_type so_far a.program.types u.ty built)
+      one_does : (so_far || not (is_owner (type_of a u.ty))) ≡ true → needs_no_temporary (type_of a u.ty) e ≡ true → is_given a.program.types (type_of a u.ty) e ≡ true → Born (GivenOne (type_of a u.ty))
+      one_does plain temporary given = go (variable_type so_far a.program.types u.ty built)
         where
           as_given : (t : Ty) → slice_get a.program.types.types u.ty.0 ≡ Some t → is_given a.program.types t e ≡ true
           as_given t is = subst (λ (x : Ty). is_given a.program.types x e ≡ true) (type_is t is) given
@@ -275,6 +276,7 @@ module _ (a : Around) (types : Types) (texts : ℕ) (so_far : Bool) (fs : List F
           go (a_value t is w) = as_type t is (object_does t is w (given_number a.program.types t e w (as_given t is)))
           go (a_raw target constant is w) = as_type (ty.Raw target constant) is (raw_does target constant is w (as_given (ty.Raw target constant) is))
           go (a_view so is) = as_type ty.View is (view_does is (as_given ty.View is))
+          go (an_owner so t is o) = absurd (false≢true (sym (ap (λ (x : Ty). so_far || not (is_owner x)) (type_is t is) ∙ ap (λ (b : Bool). b || not (is_owner t)) so ∙ ap not (owner_is a.program.types t o)) ∙ plain))
           go (a_reference target constant is w) =
               let r = ty.Reference target constant in
               as_type r is
@@ -289,6 +291,7 @@ module _ (a : Around) (types : Types) (texts : ℕ) (so_far : Bool) (fs : List F
         filled_does u.place (gives tt s) (nothing types texts so_far fs f) (λ x l. Aim l Empty) (leaf_part types texts so_far fs f tt s (nothing types texts so_far fs f) (λ b. tt) (λ b k alive. tt))
         (λ b q. record {
           plain = λ so. refl;
+          given = refl;
           formed = ap is_range (location_declared a types texts so_far fs f setting.front u s b ty.View refl is).typed;
           served = λ so. absurd (false≢true (sym wide ∙ so));
         })
@@ -300,22 +303,32 @@ module _ (a : Around) (types : Types) (texts : ℕ) (so_far : Bool) (fs : List F
         as_type : (t : Ty) → slice_get a.program.types.types u.ty.0 ≡ Some t → Born (default_to t (home a u) s).state → Born (default_to (type_of a u.ty) (home a u) s).state
         as_type t is born = subst (λ (x : Ty). Born (default_to x (home a u) s).state) (sym (type_is t is)) born
 
+        owner_default : (t : Ty) → is_owner_of_values a.program.types t ≡ true → default_to t (home a u) s ≡ live (home a u) s
+        owner_default ty.Text o = refl
+        owner_default (ty.Vector element) o = refl
+        owner_default _ o = absurd (false≢true o)
+
         go : IsVariableType so_far a.program.types u.ty → Born (default_to (type_of a u.ty) (home a u) s).state
         go (a_value t is w) =
             as_type t is
             (subst (λ (g : Gives ℕ). Born g.state) (sym (by_values (λ x. default_to x (home a u) s ≡ live (home a u) s) refl refl refl refl refl t w))
-            (live_does (λ b. value_lives a types texts so_far fs f setting.front u s b (ap is_value (type_is t is) ∙ w)) (λ b. value_born t is w s (grows_none s) b)))
+            (live_does (λ b. value_lives a types texts so_far fs f setting.front u s b (ap is_value (type_is t is) ∙ w)) (λ b so. value_born t is w s (grows_none s) b)))
         go (a_raw target constant is w) =
             as_type (ty.Raw target constant) is
             (live_does (λ b. raw_lives a types texts so_far fs f setting.front u s b target constant is)
-            (λ b. ap is_served_birth (new_sort types f a setting.front v u (variable_local a u) (its_local a u) s h at any b (ty.Raw target constant) is)))
+            (λ b so. ap is_served_birth (new_sort types f a setting.front v u (variable_local a u) (its_local a u) s h at any b (ty.Raw target constant) is)))
         go (a_view wide is) = as_type ty.View is (empty_does wide is)
+        go (an_owner wide t is o) =
+            as_type t is
+            (subst (λ (g : Gives ℕ). Born g.state) (sym (owner_default t o))
+            (live_does (λ b. owner_lives a types texts so_far fs f setting.front u s b t is o) (λ b so. absurd (false≢true (sym wide ∙ so)))))
         go (a_reference target constant is w) = absurd (none_some (sym (subst (λ (t : Ty). default_fault t ≡ None) (type_is (ty.Reference target constant) is) none)))
 
     initial_does : (initial : Option InitialForm) (behind : Place) → is_reached_initial texts so_far (type_of a u.ty) initial ≡ true → IsInitialised a.program a.function.locals a.function.result v.visible (Some u) initial → Born (given_initial a u initial behind s)
     initial_does None behind b i = default_does i
     initial_does (Some (one e)) behind b i =
-        let parts = and_parts (is_reached_expression texts so_far e) (needs_no_temporary (type_of a u.ty) e) b in one_does e parts.0 i.1 behind parts.1 i.0
+        let parts = and_parts (so_far || not (is_owner (type_of a u.ty))) (is_reached_expression texts so_far e && needs_no_temporary (type_of a u.ty) e) b in
+        let both = and_parts (is_reached_expression texts so_far e) (needs_no_temporary (type_of a u.ty) e) parts.1 in one_does e both.0 i.1 behind parts.0 both.1 i.0
     initial_does (Some (several list)) behind b i = absurd (false≢true b)
 
   pub declaration_does : (d : DeclarationForm) (behind : Place) (s : State) → Follows types f a v s → is_reached_declaration texts so_far a.program.types a.function.locals d ≡ true → IsDeclaration a.program a.function.locals a.function.result d v

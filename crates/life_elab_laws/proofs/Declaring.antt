@@ -1,7 +1,9 @@
 -- What a declaration adds: the next variable, which is visible and lives from here on.
 use Rattle.std.proofs.Common.{◌≡◌, ◌<◌, ◌⊎◌, inl, inr, ℕ, Bool, true, false, List, [], ◌∷◌, ◌++◌, Contains, length, slice_get, slice_set, take, Option, Some, None, refl, sym, ap, ◌∙◌, subst, unwrap_or, arith, length-append, append_assoc}
+use Rattle.std.proofs.lemmas.Bool.{or_left, or_right}
 use Rattle.std.proofs.lemmas.List.Elements.{Contains-append_left, Contains-push, Contains-push_cases}
 use Rattle.std.proofs.lemmas.Option.{same_Some, slice_get_within}
+use Rattle.life_types.specs.TypeTests.{is_pointer, is_value}
 use Rattle.life_types.specs.Types.{Types, class, class_at}
 use Rattle.life_types.specs.declared.ty.Ty.{Ty}
 use Rattle.life_types.specs.declared.ty.Ty.TheVariants as ty
@@ -13,6 +15,9 @@ use Rattle.life_core.specs.Holdings.{held_by, held_if, sort_of}
 use Rattle.life_core.specs.Tree.{Tree, trees}
 use Rattle.life_core.specs.declared.program.Local.{Local}
 use Rattle.life_core.specs.declared.program.LocalKind.{LocalKind}
+use Rattle.life_core.specs.declared.program.LocalKind.TheVariants.{Object}
+use Rattle.life_proper.specs.Placed.{object_at}
+use Rattle.life_proper.specs.Placed as placed
 use Rattle.life_proper.specs.declared.known.Known.{Known}
 use Rattle.life_proper.specs.declared.known.Known.TheVariants as known
 use Rattle.life_proper.specs.Checking.{flow}
@@ -26,17 +31,19 @@ use Rattle.life_elab_laws.proofs.Among.{Among, among_either, among_left, among_r
 use Rattle.life_elab_laws.proofs.Doing.{Acting, Does}
 use Rattle.life_elab_laws.proofs.Exits.{Knows, Leaves, knows_written, leaves_falling, leaves_may}
 use Rattle.life_elab_laws.proofs.Falling.{Falls, falls_append}
-use Rattle.life_elab_laws.proofs.Following.{Adds, Follows, IsLiving, is_variable_sort, adds_then, begins_added, follows_below, follows_grown, follows_named, grows_adds, knows_alive, same_variable}
+use Rattle.life_elab_laws.proofs.Following.{Adds, Follows, IsLiving, may_end, adds_then, begins_added, follows_below, follows_grown, follows_named, grows_adds, knows_alive, same_variable}
+use Rattle.life_elab_laws.proofs.FormedVariables.{reference_there, type_later}
 use Rattle.life_elab_laws.proofs.Fronts.{IsFront, front_append, front_itself, front_then, last_there}
 use Rattle.life_elab_laws.proofs.GivingBack.{fine_known, known_append}
 use Rattle.life_elab_laws.proofs.Growing.{Begins}
 use Rattle.life_elab_laws.proofs.Knowledge.{at_set, beside_set, set_length}
 use Rattle.life_elab_laws.proofs.Gifts.{Gift, nothing}
+use Rattle.life_elab_laws.proofs.OperandsThere.{object_there, type_there}
 use Rattle.life_elab_laws.proofs.Parts.{Makes, Runs}
 use Rattle.life_elab_laws.proofs.Shaped.{shaped_more, variable_later}
 use Rattle.life_elab_laws.proofs.Shaping.{IsFine, stated_append}
-use Rattle.life_elab_laws.proofs.Types.{value_held}
-use Rattle.life_elab_laws.proofs.VariablePlaces.{IsVariableAt, IsVariableType, a_raw, a_reference, a_value, a_view, variable_type}
+use Rattle.life_elab_laws.proofs.Types.{value_kind}
+use Rattle.life_elab_laws.proofs.VariablePlaces.{IsVariableAt, IsVariableType, a_raw, a_reference, a_value, a_view, an_owner, owner_kind, variable_type}
 use Rattle.life_elab_laws.proofs.WrittenLocals.{IsLocalOf, locals_added, own_added}
 
 take_before : (xs ys : List ℕ) → take (length xs) (xs ++ ys) ≡ xs
@@ -74,14 +81,32 @@ module _ (types : Types) (f : Function) (a : Around) (front : IsFront a.program.
         ∙ ap (λ (k : LocalKind). held_if (class (Some t)) k (Some t)) of.kind
         ∙ ap (λ (o : Option Ty). held_if (class (Some t)) (kind (class o)) (Some t)) is
 
-    pub new_ends : Begins types f (with_new l s) → is_variable_sort (sort_of types f (length s.locals)) ≡ true
+    pub new_ends : Begins types f (with_new l s) → may_end types f (length s.locals) ≡ true
     new_ends b = go (variable_type false a.program.types u.ty built)
       where
-        go : IsVariableType false a.program.types u.ty → is_variable_sort (sort_of types f (length s.locals)) ≡ true
-        go (a_value t is e) = ap is_variable_sort (new_sort b t is ∙ value_held t e)
-        go (a_raw target constant is e) = ap is_variable_sort (new_sort b (ty.Raw target constant) is)
-        go (a_view so is) = ap is_variable_sort (new_sort b ty.View is)
-        go (a_reference target constant is e) = ap is_variable_sort (new_sort b (ty.Reference target constant) is)
+        there : slice_get f.locals (length s.locals) ≡ Some l
+        there = b.locals (length s.locals) l new_at
+
+        typed : (t : Ty) → slice_get a.program.types.types u.ty.0 ≡ Some t → slice_get types.types l.ty.0 ≡ Some t
+        typed t is = ap (λ (i : TyId). slice_get types.types i.0) of.typed ∙ front u.ty.0 t is
+
+        kept : (t : Ty) → slice_get a.program.types.types u.ty.0 ≡ Some t → l.kind ≡ kind (class (Some t))
+        kept t is = of.kind ∙ ap (λ (o : Option Ty). kind (class o)) is
+
+        object : (t : Ty) → slice_get a.program.types.types u.ty.0 ≡ Some t → kind (class (Some t)) ≡ Object → may_end types f (length s.locals) ≡ true
+        object t is k = or_left (object_at types f (length s.locals)) _ (object_there types f (length s.locals) l there (kept t is ∙ k))
+
+        pointer : (t : Ty) → placed.type_at types f (length s.locals) ≡ t → is_pointer t ≡ true → may_end types f (length s.locals) ≡ true
+        pointer t at p = or_right (object_at types f (length s.locals)) _ (ap is_pointer at ∙ p)
+
+        go : IsVariableType false a.program.types u.ty → may_end types f (length s.locals) ≡ true
+        go (a_value t is e) = object t is (value_kind t e)
+        go (an_owner so t is o) = object t is (owner_kind a.program.types t o)
+        go (a_raw target constant is e) = pointer (ty.Raw target constant) (type_there types f (length s.locals) l (ty.Raw target constant) there (typed (ty.Raw target constant) is) refl) refl
+        go (a_view so is) = pointer ty.View (type_there types f (length s.locals) l ty.View there (typed ty.View is) refl) refl
+        go (a_reference target constant is e) =
+            pointer (ty.Reference target constant)
+            (reference_there types f (length s.locals) l target constant there (typed (ty.Reference target constant) is) (ap is_value (type_later a.program.types types front target e) ∙ e)) refl
 
     -- ---- the state
 
@@ -133,9 +158,9 @@ module _ (types : Types) (f : Function) (a : Around) (front : IsFront a.program.
     }
     lives y (inr (inr none)) = absurd none
 
-    sorted : Begins types f (with_new l s) → (y : ℕ) → Among y s.living ⊎ Among y (length s.locals ∷ []) → is_variable_sort (sort_of types f y) ≡ true
+    sorted : Begins types f (with_new l s) → (y : ℕ) → Among y s.living ⊎ Among y (length s.locals ∷ []) → may_end types f y ≡ true
     sorted b y (inl m) = h.sorts (begins_old b) y m
-    sorted b y (inr (inl e)) = subst (λ (z : ℕ). is_variable_sort (sort_of types f z) ≡ true) e (new_ends b)
+    sorted b y (inr (inl e)) = subst (λ (z : ℕ). may_end types f z ≡ true) e (new_ends b)
     sorted b y (inr (inr none)) = absurd none
 
     pub follows_new : Follows types f a (with_next v) (with_new l s)

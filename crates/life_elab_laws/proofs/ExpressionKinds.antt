@@ -7,7 +7,7 @@ use Rattle.life_types.specs.Types.{Types}
 use Rattle.life_types.specs.declared.ty.Ty.{Ty}
 use Rattle.life_types.specs.declared.ty.Ty.TheVariants as ty
 use Rattle.life_types.specs.declared.ty.TyId.{TyId}
-use Rattle.life_elab_laws.specs.Reached.{are_reached_functions, are_reached_variables, is_reached_function, is_reached_variable}
+use Rattle.life_elab_laws.specs.Reached.{are_reached_functions, are_reached_variables, is_reached_function, is_reached_variable, is_reached_type}
 use Rattle.life_names.specs.Found.{not_found}
 use Rattle.life_names.specs.declared.fault.IllKind.TheVariants as kinds
 use Rattle.life_typed.specs.BaseTypes.{type_at}
@@ -44,12 +44,12 @@ number_value n = go _
     go true = refl
     go false = refl
 
-pub kind_local : (so_far : Bool) (types : Types) (locals : List TypedLocal) (x : ℕ) (e : Typed) → are_reached_variables so_far types locals ≡ true → IsVariable types x (slice_get locals x) e → IsKind so_far types e
-kind_local so_far types locals x e b h = go (slice_get locals x) refl h
+pub kind_local : (so_far : Bool) (types : Types) (locals : List TypedLocal) (x : ℕ) (e : Typed) → are_reached_variables so_far types locals ≡ true → is_reached_type so_far e.ty ≡ true → IsVariable types x (slice_get locals x) e → IsKind so_far types e
+kind_local so_far types locals x e b n h = go (slice_get locals x) refl h
   where
     go : (o : Option TypedLocal) → slice_get locals x ≡ o → IsVariable types x o e → IsKind so_far types e
     go None at h = absurd h
-    go (Some v) at h = kind_of_variable so_far types e v.ty v.constant (local x) (type_at types v.ty) refl (reached_type so_far types (type_at types v.ty) (variable_built so_far types locals x v b at)) h
+    go (Some v) at h = kind_of_variable so_far types e v.ty v.constant (local x) (type_at types v.ty) refl (reached_type so_far types (type_at types v.ty) (variable_built so_far types locals x v b at)) n h
 
 -- what a dereferenced operand is
 pub record IsDereferenced (types : Types) (inner e : Typed) : Type 0 where

@@ -1,5 +1,5 @@
 -- What is written for a well typed expression, by one recursion: each form says by one way how it is written, and has all laws by that.
-use Rattle.std.proofs.Common.{◌≡◌, ℕ, zero, suc, Bool, true, List, [], ◌∷◌, slice_get, Option, Some, None, refl, sym, ap, ◌∙◌, subst}
+use Rattle.std.proofs.Common.{◌≡◌, inl, inr, ℕ, zero, suc, Bool, true, List, [], ◌∷◌, slice_get, Option, Some, None, refl, sym, ap, ◌∙◌, subst}
 use Rattle.std.proofs.lemmas.Bool.{and_parts, false≢true}
 use Rattle.std.specs.Prelude.{pos}
 use Rattle.life_types.specs.TypeTests.{is_value}
@@ -8,9 +8,8 @@ use Rattle.life_types.specs.declared.place.Place.{Place}
 use Rattle.life_types.specs.declared.ty.Ty.{Ty}
 use Rattle.life_types.specs.declared.ty.Ty.TheVariants as ty
 use Rattle.life_types.specs.declared.ty.TyId.{TyId}
-use Rattle.life_elab_laws.specs.Reached.{is_reached_form}
+use Rattle.life_elab_laws.specs.Reached.{is_reached_either, is_reached_form, is_reached_method, is_reached_type}
 use Rattle.life_typed.specs.BaseTypes.{type_at}
-use Rattle.life_typed.specs.Members.{is_of_view}
 use Rattle.life_typed.specs.Programs.{FunctionForm}
 use Rattle.life_typed.specs.Delimiters.{DelimitersForm, behind_first, behind_others}
 use Rattle.life_typed.specs.TypedForm.{Form, Typed, number, character, boolean, text, null, local, call, construct, paren, move, make_unique, text_of, input, member, dereference, index, method, negate, not, address_of, binary, typed, nothing, ◌⨟◌}
@@ -47,7 +46,8 @@ use Rattle.life_elab_laws.proofs.Values.{by_values}
 use Rattle.life_elab_laws.proofs.VariablePlaces.{Stands, stands_later}
 use Rattle.life_elab_laws.proofs.OperatorForms.{binary_form}
 use Rattle.life_elab_laws.proofs.PointerForms.{address_form, call_form, dereference_form, null_form, text_form, variable_form}
-use Rattle.life_elab_laws.proofs.ViewForms.{AreWhole, index_form, indexed_as, method_form}
+use Rattle.life_elab_laws.proofs.ElementForms.{either_reached, object_expression, owner_index_form, owner_method_form, view_index_form}
+use Rattle.life_elab_laws.proofs.ViewForms.{AreWhole, method_form}
 
 module _ (a : Around) (visible : List ℕ) (types : Types) (texts : ℕ) (so_far : Bool) (fs : List Function) (f : Function) (setting : Setting so_far a types fs f) where
   abbrev Standing : State → Type 0
@@ -68,21 +68,23 @@ module _ (a : Around) (visible : List ℕ) (types : Types) (texts : ℕ) (so_far
 
   mutual
     pub whole_expression : (form : Form) → is_reached_form texts so_far form ≡ true → IsExpression a.program a.function.locals visible form → IsWhole a visible types texts so_far fs f setting form
-    whole_expression (typed place t c form) b h = whole_of a visible types texts so_far fs f setting place t c form (expression form (record { place = place; ty = t; category = c; form = form }) b h)
+    whole_expression (typed place t c form) b h =
+        let parts = and_parts (is_reached_type so_far t) (is_reached_form texts so_far form) b in
+        whole_of a visible types texts so_far fs f setting place t c form (expression form (record { place = place; ty = t; category = c; form = form }) parts.0 parts.1 h)
     whole_expression _ b h = absurd h
 
     -- each form by the way it is made
-    pub expression : (form : Form) (e : Typed) → is_reached_form texts so_far form ≡ true → IsMadeOf a.program a.function.locals visible e form → IsForm a visible types texts so_far fs f setting form e
-    expression (number n) e b h = literal a visible types texts so_far fs f setting (number n) e (number_type n) h (number_value n) refl (λ place b. refl) (λ place behind into s wanted stands. constant_part types texts so_far fs f into (number_type n) place (values.long n) s (number_value n) wanted) (λ place behind r s. refl)
-    expression (character c) e b h = literal a visible types texts so_far fs f setting (character c) e ty.Char h refl refl (λ place b. refl) (λ place behind into s wanted stands. constant_part types texts so_far fs f into ty.Char place (pos c) s refl wanted) (λ place behind r s. refl)
-    expression (boolean x) e b h = literal a visible types texts so_far fs f setting (boolean x) e ty.Bool h refl refl (λ place b. refl) (λ place behind into s wanted stands. constant_part types texts so_far fs f into ty.Bool place (values.truth x) s refl wanted) (λ place behind r s. refl)
-    expression null e b h = null_form a visible types texts so_far fs f setting e h.0 h.1
-    expression (local x) e b h = variable_form a visible types texts so_far fs f setting x e h.0 h.1
-    expression (call g given delimiters) e b h = call_form a visible types texts so_far fs f setting g given delimiters e h.0 (λ of at s stands. handed delimiters given b h.2 (parameter_types (Some of)) (subst (λ (o : Option FunctionForm). are_given a.program.types (parameter_types o) given ≡ true) at h.1) (setting.taken g of at) s stands)
-    expression (paren inner closing) e b h = paren_form a visible types texts so_far fs f setting inner closing e (ap (λ (y : Typed). y.ty) (ok_same h.0)) (ap (λ (y : Typed). y.category) (ok_same h.0)) (whole_expression inner b h.1)
-    expression input e b h = literal a visible types texts so_far fs f setting input e ty.Long h refl refl (λ place b. refl) (λ place behind into s wanted stands. input_part types texts so_far fs f into ty.Long place s refl wanted) (λ place behind r s. refl)
-    expression (dereference inner) e b h = let is = whole_expression inner b h.1 in dereference_form a visible types texts so_far fs f setting inner e (dereferenced_as so_far a.program.types (typed_in inner) e is.kind h.0) is
-    expression (negate inner) e b h =
+    expression : (form : Form) (e : Typed) → is_reached_type so_far e.ty ≡ true → is_reached_form texts so_far form ≡ true → IsMadeOf a.program a.function.locals visible e form → IsForm a visible types texts so_far fs f setting form e
+    expression (number n) e q b h = literal a visible types texts so_far fs f setting (number n) e (number_type n) h (number_value n) refl (λ place b. refl) (λ place behind into s wanted stands. constant_part types texts so_far fs f into (number_type n) place (values.long n) s (number_value n) wanted) (λ place behind r s. refl)
+    expression (character c) e q b h = literal a visible types texts so_far fs f setting (character c) e ty.Char h refl refl (λ place b. refl) (λ place behind into s wanted stands. constant_part types texts so_far fs f into ty.Char place (pos c) s refl wanted) (λ place behind r s. refl)
+    expression (boolean x) e q b h = literal a visible types texts so_far fs f setting (boolean x) e ty.Bool h refl refl (λ place b. refl) (λ place behind into s wanted stands. constant_part types texts so_far fs f into ty.Bool place (values.truth x) s refl wanted) (λ place behind r s. refl)
+    expression null e q b h = null_form a visible types texts so_far fs f setting e h.0 h.1
+    expression (local x) e q b h = variable_form a visible types texts so_far fs f setting x e q h.0 h.1
+    expression (call g given delimiters) e q b h = call_form a visible types texts so_far fs f setting g given delimiters e h.0 (λ of at s stands. handed delimiters given b h.2 (parameter_types (Some of)) (subst (λ (o : Option FunctionForm). are_given a.program.types (parameter_types o) given ≡ true) at h.1) (setting.taken g of at) s stands)
+    expression (paren inner closing) e q b h = paren_form a visible types texts so_far fs f setting inner closing e (ap (λ (y : Typed). y.ty) (ok_same h.0)) (ap (λ (y : Typed). y.category) (ok_same h.0)) (whole_expression inner b h.1)
+    expression input e q b h = literal a visible types texts so_far fs f setting input e ty.Long h refl refl (λ place b. refl) (λ place behind into s wanted stands. input_part types texts so_far fs f into ty.Long place s refl wanted) (λ place behind r s. refl)
+    expression (dereference inner) e q b h = let is = whole_expression inner b h.1 in dereference_form a visible types texts so_far fs f setting inner e (dereferenced_as so_far a.program.types (typed_in inner) e is.kind h.0) is
+    expression (negate inner) e q b h =
         let is = whole_expression inner b h.1 in
         let g = negated_as so_far a.program.types (typed_in inner) e is.kind h.0 in
         let own : e.ty ≡ Of g.ty = ap (λ (y : Typed). y.ty) g.is in
@@ -90,33 +92,39 @@ module _ (a : Around) (visible : List ℕ) (types : Types) (texts : ℕ) (so_far
         (λ place behind into s wanted stands. negated_part types texts so_far fs f g.ty place (value (uses a inner) behind g.ty None) into s g.worth (sym (ap (λ (t : ExprType). operands.is_promoted (own_type t)) own) ∙ negated_promoted so_far a.program.types (typed_in inner) e is.kind h.0) wanted stands.opened
         (is.valued g.number behind g.ty g.worth None s tt stands))
         (λ place behind r s. refl)
-    expression (not inner) e b h =
+    expression (not inner) e q b h =
         let is = whole_expression inner b h.1 in
         let g = inverted_as (typed_in inner) e h.0 in
         decided_form a visible types texts so_far fs f setting (not inner) e ty.Bool (ap (λ (y : Typed). y.ty) g.is) (ap (λ (y : Typed). y.category) g.is) refl refl (λ place b none. absurd (none_some (sym none))) (λ place b none. absurd (none_some (sym none)))
         (λ place b w at s stands. subst (λ (v : State → Gives Tree). Decided s (v s)) (some_same at) (negation_part types texts so_far fs f (condition (uses a inner) b) s (is.conditions g.condition b s stands)))
-    expression (address_of inner) e b h =
+    expression (address_of inner) e q b h =
         let is = whole_expression inner b h.1 in address_form a visible types texts so_far fs f setting inner e (addressed_as so_far a.program.types (typed_in inner) e is.kind h.0) is
-    expression (binary o left right) e b h =
+    expression (binary o left right) e q b h =
         let parts = and_parts (is_reached_form texts so_far left) (is_reached_form texts so_far right) b in
         binary_form a visible types texts so_far fs f setting o left right e (combined_as o e.place (typed_in left) (typed_in right) e h.0) (whole_expression left parts.0 h.1) (whole_expression right parts.1 h.2)
-    expression (text n) e b h = text_form a visible types texts so_far fs f setting n e h.0 h.1 b
-    expression (construct structure elements delimiters) e b h = absurd (false≢true b)
-    expression (move x) e b h = absurd (false≢true b)
-    expression (make_unique id argument closing) e b h = absurd (false≢true b)
-    expression (text_of inner closing) e b h = absurd (false≢true b)
-    expression (member base which) e b h = absurd (false≢true b)
-    expression (index base position closing) e b h =
-        let parts = and_parts (is_reached_form texts so_far base) (is_reached_form texts so_far position) b in
-        let is = whole_expression base parts.0 h.1 in
-        index_form a visible types texts so_far fs f setting setting.chars base position closing e is (whole_expression position parts.1 h.2) (indexed_as a visible types texts so_far fs f setting (typed_in base) (typed_in position) e closing is.kind.kind h.0)
-    expression (method base which given delimiters) e b h =
-        let one = and_parts (is_of_view which) _ b in
-        let two = and_parts (is_reached_form texts so_far base) (is_reached_form texts so_far given) one.1 in
-        method_form a visible types texts so_far fs f setting base which given delimiters e (whole_expression base two.0 h.1) (wholes given two.1 h.2) one.0 h.0
-    expression (typed at t c form) e b h = absurd h
-    expression nothing e b h = absurd h
-    expression (first ⨟ others) e b h = absurd h
+    expression (text n) e q b h = text_form a visible types texts so_far fs f setting n e h.0 h.1 b
+    expression (construct structure elements delimiters) e q b h = absurd (false≢true b)
+    expression (move x) e q b h = absurd (false≢true b)
+    expression (make_unique id argument closing) e q b h = absurd (false≢true b)
+    expression (text_of inner closing) e q b h = absurd (false≢true b)
+    expression (member base which) e q b h = absurd (false≢true b)
+    expression (index base position closing) e q b h =
+        let parts = and_parts (is_reached_either so_far base (is_reached_form texts so_far base)) (is_reached_form texts so_far position) b in
+        let at = whole_expression position parts.1 h.2 in
+        elim (either_reached so_far base (is_reached_form texts so_far base) parts.0) [
+          | inl value ↦ view_index_form a visible types texts so_far fs f setting base position closing e (whole_expression base value h.1) at h.0
+          | inr owner ↦ owner_index_form a visible types texts so_far fs f setting base position closing e (object_expression a visible types texts so_far fs f setting base owner.1 owner.0 h.1) at h.0
+        ]
+    expression (method base which given delimiters) e q b h =
+        let one = and_parts (is_reached_method which) _ b in
+        let two = and_parts (is_reached_either so_far base (is_reached_form texts so_far base)) (is_reached_form texts so_far given) one.1 in
+        elim (either_reached so_far base (is_reached_form texts so_far base) two.0) [
+          | inl value ↦ method_form a visible types texts so_far fs f setting base which given delimiters e (whole_expression base value h.1) (wholes given two.1 h.2) one.0 h.0
+          | inr owner ↦ owner_method_form a visible types texts so_far fs f setting base which given delimiters e (object_expression a visible types texts so_far fs f setting base owner.1 owner.0 h.1) one.0 h.0
+        ]
+    expression (typed at t c form) e q b h = absurd h
+    expression nothing e q b h = absurd h
+    expression (first ⨟ others) e q b h = absurd h
 
     -- all of several
     pub wholes : (form : Form) → is_reached_form texts so_far form ≡ true → AreExpressions a.program a.function.locals visible form → AreWhole a visible types texts so_far fs f setting form

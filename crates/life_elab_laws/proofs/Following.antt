@@ -1,14 +1,15 @@
 -- What has been written of a function and what is visible, between statements.
-use Rattle.std.proofs.Common.{◌≡◌, ◌<◌, ◌≤◌, ℕ, zero, suc, Bool, true, false, List, [], ◌∷◌, Contains, length, slice_get, take, Option, Some, None, refl, sym, ap, ◌∙◌, subst, unwrap_or, arith}
+use Rattle.std.proofs.Common.{◌≡◌, ◌<◌, ◌≤◌, ◌||◌, ℕ, zero, suc, Bool, true, List, [], ◌∷◌, Contains, length, slice_get, take, Option, Some, None, refl, sym, ap, ◌∙◌, subst, unwrap_or, arith}
 use Rattle.std.proofs.lemmas.Option.{none-some, slice_get_within}
-use Rattle.life_types.specs.TypeTests.{is_value}
+use Rattle.life_types.specs.TypeTests.{is_pointer, is_value}
 use Rattle.life_types.specs.Types.{Types}
 use Rattle.life_types.specs.declared.ty.NameId.{NameId}
 use Rattle.life_typed.specs.BaseTypes.{type_at}
 use Rattle.life_typed.specs.declared.typed_program.TypedLocal.{TypedLocal}
 use Rattle.life_core.specs.Function.{Function}
-use Rattle.life_core.specs.Holdings.{APointer, AView, AnObject, Holding, sort_of}
 use Rattle.life_core.specs.declared.program.Local.{Local}
+use Rattle.life_proper.specs.Placed.{object_at}
+use Rattle.life_proper.specs.Placed as placed
 use Rattle.life_proper.specs.declared.known.Known.{Known}
 use Rattle.life_well_typed.specs.Visible.{Visible, behind}
 use Rattle.life_writer.specs.Around.{Around, result_local}
@@ -51,12 +52,9 @@ register_later a s s' locals table h worth = let is = (h worth).0 in (
   (h worth).1,
 )
 
--- what a variable holds: it is an object or a pointer
-abbrev pub is_variable_sort : Holding → Bool
-is_variable_sort AnObject = true
-is_variable_sort APointer = true
-is_variable_sort AView = true
-is_variable_sort _ = false
+-- what ends: an object or a pointer
+abbrev pub may_end : Types → Function → ℕ → Bool
+may_end types f x = object_at types f x || is_pointer (placed.type_at types f x)
 
 -- ---- lists
 
@@ -80,7 +78,7 @@ module _ (types : Types) (f : Function) where
     pub ascend : Ascend 0 s.living
     pub outside : s.outside ≤ length s.living
     pub living : (y : ℕ) → Among y s.living → IsLiving s y
-    pub sorts : Begins types f s → (y : ℕ) → Among y s.living → is_variable_sort (sort_of types f y) ≡ true
+    pub sorts : Begins types f s → (y : ℕ) → Among y s.living → may_end types f y ≡ true
 
   abbrev pub Follows : Around → Visible → State → Type 0
   Follows a v s = FollowsBare a v (bare s)

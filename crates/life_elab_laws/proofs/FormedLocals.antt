@@ -36,7 +36,8 @@ use Rattle.life_elab_laws.proofs.ExpressionKinds.{variable_built}
 use Rattle.life_elab_laws.proofs.Fronts.{IsFront, front_length, passed_at}
 use Rattle.life_elab_laws.proofs.OperandsThere.{type_either}
 use Rattle.life_elab_laws.proofs.Reaching.{IsReachedType, variable_found}
-use Rattle.life_elab_laws.proofs.WrittenLocals.{AreWrittenLocals, IsIntermediate, IsOwn, fits_later, fits_register}
+use Rattle.life_elab_laws.proofs.WrittenLocals.{AreWrittenLocals, IsIntermediate, IsOwn, fits_later, fits_local, fits_register, local_later, owner_local, register_local}
+use Rattle.life_elab_laws.specs.Reached.{is_owner_of_values}
 
 -- ---- what a register or a variable holds
 
@@ -54,14 +55,14 @@ module _ (types : Types) where
       go (Some ty.Size) v = refl
       go _ v = absurd (false≢true v)
 
-  fits_stands : (id : TyId) (t : Ty) → slice_get types.types id.0 ≡ Some t → fits_register types t ≡ true → may_stand (tree_at types id) ≡ true
+  fits_stands : (id : TyId) (t : Ty) → slice_get types.types id.0 ≡ Some t → fits_local types t ≡ true → may_stand (tree_at types id) ≡ true
   unfolding tree_at
   fits_stands id t at h = ap (λ (o : Option Ty). may_stand (tree_of types (tree_within id.0 types) o)) at ∙ go t h
     where
-      go : (t : Ty) → fits_register types t ≡ true → may_stand (tree_of types (tree_within id.0 types) (Some t)) ≡ true
+      go : (t : Ty) → fits_local types t ≡ true → may_stand (tree_of types (tree_within id.0 types) (Some t)) ≡ true
       go (ty.Raw target constant) h = value_tree id.0 target h
       go (ty.Reference target constant) h = value_tree id.0 target h
-      go (ty.Vector element) h = absurd (false≢true h)
+      go (ty.Vector element) h = value_tree id.0 element h
       go (ty.Unique target) h = absurd (false≢true h)
       go (ty.Iterator target constant) h = absurd (false≢true h)
       go (ty.Span target constant) h = absurd (false≢true h)
@@ -69,7 +70,7 @@ module _ (types : Types) where
       go _ h = refl
 
   -- it stands as it is, also where a parameter has it
-  fits_itself : (parameter : Bool) (id : TyId) (t : Ty) → slice_get types.types id.0 ≡ Some t → fits_register types t ≡ true → shape_if types parameter id ≡ id
+  fits_itself : (parameter : Bool) (id : TyId) (t : Ty) → slice_get types.types id.0 ≡ Some t → fits_local types t ≡ true → shape_if types parameter id ≡ id
   fits_itself false id t at h = refl
   fits_itself true id t at h = ap (λ (o : Option Ty). unslotted types id (or_void o)) at ∙ go t h
     where
@@ -80,11 +81,11 @@ module _ (types : Types) where
       to target (ty.Unique item) v = absurd (false≢true v)
       to target _ v = refl
 
-      go : (t : Ty) → fits_register types t ≡ true → unslotted types id t ≡ id
+      go : (t : Ty) → fits_local types t ≡ true → unslotted types id t ≡ id
       go (ty.Reference target false) h = to target (ty_of types target) (ap is_value (type_either types target) ∙ h)
       go _ h = refl
 
-  fits_no_void : (t : Ty) → fits_register types t ≡ true → not (is_void t) ≡ true
+  fits_no_void : (t : Ty) → fits_local types t ≡ true → not (is_void t) ≡ true
   fits_no_void ty.Void h = absurd (false≢true h)
   fits_no_void _ h = refl
 
@@ -97,16 +98,25 @@ module _ (types : Types) where
   fits_kept _ h = refl
 
   module _ (so_far : Bool) where
-    pub variable_fits : (t : Ty) → IsReachedType so_far types t → fits_register types t ≡ true
-    variable_fits t (inr v) = ap (fits_register types) v.1
+    pub variable_fits : (t : Ty) → IsReachedType so_far types t → fits_local types t ≡ true
+    variable_fits t (inr (inl v)) = ap (fits_local types) v.1
+    variable_fits t (inr (inr o)) = owner_local types t o.1
     variable_fits t (inl b) = go t b
       where
-        go : (t : Ty) → (is_value t || is_pointing types t) ≡ true → fits_register types t ≡ true
+        go : (t : Ty) → (is_value t || is_pointing types t) ≡ true → fits_local types t ≡ true
         go ty.View b = absurd (false≢true b)
+        go ty.Text b = absurd (false≢true b)
+        go (ty.Vector element) b = absurd (false≢true b)
         go _ b = b
 
     variable_kept : (t : Ty) → IsReachedType so_far types t → fits_kind (kind (class (Some t))) t ≡ true
-    variable_kept t (inr v) = ap (λ (u : Ty). fits_kind (kind (class (Some u))) u) v.1
+    variable_kept t (inr (inl v)) = ap (λ (u : Ty). fits_kind (kind (class (Some u))) u) v.1
+    variable_kept t (inr (inr o)) = go t o.1
+      where
+        go : (t : Ty) → is_owner_of_values types t ≡ true → fits_kind (kind (class (Some t))) t ≡ true
+        go ty.Text o = refl
+        go (ty.Vector element) o = refl
+        go _ o = absurd (false≢true o)
     variable_kept t (inl b) = go t b
       where
         go : (t : Ty) → (is_value t || is_pointing types t) ≡ true → fits_kind (kind (class (Some t))) t ≡ true
@@ -120,7 +130,13 @@ module _ (types : Types) where
         go _ b = absurd (false≢true b)
 
     variable_named : (t : Ty) (name : NameId) → IsReachedType so_far types t → is_named_as (kind (class (Some t))) t (Some name) ≡ true
-    variable_named t name (inr v) = ap (λ (u : Ty). is_named_as (kind (class (Some u))) u (Some name)) v.1
+    variable_named t name (inr (inl v)) = ap (λ (u : Ty). is_named_as (kind (class (Some u))) u (Some name)) v.1
+    variable_named t name (inr (inr o)) = go t o.1
+      where
+        go : (t : Ty) → is_owner_of_values types t ≡ true → is_named_as (kind (class (Some t))) t (Some name) ≡ true
+        go ty.Text o = refl
+        go (ty.Vector element) o = refl
+        go _ o = absurd (false≢true o)
     variable_named t name (inl b) = go t b
       where
         go : (t : Ty) → (is_value t || is_pointing types t) ≡ true → is_named_as (kind (class (Some t))) t (Some name) ≡ true
@@ -135,7 +151,7 @@ module _ (types : Types) where
 
   -- ---- a local, and all of them
 
-  local_formed : (names n x : ℕ) (l : Local) (t : Ty) → slice_get types.types l.ty.0 ≡ Some t → fits_register types t ≡ true
+  local_formed : (names n x : ℕ) (l : Local) (t : Ty) → slice_get types.types l.ty.0 ≡ Some t → fits_local types t ≡ true
       → fits_kind l.kind t ≡ true → is_named_as l.kind t l.name ≡ true → is_name_if names l.name ≡ true → (not (nat_lt x n) || is_some l.name) ≡ true → is_well_formed_local types names n x l ≡ true
   local_formed names n x l t at h kept as_named name has =
       let same : shape types n x l ≡ l.ty = fits_itself (nat_lt x n) l.ty t at h in
@@ -210,7 +226,7 @@ module _ (so_far : Bool) (p : ProgramForm) (of : FunctionForm) (T types : Types)
   intermediate_formed : (x : ℕ) (l : Local) → slice_get core.locals x ≡ Some l → IsIntermediate p.types (written (around p of) T).types l → is_well_formed_local types names core.parameters x l ≡ true
   intermediate_formed x l at is =
       let fit = fits_later p.types types front is.ty is.fits in
-      local_formed types names core.parameters x l is.ty (later l.ty.0 is.ty is.typed) fit
+      local_formed types names core.parameters x l is.ty (later l.ty.0 is.ty is.typed) (register_local types is.ty fit)
       (ap (λ (k : LocalKind). fits_kind k is.ty) is.kind ∙ fits_kept types is.ty fit) (ap (is_named_as l.kind is.ty) is.nameless) (ap (is_name_if names) is.nameless) (has_name x l at)
 
   own_formed : (x : ℕ) (l : Local) → slice_get core.locals x ≡ Some l → IsOwn (around p of) l → is_well_formed_local types names core.parameters x l ≡ true
@@ -219,7 +235,7 @@ module _ (so_far : Bool) (p : ProgramForm) (of : FunctionForm) (T types : Types)
       let kept : l.kind ≡ kind (class (Some found.0)) = is.of.kind ∙ ap (λ (o : Option Ty). kind (class o)) found.1 in
       let known = (and_parts (nat_lt of.name.0 names) (list_all (is_local_named names) of.locals) named).1 in
       local_formed types names core.parameters x l found.0 (ap (λ (id : TyId). slice_get types.types id.0) is.of.typed ∙ front is.variable.ty.0 found.0 found.1)
-      (fits_later p.types types front found.0 (variable_fits p.types so_far found.0 found.2))
+      (local_later p.types types front found.0 (variable_fits p.types so_far found.0 found.2))
       (ap (λ (k : LocalKind). fits_kind k found.0) kept ∙ variable_kept p.types so_far found.0 found.2)
       (ap (λ (k : LocalKind). is_named_as k found.0 l.name) kept ∙ ap (is_named_as (kind (class (Some found.0))) found.0) is.of.named ∙ variable_named p.types so_far found.0 is.variable.name found.2)
       (ap (is_name_if names) is.of.named ∙ passed_at (is_local_named names) (list_all (is_local_named names)) (λ u us. refl) of.locals is.number is.variable known is.there)

@@ -7,7 +7,7 @@ use Rattle.life_types.specs.Types.{Types}
 use Rattle.life_types.specs.declared.ty.Ty.{Ty}
 use Rattle.life_types.specs.declared.ty.Ty.TheVariants as ty
 use Rattle.life_types.specs.declared.ty.TyId.{TyId}
-use Rattle.life_elab_laws.specs.Reached.{is_reached_variable}
+use Rattle.life_elab_laws.specs.Reached.{is_reached_variable, is_owner_of_values}
 use Rattle.life_typed.specs.BaseTypes.{type_at}
 use Rattle.life_typed.specs.TypedForm.{Form, Typed}
 use Rattle.life_typed.specs.declared.typed_expr.Category.{Category}
@@ -25,10 +25,10 @@ use Rattle.life_writer.specs.Writing.{State}
 use Rattle.life_elab_laws.proofs.Fronts.{IsFront}
 use Rattle.life_elab_laws.proofs.Growing.{Begins}
 use Rattle.life_elab_laws.proofs.Locations.{is_location}
-use Rattle.life_elab_laws.proofs.TypedKinds.{place_same}
+use Rattle.life_elab_laws.proofs.TypedKinds.{place_same, owner_named}
 use Rattle.life_elab_laws.proofs.Types.{value_kind}
 use Rattle.life_elab_laws.proofs.Values.{by_values}
-use Rattle.life_elab_laws.proofs.VariablePlaces.{IsVariableAt, IsVariableType, a_raw, a_reference, a_value, a_view, kind_is, place_is, variable_type}
+use Rattle.life_elab_laws.proofs.VariablePlaces.{IsVariableAt, IsVariableType, a_raw, a_reference, a_value, a_view, kind_is, place_is, variable_type, an_owner, owner_kind}
 use Rattle.life_proper.specs.OperandTypes.{keeps_const}
 use Rattle.life_proper.specs.Placed as placed
 use Rattle.life_elab_laws.proofs.Gifts.{IsAt, IsPlaceOf}
@@ -62,9 +62,14 @@ type_found few more front id v = go (slice_get few.types id.0) refl v
 pub type_later : (few more : Types) → IsFront few.types more.types → (id : TyId) → is_value (type_at few id) ≡ true → ty_of more id ≡ type_at few id
 type_later few more front id v = ap or_void (type_found few more front id v)
 
-value_no_void : (t : Ty) → is_value t ≡ true → not (is_void t) ≡ true
+pub value_no_void : (t : Ty) → is_value t ≡ true → not (is_void t) ≡ true
 value_no_void ty.Void e = absurd (false≢true e)
 value_no_void _ e = refl
+
+owner_no_value : (types : Types) (t : Ty) → is_owner_of_values types t ≡ true → is_value t ≡ true → ⊥
+owner_no_value types ty.Text o v = false≢true v
+owner_no_value types (ty.Vector element) o v = false≢true v
+owner_no_value types _ o v = false≢true o
 
 -- a reference to a value is no slot
 value_referred : (id target : TyId) (t : Ty) → is_value t ≡ true → referred id target t ≡ id
@@ -147,6 +152,10 @@ module _ (types : Types) (texts : ℕ) (so_far : Bool) (fs : List Function) (f :
             let place : variable_of t a.program.types v.ty v.constant e.place form ≡ place_typed a.program.types v.ty v.constant e.place form =
             by_values (λ u. variable_of u a.program.types v.ty v.constant e.place form ≡ place_typed a.program.types v.ty v.constant e.place form) refl refl refl refl refl t w in
             object t found w (named t found ∙ place)
+        go (an_owner so t found o) =
+            let one : v.ty ≡ id = place_same v.ty id v.constant constant (own v.ty v.constant (owner_named a.program.types e v.ty v.constant form t o (named t found))) in
+            let here : type_at a.program.types id ≡ t = ap (type_at a.program.types) (sym one) ∙ ap (λ (o : Option Ty). unwrap_or o ty.Void) found in
+            absurd (owner_no_value a.program.types t o (ap is_value (sym here) ∙ value))
         go (a_view so found) =
             let one : v.ty ≡ id = place_same v.ty id v.constant constant (own v.ty v.constant (named ty.View found)) in
             let here : type_at a.program.types id ≡ ty.View = ap (type_at a.program.types) (sym one) ∙ ap (λ (o : Option Ty). unwrap_or o ty.Void) found in
@@ -163,6 +172,18 @@ module _ (types : Types) (texts : ℕ) (so_far : Bool) (fs : List Function) (f :
             (subst (λ (d : Bool). IsPlaceOf types texts so_far fs f (type_at a.program.types id) d (behind (variable s x))) (const_same target id c constant same)
             (behind_place (whole (variable s x)) (ty.Reference target c) target c (type_at a.program.types id)
             (record { typed = reference_there types f (variable s x) h.local target c there (typed_as (ty.Reference target c) found) (ap is_value later ∙ w); served = λ so. refl }) refl refl refl here value))
+
+    -- an owner is a place of its type
+    pub owner_formed : (t : Ty) (constant : Bool) → slice_get a.program.types.types v.ty.0 ≡ Some t → is_owner_of_values a.program.types t ≡ true → IsPlaceOf types texts so_far fs f t constant (variable_place s x)
+    owner_formed t constant found o =
+        let object = kind_is a s x v h t found ∙ owner_kind a.program.types t o in
+        subst (IsPlaceOf types texts so_far fs f t constant) (sym (place_is a s x v h Object object))
+        (object_place (variable s x) t constant (object_there types f (variable s x) h.local there object) (type_there types f (variable s x) h.local t there (typed_as t found) (plain t o)))
+      where
+        plain : (t : Ty) → is_owner_of_values a.program.types t ≡ true → is_reference t ≡ false
+        plain ty.Text o = refl
+        plain (ty.Vector element) o = refl
+        plain _ o = absurd (false≢true o)
 
     -- the variable of a raw pointer or a view has its type
     pub pointer_formed : (t : Ty) → is_location t ≡ true → slice_get a.program.types.types v.ty.0 ≡ Some t → IsAt types texts so_far fs f t (whole (variable s x))

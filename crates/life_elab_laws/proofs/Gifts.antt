@@ -1,5 +1,5 @@
 -- What a part of an expression gives: which type it has in the finished function, and what is known of it where so many locals are there.
-use Rattle.std.proofs.Common.{◌≡◌, ◌≤◌, ◌⊎◌, ℕ, Bool, true, List, [], ◌∷◌, None, ◌∙◌, arith}
+use Rattle.std.proofs.Common.{◌≡◌, ◌≤◌, ◌⊎◌, ℕ, Bool, true, List, [], ◌∷◌, flat_map, None, ◌∙◌, arith}
 use Rattle.std.specs.List.{list_all}
 use Rattle.life_types.specs.TypeTests.{is_raw, is_view}
 use Rattle.life_types.specs.Types.{Types}
@@ -11,6 +11,7 @@ use Rattle.life_core.specs.Function.{Function}
 use Rattle.life_core.specs.Operands.{Argument, Location, Operand, Value}
 use Rattle.life_core.specs.Served.{is_served_argument, is_served_location, is_served_operand}
 use Rattle.life_core.specs.Step.{Step}
+use Rattle.life_proper.specs.GivenOver.{given_argument}
 use Rattle.life_proper.specs.OperandTypes.{keeps_const, takes}
 use Rattle.life_proper.specs.Placed.{is_const_place, is_number_of, type_in, type_of}
 use Rattle.life_proper.specs.WellFormed.{are_arguments_for, have_own_slots}
@@ -18,7 +19,7 @@ use Rattle.life_proper.specs.declared.known.Known.{Known}
 use Rattle.life_writer.specs.Pointers.{As, By, Pointing}
 use Rattle.life_elab_laws.proofs.Locations.{is_location}
 use Rattle.life_elab_laws.proofs.Making.{AreHeld, IsFilling, IsHeld, IsPlace, IsPointer, IsPointing, Keeps}
-use Rattle.life_elab_laws.proofs.Shaping.{IsFineStep}
+use Rattle.life_elab_laws.proofs.Shaping.{IsFineStep, is_no_object}
 
 -- a number in a register for each of these
 abbrev pub AreNumbersFor : List TyId → List Argument → ℕ → List Known → Type 0
@@ -117,6 +118,7 @@ module _ (types : Types) (texts : ℕ) (so_far : Bool) (fs : List Function) (f :
   pub record AreHanded (ids : List TyId) (xs : List Argument) : Type 0 where
     pub fit : are_arguments_for types texts fs f ids xs ≡ true
     pub own : have_own_slots types texts fs f xs ≡ true
+    pub given : list_all (is_no_object types f) (flat_map given_argument xs) ≡ true
     pub served : so_far ≡ true → list_all is_served_argument xs ≡ true
 
   pub numbers_stay : (ids : List TyId) (xs : List Argument) (n m : ℕ) (k j : List Known) → n ≤ m → AreNumbersFor ids xs n k → Keeps f n None k j → AreNumbersFor ids xs m j

@@ -44,7 +44,7 @@ use Rattle.life_elab_laws.proofs.Growing.{Begins, Grows, added, grows_none}
 use Rattle.life_elab_laws.proofs.Held.{one_there, place_there, two_there}
 use Rattle.life_elab_laws.proofs.Knowledge.{at_set}
 use Rattle.life_elab_laws.proofs.Locations.{is_location}
-use Rattle.life_elab_laws.proofs.Making.{IsOpen, IsPointer, Keeps}
+use Rattle.life_elab_laws.proofs.Making.{IsOpen, IsPointer, Keeps, keeps_all}
 use Rattle.life_elab_laws.proofs.OperandsThere.{number_any, number_there, number_typed, type_there, value_same}
 use Rattle.life_elab_laws.proofs.Parts.{Makes, Part, Runs, and_part, gives_part, then_part}
 use Rattle.life_elab_laws.proofs.Shaping.{IsFineStep, fine_acts}
@@ -139,6 +139,7 @@ module _ (types : Types) (texts : ℕ) (so_far : Bool) (fs : List Function) (f :
     fills = λ r n k e p. record { ready = uses_ready k (operation_uses o) (r ∷ []) (ready n k p); after = refl };
     fine = λ r e p. record {
       plain = λ so. refl;
+      given = refl;
       formed =
           and_from (is_number types f r) (is_operation_of types texts fs f (type_at types f r) o) (number_any types f t r e)
           (subst (λ (u : Ty). is_operation_of types texts fs f u o ≡ true) (number_typed types f t r e) (formed p));
@@ -159,7 +160,7 @@ module _ (types : Types) (texts : ℕ) (so_far : Bool) (fs : List Function) (f :
       computed_part (nothing types texts so_far fs f) tt into t place values.input s (ap is_value long) wanted
       (record {
         fills = λ r n k e p. record { ready = refl; after = refl };
-        fine = λ r e p. record { plain = λ so. refl; formed = subst (λ (u : Ty). is_number_of types f u r ≡ true) long e; served = λ so. refl };
+        fine = λ r e p. record { plain = λ so. refl; given = refl; formed = subst (λ (u : Ty). is_number_of types f u r ≡ true) long e; served = λ so. refl };
       })
 
   -- ---- from one register
@@ -205,7 +206,7 @@ module _ (types : Types) (texts : ℕ) (so_far : Bool) (fs : List Function) (f :
       computed_part (a_place types texts so_far fs f t constant) o into t place (load o) s v wanted
       (record {
         fills = λ r n k e p. record { ready = uses_ready k (place_uses o) (r ∷ []) (place_there o n k p); after = refl };
-        fine = λ r e h. record { plain = λ so. refl; formed = subst (λ (u : Ty). is_number_of types f u r ≡ true) (sym h.typed) e; served = h.served };
+        fine = λ r e h. record { plain = λ so. refl; given = refl; formed = subst (λ (u : Ty). is_number_of types f u r ≡ true) (sym h.typed) e; served = h.served };
       })
 
   -- ---- behind other parts
@@ -267,7 +268,7 @@ module _ (types : Types) (texts : ℕ) (so_far : Bool) (fs : List Function) (f :
 
   -- ---- pointers
 
-  location_at : (place : Place) (t : Ty) (s : State) → is_location t ≡ true → Begins types f (new_register place t s).state → IsAt types texts so_far fs f t (whole (new_register place t s).given)
+  pub location_at : (place : Place) (t : Ty) (s : State) → is_location t ≡ true → Begins types f (new_register place t s).state → IsAt types texts so_far fs f t (whole (new_register place t s).given)
   location_at place t s loc b =
       let l = added place t s in
       record { typed = type_there types f _ l t (b.locals _ l (last_there s.locals l)) (b.table l.ty.0 t (type_added s.types.types t)) (location_no_reference t loc); served = λ so. refl }
@@ -304,6 +305,7 @@ module _ (types : Types) (texts : ℕ) (so_far : Bool) (fs : List Function) (f :
         fills = λ r n k e p. record { ready = uses_ready k (x.0.local ∷ x.1.local ∷ []) (r ∷ []) (two_there k x.0.local x.1.local (pointer_held x.0 n k p.0) (pointer_held x.1 n k p.1)); after = refl };
         fine = λ r e h. record {
           plain = λ so. refl;
+          given = refl;
           formed =
               and_from (is_number_of types f ty.Bool r) (operands.are_compared types (type_in types f x.0) (type_in types f x.1)) (subst (λ (u : Ty). is_number_of types f u r ≡ true) bool e)
               (ap (λ (u : Ty). operands.are_compared types u (type_in types f x.1)) h.0.typed ∙ ap (operands.are_compared types ty.View) h.1.typed);
@@ -315,6 +317,27 @@ module _ (types : Types) (texts : ℕ) (so_far : Bool) (fs : List Function) (f :
       pointer_held l n k p = ap (λ (q : Location). known_at k q.local) p.is ∙ p.held
 
   -- ---- an instruction that leaves all that is known
+
+  -- .. by what its operands are
+  pub acted_typed_part : {A : Type 0} (P : G A) (x : A) (place : Place) (i : Step) (s : State)
+      → (P.typed x → IsFineStep types texts so_far fs f i × ((n : ℕ) (k : List Known) → P.ready x n k → (are_ready k (touched_by f i) ≡ true) × (known_after (touched_by f i) k ≡ k)))
+      → Part types texts so_far fs f P x None s (gives tt (emit place i s)) (nothing types texts so_far fs f)
+  acted_typed_part P x place i s acts = record {
+    grown = grows_none s;
+    registers = registers_none types s;
+    code = Acts place i ∷ [];
+    written = refl;
+    runs = λ b p. let is = acts p in record {
+      fine = fine_acts types texts so_far fs f place i is.0;
+      typed = tt;
+      goes = λ k alive q. let here = is.1 (length s.locals) k q in record {
+        after = known_after (touched_by f i) k;
+        falls = falls_acts types f place i k here.0;
+        keeps = subst (Keeps f (length s.locals) None k) (sym here.1) (keeps_all f (length s.locals) None k);
+        gives = tt;
+      };
+    };
+  }
 
   pub acted_part : {A : Type 0} (P : G A) (x : A) (place : Place) (i : Step) (s : State) → (P.typed x → IsFineStep types texts so_far fs f i) → ((n : ℕ) (k : List Known) → P.ready x n k → are_ready k (touched_by f i) ≡ true)
       → ((n m : ℕ) (k : List Known) → P.ready x n k → Keeps f m None k (known_after (touched_by f i) k))

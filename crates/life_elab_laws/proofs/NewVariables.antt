@@ -31,6 +31,8 @@ use Rattle.life_elab_laws.proofs.Locations.{is_location}
 use Rattle.life_elab_laws.proofs.OperandsThere.{object_there, register_there, type_there, value_no_reference, value_same}
 use Rattle.life_elab_laws.proofs.Shaping.{IsFineStep}
 use Rattle.life_elab_laws.proofs.Types.{value_kind}
+use Rattle.life_elab_laws.proofs.VariablePlaces.{owner_kind}
+use Rattle.life_elab_laws.specs.Reached.{is_owner_of_values}
 
 module _ (a : Around) (types : Types) (texts : ℕ) (so_far : Bool) (fs : List Function) (f : Function) (front : IsFront a.program.types.types types.types) where
   -- what a reference is bound to fits it
@@ -65,6 +67,7 @@ module _ (a : Around) (types : Types) (texts : ℕ) (so_far : Bool) (fs : List F
       pub value_saved : (r : ℕ) → is_number_of types f (type_at a.program.types v.ty) r ≡ true → IsFineStep types texts so_far fs f (Save (object_named (length s.locals)) r)
       value_saved r h = record {
         plain = λ so. refl;
+        given = refl;
         formed =
             and_from (is_number_of types f (placed.type_of types f (object_named (length s.locals))) r) true
             (ap (λ (t : Ty). is_number_of types f t r) (object_place types texts so_far fs f (length s.locals) (type_at a.program.types v.ty) false object_declared type_declared).typed ∙ h) refl;
@@ -74,6 +77,12 @@ module _ (a : Around) (types : Types) (texts : ℕ) (so_far : Bool) (fs : List F
       -- a call brings it to life
       pub value_goes : goes_to types texts fs f (type_at a.program.types v.ty) (Some (whole (length s.locals))) ≡ true
       value_goes = goes_object types texts so_far fs f (type_at a.program.types v.ty) (length s.locals) worth type_declared object_declared
+
+    -- an owner
+    pub owner_lives : (t : Ty) → slice_get a.program.types.types v.ty.0 ≡ Some t → is_owner_of_values a.program.types t ≡ true → can_live types texts fs f (length s.locals) ≡ true
+    owner_lives t found o =
+        or_left (object_at types f (length s.locals)) _
+        (object_there types f (length s.locals) (variable_local a v) there (ap (λ (u : Option Ty). kind (class u)) found ∙ owner_kind a.program.types t o))
 
     -- of the type of a raw pointer or a view
     pub location_declared : (t : Ty) → is_location t ≡ true → slice_get a.program.types.types v.ty.0 ≡ Some t → IsAt types texts so_far fs f t (whole (length s.locals))

@@ -68,6 +68,7 @@ module _ (a : Around) (visible : List ℕ) (types : Types) (texts : ℕ) (so_far
       (λ b p. (
         record {
           plain = λ so. refl;
+          given = refl;
           formed = ap (λ (t : Ty). is_source_of types texts fs f t (Text (end_line a))) (at_view b) ∙ and_from true (nat_lt (end_line a) texts) refl few;
           served = λ so. refl;
         },
@@ -76,7 +77,7 @@ module _ (a : Around) (visible : List ℕ) (types : Types) (texts : ℕ) (so_far
       (λ r n k e p. record { ready = refl; after = refl })
       (λ k lt e. (lt, e)))
       (acted_part types texts so_far fs f a_view w.given place (Ports (WritesView (whole_local w.given))) aimed
-      (λ h. record { plain = λ so. refl; formed = h; served = λ so. refl })
+      (λ h. record { plain = λ so. refl; given = refl; formed = h; served = λ so. refl })
       (λ n k p. uses_ready k (w.given ∷ []) [] (one_there k w.given p.1))
       (λ n m k p. keeps_all f m None k))
     where
@@ -92,7 +93,7 @@ module _ (a : Around) (visible : List ℕ) (types : Types) (texts : ℕ) (so_far
       let w = value u behind t None s in
       subst (λ (b : Bool). Acts a visible types texts so_far fs f setting s (cond b (w >> λ r s. emit e.place (Ports (Writes r)) s) (seen u s >> λ x s. viewed x s >> λ l s. emit e.place (Ports (WritesView l)) s))) (sym (own_value e.ty n))
       (then_part types texts so_far fs f (nothing types texts so_far fs f) tt None s w _ (a_number types texts so_far fs f t) (nothing types texts so_far fs f) stands.opened (is.valued n behind t (own_value e.ty n) None s tt stands)
-      (acted_part types texts so_far fs f (a_number types texts so_far fs f t) w.given e.place (Ports (Writes w.given)) w.state (λ h. record { plain = λ so. refl; formed = number_any types f t w.given h; served = λ so. refl })
+      (acted_part types texts so_far fs f (a_number types texts so_far fs f t) w.given e.place (Ports (Writes w.given)) w.state (λ h. record { plain = λ so. refl; given = refl; formed = number_any types f t w.given h; served = λ so. refl })
       (λ n k p. uses_ready k (w.given ∷ []) [] (one_there k w.given p.1)) (λ n m k p. keeps_all f m None k)))
 
   -- characters that are seen by a view
@@ -104,7 +105,7 @@ module _ (a : Around) (visible : List ℕ) (types : Types) (texts : ℕ) (so_far
       subst (λ (b : Bool). Acts a visible types texts so_far fs f setting s (cond b (value u behind (own_type e.ty) None s >> λ r s. emit e.place (Ports (Writes r)) s) (seen u s >> λ x s. viewed x s >> λ l s. emit e.place (Ports (WritesView l)) s))) (sym (no_value e.ty sees))
       (subst (λ (v : Gives Seen). Acts a visible types texts so_far fs f setting s (v >> λ x s. viewed x s >> λ l s. emit e.place (Ports (WritesView l)) s)) (sym (seen_view a visible types texts so_far fs f setting (whole_form e) sees s))
       (then_part types texts so_far fs f (nothing types texts so_far fs f) tt None s w _ Q (nothing types texts so_far fs f) stands.opened (view_whole a visible types texts so_far fs f setting (whole_form e) is sees s stands)
-      (acted_part types texts so_far fs f Q w.given e.place (Ports (WritesView w.given)) w.state (λ h. record { plain = λ so. refl; formed = ap is_view h.typed; served = h.served })
+      (acted_part types texts so_far fs f Q w.given e.place (Ports (WritesView w.given)) w.state (λ h. record { plain = λ so. refl; given = refl; formed = ap is_view h.typed; served = h.served })
       (λ n k p. uses_ready k (w.given.local ∷ []) [] (one_there k w.given.local (ap (λ (q : Location). known_at k q.local) p.is ∙ p.held))) (λ n m k p. keeps_all f m None k))))
     where
       no_value : (t : ExprType) → is_seen t ≡ true → is_value (own_type t) ≡ false

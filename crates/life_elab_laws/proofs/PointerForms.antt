@@ -53,6 +53,7 @@ use Rattle.life_elab_laws.proofs.RowTypes.{sees}
 use Rattle.life_elab_laws.proofs.Setting.{Setting}
 use Rattle.life_elab_laws.proofs.TypedKinds.{HasKind, IsKind, a_null, a_number as is_number_kind, a_pointer as is_pointer_kind, a_text, a_view, kind_of_place, kind_of_result, no_value, none_some, place_same, some_same, value_place}
 use Rattle.life_elab_laws.proofs.VariablePlaces.{Stands, named_pointer, pointer_there, variable_there}
+use Rattle.life_elab_laws.specs.Reached.{is_reached_type}
 
 module _ (a : Around) (visible : List ℕ) (types : Types) (texts : ℕ) (so_far : Bool) (fs : List Function) (f : Function) (setting : Setting so_far a types fs f) where
   abbrev Standing : State → Type 0
@@ -120,11 +121,11 @@ module _ (a : Around) (visible : List ℕ) (types : Types) (texts : ℕ) (so_far
       go (no_value at v) = v
       go (a_null at v) = v
 
-  pub variable_form : (x : ℕ) (e : Typed) → Contains visible x → IsVariable a.program.types x (slice_get a.function.locals x) e → IsForm a visible types texts so_far fs f setting (local x) e
-  variable_form x e c h = place_form a visible types texts so_far fs f setting (local x) e kind (variable_no_value x e h) refl (λ place b. refl) (λ id constant at v place s stands. variable_names x e s stands c h id constant at v) (λ p place s stands. go (pointed_type e.ty p) s stands)
+  pub variable_form : (x : ℕ) (e : Typed) → is_reached_type so_far e.ty ≡ true → Contains visible x → IsVariable a.program.types x (slice_get a.function.locals x) e → IsForm a visible types texts so_far fs f setting (local x) e
+  variable_form x e n c h = place_form a visible types texts so_far fs f setting (local x) e kind (variable_no_value x e h) refl (λ place b. refl) (λ id constant at v place s stands. variable_names x e s stands c h id constant at v) (λ p place s stands. go (pointed_type e.ty p) s stands)
     where
       kind : IsKind so_far a.program.types e
-      kind = kind_local so_far a.program.types a.function.locals x e setting.variables h
+      kind = kind_local so_far a.program.types a.function.locals x e setting.variables n h
 
       go : IsPointed e.ty → (s : State) → Standing s → Points e.ty s (gives (As (whole (variable s x))) s)
       go (at_location u is loc) s stands = variable_points x e s stands c h u is loc

@@ -82,7 +82,7 @@ module _ (a : Around) (types : Types) (texts : ℕ) (so_far : Bool) (fs : List F
   module _ (s : State) (h : Follows types f a v s) where
     pub break_does : in_loop ≡ true → (keyword : Place) → DoesLevel types texts so_far fs f a v in_loop s (left s.outside keyword Breaks s)
     break_does e keyword = record {
-      does = left_does types texts so_far fs f a setting v in_loop s h s.outside keyword Breaks (record { statement = refl; tests = refl; breaks = e; plain = λ so. refl; formed = refl; served = λ so. refl })
+      does = left_does types texts so_far fs f a setting v in_loop s h s.outside keyword Breaks (record { statement = refl; tests = refl; breaks = e; plain = λ so. refl; given = refl; formed = refl; served = λ so. refl })
           (λ k knows. record {
             fine = refl;
             next = tt;
@@ -97,7 +97,7 @@ module _ (a : Around) (types : Types) (texts : ℕ) (so_far : Bool) (fs : List F
 
     pub continue_does : in_loop ≡ true → (keyword : Place) → DoesLevel types texts so_far fs f a v in_loop s (left s.outside keyword Continues s)
     continue_does e keyword = record {
-      does = left_does types texts so_far fs f a setting v in_loop s h s.outside keyword Continues (record { statement = refl; tests = refl; breaks = e; plain = λ so. refl; formed = refl; served = λ so. refl })
+      does = left_does types texts so_far fs f a setting v in_loop s h s.outside keyword Continues (record { statement = refl; tests = refl; breaks = e; plain = λ so. refl; given = refl; formed = refl; served = λ so. refl })
           (λ k knows. record {
             fine = refl;
             next = tt;
@@ -113,7 +113,7 @@ module _ (a : Around) (types : Types) (texts : ℕ) (so_far : Bool) (fs : List F
     -- control returns where no value has to be given back
     pub return_does : (GivesValue a → ⊥) → (keyword : Place) → DoesLevel types texts so_far fs f a v in_loop s (left 0 keyword (Returns keyword) s)
     return_does never keyword = record {
-      does = left_does types texts so_far fs f a setting v in_loop s h 0 keyword (Returns keyword) (record { statement = refl; tests = refl; breaks = refl; plain = λ so. refl; formed = refl; served = λ so. refl }) (λ k knows. return_leaves s keyword k) (λ gives o. absurd (never gives));
+      does = left_does types texts so_far fs f a setting v in_loop s h 0 keyword (Returns keyword) (record { statement = refl; tests = refl; breaks = refl; plain = λ so. refl; given = refl; formed = refl; served = λ so. refl }) (λ k knows. return_leaves s keyword k) (λ gives o. absurd (never gives));
       level = left_level types texts so_far fs f s 0 keyword (Returns keyword);
     }
 
@@ -197,7 +197,7 @@ module _ (a : Around) (types : Types) (texts : ℕ) (so_far : Bool) (fs : List F
             acting b =
                 acts_then types texts so_far fs f in_loop s w.state behind made.code back h.outside (grows_adds types f s w.state made.grown)
                 (made_acts types texts so_far fs f a v in_loop (Some (result_local a)) s w (a_number types texts so_far fs f t) h made b)
-                (left_acts types texts so_far fs f a setting v in_loop w.state later 0 keyword (Returns keyword) (record { statement = refl; tests = refl; breaks = refl; plain = λ so. refl; formed = refl; served = λ so. refl }) (λ k knows. return_leaves w.state keyword k) d b)
+                (left_acts types texts so_far fs f a setting v in_loop w.state later 0 keyword (Returns keyword) (record { statement = refl; tests = refl; breaks = refl; plain = λ so. refl; given = refl; formed = refl; served = λ so. refl }) (λ k knows. return_leaves w.state keyword k) d b)
 
       pub value_returned : DoesLevel types texts so_far fs f a v in_loop s (left 0 keyword (Returns keyword) w.state)
       value_returned =

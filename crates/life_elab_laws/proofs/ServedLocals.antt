@@ -1,5 +1,5 @@
 -- The locals of a function that is translated are served: what lies in memory is a value, what doesn't is a number, a pointer or a view, and none is a slot.
-use Rattle.std.proofs.Common.{◌≡◌, inl, inr, ℕ, zero, suc, Bool, true, false, ◌||◌, not, List, [], ◌∷◌, slice_get, Option, Some, refl, ap, ◌∙◌}
+use Rattle.std.proofs.Common.{◌≡◌, inl, inr, ℕ, zero, suc, Bool, true, false, ◌||◌, not, List, [], ◌∷◌, slice_get, Option, Some, refl, sym, ap, ◌∙◌}
 use Rattle.std.proofs.lemmas.Bool.{and_from, false≢true}
 use Rattle.std.specs.List.{list_all}
 use Rattle.life_types.specs.TypeTests.{is_value}
@@ -38,9 +38,10 @@ module _ (types : Types) where
   register_served (ty.Reference target constant) h = refl
   register_served _ h = absurd (false≢true h)
 
-  pub variable_served : (so_far : Bool) (t : Ty) → IsReachedType so_far types t → IsServedAs (kind (class (Some t))) t
-  variable_served so_far t (inr v) = ap (λ (u : Ty). is_served_as (kind (class (Some u))) (held_if (class (Some u)) (kind (class (Some u))) (Some u))) v.1
-  variable_served so_far t (inl b) = go t b
+  pub variable_served : (so_far : Bool) → so_far ≡ true → (t : Ty) → IsReachedType so_far types t → IsServedAs (kind (class (Some t))) t × (fits_register types t ≡ true)
+  variable_served so_far so t (inr (inl v)) = absurd (false≢true (sym v.0 ∙ so))
+  variable_served so_far so t (inr (inr o)) = absurd (false≢true (sym o.0 ∙ so))
+  variable_served so_far so t (inl b) = (go t b, fits t b)
     where
       go : (t : Ty) → (is_value t || is_pointing types t) ≡ true → IsServedAs (kind (class (Some t))) t
       go ty.Bool b = refl
@@ -51,6 +52,10 @@ module _ (types : Types) where
       go (ty.Raw target constant) b = refl
       go (ty.Reference target constant) b = refl
       go _ b = absurd (false≢true b)
+
+      fits : (t : Ty) → (is_value t || is_pointing types t) ≡ true → fits_register types t ≡ true
+      fits ty.View b = absurd (false≢true b)
+      fits _ b = b
 
   no_slot : (t : Ty) → fits_register types t ≡ true → is_slot_type types (Some t) ≡ false
   no_slot ty.Bool h = refl

@@ -8,7 +8,7 @@ use Rattle.life_types.specs.declared.ty.Ty.{Ty}
 use Rattle.life_types.specs.declared.ty.Ty.TheVariants as ty
 use Rattle.life_types.specs.declared.ty.TyId.{TyId}
 use Rattle.life_built.specs.Built.{is_pointing}
-use Rattle.life_elab_laws.specs.Reached.{is_reached_variable}
+use Rattle.life_elab_laws.specs.Reached.{is_owner_of_values, is_reached_variable}
 use Rattle.life_typed.specs.BaseTypes.{type_at}
 use Rattle.life_core.specs.declared.program.Local.{Local}
 use Rattle.life_proper.specs.Knowing.{is_intermediate}
@@ -30,9 +30,15 @@ module _ (few more : Types) (front : IsFront few.types more.types) where
   type_later (ty.Reference target constant) b = value_later target b
   type_later _ b = b
 
+  pub owner_later : (t : Ty) → is_owner_of_values few t ≡ true → is_owner_of_values more t ≡ true
+  owner_later ty.Text o = refl
+  owner_later (ty.Vector element) o = value_later element o
+  owner_later _ o = absurd (false≢true o)
+
   reached_later : (so_far : Bool) (t : Ty) → IsReachedType so_far few t → IsReachedType so_far more t
   reached_later so_far t (inl b) = inl (type_later t b)
-  reached_later so_far t (inr v) = inr v
+  reached_later so_far t (inr (inl v)) = inr (inl v)
+  reached_later so_far t (inr (inr o)) = inr (inr (o.0, owner_later t o.1))
 
   pub variable_later : (so_far : Bool) (id : TyId) → is_reached_variable so_far few id ≡ true → is_reached_variable so_far more id ≡ true
   variable_later so_far id b =

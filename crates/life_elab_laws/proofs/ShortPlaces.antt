@@ -1,4 +1,4 @@
--- The places of a function that is translated have no steps: its objects are values, and nothing is behind its parameters.
+-- The places of a function that is translated have a step at most: its objects are values and owners of values, and nothing is behind its parameters.
 use Rattle.std.proofs.Common.{◌≡◌, ◌<◌, ◌+◌, ℕ, zero, suc, Bool, true, false, ◌&&◌, ◌||◌, List, [], ◌∷◌, ◌++◌, if◌then◌else◌, flat_map, map, nat_lt, slice_get, Option, Some, None, is_none, refl, ap, ◌∙◌, subst, sym, unwrap_or, arith}
 use Rattle.std.proofs.lemmas.Bool.{false≢true}
 use Rattle.std.proofs.lemmas.Bool.Decides.{nat_tests}
@@ -28,6 +28,7 @@ use Rattle.life_pset.specs.declared.element.Element.{Element}
 use Rattle.life_pset.specs.declared.element.Element.TheVariants as element
 use Rattle.life_elab_laws.proofs.Reaching.{reaches, value_reached}
 use Rattle.life_elab_laws.proofs.Shaped.{AreShaped, IsShaped}
+use Rattle.life_pset.specs.Places.{owned_place}
 
 -- ---- lists
 
@@ -72,17 +73,29 @@ module _ (f : Function) where
 -- ---- types of variables
 
 module _ (types : Types) where
-  -- a value or a pointer has no parts
-  no_parts : (id : TyId) → is_reached_variable false types id ≡ true → (at : AbsPlace) → places_in at (tree_at types id) ≡ at ∷ []
+  -- a value or a pointer has no parts, and an owner has its elements
+  short_parts : (id : TyId) → is_reached_variable false types id ≡ true → (x : ℕ) → AreShort (map element.At (places_in (local_place x) (tree_at types id)))
   unfolding tree_at
-  no_parts id b at = go (slice_get types.types id.0) b
+  short_parts id b x = go (slice_get types.types id.0) b
     where
-      go : (o : Option Ty) → reaches false types (unwrap_or o ty.Void) ≡ true → places_in at (tree_of types (tree_within id.0 types) o) ≡ at ∷ []
-      go (Some ty.Text) b = absurd (false≢true b)
-      go (Some (ty.Vector item)) b = absurd (false≢true b)
+      value_parts : (n : ℕ) (item : TyId) → is_value (type_at types item) ≡ true → AreShort (map element.At (places_in (owned_place (local_place x)) (tree_within n types item)))
+      value_parts zero item v = (omega arith, tt)
+      value_parts (suc n) item v = parts (slice_get types.types item.0) v
+        where
+          parts : (o : Option Ty) → is_value (unwrap_or o ty.Void) ≡ true → AreShort (map element.At (places_in (owned_place (local_place x)) (tree_of types (tree_within n types) o)))
+          parts (Some ty.Bool) v = (omega arith, tt)
+          parts (Some ty.Char) v = (omega arith, tt)
+          parts (Some ty.Int) v = (omega arith, tt)
+          parts (Some ty.Long) v = (omega arith, tt)
+          parts (Some ty.Size) v = (omega arith, tt)
+          parts _ v = absurd (false≢true v)
+
+      go : (o : Option Ty) → reaches false types (unwrap_or o ty.Void) ≡ true → AreShort (map element.At (places_in (local_place x) (tree_of types (tree_within id.0 types) o)))
+      go (Some ty.Text) b = (omega arith, (omega arith, tt))
+      go (Some (ty.Vector item)) b = (omega arith, value_parts id.0 item b)
       go (Some (ty.Unique target)) b = absurd (false≢true b)
       go (Some (ty.Struct number)) b = absurd (false≢true b)
-      go _ b = refl
+      go _ b = (omega arith, tt)
 
   -- .. and stands as it is, also where a parameter has it
   same_shape : (parameter : Bool) (id : TyId) → is_reached_variable false types id ≡ true → shape_if types parameter id ≡ id
@@ -112,9 +125,7 @@ module _ (types : Types) where
       go : (k : LocalKind) → l.kind ≡ k → AreShort (map element.At (object_places k (tree_at types (shape types n x l)) x))
       go Object is =
           let built = (shaped (ap (λ (k : LocalKind). is_register k && is_none l.name) is)).built in
-          subst (λ (places : List AbsPlace). AreShort (map element.At places))
-          (sym (ap (λ (id : TyId). places_in (local_place x) (tree_at types id)) (same_shape (nat_lt x n) l.ty built) ∙ no_parts l.ty built (local_place x)))
-          (omega arith, tt)
+          subst (λ (id : TyId). AreShort (map element.At (places_in (local_place x) (tree_at types id)))) (sym (same_shape (nat_lt x n) l.ty built)) (short_parts l.ty built x)
       go Register is = tt
       go Range is = tt
 

@@ -1,6 +1,6 @@
 -- Assignments, steps, and calls that stand alone.
-use Rattle.std.proofs.Common.{◌≡◌, ◌⊎◌, inl, inr, ℕ, Bool, true, false, List, [], ◌∷◌, Contains, cond, not, Some, None, refl, sym, ap, ◌∙◌, subst, arith}
-use Rattle.std.proofs.lemmas.Bool.{and_from, and_parts, false≢true}
+use Rattle.std.proofs.Common.{◌≡◌, ◌⊎◌, inl, inr, ℕ, Bool, true, false, List, [], ◌∷◌, Contains, cond, not, Some, None, refl, sym, ap, ◌∙◌, subst, arith, ◌&&◌}
+use Rattle.std.proofs.lemmas.Bool.{and_from, and_parts, false≢true, or_cases}
 use Rattle.std.specs.Prelude.{pos}
 use Rattle.life_types.specs.TypeTests.{is_value, is_void}
 use Rattle.life_types.specs.Types.{Types, class}
@@ -12,10 +12,10 @@ use Rattle.life_types.specs.declared.ty.Ty.TheVariants as ty
 use Rattle.life_tree.specs.declared.operator.CompoundOperator.{CompoundOperator}
 use Rattle.life_tree.specs.declared.operator.StepOperator.{StepOperator}
 use Rattle.life_built.specs.Built.{is_call}
-use Rattle.life_elab_laws.specs.Reached.{is_reached_expression, is_reached_simple}
+use Rattle.life_elab_laws.specs.Reached.{is_reached_expression, is_reached_simple, is_changing, is_reached_change, is_reached_form, is_reached_object, is_reached_type}
 use Rattle.life_typed.specs.Operators.{promoted}
 use Rattle.life_typed.specs.Statements.{can_step, compounded}
-use Rattle.life_typed.specs.TypedForm.{Form, Typed, call, typed, whole as whole_form}
+use Rattle.life_typed.specs.TypedForm.{Form, Typed, call, typed, whole as whole_form, method}
 use Rattle.life_typed.specs.TypedStatement.{SimpleForm, assign, compound, discarded, one, several, step}
 use Rattle.life_typed.specs.declared.typed_expr.Category.{Category}
 use Rattle.life_typed.specs.declared.typed_expr.Category.TheVariants as category
@@ -34,7 +34,7 @@ use Rattle.life_proper.specs.ReadyKnown.{are_known, is_known}
 use Rattle.life_proper.specs.WellFormed.{answer_of}
 use Rattle.life_proper.specs.declared.known.Known.{Known}
 use Rattle.life_proper.specs.declared.known.Known.TheVariants as known
-use Rattle.life_well_typed.specs.Expressions.{IsExpression, parameter_types}
+use Rattle.life_well_typed.specs.Expressions.{IsExpression, parameter_types, IsMadeOf, typed_in}
 use Rattle.life_well_typed.specs.Given.{is_given, is_number}
 use Rattle.life_well_typed.specs.Statements.{IsSimple}
 use Rattle.life_proper.proofs.ReadyTests.{uses_ready}
@@ -58,7 +58,7 @@ use Rattle.life_elab_laws.proofs.CallParts.{alone_fine}
 use Rattle.life_elab_laws.proofs.Calls.{alone_after, alone_ready}
 use Rattle.life_elab_laws.proofs.ExpressionTypes.{own_no_iterator, own_no_text, own_value, seen_kind}
 use Rattle.life_elab_laws.proofs.ExpressionForms.{IsCall, IsWhole}
-use Rattle.life_elab_laws.proofs.Expressions.{expression, whole_expression}
+use Rattle.life_elab_laws.proofs.Expressions.{whole_expression, wholes}
 use Rattle.life_elab_laws.proofs.PointerForms.{placed_operand, pointer_whole, points_whole, result_later}
 use Rattle.life_elab_laws.proofs.FormedFits.{given_raw, given_seen}
 use Rattle.life_elab_laws.proofs.Gifts.{Gift, IsPlaceOf, takes_from, a_number, a_place, a_pointer, a_pointing, arguments, both, nothing}
@@ -76,6 +76,8 @@ use Rattle.life_elab_laws.proofs.SimpleTypes.{IsFree, compound_answer, compounde
 use Rattle.life_elab_laws.proofs.TypedKinds.{HasKind, a_null, a_number as of_number, a_pointer as of_pointer, a_text, a_view as of_view, no_value, promoted_value, value_place}
 use Rattle.life_elab_laws.proofs.Values.{by_values}
 use Rattle.life_elab_laws.proofs.VariablePlaces.{Stands, stands_later}
+use Rattle.life_elab_laws.proofs.ChangeForms.{change_part}
+use Rattle.life_elab_laws.proofs.ElementForms.{object_expression}
 
 value_class : (t : Ty) → is_value t ≡ true → class (Some t) ≡ classes.Value
 value_class = by_values (λ t. class (Some t) ≡ classes.Value) refl refl refl refl refl
@@ -119,6 +121,7 @@ module _ (a : Around) (visible : List ℕ) (types : Types) (texts : ℕ) (so_far
       acted_part types texts so_far fs f P x place (Save o r) s
       (λ h. record {
         plain = λ so. refl;
+        given = refl;
         formed = and_from (is_number_of types f (type_of types f o) r) (not (is_const_place types f o)) (ap (λ (u : Ty). is_number_of types f u r) (at h).typed ∙ number h) (at h).held;
         served = (at h).served;
       })
@@ -294,7 +297,7 @@ module _ (a : Around) (visible : List ℕ) (types : Types) (texts : ℕ) (so_far
   discarded_part (call g given d) e behind s same b h calls stands = kind is.kind
     where
       is : IsCall a visible types texts so_far fs f setting (record { function = g; arguments = given; delimiters = d }) e.ty e.category
-      is = (expression a visible types texts so_far fs f setting e.form e b h).calls (record { function = g; arguments = given; delimiters = d }) (ap form_call same)
+      is = (whole e b h).calls (record { function = g; arguments = given; delimiters = d }) (ap form_call same)
 
       alone_is : (uses a (whole_form e)).alone s ≡ (giving.arguments a (all_uses a given) d (around.parameter_types a g) s >> λ given s. emit e.place (called_alone g given) s)
       alone_is = ap (λ (f : Form). (uses a (typed e.place e.ty e.category f)).alone s) same
@@ -310,6 +313,23 @@ module _ (a : Around) (visible : List ℕ) (types : Types) (texts : ℕ) (so_far
           subst (Acts s) (sym (ap (λ (k : Category). thrown k (uses a (whole_form e)) behind s) is.held ∙ value_thrown (uses a (whole_form e)) behind (own_type e.ty) s refl (own_value e.ty n)))
           (kept_part e behind s (whole e b h) n stands)
   discarded_part _ e behind s same b h calls stands = absurd (false≢true calls)
+
+  -- ---- changes of owners
+
+  not_true : (b : Bool) → not b ≡ true → b ≡ false
+  not_true false e = refl
+  not_true true e = absurd (false≢true e)
+
+  changed_statement : (form : Form) (e : Typed) (behind : Place) (s : State) → e.form ≡ form → is_reached_change texts so_far form ≡ true → Whole e → Standing s → Acts s (thrown e.category (uses a (whole_form e)) behind s)
+  changed_statement (method base m given d) e behind s same b h stands =
+      let one = and_parts (is_changing m) _ b in
+      let two = and_parts (not (is_reached_type so_far (typed_in base).ty)) (is_reached_object base && is_reached_form texts so_far given) one.1 in
+      let three = and_parts (is_reached_object base) (is_reached_form texts so_far given) two.1 in
+      let made : IsMadeOf a.program a.function.locals visible e (method base m given d) = subst (IsMadeOf a.program a.function.locals visible e) same h in
+      change_part a visible types texts so_far fs f setting base m given d e behind s same
+      (object_expression a visible types texts so_far fs f setting base three.0 (not_true (is_reached_type so_far (typed_in base).ty) two.0) made.1)
+      (wholes a visible types texts so_far fs f setting given three.1 made.2) one.0 made.0 stands
+  changed_statement _ e behind s same b h stands = absurd (false≢true b)
 
   -- ---- any of these
 
@@ -332,7 +352,11 @@ module _ (a : Around) (visible : List ℕ) (types : Types) (texts : ℕ) (so_far
       subst (λ (b : Bool). Acts s (cond b (advanced (uses a (whole_form target)) o place s) (stepped a target o place (promoted (own_type target.ty) (own_type target.ty)) s))) (sym plain)
       (stepped_part target o place (promoted (own_type target.ty) (own_type target.ty)) s is (free_place so_far a.program.types target is.kind h.1.0) (own_counts target.ty n)
       (promoted_value (own_type target.ty) (own_type target.ty)) (promoted_is (own_type target.ty) (own_type target.ty)) stands)
-  done_part (discarded e) behind s b h stands = let parts = and_parts (is_call e.form) (is_reached_expression texts so_far e) b in discarded_part e.form e behind s refl parts.1 h parts.0 stands
+  done_part (discarded e) behind s b h stands =
+      elim (or_cases (is_call e.form && is_reached_expression texts so_far e) (is_reached_change texts so_far e.form) b) [
+        | inl called ↦ let parts = and_parts (is_call e.form) (is_reached_expression texts so_far e) called in discarded_part e.form e behind s refl parts.1 h parts.0 stands
+        | inr changes ↦ changed_statement e.form e behind s refl changes h stands
+      ]
 
   -- .. makes no temporaries
   pub simple_part : (it : SimpleForm) (behind : Place) (s : State) → is_reached_simple texts so_far it ≡ true → IsSimple a.program a.function.locals a.function.result visible it → Standing s → Acts s (simple a it behind s)

@@ -7,7 +7,7 @@ use Rattle.life_types.specs.Types.{Types, class, class_at}
 use Rattle.life_types.specs.declared.ty.Ty.{Ty}
 use Rattle.life_types.specs.declared.ty.Ty.TheVariants as ty
 use Rattle.life_types.specs.declared.ty.TyId.{TyId}
-use Rattle.life_elab_laws.specs.Reached.{is_reached_variable}
+use Rattle.life_elab_laws.specs.Reached.{is_owner_of_values, is_reached_variable}
 use Rattle.life_typed.specs.BaseTypes.{type_at}
 use Rattle.life_typed.specs.TypedForm.{Form, Typed}
 use Rattle.life_typed.specs.declared.typed_expr.ExprType.TheVariants.{Of}
@@ -29,21 +29,25 @@ use Rattle.life_elab_laws.proofs.Locations.{is_location}
 use Rattle.life_elab_laws.proofs.Making.{Alive, IsOpen, IsPlace, IsPointer}
 use Rattle.life_elab_laws.proofs.Reaching.{IsReachedType, variable_found}
 use Rattle.life_elab_laws.proofs.Values.{by_values}
+use Rattle.life_elab_laws.proofs.TypedKinds.{owner_named}
+use Rattle.life_proper.specs.OperandTypes.{is_owner}
 
 -- ---- what a variable is
 
--- a value, or a pointer or reference to one, or a view
+-- a value, or a pointer or reference to one, a view, or an owner of values
 pub data IsVariableType (so_far : Bool) (types : Types) (id : TyId) : Type 0 where
   a_value : (t : Ty) → slice_get types.types id.0 ≡ Some t → is_value t ≡ true → IsVariableType so_far types id
   a_raw : (target : TyId) (constant : Bool) → slice_get types.types id.0 ≡ Some (ty.Raw target constant) → is_value (type_at types target) ≡ true → IsVariableType so_far types id
   a_reference : (target : TyId) (constant : Bool) → slice_get types.types id.0 ≡ Some (ty.Reference target constant) → is_value (type_at types target) ≡ true → IsVariableType so_far types id
   a_view : so_far ≡ false → slice_get types.types id.0 ≡ Some ty.View → IsVariableType so_far types id
+  an_owner : so_far ≡ false → (t : Ty) → slice_get types.types id.0 ≡ Some t → is_owner_of_values types t ≡ true → IsVariableType so_far types id
 
 pub variable_type : (so_far : Bool) (types : Types) (id : TyId) → is_reached_variable so_far types id ≡ true → IsVariableType so_far types id
 variable_type so_far types id b = let found = variable_found so_far types id b in go found.0 found.1 found.2
   where
     go : (t : Ty) → slice_get types.types id.0 ≡ Some t → IsReachedType so_far types t → IsVariableType so_far types id
-    go t at (inr v) = a_view v.0 (at ∙ ap Some v.1)
+    go t at (inr (inl v)) = a_view v.0 (at ∙ ap Some v.1)
+    go t at (inr (inr o)) = an_owner o.0 t at o.1
     go ty.Bool at (inl b) = a_value ty.Bool at refl
     go ty.Char at (inl b) = a_value ty.Char at refl
     go ty.Int at (inl b) = a_value ty.Int at refl
@@ -52,6 +56,17 @@ variable_type so_far types id b = let found = variable_found so_far types id b i
     go (ty.Raw target constant) at (inl b) = a_raw target constant at b
     go (ty.Reference target constant) at (inl b) = a_reference target constant at b
     go _ at (inl b) = absurd (false≢true b)
+
+pub owner_is : (types : Types) (t : Ty) → is_owner_of_values types t ≡ true → is_owner t ≡ true
+owner_is types ty.Text o = refl
+owner_is types (ty.Vector element) o = refl
+owner_is types _ o = absurd (false≢true o)
+
+-- an owner is an object
+pub owner_kind : (types : Types) (t : Ty) → is_owner_of_values types t ≡ true → kind (class (Some t)) ≡ Object
+owner_kind types ty.Text o = refl
+owner_kind types (ty.Vector element) o = refl
+owner_kind types _ o = absurd (false≢true o)
 
 -- ---- where it lies
 
@@ -143,8 +158,14 @@ named_pointer so_far types e v form reached is t of loc = go (variable_type so_f
     plain : (u : Ty) → is_value u ≡ true → e ≡ variable_of u types v.ty v.constant e.place form → e.ty ≡ Of (type_at types v.ty)
     plain u w is = by_values (λ u. e ≡ variable_of u types v.ty v.constant e.place form → e.ty ≡ Of (type_at types v.ty)) (λ is. ap (λ (x : Typed). x.ty) is) (λ is. ap (λ (x : Typed). x.ty) is) (λ is. ap (λ (x : Typed). x.ty) is) (λ is. ap (λ (x : Typed). x.ty) is) (λ is. ap (λ (x : Typed). x.ty) is) u w is
 
+    not_owner : (u : Ty) → is_owner_of_values types u ≡ true → e.ty ≡ Of u → ⊥
+    not_owner ty.Text o at = false≢true (ap is_location (same (sym at ∙ of)) ∙ loc)
+    not_owner (ty.Vector element) o at = false≢true (ap is_location (same (sym at ∙ of)) ∙ loc)
+    not_owner _ o at = false≢true o
+
     go : IsVariableType so_far types v.ty → slice_get types.types v.ty.0 ≡ Some t
     go (a_value u at w) = absurd (not_value u w (plain u w (found u at) ∙ ap Of (typed u at)))
     go (a_raw target constant at w) = at ∙ ap Some (sym (same (sym of ∙ ap (λ (x : Typed). x.ty) (found (ty.Raw target constant) at) ∙ ap Of (typed (ty.Raw target constant) at))))
     go (a_reference target constant at w) = absurd (not_value (type_at types target) w (ap (λ (x : Typed). x.ty) (found (ty.Reference target constant) at)))
+    go (an_owner so u at o) = absurd (not_owner u o (ap (λ (x : Typed). x.ty) (owner_named types e v.ty v.constant form u o (found u at)) ∙ ap Of (typed u at)))
     go (a_view so at) = at ∙ ap Some (sym (same (sym of ∙ ap (λ (x : Typed). x.ty) (found ty.View at) ∙ ap Of (typed ty.View at))))

@@ -1,5 +1,5 @@
 -- The core program of a well typed program that the law reaches is well formed, is served where it is one that is served so far, and leaves alone what is given over.
-use Rattle.std.proofs.Common.{◌≡◌, ◌⊎◌, inl, inr, ℕ, Bool, true, false, List, [], length, nat_le, slice_get, Option, Some, refl, sym, ap, ◌∙◌, subst, Bool}
+use Rattle.std.proofs.Common.{◌≡◌, ◌⊎◌, inl, inr, ℕ, Bool, true, List, [], length, nat_le, slice_get, Option, Some, refl, ap, ◌∙◌, subst, Bool}
 use Rattle.std.specs.List.{list_all}
 use Rattle.std.proofs.lemmas.Bool.{and_from}
 use Rattle.life_types.specs.Trees.{IsOrdered}
@@ -7,7 +7,7 @@ use Rattle.life_types.specs.Types.{HasEachOnce, Types, class}
 use Rattle.life_types.specs.declared.ty.Ty.{Ty}
 use Rattle.life_types.specs.declared.ty.TyId.{TyId}
 use Rattle.life_built.specs.Built.{has_no_structs}
-use Rattle.life_elab_laws.specs.Reached.{are_reached_functions, is_reached_variable}
+use Rattle.life_elab_laws.specs.Reached.{are_reached_functions}
 use Rattle.life_typed.specs.Programs.{FunctionForm, ProgramForm}
 use Rattle.life_core.specs.Function.{Function}
 use Rattle.life_core.specs.Served.{is_served, is_served_local, is_served_program, is_served_spot}
@@ -24,15 +24,12 @@ use Rattle.life_writer.specs.Variables.{kind}
 use Rattle.life_elab.specs.ProgramForms.{translated, written}
 use Rattle.life_elab.specs.Programs.{around, texts_of}
 use Rattle.life_elab_laws.proofs.ExpressionKinds.{variable_built}
-use Rattle.life_elab_laws.proofs.FormedLocals.{variable_fits}
 use Rattle.life_elab_laws.proofs.Fronts.{IsFront}
 use Rattle.life_elab_laws.proofs.Reaching.{variable_found}
 use Rattle.life_elab_laws.proofs.ServedLocals.{all_pass, local_served, register_served, variable_served}
-use Rattle.life_elab_laws.proofs.FlatLocals.{IsLocalType, flat_locals, variable_typed}
-use Rattle.life_elab_laws.proofs.GivenNothing.{gives_nothing, keeps_all}
+use Rattle.life_elab_laws.proofs.KeptGiven.{keeps_all}
 use Rattle.life_elab_laws.proofs.ProgramNames.{no_members, own_names}
 use Rattle.life_elab_laws.proofs.Programs.{IsWritten, each_written, front, grows, of_program, one_body, one_head, passed_by_all, whole, whole_order}
-use Rattle.life_elab_laws.proofs.Shaped.{variable_later}
 use Rattle.life_elab_laws.proofs.WrittenLocals.{IsIntermediate, IsOwn, fits_later}
 
 module _ (so_far : Bool) (p : ProgramForm) (typed : IsWellTyped p) (built : are_reached_functions (length (texts_of p)) so_far p.types p.functions ≡ true) (results : HasResults p) where
@@ -51,19 +48,8 @@ module _ (so_far : Bool) (p : ProgramForm) (typed : IsWellTyped p) (built : are_
   -- ---- one function
 
   module _ (n : ℕ) (f : FunctionForm) (at : slice_get p.functions n ≡ Some f) (core : Function) (w : IsWritten p types f core) where
-    -- each local is a value, a pointer or reference to one, or a view
-    local_type : (x : ℕ) (l : Local) → slice_get core.locals x ≡ Some l → IsLocalType types l
-    local_type x l there = go ((grows so_far p typed built results n f at w.before w.table).own x l (subst (λ (c : Function). slice_get c.locals x ≡ Some l) w.is there))
-      where
-        go : IsIntermediate p.types (written (around p f) w.before).types l ⊎ IsOwn (around p f) l → IsLocalType types l
-        go (inl is) = record { ty = is.ty; typed = w.later l.ty.0 is.ty is.typed; fits = fits_later p.types types (front so_far p typed built results n f at core w) is.ty is.fits }
-        go (inr is) =
-            variable_typed types l
-            (variable_later p.types types (front so_far p typed built results n f at core w) false l.ty
-            (subst (λ (id : TyId). is_reached_variable false p.types id ≡ true) (sym is.of.typed) (variable_built false p.types f.locals is.number is.variable (of_program so_far p typed built results n f at).built.any is.there)))
-
-    served_local : (x : ℕ) (l : Local) → slice_get core.locals x ≡ Some l → is_served_local types l ≡ true
-    served_local x l there = go ((grows so_far p typed built results n f at w.before w.table).own x l (subst (λ (c : Function). slice_get c.locals x ≡ Some l) w.is there))
+    served_local : so_far ≡ true → (x : ℕ) (l : Local) → slice_get core.locals x ≡ Some l → is_served_local types l ≡ true
+    served_local so x l there = go ((grows so_far p typed built results n f at w.before w.table).own x l (subst (λ (c : Function). slice_get c.locals x ≡ Some l) w.is there))
       where
         front_is : IsFront p.types.types types.types
         front_is = front so_far p typed built results n f at core w
@@ -72,13 +58,14 @@ module _ (so_far : Bool) (p : ProgramForm) (typed : IsWellTyped p) (built : are_
         go (inl is) = let fits = fits_later p.types types front_is is.ty is.fits in local_served types l Register is.ty is.kind (w.later l.ty.0 is.ty is.typed) fits (register_served types is.ty fits)
         go (inr is) =
             let found = variable_found so_far p.types is.variable.ty (variable_built so_far p.types f.locals is.number is.variable (of_program so_far p typed built results n f at).built.variables is.there) in
+            let served = variable_served p.types so_far so found.0 found.2 in
             local_served types l (kind (class (Some found.0))) found.0 (is.of.kind ∙ ap (λ (o : Option Ty). kind (class o)) found.1)
             (ap (λ (id : TyId). slice_get types.types id.0) is.of.typed ∙ front_is is.variable.ty.0 found.0 found.1)
-            (fits_later p.types types front_is found.0 (variable_fits p.types so_far found.0 found.2)) (variable_served p.types so_far found.0 found.2)
+            (fits_later p.types types front_is found.0 served.1) served.0
 
     one_served : so_far ≡ true → is_served types core ≡ true
     one_served so =
-        and_from (list_all (is_served_local types) core.locals) (list_all (is_served_spot types core) (spots core.body)) (all_pass (is_served_local types) core.locals served_local)
+        and_from (list_all (is_served_local types) core.locals) (list_all (is_served_spot types core) (spots core.body)) (all_pass (is_served_local types) core.locals (served_local so))
         ((one_body so_far p typed built results n f at core w).stated.served so)
 
     body_formed : is_well_formed_tree types texts functions core core.body ≡ true
@@ -94,7 +81,7 @@ module _ (so_far : Bool) (p : ProgramForm) (typed : IsWellTyped p) (built : are_
         (and_from (are_well_formed_locals types names core.parameters 0 core.locals) (is_well_formed_tree types texts functions core core.body) head.locals body_formed))))
 
     one_keeps : all_keep_given types core ≡ true
-    one_keeps = keeps_all types core (gives_nothing types texts functions core (flat_locals types core local_type) body_formed)
+    one_keeps = keeps_all types core (one_body so_far p typed built results n f at core w).stated.given
 
   -- ---- all of them
 

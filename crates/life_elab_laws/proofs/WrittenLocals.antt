@@ -20,6 +20,7 @@ use Rattle.life_elab_laws.proofs.Fronts.{IsFront}
 use Rattle.life_elab_laws.proofs.OrderedTypes.{KeepsOrder, order_none, order_then}
 use Rattle.life_elab_laws.proofs.Shaped.{value_later}
 use Rattle.life_elab_laws.proofs.Values.{by_values}
+use Rattle.life_elab_laws.specs.Reached.{is_owner_of_values}
 
 -- ---- what a register without a name holds: a value, a pointer or reference to one, or a view
 
@@ -34,6 +35,30 @@ pub fits_later : (few more : Types) → IsFront few.types more.types → (t : Ty
 fits_later few more front (ty.Raw target constant) h = value_later few more front target h
 fits_later few more front (ty.Reference target constant) h = value_later few more front target h
 fits_later few more front _ h = h
+
+-- ---- what a local of any kind holds: an owner too
+
+abbrev pub fits_local : Types → Ty → Bool
+fits_local types ty.Text = true
+fits_local types (ty.Vector element) = is_value (type_at types element)
+fits_local types t = fits_register types t
+
+pub register_local : (types : Types) (t : Ty) → fits_register types t ≡ true → fits_local types t ≡ true
+register_local types ty.Text h = refl
+register_local types (ty.Vector element) h = absurd (false≢true h)
+register_local types _ h = h
+
+pub owner_local : (types : Types) (t : Ty) → is_owner_of_values types t ≡ true → fits_local types t ≡ true
+owner_local types ty.Text o = refl
+owner_local types (ty.Vector element) o = o
+owner_local types _ o = absurd (false≢true o)
+
+pub local_later : (few more : Types) → IsFront few.types more.types → (t : Ty) → fits_local few t ≡ true → fits_local more t ≡ true
+local_later few more front ty.Text h = refl
+local_later few more front (ty.Vector element) h = value_later few more front element h
+local_later few more front (ty.Raw target constant) h = value_later few more front target h
+local_later few more front (ty.Reference target constant) h = value_later few more front target h
+local_later few more front _ h = h
 
 -- what a register holds has its parts in the table before
 value_within : (table : Types) (id : TyId) → is_value (type_at table id) ≡ true → id.0 < length table.types

@@ -1,30 +1,75 @@
--- Which programs the law on translations reaches: all that are built, and views of characters with their members and text literals beside.
-use Rattle.std.specs.Prelude.{ℕ, Bool, true, false, ◌&&◌, ◌||◌, not, List, [], ◌∷◌, take, length, nat_lt, Option, Some, None, slice_get}
-use Rattle.life_types.specs.TypeTests.{is_char, is_view}
+-- Which programs the law on translations reaches: all that are built, views of characters with their members and text literals beside, and strings and vectors of values as variables.
+use Rattle.std.specs.Prelude.{ℕ, Bool, true, false, ◌&&◌, ◌||◌, not, if◌then◌else◌, List, [], ◌∷◌, take, length, nat_lt, Option, Some, None, slice_get}
+use Rattle.life_types.specs.TypeTests.{is_char, is_value, is_view}
 use Rattle.life_types.specs.Types.{Types}
 use Rattle.life_types.specs.declared.ty.Ty.{Ty}
+use Rattle.life_types.specs.declared.ty.Ty.TheVariants as ty
 use Rattle.life_types.specs.declared.ty.TyId.{TyId}
 use Rattle.life_built.specs.Built.{are_values, has_no_structs, is_built_result, is_built_variable, is_call, is_default, needs_no_temporary}
 use Rattle.life_typed.specs.BaseTypes.{type_at}
-use Rattle.life_typed.specs.Members.{is_of_view}
 use Rattle.life_typed.specs.Programs.{FunctionForm, ProgramForm}
 use Rattle.life_typed.specs.TypedForm.{Form, Typed, number, character, boolean, text, null, local, call, paren, input, dereference, index, method, negate, not as negation, address_of, binary, typed, nothing, ◌⨟◌, whole}
 use Rattle.life_typed.specs.TypedStatement.{StmtForm, DeclarationForm, ForStartForm, InitialForm, ItemForm, SimpleForm, one, several, assign, compound, step, discarded, declared_first, done_first, printed, line_end, block, empty, sentence, branching, while_loop, for_loop, range_loop, loop_break, loop_continue, returned, print, assertion, branch, declaration, no_more, chain}
 use Rattle.life_typed.specs.declared.basic.TheConstants.{CHAR}
+use Rattle.life_typed.specs.declared.typed_expr.ExprType.{ExprType}
+use Rattle.life_typed.specs.declared.typed_expr.ExprType.TheVariants.{Of}
+use Rattle.life_typed.specs.declared.typed_expr.Method.{Method}
+use Rattle.life_typed.specs.declared.typed_expr.Method.TheVariants.{Back, Clear, Empty, Front, PopBack, PushBack, Reserve, Size, Substr}
 use Rattle.life_typed.specs.declared.typed_program.TypedLocal.{TypedLocal}
+use Rattle.life_proper.specs.OperandTypes.{is_owner}
+use Rattle.life_well_typed.specs.Members.{typed_in}
 use Rattle.life_elab.specs.Programs.{texts_of}
 
 -- ---- variables
 
--- a view too, but in a program that is served so far
+-- a string, or a vector of values
+abbrev pub is_owner_of_values : Types → Ty → Bool
+is_owner_of_values types ty.Text = true
+is_owner_of_values types (ty.Vector element) = is_value (type_at types element)
+is_owner_of_values types _ = false
+
+-- a view and an owner too, but in a program that is served so far
 abbrev pub is_reached_variable : (so_far : Bool) → Types → TyId → Bool
-is_reached_variable so_far types id = is_built_variable types id || (not so_far && is_view (type_at types id))
+is_reached_variable so_far types id = is_built_variable types id || (not so_far && (is_view (type_at types id) || is_owner_of_values types (type_at types id)))
 
 abbrev pub are_reached_variables : (so_far : Bool) → Types → List TypedLocal → Bool
 are_reached_variables so_far types [] = true
 are_reached_variables so_far types (v ∷ vs) = is_reached_variable so_far types v.ty && are_reached_variables so_far types vs
 
 -- ---- expressions
+
+-- no owner: one is named where it is asked or changed
+abbrev pub is_reached_type : (so_far : Bool) → ExprType → Bool
+is_reached_type so_far (Of t) = so_far || not (is_owner t)
+is_reached_type so_far _ = true
+
+-- an owner that is named
+abbrev pub is_reached_object : Form → Bool
+is_reached_object (local x) = true
+is_reached_object (paren inner closing) = is_reached_object inner
+is_reached_object (typed place t category form) = is_reached_object form
+is_reached_object _ = false
+
+-- what is asked has a value, which is reached or not, or is an owner
+abbrev pub is_reached_either : (so_far : Bool) (base : Form) (value : Bool) → Bool
+is_reached_either so_far base value = if is_reached_type so_far (typed_in base).ty then value else is_reached_object base
+
+-- what only asks, and gives no iterator
+abbrev pub is_reached_method : Method → Bool
+is_reached_method Size = true
+is_reached_method Empty = true
+is_reached_method Front = true
+is_reached_method Back = true
+is_reached_method Substr = true
+is_reached_method _ = false
+
+-- what changes its object, and gives nothing
+abbrev pub is_changing : Method → Bool
+is_changing PushBack = true
+is_changing PopBack = true
+is_changing Clear = true
+is_changing Reserve = true
+is_changing _ = false
 
 -- in a program with so many texts, which is served so far or not
 module _ (texts : ℕ) (so_far : Bool) where
@@ -40,13 +85,13 @@ module _ (texts : ℕ) (so_far : Bool) where
   is_reached_form (paren inner closing) = is_reached_form inner
   is_reached_form input = true
   is_reached_form (dereference e) = is_reached_form e
-  is_reached_form (index base position closing) = is_reached_form base && is_reached_form position
-  is_reached_form (method base called arguments delimiters) = is_of_view called && (is_reached_form base && is_reached_form arguments)
+  is_reached_form (index base position closing) = is_reached_either so_far base (is_reached_form base) && is_reached_form position
+  is_reached_form (method base called arguments delimiters) = is_reached_method called && (is_reached_either so_far base (is_reached_form base) && is_reached_form arguments)
   is_reached_form (negate e) = is_reached_form e
   is_reached_form (negation e) = is_reached_form e
   is_reached_form (address_of e) = is_reached_form e
   is_reached_form (binary operator left right) = is_reached_form left && is_reached_form right
-  is_reached_form (typed place t category form) = is_reached_form form
+  is_reached_form (typed place t category form) = is_reached_type so_far t && is_reached_form form
   is_reached_form nothing = true
   is_reached_form (e ⨟ es) = is_reached_form e && is_reached_form es
   is_reached_form _ = false
@@ -62,7 +107,7 @@ module _ (texts : ℕ) (so_far : Bool) where
 
   abbrev pub is_reached_initial : Ty → Option InitialForm → Bool
   is_reached_initial t None = true
-  is_reached_initial t (Some (one e)) = is_reached_expression e && needs_no_temporary t e
+  is_reached_initial t (Some (one e)) = (so_far || not (is_owner t)) && (is_reached_expression e && needs_no_temporary t e)
   is_reached_initial t (Some (several list)) = false
 
   abbrev pub is_reached_declared : Types → Option TypedLocal → Option InitialForm → Bool
@@ -73,11 +118,16 @@ module _ (texts : ℕ) (so_far : Bool) where
   is_reached_value (one e) = is_reached_expression e
   is_reached_value (several list) = false
 
+  -- an owner is changed, which stands alone
+  abbrev pub is_reached_change : Form → Bool
+  is_reached_change (method base called arguments delimiters) = is_changing called && (not (is_reached_type so_far (typed_in base).ty) && (is_reached_object base && is_reached_form arguments))
+  is_reached_change _ = false
+
   abbrev pub is_reached_simple : SimpleForm → Bool
   is_reached_simple (assign target equals initial) = is_reached_expression target && is_reached_value initial
   is_reached_simple (compound target operator place e) = is_reached_expression target && is_reached_expression e
   is_reached_simple (step target operator place) = is_reached_expression target
-  is_reached_simple (discarded e) = is_call e.form && is_reached_expression e
+  is_reached_simple (discarded e) = (is_call e.form && is_reached_expression e) || is_reached_change e.form
 
   abbrev pub is_reached_step : Option SimpleForm → Bool
   is_reached_step None = true

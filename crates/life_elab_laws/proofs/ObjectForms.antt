@@ -1,0 +1,262 @@
+-- Owners that stand at a place, and what has elements: how each is written.
+use Rattle.std.proofs.Common.{◌≡◌, ◌||◌, ℕ, Bool, true, false, not, List, Contains, slice_get, Option, Some, None, refl, sym, ap, ◌∙◌, subst, unwrap_or, [], ◌∷◌}
+use Rattle.std.proofs.lemmas.Bool.{false≢true}
+use Rattle.life_types.specs.TypeTests.{is_value}
+use Rattle.life_types.specs.Types.{Types}
+use Rattle.life_types.specs.declared.place.Place.{Place}
+use Rattle.life_types.specs.declared.ty.Ty.{Ty}
+use Rattle.life_types.specs.declared.ty.Ty.TheVariants as ty
+use Rattle.life_types.specs.declared.ty.TyId.{TyId}
+use Rattle.life_typed.specs.BaseTypes.{type_at}
+use Rattle.life_typed.specs.Members.{element_type}
+use Rattle.life_typed.specs.TypedForm.{Form, Typed, local}
+use Rattle.life_typed.specs.declared.typed_expr.Category.{Category}
+use Rattle.life_typed.specs.declared.typed_expr.Category.TheVariants as category
+use Rattle.life_typed.specs.declared.typed_expr.ExprType.{ExprType}
+use Rattle.life_typed.specs.declared.typed_expr.ExprType.TheVariants.{NullPointer, Of, TextLiteral}
+use Rattle.life_typed.specs.declared.typed_program.TypedLocal.{TypedLocal}
+use Rattle.life_type_expr.specs.Operands.{place_of as place_typed, variable_of}
+use Rattle.life_core.specs.Function.{Function}
+use Rattle.life_core.specs.Operands.{Base, Operand, Owner, Pointer, Location}
+use Rattle.life_core.specs.declared.operand.Which.{Which}
+use Rattle.life_proper.specs.OperandTypes.{is_owner, owned_element, seen_element}
+use Rattle.life_well_typed.specs.Expressions.{IsVariable, typed_in}
+use Rattle.life_writer.specs.Around.{Around, own_type}
+use Rattle.life_writer.specs.Bases.{base as base_of, base_by, element}
+use Rattle.life_writer.specs.Calls.{form_call}
+use Rattle.life_writer.specs.ExpressionForms.{form_uses, uses}
+use Rattle.life_writer.specs.MethodForms.{emptied, sized}
+use Rattle.life_writer.specs.Uses.{own}
+use Rattle.life_writer.specs.Using.{operand, pointer}
+use Rattle.life_writer.specs.Variables.{variable_place}
+use Rattle.life_writer.specs.Writing.{Gives, State, ◌>>◌, gives, mapped}
+use Rattle.life_writer.specs.declared.behind.Behind.{Behind}
+use Rattle.life_elab_laws.specs.Reached.{is_owner_of_values, is_reached_type}
+use Rattle.life_elab_laws.proofs.BaseSteps.{a_base, a_which, element_part, size_part, zero_part}
+use Rattle.life_elab_laws.proofs.ExpressionForms.{IsForm, IsWhole, Placed, Standing, Valued, place_form}
+use Rattle.life_elab_laws.proofs.ExpressionKinds.{variable_built}
+use Rattle.life_elab_laws.proofs.FormedVariables.{const_same, owner_formed, type_later}
+use Rattle.life_elab_laws.proofs.Gifts.{a_number, a_place, a_pointer, both, nothing as no_gift}
+use Rattle.life_elab_laws.proofs.Instructions.{IsIntoOf, into_of_later}
+use Rattle.life_elab_laws.proofs.Locations.{number_no_pointer}
+use Rattle.life_elab_laws.proofs.Parts.{Makes, and_part, leaf_part, seen_part, then_part}
+use Rattle.life_elab_laws.proofs.PointerForms.{own_typed, placed_operand, pointer_whole}
+use Rattle.life_elab_laws.proofs.Setting.{Setting}
+use Rattle.life_elab_laws.proofs.TypedKinds.{a_number as is_number_kind, owner_named, place_same, value_place}
+use Rattle.life_elab_laws.proofs.Values.{by_values}
+use Rattle.life_elab_laws.proofs.VariablePlaces.{IsVariableType, a_raw, a_reference, a_value, a_view, an_owner, stands_later, variable_there, variable_type}
+use Rattle.life_well_typed.specs.Given.{is_number}
+
+-- ---- types
+
+-- an expression with no value and no pointer is an owner, in a program that isn't served so far
+pub record IsOwnerType (so_far : Bool) (t : ExprType) : Type 0 where
+  pub wide : so_far ≡ false
+  pub ty : Ty
+  pub is : t ≡ Of ty
+  pub owner : is_owner ty ≡ true
+
+pub owner_type : (so_far : Bool) (t : ExprType) → is_reached_type so_far t ≡ false → IsOwnerType so_far t
+owner_type so_far NullPointer n = absurd (false≢true (sym n))
+owner_type so_far TextLiteral n = absurd (false≢true (sym n))
+owner_type so_far (Of t) n = go so_far refl (is_owner t) refl n
+  where
+    go : (b : Bool) → so_far ≡ b → (c : Bool) → is_owner t ≡ c → (b || not c) ≡ false → IsOwnerType so_far (Of t)
+    go true so c is n = absurd (false≢true (sym n))
+    go false so false is n = absurd (false≢true (sym n))
+    go false so true is n = record { wide = so; ty = t; is = refl; owner = is }
+
+-- what an owner of values holds
+pub element_value : (types : Types) (t : Ty) → is_owner_of_values types t ≡ true → is_value (element_type types t) ≡ true
+element_value types ty.Text o = refl
+element_value types (ty.Vector item) o = o
+element_value types _ o = absurd (false≢true o)
+
+module _ (a : Around) (visible : List ℕ) (types : Types) (texts : ℕ) (so_far : Bool) (fs : List Function) (f : Function) (setting : Setting so_far a types fs f) where
+  abbrev Stood : State → Type 0
+  Stood s = Standing a visible types texts so_far fs f setting s
+
+  abbrev PlacedAs : Ty → Bool → State → Gives Operand → Type 0
+  PlacedAs t constant s w = Placed a visible types texts so_far fs f setting t constant s w
+
+  abbrev ValuedAs : Ty → Option ℕ → State → Gives ℕ → Type 0
+  ValuedAs t into s w = Valued a visible types texts so_far fs f setting t into s w
+
+  -- ---- an owner at a place
+
+  pub record IsObjectAt (e : Typed) (at : State → Gives Operand) : Type 0 where
+    pub wide : so_far ≡ false
+    pub ty : Ty
+    pub is : e.ty ≡ Of ty
+    pub owner : is_owner_of_values a.program.types ty ≡ true
+    pub id : TyId
+    pub constant : Bool
+    pub place : e.category ≡ category.Place id constant
+    pub here : type_at a.program.types id ≡ ty
+    pub names : (s : State) → Stood s → PlacedAs ty constant s (at s)
+
+  -- .. that an expression is
+  abbrev pub IsObject : Form → Type 0
+  IsObject form = IsObjectAt (typed_in form) ((uses a form).at)
+
+  -- the same with another type and category that are equal
+  pub object_same : (e e' : Typed) (at : State → Gives Operand) → e.ty ≡ e'.ty → e.category ≡ e'.category → IsObjectAt e at → IsObjectAt e' at
+  object_same e e' at t c is = record { wide = is.wide; ty = is.ty; is = sym t ∙ is.is; owner = is.owner; id = is.id; constant = is.constant; place = sym c ∙ is.place; here = is.here; names = is.names }
+
+  -- a variable
+  pub variable_object : (x : ℕ) (e : Typed) → is_reached_type so_far e.ty ≡ false → Contains visible x → IsVariable a.program.types x (slice_get a.function.locals x) e → IsObjectAt e (λ s. gives (variable_place s x) s)
+  variable_object x e n c h = go (slice_get a.function.locals x) refl h
+    where
+      own : IsOwnerType so_far e.ty
+      own = owner_type so_far e.ty n
+
+      same : {u w : Ty} → Of u ≡ Of w → u ≡ w
+      same e = cc
+
+      go : (o : Option TypedLocal) → slice_get a.function.locals x ≡ o → IsVariable a.program.types x o e → IsObjectAt e (λ s. gives (variable_place s x) s)
+      go None found h = absurd h
+      go (Some l) found h = kind (variable_type so_far a.program.types l.ty (variable_built so_far a.program.types a.function.locals x l setting.variables found))
+        where
+          typed : (t : Ty) → slice_get a.program.types.types l.ty.0 ≡ Some t → type_at a.program.types l.ty ≡ t
+          typed t at = ap (λ (o : Option Ty). unwrap_or o ty.Void) at
+
+          named : (t : Ty) → slice_get a.program.types.types l.ty.0 ≡ Some t → e ≡ variable_of t a.program.types l.ty l.constant e.place (local x)
+          named t at = h ∙ ap (λ (o : Option Ty). variable_of (unwrap_or o ty.Void) a.program.types l.ty l.constant e.place (local x)) at
+
+          -- it is no owner
+          other : (t : Ty) → e.ty ≡ Of t → is_owner t ≡ false → IsObjectAt e (λ s. gives (variable_place s x) s)
+          other t at none = absurd (false≢true (sym none ∙ ap is_owner (same (sym at ∙ own.is)) ∙ own.owner))
+
+          value_alone : (t : Ty) → is_value t ≡ true → is_owner t ≡ false
+          value_alone = by_values (λ t. is_owner t ≡ false) refl refl refl refl refl
+
+          kind : IsVariableType so_far a.program.types l.ty → IsObjectAt e (λ s. gives (variable_place s x) s)
+          kind (a_value t at v) =
+              other t
+              (by_values (λ u. e ≡ variable_of u a.program.types l.ty l.constant e.place (local x) → e.ty ≡ Of (type_at a.program.types l.ty)) (λ is. ap (λ (y : Typed). y.ty) is) (λ is. ap (λ (y : Typed). y.ty) is) (λ is. ap (λ (y : Typed). y.ty) is) (λ is. ap (λ (y : Typed). y.ty) is) (λ is. ap (λ (y : Typed). y.ty) is) t v (named t at)
+              ∙ ap Of (typed t at))
+              (value_alone t v)
+          kind (a_raw target constant at v) = other (ty.Raw target constant) (ap (λ (y : Typed). y.ty) (named (ty.Raw target constant) at) ∙ ap Of (typed (ty.Raw target constant) at)) refl
+          kind (a_view so at) = other ty.View (ap (λ (y : Typed). y.ty) (named ty.View at) ∙ ap Of (typed ty.View at)) refl
+          kind (a_reference target constant at v) = other (type_at a.program.types target) (ap (λ (y : Typed). y.ty) (named (ty.Reference target constant) at)) (value_alone (type_at a.program.types target) v)
+          kind (an_owner so t at o) = record {
+            wide = so;
+            ty = t;
+            is = ap (λ (y : Typed). y.ty) place ∙ ap Of (typed t at);
+            owner = o;
+            id = l.ty;
+            constant = l.constant;
+            place = ap (λ (y : Typed). y.category) place;
+            here = typed t at;
+            names = λ s stands.
+                leaf_part types texts so_far fs f (variable_place s x) s (a_place types texts so_far fs f t l.constant)
+                (λ b. owner_formed types texts so_far fs f a setting.front s b x l (stands.seen x l c found) t l.constant at o)
+                (λ b k alive. variable_there a s x l (stands.seen x l c found) f k alive);
+          }
+            where
+              place : e ≡ place_typed a.program.types l.ty l.constant e.place (local x)
+              place = owner_named a.program.types e l.ty l.constant (local x) t o (named t at)
+
+  -- ---- what has elements
+
+  pub record IsAsked (base : Form) (t : Ty) (constant : Bool) : Type 0 where
+    pub wide : so_far ≡ false
+    pub worth : is_value t ≡ true
+    pub asks : (s : State) → Stood s → Makes types texts so_far fs f None s (base_of (uses a base) s) (a_base types texts so_far fs f t constant)
+
+  -- a view
+  pub view_asked : (base : Form) → IsWhole a visible types texts so_far fs f setting base → so_far ≡ false → (typed_in base).ty ≡ Of ty.View → IsAsked base ty.Char true
+  view_asked base is wide at = record {
+    wide = wide;
+    worth = refl;
+    asks = λ s stands.
+        subst (λ (w : Gives Base). Makes types texts so_far fs f None s w (a_base types texts so_far fs f ty.Char true)) (sym (ap (λ (x : Ty). base_by x (uses a base) s) (ap own_type (sym (own_typed a visible types texts so_far fs f setting base) ∙ at))))
+        (seen_part types texts so_far fs f (no_gift types texts so_far fs f) tt None s (pointer (uses a base) (own (uses a base)) s) (a_pointer types texts so_far fs f ty.View) Pointer (a_base types texts so_far fs f ty.Char true)
+        (pointer_whole a visible types texts so_far fs f setting base is ty.View at refl (own (uses a base)) s stands)
+        (λ b h. record { element = ap (seen_element types) h.typed; held = refl })
+        (λ n k q. record { local = q.local; uses = ap (λ (l : Location). l.local ∷ []) q.is; below = q.below; held = q.held }));
+  }
+
+  -- an owner
+  owner_base : (base : Form) → (is : IsObject base) → (s : State) → base_of (uses a base) s ≡ mapped Owner ((uses a base).at s)
+  owner_base base is s =
+      ap (λ (x : Ty). base_by x (uses a base) s) (ap own_type (sym (own_typed a visible types texts so_far fs f setting base) ∙ is.is))
+      ∙ owned is.ty is.owner
+      ∙ ap (mapped Owner) (placed_operand a visible types texts so_far fs f setting base is.id is.constant s is.place)
+    where
+      owned : (t : Ty) → is_owner_of_values a.program.types t ≡ true → base_by t (uses a base) s ≡ mapped Owner (operand (uses a base) s)
+      owned ty.Text o = refl
+      owned (ty.Vector item) o = refl
+      owned _ o = absurd (false≢true o)
+
+  pub owner_asked : (base : Form) → (is : IsObject base) → IsAsked base (element_type a.program.types is.ty) is.constant
+  owner_asked base is = record {
+    wide = is.wide;
+    worth = element_value a.program.types is.ty is.owner;
+    asks = λ s stands.
+        let w = (uses a base).at s in
+        subst (λ (w : Gives Base). Makes types texts so_far fs f None s w (a_base types texts so_far fs f (element_type a.program.types is.ty) is.constant)) (sym (owner_base base is s))
+        (seen_part types texts so_far fs f (no_gift types texts so_far fs f) tt None s w (a_place types texts so_far fs f is.ty is.constant) Owner (a_base types texts so_far fs f (element_type a.program.types is.ty) is.constant)
+        (is.names s stands)
+        (λ b h. record { element = ap (owned_element types) h.typed ∙ held is.ty is.owner; held = h.held })
+        (λ n k q. record { local = q.local; uses = q.uses; below = q.below; held = q.held }));
+  }
+    where
+      held : (t : Ty) → is_owner_of_values a.program.types t ≡ true → owned_element types t ≡ element_type a.program.types t
+      held ty.Text o = refl
+      held (ty.Vector item) o = type_later a.program.types types setting.front item o
+      held _ o = absurd (false≢true o)
+
+  -- ---- how many elements there are
+
+  module _ (base : Form) (t : Ty) (constant : Bool) (is : IsAsked base t constant) where
+    pub sized_part : (place : Place) (into : Option ℕ) (s : State) → IsIntoOf ty.Size s into → Stood s → ValuedAs ty.Size into s (sized (uses a base) place into s)
+    sized_part place into s wanted stands =
+        let b = base_of (uses a base) s in
+        let first = is.asks s stands in
+        then_part types texts so_far fs f (no_gift types texts so_far fs f) tt into s b _ (a_base types texts so_far fs f t constant) (a_number types texts so_far fs f ty.Size) stands.opened first
+        (size_part types texts so_far fs f into t constant place b.given b.state is.wide is.worth (into_of_later ty.Size s b.state into first.grown wanted))
+
+    pub emptied_part : (place : Place) (into : Option ℕ) (s : State) → IsIntoOf ty.Bool s into → Stood s → ValuedAs ty.Bool into s (emptied (uses a base) place into s)
+    emptied_part place into s wanted stands =
+        let n = sized (uses a base) place None s in
+        let first = sized_part place None s tt stands in
+        then_part types texts so_far fs f (no_gift types texts so_far fs f) tt into s n _ (a_number types texts so_far fs f ty.Size) (a_number types texts so_far fs f ty.Bool) stands.opened first
+        (zero_part types texts so_far fs f into ty.Size place n.given n.state (into_of_later ty.Bool s n.state into first.grown wanted))
+
+    -- ---- one of them
+
+    pub element_placed : (place : Place) (id : TyId) (which : State → Gives Which) (s : State) → Stood s → type_at a.program.types id ≡ t
+        → ((s : State) → Stood s → Makes types texts so_far fs f None s (which s) (a_which types texts so_far fs f))
+        → PlacedAs t constant s (base_of (uses a base) s >> λ b s. which s >> λ i s. element place (category.Place id constant) b i s)
+    element_placed place id which s stands here second =
+        let b = base_of (uses a base) s in
+        let w = which b.state in
+        let P = a_base types texts so_far fs f t constant in
+        let Q = a_which types texts so_far fs f in
+        let first = is.asks s stands in
+        let later = stands_later a visible s b.state first.grown stands in
+        let other = second b.state later in
+        let both_stand = stands_later a visible b.state w.state other.grown later in
+        then_part types texts so_far fs f (no_gift types texts so_far fs f) tt None s (gives (b.given, w.given) w.state) _ (both types texts so_far fs f P Q) (a_place types texts so_far fs f t constant) stands.opened
+        (and_part types texts so_far fs f (no_gift types texts so_far fs f) tt s b w P Q stands.opened first other)
+        (element_part types texts so_far fs f a.program.types place id constant t (b.given, w.given) w.state is.wide setting.front both_stand.table here is.worth)
+
+  -- a value at a place, which is named whatever it is made by
+  pub element_form : (form : Form) (e : Typed) (id : TyId) (constant : Bool) (t : Ty) → e.ty ≡ Of t → e.category ≡ category.Place id constant → type_at a.program.types id ≡ t → is_value t ≡ true → form_call form ≡ None
+      → ((place : Place) (b : Behind) → (form_uses a form place e.ty e.category).decision b ≡ None)
+      → ((place : Place) (s : State) → Stood s → PlacedAs t constant s ((form_uses a form place e.ty (category.Place id constant)).at s)) → IsForm a visible types texts so_far fs f setting form e
+  element_form form e id constant t is category_is here v none plain reached =
+      place_form a visible types texts so_far fs f setting form e
+      (record { kind = is_number_kind t is v; place = λ other c at. is ∙ ap Of (sym here ∙ ap (type_at a.program.types) (place_same id other constant c (sym category_is ∙ at))) })
+      (λ at. value_place (sym at ∙ category_is)) none plain names
+      (λ p. absurd (number_no_pointer e.ty (ap is_number is ∙ v) p))
+    where
+      names : (other : TyId) (c : Bool) → e.category ≡ category.Place other c → is_value (type_at a.program.types other) ≡ true → (place : Place) (s : State) → Stood s
+          → PlacedAs (type_at a.program.types other) c s ((form_uses a form place e.ty e.category).at s)
+      names other c at w place s stands =
+          let same = sym category_is ∙ at in
+          subst (λ (k : Category). PlacedAs (type_at a.program.types other) c s ((form_uses a form place e.ty k).at s)) (sym category_is)
+          (subst (λ (k : Bool). PlacedAs (type_at a.program.types other) k s ((form_uses a form place e.ty (category.Place id constant)).at s)) (const_same id other constant c same)
+          (subst (λ (u : Ty). PlacedAs u constant s ((form_uses a form place e.ty (category.Place id constant)).at s)) (sym here ∙ ap (type_at a.program.types) (place_same id other constant c same))
+          (reached place s stands)))
