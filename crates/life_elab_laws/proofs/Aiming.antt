@@ -67,6 +67,10 @@ module _ (types : Types) (texts : ℕ) (so_far : Bool) (fs : List Function) (f :
       (keeps_further c d (is_const_place types f o) first.1 second.1)
   aims_further (ty.Raw target c) _ o raw taken aimed = absurd (false≢true taken)
   aims_further ty.View ty.View o raw taken aimed = absurd (false≢true aimed)
+  aims_further (ty.Iterator target c) (ty.Iterator found d) o raw taken aimed = absurd (false≢true aimed)
+  aims_further (ty.Iterator target c) _ o raw taken aimed = absurd (false≢true taken)
+  aims_further (ty.Span target c) (ty.Span found d) o raw taken aimed = absurd (false≢true aimed)
+  aims_further (ty.Span target c) _ o raw taken aimed = absurd (false≢true taken)
   aims_further ty.View _ o raw taken aimed = absurd (false≢true taken)
   aims_further _ u o raw taken aimed = absurd (false≢true raw)
 

@@ -125,7 +125,7 @@ module _ (types : Types) (texts : ℕ) (so_far : Bool) (fs : List Function) (f :
   element_part few place id constant t x s wide front table here v =
       emit_part types texts so_far fs f (both types texts so_far fs f (a_base t constant) a_which) x None s w place (λ r. Element (whole r) x.0 x.1) (behind w.given)
       (a_place types texts so_far fs f t constant)
-      (new_targeted types f place reference s fits (fits_below few s.types (front_length few.types s.types.types table) reference (ap is_value here ∙ v)))
+      (new_targeted so_far types f place reference s fits (fits_below so_far few s.types (front_length few.types s.types.types table) reference (ap is_value here ∙ v)))
       (λ b h. let at = at_reference b in (
         record {
           plain = λ so. refl;
@@ -150,7 +150,7 @@ module _ (types : Types) (texts : ℕ) (so_far : Bool) (fs : List Function) (f :
       later : ty_of types id ≡ t
       later = type_later few types front id (ap is_value here ∙ v) ∙ here
 
-      fits : fits_register types (ty.Reference id constant) ≡ true
+      fits : fits_register so_far types (ty.Reference id constant) ≡ true
       fits = ap is_value (sym (type_either types id) ∙ later) ∙ v
 
       at_reference : Begins types f (new_register place (ty.Reference id constant) s).state → type_in types f (whole (length s.locals)) ≡ ty.Reference id constant

@@ -116,13 +116,13 @@ module _ (a : Around) where
       shaped_same ps us (with_new (parameter_local a p u) s) parts.1
       (shaped_more a.program.types s.locals (parameter_local a p u) h (λ is. record { name = u.name; named = refl; built = parts.0 }))
 
-  own_parameters : (types : Types) (ps : List ParameterPromise) (done us : List TypedLocal) (s : State) → done ++ us ≡ a.function.locals → AreWrittenLocals types a s → AreWrittenLocals types a (elab.with_parameters a ps us s)
-  own_parameters types [] done us s e h = h
-  own_parameters types (p ∷ ps) done [] s e h = h
-  own_parameters types (p ∷ ps) done (u ∷ us) s e h =
+  own_parameters : (so_far : Bool) (types : Types) (ps : List ParameterPromise) (done us : List TypedLocal) (s : State) → done ++ us ≡ a.function.locals → AreWrittenLocals so_far types a s → AreWrittenLocals so_far types a (elab.with_parameters a ps us s)
+  own_parameters so_far types [] done us s e h = h
+  own_parameters so_far types (p ∷ ps) done [] s e h = h
+  own_parameters so_far types (p ∷ ps) done (u ∷ us) s e h =
       let at : slice_get a.function.locals (length done) ≡ Some u = subst (λ (xs : List TypedLocal). slice_get xs (length done) ≡ Some u) e (middle_there done u us) in
-      own_parameters types ps (done ++ u ∷ []) us (with_new (parameter_local a p u) s) (append_assoc done (u ∷ []) us ∙ e)
-      (own_added types a s (parameter_local a p u) (record { number = length done; variable = u; there = at; of = record { named = refl; typed = refl; kind = refl } }) h)
+      own_parameters so_far types ps (done ++ u ∷ []) us (with_new (parameter_local a p u) s) (append_assoc done (u ∷ []) us ∙ e)
+      (own_added so_far types a s (parameter_local a p u) (record { number = length done; variable = u; there = at; of = record { named = refl; typed = refl; kind = refl } }) h)
 
   -- all of them live
   abbrev AllLive : State → Type 0
@@ -141,10 +141,10 @@ module _ (a : Around) where
 
   -- ---- the result behind them
 
-  one_register : (types : Types) (t : Ty) (s : State) → is_value t ≡ true → slice_get s.types.types a.function.result.0 ≡ Some t
-      → (y : ℕ) (l : Local) → slice_get (s.locals ++ nameless a.function.place a.function.result ∷ []) y ≡ Some l → (slice_get s.locals y ≡ Some l) ⊎ IsIntermediate types s.types l
-  one_register types t s v at =
-      register_pushed types s.types s.locals (nameless a.function.place a.function.result) (record { nameless = refl; kind = refl; ty = t; typed = at; fits = value_fits types t v })
+  one_register : (so_far : Bool) (types : Types) (t : Ty) (s : State) → is_value t ≡ true → slice_get s.types.types a.function.result.0 ≡ Some t
+      → (y : ℕ) (l : Local) → slice_get (s.locals ++ nameless a.function.place a.function.result ∷ []) y ≡ Some l → (slice_get s.locals y ≡ Some l) ⊎ IsIntermediate so_far types s.types l
+  one_register so_far types t s v at =
+      register_pushed so_far types s.types s.locals (nameless a.function.place a.function.result) (record { nameless = refl; kind = refl; ty = t; typed = at; fits = value_fits so_far types t v })
 
   one_register_grows : (s : State) → Grows s (record s { locals = s.locals ++ nameless a.function.place a.function.result ∷ [] })
   one_register_grows s = record {
@@ -168,14 +168,14 @@ module _ (a : Around) where
   result_grows _ s b = absurd (false≢true b)
 
   -- .. a register
-  result_registers : (types : Types) (t : Ty) (s : State) → (is_void t || is_value t) ≡ true → slice_get s.types.types a.function.result.0 ≡ Some t → AddsRegisters types s (with_result a t s)
-  result_registers types ty.Void s b at = registers_none types s
-  result_registers types ty.Bool s b at = (one_register types ty.Bool s refl at, order_none s.types)
-  result_registers types ty.Char s b at = (one_register types ty.Char s refl at, order_none s.types)
-  result_registers types ty.Int s b at = (one_register types ty.Int s refl at, order_none s.types)
-  result_registers types ty.Long s b at = (one_register types ty.Long s refl at, order_none s.types)
-  result_registers types ty.Size s b at = (one_register types ty.Size s refl at, order_none s.types)
-  result_registers types _ s b at = absurd (false≢true b)
+  result_registers : (so_far : Bool) (types : Types) (t : Ty) (s : State) → (is_void t || is_value t) ≡ true → slice_get s.types.types a.function.result.0 ≡ Some t → AddsRegisters so_far types s (with_result a t s)
+  result_registers so_far types ty.Void s b at = registers_none so_far types s
+  result_registers so_far types ty.Bool s b at = (one_register so_far types ty.Bool s refl at, order_none s.types)
+  result_registers so_far types ty.Char s b at = (one_register so_far types ty.Char s refl at, order_none s.types)
+  result_registers so_far types ty.Int s b at = (one_register so_far types ty.Int s refl at, order_none s.types)
+  result_registers so_far types ty.Long s b at = (one_register so_far types ty.Long s refl at, order_none s.types)
+  result_registers so_far types ty.Size s b at = (one_register so_far types ty.Size s refl at, order_none s.types)
+  result_registers so_far types _ s b at = absurd (false≢true b)
 
   result_there : (t : Ty) (s : State) → is_value t ≡ true → slice_get (with_result a t s).locals (length s.locals) ≡ Some (nameless a.function.place a.function.result)
   result_there ty.Bool s w = last_there s.locals (nameless a.function.place a.function.result)
@@ -214,14 +214,14 @@ module _ (a : Around) where
         (shaped_same a.function.parameters a.function.locals (nothing_written T) b tt)
 
     -- the parameters, and the register of the result
-    pub first_locals : (types : Types) (t : Ty) → slice_get a.program.types.types a.function.result.0 ≡ Some t → is_built_result a.program.types a.function.result ≡ true → AreWrittenLocals types a (first_state a T)
-    first_locals types t at b =
+    pub first_locals : (so_far : Bool) (types : Types) (t : Ty) → slice_get a.program.types.types a.function.result.0 ≡ Some t → is_built_result a.program.types a.function.result ≡ true → AreWrittenLocals so_far types a (first_state a T)
+    first_locals so_far types t at b =
         let found : type_at a.program.types a.function.result ≡ t = ap (λ (o : Option Ty). unwrap_or o ty.Void) at in
         let there : slice_get given.types.types a.function.result.0 ≡ Some t =
         ap (λ (x : Types). slice_get x.types a.function.result.0) (types_same a.function.parameters a.function.locals (nothing_written T)) ∙ table a.function.result.0 t at in
-        locals_added types a given (first_state a T) (result_grows (type_at a.program.types a.function.result) given b).types
-        (result_registers types (type_at a.program.types a.function.result) given b (there ∙ ap Some (sym found)))
-        (own_parameters types a.function.parameters [] a.function.locals (nothing_written T) refl (λ y l none. absurd (none-some l none)))
+        locals_added so_far types a given (first_state a T) (result_grows (type_at a.program.types a.function.result) given b).types
+        (result_registers so_far types (type_at a.program.types a.function.result) given b (there ∙ ap Some (sym found)))
+        (own_parameters so_far types a.function.parameters [] a.function.locals (nothing_written T) refl (λ y l none. absurd (none-some l none)))
 
     pub result_first : is_value (type_at a.program.types a.function.result) ≡ true → slice_get (first_state a T).locals (length a.function.parameters) ≡ Some (nameless a.function.place a.function.result)
     result_first worth = ap (slice_get (first_state a T).locals) (sym given_count) ∙ result_there (type_at a.program.types a.function.result) given worth

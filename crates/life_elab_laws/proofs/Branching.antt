@@ -117,7 +117,7 @@ module _ (types : Types) (texts : ℕ) (so_far : Bool) (fs : List Function) (f :
       branched_does = record {
         does = record {
           adds = branched_adds;
-          locals = λ are. second.does.locals (first.does.locals (locals_added types a s w.state test.grown.types test.registers are));
+          locals = λ are. second.does.locals (first.does.locals (locals_added so_far types a s w.state test.grown.types test.registers are));
           order = order_then s.types w.state.types r.types test.registers.1 (order_then w.state.types t.types r.types first.does.order second.does.order);
           follows = second.does.follows;
           code = chosen ∷ [];
@@ -157,7 +157,7 @@ module _ (types : Types) (texts : ℕ) (so_far : Bool) (fs : List Function) (f :
     asserted_does keyword = record {
       does = record {
         adds = grows_adds types f s w.state test.grown;
-        locals = locals_added types a s w.state test.grown.types test.registers;
+        locals = locals_added so_far types a s w.state test.grown.types test.registers;
         order = test.registers.1;
         follows = follows_grown types f a v s w.state test.grown h;
         code = Choice w.given Skip (Stops keyword) ∷ [];

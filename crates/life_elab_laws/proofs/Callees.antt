@@ -3,17 +3,16 @@ use Rattle.std.proofs.Common.{◌≡◌, ◌<◌, ◌≤◌, ◌⊎◌, inl, inr
 use Rattle.std.proofs.lemmas.Bool.{and_parts, false≢true, or_cases}
 use Rattle.std.proofs.lemmas.Option.{none-some, same_Some}
 use Rattle.life_types.specs.Pointees.{or_void, ty_of}
-use Rattle.life_types.specs.TypeTests.{is_char, is_value, is_void}
+use Rattle.life_types.specs.TypeTests.{is_value, is_void}
 use Rattle.life_types.specs.Types.{Types, class, class_at}
 use Rattle.life_types.specs.declared.ty.Class.TheVariants.{Value}
 use Rattle.life_types.specs.declared.ty.Ty.{Ty}
 use Rattle.life_types.specs.declared.ty.Ty.TheVariants as ty
 use Rattle.life_types.specs.declared.ty.TyId.{TyId}
 use Rattle.life_built.specs.Built.{are_values, is_built_result, is_default}
-use Rattle.life_elab_laws.specs.Reached.{are_reached_variables, has_chars, is_reached_function, is_reached_statement}
+use Rattle.life_elab_laws.specs.Reached.{are_reached_variables, is_reached_function, is_reached_statement}
 use Rattle.life_typed.specs.BaseTypes.{type_at}
 use Rattle.life_typed.specs.Programs.{FunctionForm, ProgramForm}
-use Rattle.life_typed.specs.declared.basic.TheConstants.{CHAR}
 use Rattle.life_typed.specs.declared.typed_program.ParameterPromise.{ParameterPromise}
 use Rattle.life_typed.specs.declared.typed_program.TypedLocal.{TypedLocal}
 use Rattle.life_core.specs.Function.{Function}
@@ -57,27 +56,17 @@ pub record IsReachedFunction (texts : ℕ) (so_far : Bool) (types : Types) (f : 
   pub parameters : are_values types (take (length f.parameters) f.locals) ≡ true
   pub variables : are_reached_variables so_far types f.locals ≡ true
   pub promise : is_default f.promise ≡ true
-  pub chars : so_far ≡ false → type_at types CHAR ≡ ty.Char
   pub body : is_reached_statement texts so_far types f.locals f.body ≡ true
   -- whatever is served so far
   pub any : are_reached_variables false types f.locals ≡ true
-
-has_char : (so_far : Bool) (types : Types) → has_chars so_far types ≡ true → so_far ≡ false → type_at types CHAR ≡ ty.Char
-has_char true types h wide = absurd (false≢true (sym wide))
-has_char false types h wide = char (type_at types CHAR) h
-  where
-    char : (t : Ty) → is_char t ≡ true → t ≡ ty.Char
-    char ty.Char e = refl
-    char _ e = absurd (false≢true e)
 
 pub reached_parts : (texts : ℕ) (so_far : Bool) (types : Types) (f : FunctionForm) → is_reached_function texts so_far types f ≡ true → IsReachedFunction texts so_far types f
 reached_parts texts so_far types f b =
     let one = and_parts (is_built_result types f.result) _ b in
     let two = and_parts (are_values types (take (length f.parameters) f.locals)) _ one.1 in
     let three = and_parts (are_reached_variables so_far types f.locals) _ two.1 in
-    let four = and_parts (is_default f.promise) _ three.1 in
-    let five = and_parts (has_chars so_far types) (is_reached_statement texts so_far types f.locals f.body) four.1 in
-    record { result = one.0; parameters = two.0; variables = three.0; promise = four.0; chars = has_char so_far types five.0; body = five.1; any = variables_any so_far types f.locals three.0 }
+    let four = and_parts (is_default f.promise) (is_reached_statement texts so_far types f.locals f.body) three.1 in
+    record { result = one.0; parameters = two.0; variables = three.0; promise = four.0; body = four.1; any = variables_any so_far types f.locals three.0 }
 
 pub values_at : (types : Types) (us : List TypedLocal) → are_values types us ≡ true → (n : ℕ) (id : TyId) → slice_get (map type_of us) n ≡ Some id → is_value (type_at types id) ≡ true
 values_at types [] b n id at = absurd (none-some id at)

@@ -52,11 +52,11 @@ use Rattle.life_elab_laws.proofs.VariablePlaces.{stands_later}
 use Rattle.life_elab_laws.proofs.ViewForms.{AreWhole, gives_as, IsAnswer}
 
 -- what isn't const may be changed
-no_const : (b : Bool) → ◌≡◌ {A = Option IllKind} (const_or b None) None → b ≡ false
+pub no_const : (b : Bool) → ◌≡◌ {A = Option IllKind} (const_or b None) None → b ≡ false
 no_const false e = refl
 no_const true e = absurd (none_some (sym e))
 
-changes_free : (m : Method) (c : Category) → mutates m ≡ true → change_fault m c ≡ None → ◌≡◌ {A = Option IllKind} (const_or (is_constant c) None) None
+pub changes_free : (m : Method) (c : Category) → mutates m ≡ true → change_fault m c ≡ None → ◌≡◌ {A = Option IllKind} (const_or (is_constant c) None) None
 unfolding change_fault
 changes_free m c changes e = sym (ap (λ (b : Bool). cond b (const_or (is_constant c) None) None) changes) ∙ e
 

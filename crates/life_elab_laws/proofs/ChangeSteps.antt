@@ -66,7 +66,7 @@ module _ (types : Types) (texts : ℕ) (so_far : Bool) (fs : List Function) (f :
         },
         λ n k q. let there = ready n k q in (
           ap (are_ready k) (touches is.2)
-          ∙ uses_ready k (place_uses o ++ taken) [] (both_known known.Ready k (place_uses o) taken (place_there o n k there.0) (all_there taken n k there.1)),
+              ∙ uses_ready k (place_uses o ++ taken) [] (both_known known.Ready k (place_uses o) taken (place_there o n k there.0) (all_there taken n k there.1)),
           ap (λ (u : Touched). known_after u k) (touches is.2),
         ),
       ))

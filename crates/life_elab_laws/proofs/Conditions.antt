@@ -55,7 +55,7 @@ module _ (types : Types) (texts : ℕ) (so_far : Bool) (fs : List Function) (f :
 
   pub record Tests (s : State) (w : Gives Tree) : Type 0 where
     pub grown : Grows s w.state
-    pub registers : AddsRegisters types s w.state
+    pub registers : AddsRegisters so_far types s w.state
     pub unwritten : w.state.code ≡ s.code
     pub runs : Begins types f w.state → AsksAll s w.given
 
@@ -135,8 +135,8 @@ module _ (types : Types) (texts : ℕ) (so_far : Bool) (fs : List Function) (f :
     grown : Grows s (right (left s).state).state
     grown = grows_then s (left s).state (right (left s).state).state first.grown second.grown
 
-    registers : AddsRegisters types s (right (left s).state).state
-    registers = registers_then types s (left s).state (right (left s).state).state second.grown.types first.registers second.registers
+    registers : AddsRegisters so_far types s (right (left s).state).state
+    registers = registers_then so_far types s (left s).state (right (left s).state).state second.grown.types first.registers second.registers
 
     before : Begins types f (right (left s).state).state → Begins types f (left s).state
     before b = begins_before types f (left s).state (right (left s).state).state second.grown b
@@ -210,7 +210,7 @@ module _ (types : Types) (texts : ℕ) (so_far : Bool) (fs : List Function) (f :
   pub by_branch_part : (into : Option ℕ) (t : Ty) (place : Place) (condition : State → Gives Tree) (s : State) → is_value t ≡ true → IsIntoOf t s into → IsOpen s
       → Tests s (condition s) → Makes types texts so_far fs f into s (by_branch into t place condition s) (a_number types texts so_far fs f t)
   by_branch_part into t place condition s v wanted opened test =
-      made (target place into t (condition s).state) (targeted types f place t (condition s).state into v (is_into t (condition s).state into later)) (target_number types texts so_far fs f place into t (condition s).state v later)
+      made (target place into t (condition s).state) (targeted so_far types f place t (condition s).state into v (is_into t (condition s).state into later)) (target_number types texts so_far fs f place into t (condition s).state v later)
     where
       later : IsIntoOf t (condition s).state into
       later = into_of_later t s (condition s).state into test.grown wanted
@@ -218,7 +218,7 @@ module _ (types : Types) (texts : ℕ) (so_far : Bool) (fs : List Function) (f :
       chosen : ℕ → Tree
       chosen r = Choice (condition s).given (answer place (pos 1) r) (answer place (pos 0) r)
 
-      run : (w : Gives ℕ) → Targets types f into (condition s).state w → IsNameless f w.given → is_number_of types f t w.given ≡ true → AsksAll s (condition s).given
+      run : (w : Gives ℕ) → Targets so_far types f into (condition s).state w → IsNameless f w.given → is_number_of types f t w.given ≡ true → AsksAll s (condition s).given
           → Runs types texts so_far fs f (nothing types texts so_far fs f) tt into s (branched place (condition s).given w.given w.state) (a_number types texts so_far fs f t) (chosen w.given ∷ [])
       run w target is number asks = record {
         fine = fine_choice types texts so_far fs f (condition s).given (Acts place (constant (pos 1) w.given) ∷ []) (Acts place (constant (pos 0) w.given) ∷ []) asks.fine
@@ -254,10 +254,10 @@ module _ (types : Types) (texts : ℕ) (so_far : Bool) (fs : List Function) (f :
             );
           }
 
-      made : (w : Gives ℕ) → Targets types f into (condition s).state w → (Begins types f w.state → is_number_of types f t w.given ≡ true) → Makes types texts so_far fs f into s (branched place (condition s).given w.given w.state) (a_number types texts so_far fs f t)
+      made : (w : Gives ℕ) → Targets so_far types f into (condition s).state w → (Begins types f w.state → is_number_of types f t w.given ≡ true) → Makes types texts so_far fs f into s (branched place (condition s).given w.given w.state) (a_number types texts so_far fs f t)
       made w target number = record {
         grown = grows_then s (condition s).state w.state test.grown target.grown;
-        registers = registers_then types s (condition s).state w.state target.grown.types test.registers target.registers;
+        registers = registers_then so_far types s (condition s).state w.state target.grown.types test.registers target.registers;
         code = chosen w.given ∷ [];
         written = ap (λ (c : List Tree). c ++ chosen w.given ∷ []) (target.unwritten ∙ test.unwritten);
         runs = λ b p. run w target (target.there b) (number b) (test.runs (begins_before types f (condition s).state w.state target.grown b));

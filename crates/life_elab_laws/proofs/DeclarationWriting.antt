@@ -1,8 +1,8 @@
 -- What is written for a declaration is ready and well formed: the variable lives, and is given what typing lets it be given.
-use Rattle.std.proofs.Common.{◌≡◌, ◌<◌, ℕ, Bool, true, false, ◌&&◌, ◌||◌, cond, not, List, [], ◌∷◌, ◌++◌, length, slice_get, slice_set, Option, Some, None, refl, sym, ap, ◌∙◌, subst, unwrap_or, arith, append_assoc}
-use Rattle.std.proofs.lemmas.Bool.{and_parts, false≢true}
+use Rattle.std.proofs.Common.{◌≡◌, ◌<◌, ℕ, Bool, true, false, ◌&&◌, ◌||◌, cond, not, List, [], ◌∷◌, ◌++◌, length, slice_get, slice_set, Option, Some, None, refl, sym, ap, ◌∙◌, subst, unwrap_or, arith, append_assoc, inl, inr, nat_lt}
+use Rattle.std.proofs.lemmas.Bool.{and_parts, false≢true, or_cases, and_from}
 use Rattle.life_types.specs.Pointees.{ty_of}
-use Rattle.life_types.specs.TypeTests.{is_value}
+use Rattle.life_types.specs.TypeTests.{is_value, is_view}
 use Rattle.life_types.specs.Types.{Types}
 use Rattle.life_types.specs.contracts.ty.TyPartialEq.TheImpl.{ghosts as compared}
 use Rattle.life_types.specs.declared.place.Place.{Place}
@@ -10,29 +10,30 @@ use Rattle.life_types.specs.declared.ty.Ty.{Ty}
 use Rattle.life_types.specs.declared.ty.Ty.TheVariants as ty
 use Rattle.life_types.specs.declared.ty.TyId.{TyId}
 use Rattle.life_built.specs.Built.{needs_no_temporary}
-use Rattle.life_elab_laws.specs.Reached.{is_owner_of_values, is_reached_declaration, is_reached_declared, is_reached_expression, is_reached_initial, is_reached_variable}
+use Rattle.life_elab_laws.specs.Reached.{is_owner_of_values, is_reached_declaration, is_reached_declared, is_reached_expression, is_reached_initial, is_reached_variable, is_given_owner, is_reached_object, is_reached_owned, is_text_there, is_owner_type, is_walker, is_reached_walker, is_span, is_walker_of_values, is_vector, is_reached_list, is_reached_form}
 use Rattle.life_typed.specs.BaseTypes.{type_at}
-use Rattle.life_typed.specs.Conversions.{is_place}
+use Rattle.life_typed.specs.Conversions.{is_place, fits}
 use Rattle.life_typed.specs.Programs.{FunctionForm}
-use Rattle.life_typed.specs.TypedForm.{Typed, whole as whole_form}
-use Rattle.life_typed.specs.TypedStatement.{DeclarationForm, InitialForm, one, several}
+use Rattle.life_typed.specs.TypedForm.{Typed, whole as whole_form, Form, text, typed, forms, ◌⨟◌, nothing as no_form}
+use Rattle.life_typed.specs.TypedStatement.{DeclarationForm, InitialForm, one, several, ListForm}
+use Rattle.life_typed.specs.declared.typed_expr.Category.TheVariants as category
 use Rattle.life_typed.specs.declared.typed_program.TypedLocal.{TypedLocal}
 use Rattle.life_type_stmt.specs.Declarations.{default_fault}
 use Rattle.life_core.specs.Function.{Function}
-use Rattle.life_core.specs.Operands.{Argument, Empty, Location, Place as Aimed, object_named, whole}
+use Rattle.life_core.specs.Operands.{Argument, Empty, Location, Place as Aimed, object_named, whole, Text, View}
 use Rattle.life_core.specs.ByValue.{is_pointer as points}
 use Rattle.life_core.specs.Holdings.{AnObject, sort_of}
 use Rattle.life_core.specs.Served.{is_served_birth}
-use Rattle.life_core.specs.Step.{Aim, Live, Save, Step}
+use Rattle.life_core.specs.Step.{Aim, Live, Save, Step, Copy, Changes, Set}
 use Rattle.life_core.specs.Tree.{Tree, Acts}
-use Rattle.life_core.specs.declared.instr.Form.TheVariants.{Plain}
+use Rattle.life_core.specs.declared.instr.Form.TheVariants.{Plain, Zero}
 use Rattle.life_proper.specs.declared.known.Known.{Known}
 use Rattle.life_proper.specs.declared.known.Known.TheVariants as known
 use Rattle.life_proper.specs.Knowing.{known_at}
-use Rattle.life_proper.specs.OperandTypes.{is_owner, is_range}
+use Rattle.life_proper.specs.OperandTypes.{is_owner, is_range, keeps_const, same, takes}
 use Rattle.life_proper.proofs.ReadyTests.{one_known, uses_ready}
-use Rattle.life_proper.specs.WellFormed.{can_live, goes_to, is_source_of}
-use Rattle.life_well_typed.specs.Expressions.{IsExpression, parameter_types}
+use Rattle.life_proper.specs.WellFormed.{can_live, goes_to, is_source_of, is_change_of}
+use Rattle.life_well_typed.specs.Expressions.{IsExpression, parameter_types, IsMadeOf}
 use Rattle.life_well_typed.specs.Given.{is_given, is_number}
 use Rattle.life_well_typed.specs.Statements.{IsDeclaration, IsInitialised}
 use Rattle.life_well_typed.specs.Visible.{Visible, with_next}
@@ -40,19 +41,19 @@ use Rattle.life_writer.specs.Around.{Around, own_type, type_of}
 use Rattle.life_writer.specs.Around as around
 use Rattle.life_writer.specs.Calls.{Called, call_for, called, form_call}
 use Rattle.life_writer.specs.ExpressionForms.{all_uses, uses}
-use Rattle.life_writer.specs.Giving.{aimed_at, call_to, initial, value_by}
+use Rattle.life_writer.specs.Giving.{aimed_at, call_to, initial, value_by, object_by}
 use Rattle.life_writer.specs.Giving as giving
 use Rattle.life_writer.specs.Building.{live}
-use Rattle.life_writer.specs.Pointers.{aimed, pointed}
+use Rattle.life_writer.specs.Pointers.{aimed, pointed, located}
 use Rattle.life_writer.specs.Temporaries.{scoped}
 use Rattle.life_writer.specs.Using.{pointing, value}
 use Rattle.life_writer.specs.Variables.{end_pending, variable_local}
 use Rattle.life_writer.specs.Uses.{Remaining}
 use Rattle.life_writer.specs.Writing.{State, Gives, ◌>>◌, emit, gives, mapped, with_code}
-use Rattle.life_elab.specs.DeclarationForms.{declared, declared_as, default_to, empty, given_initial}
+use Rattle.life_elab.specs.DeclarationForms.{declared, declared_as, default_to, empty, given_initial, built_type}
 use Rattle.life_elab.specs.Declarations.{variable as home}
 use Rattle.life_writer.proofs.Called.{call_for_seen, calling}
-use Rattle.life_elab_laws.proofs.Aiming.{pointed_fills, pointed_fine}
+use Rattle.life_elab_laws.proofs.Aiming.{pointed_fills, pointed_fine, literal_given}
 use Rattle.life_elab_laws.proofs.CallParts.{called_fine}
 use Rattle.life_elab_laws.proofs.Calls.{born_fills}
 use Rattle.life_elab_laws.proofs.Declaring.{declared_does, its_local, new_below, new_sort, with_new}
@@ -60,20 +61,20 @@ use Rattle.life_elab_laws.proofs.Doing.{Does}
 use Rattle.life_elab_laws.proofs.ExpressionKinds.{variable_built}
 use Rattle.life_elab_laws.proofs.ExpressionForms.{IsWhole}
 use Rattle.life_elab_laws.proofs.ExpressionTypes.{seen_kind}
-use Rattle.life_elab_laws.proofs.Expressions.{whole_expression}
+use Rattle.life_elab_laws.proofs.Expressions.{whole_expression, walker_expression, wholes}
 use Rattle.life_elab_laws.proofs.PointerForms.{points_whole, result_later}
 use Rattle.life_elab_laws.proofs.GivenKinds.{given_number, given_pointer, given_view}
 use Rattle.life_elab_laws.proofs.Falling.{Falls, Fills, falls_acts, falls_append, falls_filling}
 use Rattle.life_elab_laws.proofs.Following.{Follows, follows_grown}
-use Rattle.life_elab_laws.proofs.Filling.{aimed_filling, filling_fills}
-use Rattle.life_elab_laws.proofs.FormedFits.{IsBoundTo, given_raw, given_reference, given_seen}
-use Rattle.life_elab_laws.proofs.Gifts.{Gift, a_number, a_place, a_pointing, arguments, nothing, takes_from}
+use Rattle.life_elab_laws.proofs.Filling.{aimed_filling, filling_fills, text_filling}
+use Rattle.life_elab_laws.proofs.FormedFits.{IsBoundTo, given_raw, given_reference, given_seen, given_owner, given_string, given_vector, given_walker}
+use Rattle.life_elab_laws.proofs.Gifts.{Gift, a_number, a_place, a_pointing, arguments, nothing, takes_from, a_pointer}
 use Rattle.life_elab_laws.proofs.Growing.{Begins, Grows, grows_none}
 use Rattle.life_elab_laws.proofs.Held.{blank_there, two_there}
 use Rattle.life_elab_laws.proofs.Knowledge.{at_set, beside_set}
 use Rattle.life_elab_laws.proofs.Locations.{is_location, is_pointed, seen_pointed}
-use Rattle.life_elab_laws.proofs.NewVariables.{bound_given, location_declared, owner_lives, raw_lives, reference_declared, value_goes, value_lives, value_saved}
-use Rattle.life_elab_laws.proofs.Parts.{Makes, leaf_part}
+use Rattle.life_elab_laws.proofs.NewVariables.{bound_given, location_declared, owner_lives, raw_lives, reference_declared, value_goes, value_lives, value_saved, owner_declared, location_lives}
+use Rattle.life_elab_laws.proofs.Parts.{Makes, leaf_part, then_part}
 use Rattle.life_elab_laws.proofs.Pending.{same_pending}
 use Rattle.life_elab_laws.proofs.Reaching.{variable_any}
 use Rattle.life_elab_laws.proofs.Setting.{Setting}
@@ -81,7 +82,29 @@ use Rattle.life_elab_laws.proofs.Shaping.{IsFineStep, fine_acts, fine_append}
 use Rattle.life_elab_laws.proofs.TypedKinds.{none_some}
 use Rattle.life_elab_laws.proofs.Types.{same_types, value_held}
 use Rattle.life_elab_laws.proofs.Values.{by_values}
-use Rattle.life_elab_laws.proofs.VariablePlaces.{IsVariableType, a_raw, a_reference, a_value, a_view, an_owner, owner_is, variable_type}
+use Rattle.life_elab_laws.proofs.VariablePlaces.{IsVariableType, a_raw, a_reference, a_value, a_view, an_owner, owner_is, variable_type, a_walker, walker_is}
+use Rattle.life_elab_laws.proofs.ObjectForms.{IsObject}
+use Rattle.life_elab_laws.proofs.OwnerBirths.{lives_then}
+use Rattle.life_elab_laws.proofs.OwnerSteps.{copy_fine, place_held}
+use Rattle.life_elab_laws.proofs.SeenForms.{string_points}
+use Rattle.life_core.specs.Touched.{place_uses}
+use Rattle.life_typed.specs.declared.typed_expr.Category.{Category}
+use Rattle.life_typed.specs.declared.typed_expr.ExprType.TheVariants.{Of, TextLiteral}
+use Rattle.life_elab_laws.proofs.ElementForms.{object_expression}
+use Rattle.life_elab_laws.proofs.Instructions.{literal_located_part}
+use Rattle.life_elab_laws.proofs.ViewSteps.{pointer_is_held}
+use Rattle.life_proper.specs.Placed.{is_const_place, type_of as type_of_place}
+use Rattle.life_typed.specs.declared.typed_expr.ExprType.{ExprType}
+use Rattle.life_type_expr.specs.Lists.{fits_at_all}
+use Rattle.life_elab_laws.proofs.WalkerForms.{IsWalker, vector_points, walker_points}
+use Rattle.life_elab_laws.proofs.WalkerSteps.{keeps_itself}
+use Rattle.life_elab_laws.proofs.FormedVariables.{type_later}
+use Rattle.life_elab_laws.proofs.OperandsThere.{value_same}
+use Rattle.life_elab_laws.proofs.ListBirths.{list_does}
+use Rattle.life_well_typed.specs.Members.{are_elements, is_listed}
+use Rattle.life_writer.specs.Initialising.{initialised}
+use Rattle.life_writer.specs.Lists.{listed}
+use Rattle.life_elab_laws.proofs.ViewForms.{AreWhole}
 
 module _ (a : Around) (types : Types) (texts : ℕ) (so_far : Bool) (fs : List Function) (f : Function) (setting : Setting so_far a types fs f) (v : Visible) (in_loop : Bool) where
   module _ (u : TypedLocal) (s : State) (h : Follows types f a v s) (at : slice_get a.function.locals v.declared ≡ Some u) (built : is_reached_variable so_far a.program.types u.ty ≡ true) where
@@ -127,6 +150,16 @@ module _ (a : Around) (types : Types) (texts : ℕ) (so_far : Bool) (fs : List F
         (leaf_part types texts so_far fs f tt s (nothing types texts so_far fs f) (λ b. tt) (λ b k alive. tt))
         (λ b q. fine_acts types texts so_far fs f u.place (Live (length s.locals) Plain) (live_fine s (lives b) (born b)))
         (λ b k size q blank. falls_filling types f u.place (Live (length s.locals) Plain) (length s.locals) k (live_fills (length s.locals) k blank))
+
+    -- .. from an empty list
+    zero_does : (New s → can_live types texts fs f (length s.locals) ≡ true) → so_far ≡ false → Born (emit u.place (Live (length s.locals) Zero) (with_new (variable_local a u) s))
+    zero_does lives wide =
+        declared_does types texts so_far fs f a setting.front v in_loop u s (gives tt s) (nothing types texts so_far fs f) (Acts u.place (Live (length s.locals) Zero) ∷ []) h at any
+        (leaf_part types texts so_far fs f tt s (nothing types texts so_far fs f) (λ b. tt) (λ b k alive. tt))
+        (λ b q. fine_acts types texts so_far fs f u.place (Live (length s.locals) Zero)
+        (record { plain = λ so. absurd (false≢true (sym wide ∙ so)); given = refl; formed = lives b; served = λ so. absurd (false≢true (sym wide ∙ so)) }))
+        (λ b k size q blank. falls_filling types f u.place (Live (length s.locals) Zero) (length s.locals) k
+        (record { ready = one_known known.Blank k (length s.locals) (blank_there k (length s.locals) blank); after = refl }))
 
     -- ---- an object
 
@@ -263,7 +296,7 @@ module _ (a : Around) (types : Types) (texts : ℕ) (so_far : Bool) (fs : List F
           })
           (λ b k q blank. filling_fills f (λ p. Aim p (Aimed w.given)) (length w.state.locals) k (aimed_filling f w.given (length w.state.locals) k q) (length w.state.locals)))
 
-      one_does : (so_far || not (is_owner (type_of a u.ty))) ≡ true → needs_no_temporary (type_of a u.ty) e ≡ true → is_given a.program.types (type_of a u.ty) e ≡ true → Born (GivenOne (type_of a u.ty))
+      one_does : (so_far || not (is_owner (type_of a u.ty) || is_walker (type_of a u.ty))) ≡ true → needs_no_temporary (type_of a u.ty) e ≡ true → is_given a.program.types (type_of a u.ty) e ≡ true → Born (GivenOne (type_of a u.ty))
       one_does plain temporary given = go (variable_type so_far a.program.types u.ty built)
         where
           as_given : (t : Ty) → slice_get a.program.types.types u.ty.0 ≡ Some t → is_given a.program.types t e ≡ true
@@ -276,23 +309,176 @@ module _ (a : Around) (types : Types) (texts : ℕ) (so_far : Bool) (fs : List F
           go (a_value t is w) = as_type t is (object_does t is w (given_number a.program.types t e w (as_given t is)))
           go (a_raw target constant is w) = as_type (ty.Raw target constant) is (raw_does target constant is w (as_given (ty.Raw target constant) is))
           go (a_view so is) = as_type ty.View is (view_does is (as_given ty.View is))
-          go (an_owner so t is o) = absurd (false≢true (sym (ap (λ (x : Ty). so_far || not (is_owner x)) (type_is t is) ∙ ap (λ (b : Bool). b || not (is_owner t)) so ∙ ap not (owner_is a.program.types t o)) ∙ plain))
+          go (a_walker so t is w) = absurd (false≢true (sym (ap (λ (x : Ty). so_far || not (is_owner x || is_walker x)) (type_is t is) ∙ ap (λ (b : Bool). b || not (is_owner t || is_walker t)) so ∙ ap (λ (b : Bool). not (b || is_walker t)) (walker_is a.program.types t w).owner ∙ ap not (walker_is a.program.types t w).walker) ∙ plain))
+          go (an_owner so t is o) = absurd (false≢true (sym (ap (λ (x : Ty). so_far || not (is_owner x || is_walker x)) (type_is t is) ∙ ap (λ (b : Bool). b || not (is_owner t || is_walker t)) so ∙ ap (λ (b : Bool). not (b || is_walker t)) (owner_is a.program.types t o)) ∙ plain))
           go (a_reference target constant is w) =
               let r = ty.Reference target constant in
               as_type r is
               (reference_does target constant is w
               (given_reference a.program.types target constant e w (subst (λ (x : Ty). needs_no_temporary x e ≡ true) (type_is r is) temporary) (as_given r is)))
 
+    -- ---- an owner, or a view of one
+
+    module _ (e : Typed) (he : Whole e) (behind : Place) where
+      abbrev GivenThis : Ty → State
+      GivenThis t = (initial a scoped (uses a (whole_form e)) t behind s >> λ rest s. rest (home a u) s).state
+
+      by_owner : (t : Ty) → is_owner_of_values a.program.types t ≡ true → GivenThis t ≡ (object_by (uses a (whole_form e)).category (uses a (whole_form e)).at (uses a (whole_form e)).object s >> λ rest s. rest (home a u) s).state
+      by_owner ty.Text o = refl
+      by_owner (ty.Vector item) o = refl
+      by_owner _ o = absurd (false≢true o)
+
+      -- a pointer, as what gives it something of a type
+      shown_does : (t : Ty) → is_location t ≡ true → slice_get a.program.types.types u.ty.0 ≡ Some t → (source : ExprType) → Makes types texts so_far fs f None s (pointing (uses a (whole_form e)) s) (a_pointing types texts so_far fs f source) → takes_from types t source ≡ true
+          → Born (emit e.place (pointed (pointing (uses a (whole_form e)) s).given (whole (length (pointing (uses a (whole_form e)) s).state.locals))) (with_new (variable_local a u) (pointing (uses a (whole_form e)) s).state))
+      shown_does t loc is source made taken =
+          let w = pointing (uses a (whole_form e)) s in
+          filled_does e.place w (a_pointing types texts so_far fs f source) (λ p l. pointed p l) made
+          (λ b q. pointed_fine types texts so_far fs f (whole (length w.state.locals)) t source w.given loc (location_declared a types texts so_far fs f setting.front u w.state b t loc is) taken q)
+          (λ b k q blank. pointed_fills f (length w.state.locals) (length w.state.locals) w.given k q)
+
+      module _ (from : IsObject a v.visible types texts so_far fs f setting (whole_form e)) where
+        -- a copy
+        copied_does : (t : Ty) → slice_get a.program.types.types u.ty.0 ≡ Some t → is_owner_of_values a.program.types t ≡ true → is_given a.program.types t e ≡ true → Born (GivenThis t)
+        copied_does t is o given =
+            let w = (uses a (whole_form e)).at s in
+            let one : from.ty ≡ t = given_owner a.program.types t from.ty e o from.owner from.is given in
+            let made = subst (λ (x : Ty). Makes types texts so_far fs f None s w (a_place types texts so_far fs f x from.constant)) one (from.names s h.stands) in
+            subst Born (sym (by_owner t o ∙ ap (λ (c : Category). (object_by c (uses a (whole_form e)).at (uses a (whole_form e)).object s >> λ rest s. rest (home a u) s).state) from.place))
+            (lives_then a types texts so_far fs f setting v in_loop u s h at any u.place w (a_place types texts so_far fs f t from.constant) made (λ x. Copy (object_named x) w.given) (place_uses w.given) (λ x. refl)
+            (λ n k q. place_held w.given n k q) from.wide
+            (λ b. owner_lives a types texts so_far fs f setting.front u w.state b t is o)
+            (λ b q. let at = owner_declared a types texts so_far fs f setting.front u w.state b t is o in copy_fine types texts so_far fs f a.program.types t (object_named (length w.state.locals)) w.given from.wide o at.typed at.held q.typed))
+
+        -- a view of the whole
+        string_view_does : slice_get a.program.types.types u.ty.0 ≡ Some ty.View → is_given a.program.types ty.View e ≡ true → Born (GivenThis ty.View)
+        string_view_does is given = shown_does ty.View refl is (Of ty.View) (string_points a v.visible types texts so_far fs f setting (whole_form e) from (given_string a.program.types from.ty e from.owner from.is given) s h.stands) refl
+
+        -- a span of the whole
+        span_does : (item : TyId) (constant : Bool) → is_value (type_at a.program.types item) ≡ true → slice_get a.program.types.types u.ty.0 ≡ Some (ty.Span item constant) → is_given a.program.types (ty.Span item constant) e ≡ true → Born (GivenThis (ty.Span item constant))
+        span_does item constant worth is given =
+            let to = given_vector a.program.types item constant from.constant from.id from.ty e from.owner from.is from.place given in
+            shown_does (ty.Span item constant) refl is (Of (ty.Span item constant)) (vector_points a v.visible types texts so_far fs f setting (whole_form e) from item constant to.is to.kept s h.stands)
+            (and_from (same (ty_of types item) (ty_of types item)) (keeps_const constant constant) (value_same (ty_of types item) (ap is_value (type_later a.program.types types setting.front item worth) ∙ worth)) (keeps_itself constant))
+
+      -- another iterator or span
+      walker_does : IsWalker a v.visible types texts so_far fs f setting (whole_form e) → (t : Ty) → slice_get a.program.types.types u.ty.0 ≡ Some t → is_walker_of_values a.program.types t ≡ true → is_given a.program.types t e ≡ true → Born (GivenThis t)
+      walker_does from t is w given = go t is w (given_walker a.program.types types setting.front t from.ty e w from.walker from.is given)
+        where
+          made : Makes types texts so_far fs f None s (pointing (uses a (whole_form e)) s) (a_pointing types texts so_far fs f (Of from.ty))
+          made = walker_points a v.visible types texts so_far fs f setting (whole_form e) from s h.stands
+
+          go : (t : Ty) → slice_get a.program.types.types u.ty.0 ≡ Some t → is_walker_of_values a.program.types t ≡ true → takes types t from.ty ≡ true → Born (GivenThis t)
+          go (ty.Iterator item constant) is w taken = shown_does (ty.Iterator item constant) refl is (Of from.ty) made taken
+          go (ty.Span item constant) is w taken = shown_does (ty.Span item constant) refl is (Of from.ty) made taken
+          go _ is w taken = absurd (false≢true w)
+
+      -- a literal
+      literal_does : (n : ℕ) → e.form ≡ text n → nat_lt n texts ≡ true → so_far ≡ false → slice_get a.program.types.types u.ty.0 ≡ Some ty.Text → e.category ≡ category.Value → Born (GivenThis ty.Text)
+      literal_does n same few wide is held =
+          let w = located e.place ty.View (aimed (Text n)) s in
+          let made =
+          then_part types texts so_far fs f (nothing types texts so_far fs f) tt None s (gives (aimed (Text n)) s) w (a_pointing types texts so_far fs f TextLiteral) (a_pointer types texts so_far fs f ty.View) h.stands.opened
+          (leaf_part types texts so_far fs f (aimed (Text n)) s (a_pointing types texts so_far fs f TextLiteral) (λ b. literal_given types texts so_far fs f n few) (λ b k alive. text_filling f n (length s.locals) k))
+          (literal_located_part types texts so_far fs f (aimed (Text n)) e.place s) in
+          subst Born (sym (by_owner ty.Text refl
+          ∙ ap (λ (c : Category). (object_by c (uses a (whole_form e)).at (uses a (whole_form e)).object s >> λ rest s. rest (home a u) s).state) held
+          ∙ ap (λ (g : Form). ((uses a (typed e.place e.ty e.category g)).object s >> λ rest s. rest (home a u) s).state) same))
+          (lives_then a types texts so_far fs f setting v in_loop u s h at any u.place w (a_pointer types texts so_far fs f ty.View) made (λ x. Changes (object_named x) (Set (View w.given))) (w.given.local ∷ []) (λ x. refl)
+          (λ n k q. (pointer_is_held w.given n k q, tt)) wide
+          (λ b. owner_lives a types texts so_far fs f setting.front u w.state b ty.Text is refl)
+          (λ b q. let at = owner_declared a types texts so_far fs f setting.front u w.state b ty.Text is refl in record {
+            plain = λ so. refl;
+            given = refl;
+            formed =
+                and_from (is_change_of types texts fs f (type_of_place types f (object_named (length w.state.locals))) (Set (View w.given))) (not (is_const_place types f (object_named (length w.state.locals))))
+                (ap (λ (t : Ty). is_change_of types texts fs f t (Set (View w.given))) at.typed ∙ ap is_view q.typed) at.held;
+            served = λ so. absurd (false≢true (sym wide ∙ so));
+          }))
+
+    owned_does : (e : Typed) → (he : Whole e) → (behind : Place) → is_reached_owned texts so_far (type_of a u.ty) e ≡ true → is_given a.program.types (type_of a u.ty) e ≡ true → Born (GivenThis e he behind (type_of a u.ty))
+    owned_does e he behind b given = elim (or_cases (is_given_owner texts so_far (type_of a u.ty) e) _ b) [
+      | inl owner ↦
+          let one = and_parts (is_owner (type_of a u.ty) || (is_view (type_of a u.ty) || is_span texts so_far (type_of a u.ty))) (is_owner_type so_far e.ty && is_reached_object (whole_form e)) owner in
+          let two = and_parts (is_owner_type so_far e.ty) (is_reached_object (whole_form e)) one.1 in
+          given_owner_does one.0 (object_expression a v.visible types texts so_far fs f setting (whole_form e) two.1 two.0 he) (variable_type so_far a.program.types u.ty built)
+      | inr other ↦ elim (or_cases (is_owner (type_of a u.ty) && (not so_far && is_text_there texts so_far e.form)) (is_walker (type_of a u.ty) && is_reached_walker texts so_far (whole_form e)) other) [
+        | inl literal ↦
+            let one = and_parts (is_owner (type_of a u.ty)) (not so_far && is_text_there texts so_far e.form) literal in
+            let two = and_parts (not so_far) (is_text_there texts so_far e.form) one.1 in
+            given_literal_does one.0 (not_true so_far two.0) e.form refl two.1 he (variable_type so_far a.program.types u.ty built)
+        | inr walks ↦
+            let one = and_parts (is_walker (type_of a u.ty)) (is_reached_walker texts so_far (whole_form e)) walks in
+            given_walker_does one.0 (walker_expression a v.visible types texts so_far fs f setting (whole_form e) one.1 he) (variable_type so_far a.program.types u.ty built)
+      ]
+    ]
+      where
+        not_true : (b : Bool) → not b ≡ true → b ≡ false
+        not_true false e = refl
+        not_true true e = absurd (false≢true e)
+
+        as_type : (t : Ty) → slice_get a.program.types.types u.ty.0 ≡ Some t → Born (GivenThis e he behind t) → Born (GivenThis e he behind (type_of a u.ty))
+        as_type t is born = subst (λ (x : Ty). Born (GivenThis e he behind x)) (sym (type_is t is)) born
+
+        as_given : (t : Ty) → slice_get a.program.types.types u.ty.0 ≡ Some t → is_given a.program.types t e ≡ true
+        as_given t is = subst (λ (x : Ty). is_given a.program.types x e ≡ true) (type_is t is) given
+
+        -- it is an owner or a view
+        refused : (t : Ty) → slice_get a.program.types.types u.ty.0 ≡ Some t → (is_owner t || (is_view t || is_span texts so_far t)) ≡ false → (is_owner (type_of a u.ty) || (is_view (type_of a u.ty) || is_span texts so_far (type_of a u.ty))) ≡ true → Born (GivenThis e he behind (type_of a u.ty))
+        refused t is none p = absurd (false≢true (sym (ap (λ (x : Ty). is_owner x || (is_view x || is_span texts so_far x)) (type_is t is) ∙ none) ∙ p))
+
+        given_owner_does : (is_owner (type_of a u.ty) || (is_view (type_of a u.ty) || is_span texts so_far (type_of a u.ty))) ≡ true → IsObject a v.visible types texts so_far fs f setting (whole_form e) → IsVariableType so_far a.program.types u.ty → Born (GivenThis e he behind (type_of a u.ty))
+        given_owner_does p from (a_value t is w) = refused t is (by_values (λ t. (is_owner t || (is_view t || is_span texts so_far t)) ≡ false) refl refl refl refl refl t w) p
+        given_owner_does p from (a_raw target constant is w) = refused (ty.Raw target constant) is refl p
+        given_owner_does p from (a_reference target constant is w) = refused (ty.Reference target constant) is refl p
+        given_owner_does p from (a_view so is) = as_type ty.View is (string_view_does e he behind from is (as_given ty.View is))
+        given_owner_does p from (a_walker so (ty.Iterator item constant) is w) = refused (ty.Iterator item constant) is refl p
+        given_owner_does p from (a_walker so (ty.Span item constant) is w) = as_type (ty.Span item constant) is (span_does e he behind from item constant w is (as_given (ty.Span item constant) is))
+        given_owner_does p from (a_walker so _ is w) = absurd (false≢true w)
+        given_owner_does p from (an_owner so t is o) = as_type t is (copied_does e he behind from t is o (as_given t is))
+
+        no_walker : (t : Ty) → slice_get a.program.types.types u.ty.0 ≡ Some t → is_walker t ≡ false → is_walker (type_of a u.ty) ≡ true → Born (GivenThis e he behind (type_of a u.ty))
+        no_walker t is none p = absurd (false≢true (sym (ap is_walker (type_is t is) ∙ none) ∙ p))
+
+        given_walker_does : is_walker (type_of a u.ty) ≡ true → IsWalker a v.visible types texts so_far fs f setting (whole_form e) → IsVariableType so_far a.program.types u.ty → Born (GivenThis e he behind (type_of a u.ty))
+        given_walker_does p from (a_value t is w) = no_walker t is (by_values (λ t. is_walker t ≡ false) refl refl refl refl refl t w) p
+        given_walker_does p from (a_raw target constant is w) = no_walker (ty.Raw target constant) is refl p
+        given_walker_does p from (a_reference target constant is w) = no_walker (ty.Reference target constant) is refl p
+        given_walker_does p from (a_view so is) = no_walker ty.View is refl p
+        given_walker_does p from (an_owner so ty.Text is o) = no_walker ty.Text is refl p
+        given_walker_does p from (an_owner so (ty.Vector item) is o) = no_walker (ty.Vector item) is refl p
+        given_walker_does p from (an_owner so _ is o) = absurd (false≢true o)
+        given_walker_does p from (a_walker so t is w) = as_type t is (walker_does e he behind from t is w (as_given t is))
+
+        no_literal : (t : Ty) → slice_get a.program.types.types u.ty.0 ≡ Some t → is_owner t ≡ false → is_owner (type_of a u.ty) ≡ true → Born (GivenThis e he behind (type_of a u.ty))
+        no_literal t is none p = absurd (false≢true (sym (ap is_owner (type_is t is) ∙ none) ∙ p))
+
+        given_literal_does : is_owner (type_of a u.ty) ≡ true → so_far ≡ false → (form : Form) → e.form ≡ form → is_text_there texts so_far form ≡ true → Whole e → IsVariableType so_far a.program.types u.ty → Born (GivenThis e he behind (type_of a u.ty))
+        given_literal_does p wide (text n) same few made (a_value t is w) = no_literal t is (by_values (λ t. is_owner t ≡ false) refl refl refl refl refl t w) p
+        given_literal_does p wide (text n) same few made (a_raw target constant is w) = no_literal (ty.Raw target constant) is refl p
+        given_literal_does p wide (text n) same few made (a_reference target constant is w) = no_literal (ty.Reference target constant) is refl p
+        given_literal_does p wide (text n) same few made (a_view so is) = no_literal ty.View is refl p
+        given_literal_does p wide (text n) same few made (a_walker so t is w) = no_literal t is (walker_is a.program.types t w).owner p
+        given_literal_does p wide (text n) same few made (an_owner so t is o) =
+            let told : IsMadeOf a.program a.function.locals v.visible e (text n) = subst (IsMadeOf a.program a.function.locals v.visible e) same made in
+            string_only t is o (subst (λ (x : ExprType). fits_at_all (fits a.program.types t x e.category) ≡ true) told.0 (as_given t is)) told.1
+          where
+            string_only : (t : Ty) → slice_get a.program.types.types u.ty.0 ≡ Some t → is_owner_of_values a.program.types t ≡ true → fits_at_all (fits a.program.types t TextLiteral e.category) ≡ true → e.category ≡ category.Value → Born (GivenThis e he behind (type_of a u.ty))
+            string_only ty.Text is o fits held = as_type ty.Text is (literal_does e he behind n same few wide is held)
+            string_only (ty.Vector item) is o fits held = absurd (false≢true fits)
+            string_only _ is o fits held = absurd (false≢true o)
+        given_literal_does p wide _ same few made kind = absurd (false≢true few)
+
     -- ---- any variable
 
-    -- a view sees nothing
-    empty_does : so_far ≡ false → slice_get a.program.types.types u.ty.0 ≡ Some ty.View → Born (empty (home a u) s).state
-    empty_does wide is =
+    -- a view or a span sees nothing
+    empty_does : so_far ≡ false → (t : Ty) → is_range t ≡ true → is_location t ≡ true → slice_get a.program.types.types u.ty.0 ≡ Some t → Born (empty (home a u) s).state
+    empty_does wide t range loc is =
         filled_does u.place (gives tt s) (nothing types texts so_far fs f) (λ x l. Aim l Empty) (leaf_part types texts so_far fs f tt s (nothing types texts so_far fs f) (λ b. tt) (λ b k alive. tt))
         (λ b q. record {
           plain = λ so. refl;
           given = refl;
-          formed = ap is_range (location_declared a types texts so_far fs f setting.front u s b ty.View refl is).typed;
+          formed = ap is_range (location_declared a types texts so_far fs f setting.front u s b t loc is).typed ∙ range;
           served = λ so. absurd (false≢true (sym wide ∙ so));
         })
         (λ b k q blank. record { ready = refl; after = refl })
@@ -317,19 +503,64 @@ module _ (a : Around) (types : Types) (texts : ℕ) (so_far : Bool) (fs : List F
             as_type (ty.Raw target constant) is
             (live_does (λ b. raw_lives a types texts so_far fs f setting.front u s b target constant is)
             (λ b so. ap is_served_birth (new_sort types f a setting.front v u (variable_local a u) (its_local a u) s h at any b (ty.Raw target constant) is)))
-        go (a_view wide is) = as_type ty.View is (empty_does wide is)
+        go (a_view wide is) = as_type ty.View is (empty_does wide ty.View refl refl is)
+        go (a_walker wide (ty.Iterator target constant) is w) =
+            as_type (ty.Iterator target constant) is
+            (live_does (λ b. location_lives a types texts so_far fs f setting.front u s b (ty.Iterator target constant) refl refl refl is) (λ b so. absurd (false≢true (sym wide ∙ so))))
+        go (a_walker wide (ty.Span target constant) is w) = as_type (ty.Span target constant) is (empty_does wide (ty.Span target constant) refl refl is)
+        go (a_walker wide _ is w) = absurd (false≢true w)
         go (an_owner wide t is o) =
             as_type t is
             (subst (λ (g : Gives ℕ). Born g.state) (sym (owner_default t o))
             (live_does (λ b. owner_lives a types texts so_far fs f setting.front u s b t is o) (λ b so. absurd (false≢true (sym wide ∙ so)))))
         go (a_reference target constant is w) = absurd (none_some (sym (subst (λ (t : Ty). default_fault t ≡ None) (type_is (ty.Reference target constant) is) none)))
 
+    -- ---- a list of elements
+
+    abbrev ListGiven : ListForm → Place → Form → Ty → State
+    ListGiven list behind es t = (initialised a (listed a (built_type a t) list.opening (all_uses a es) list.delimiters) t behind (home a u) s).state
+
+    listed_does : (list : ListForm) (behind : Place) → is_reached_list texts so_far (type_of a u.ty) list ≡ true → IsInitialised a.program a.function.locals a.function.result v.visible (Some u) (Some (several list)) → Born (given_initial a u (Some (several list)) behind s)
+    listed_does list behind b i =
+        let one = and_parts (is_vector texts so_far (type_of a u.ty)) (not so_far && is_reached_form texts so_far (forms list.elements)) b in
+        let two = and_parts (not so_far) (is_reached_form texts so_far (forms list.elements)) one.1 in
+        go (wholes a v.visible types texts so_far fs f setting (forms list.elements) two.1 i.1) one.0 (variable_type so_far a.program.types u.ty built)
+      where
+        no_vector : (t : Ty) → slice_get a.program.types.types u.ty.0 ≡ Some t → is_vector texts so_far t ≡ false → is_vector texts so_far (type_of a u.ty) ≡ true → Born (ListGiven list behind (forms list.elements) (type_of a u.ty))
+        no_vector t is none p = absurd (false≢true (sym (ap (is_vector texts so_far) (type_is t is) ∙ none) ∙ p))
+
+        by_elements : so_far ≡ false → (item : TyId) → slice_get a.program.types.types u.ty.0 ≡ Some (ty.Vector item) → is_value (type_at a.program.types item) ≡ true → (es : Form) → AreWhole a v.visible types texts so_far fs f setting es
+            → are_elements a.program.types item es ≡ true → Born (ListGiven list behind es (ty.Vector item))
+        by_elements wide item is worth (e ⨟ es) whole all =
+            list_does a types texts so_far fs f setting v in_loop u s item is worth wide list.opening (e ⨟ es) list.delimiters whole all h.outside
+            (live_does (λ b. owner_lives a types texts so_far fs f setting.front u s b (ty.Vector item) is worth) (λ b so. absurd (false≢true (sym wide ∙ so))))
+        by_elements wide item is worth no_form whole all = zero_does (λ b. owner_lives a types texts so_far fs f setting.front u s b (ty.Vector item) is worth) wide
+        by_elements wide item is worth _ whole all = absurd whole
+
+        go : AreWhole a v.visible types texts so_far fs f setting (forms list.elements) → is_vector texts so_far (type_of a u.ty) ≡ true → IsVariableType so_far a.program.types u.ty → Born (ListGiven list behind (forms list.elements) (type_of a u.ty))
+        go whole p (a_value t is w) = no_vector t is (by_values (λ t. is_vector texts so_far t ≡ false) refl refl refl refl refl t w) p
+        go whole p (a_raw target constant is w) = no_vector (ty.Raw target constant) is refl p
+        go whole p (a_reference target constant is w) = no_vector (ty.Reference target constant) is refl p
+        go whole p (a_view so is) = no_vector ty.View is refl p
+        go whole p (a_walker so (ty.Iterator item constant) is w) = no_vector (ty.Iterator item constant) is refl p
+        go whole p (a_walker so (ty.Span item constant) is w) = no_vector (ty.Span item constant) is refl p
+        go whole p (a_walker so _ is w) = absurd (false≢true w)
+        go whole p (an_owner so ty.Text is o) = no_vector ty.Text is refl p
+        go whole p (an_owner so (ty.Vector item) is o) =
+            subst (λ (t : Ty). Born (ListGiven list behind (forms list.elements) t)) (sym (type_is (ty.Vector item) is))
+            (by_elements so item is o (forms list.elements) whole (subst (λ (t : Ty). is_listed a.program.types t (forms list.elements) ≡ true) (type_is (ty.Vector item) is) i.0))
+        go whole p (an_owner so _ is o) = absurd (false≢true o)
+
     initial_does : (initial : Option InitialForm) (behind : Place) → is_reached_initial texts so_far (type_of a u.ty) initial ≡ true → IsInitialised a.program a.function.locals a.function.result v.visible (Some u) initial → Born (given_initial a u initial behind s)
     initial_does None behind b i = default_does i
     initial_does (Some (one e)) behind b i =
-        let parts = and_parts (so_far || not (is_owner (type_of a u.ty))) (is_reached_expression texts so_far e && needs_no_temporary (type_of a u.ty) e) b in
-        let both = and_parts (is_reached_expression texts so_far e) (needs_no_temporary (type_of a u.ty) e) parts.1 in one_does e both.0 i.1 behind parts.0 both.1 i.0
-    initial_does (Some (several list)) behind b i = absurd (false≢true b)
+        elim (or_cases ((so_far || not (is_owner (type_of a u.ty) || is_walker (type_of a u.ty))) && (is_reached_expression texts so_far e && needs_no_temporary (type_of a u.ty) e)) (is_reached_owned texts so_far (type_of a u.ty) e) b) [
+          | inl value ↦
+              let parts = and_parts (so_far || not (is_owner (type_of a u.ty) || is_walker (type_of a u.ty))) (is_reached_expression texts so_far e && needs_no_temporary (type_of a u.ty) e) value in
+              let both = and_parts (is_reached_expression texts so_far e) (needs_no_temporary (type_of a u.ty) e) parts.1 in one_does e both.0 i.1 behind parts.0 both.1 i.0
+          | inr owned ↦ owned_does e i.1 behind owned i.0
+        ]
+    initial_does (Some (several list)) behind b i = listed_does list behind b i
 
   pub declaration_does : (d : DeclarationForm) (behind : Place) (s : State) → Follows types f a v s → is_reached_declaration texts so_far a.program.types a.function.locals d ≡ true → IsDeclaration a.program a.function.locals a.function.result d v
       → Does types texts so_far fs f a (with_next v) in_loop s (declared a d behind s)

@@ -43,7 +43,7 @@ use Rattle.life_elab_laws.proofs.Parts.{Makes, Runs}
 use Rattle.life_elab_laws.proofs.Shaped.{shaped_more, variable_later}
 use Rattle.life_elab_laws.proofs.Shaping.{IsFine, stated_append}
 use Rattle.life_elab_laws.proofs.Types.{value_kind}
-use Rattle.life_elab_laws.proofs.VariablePlaces.{IsVariableAt, IsVariableType, a_raw, a_reference, a_value, a_view, an_owner, owner_kind, variable_type}
+use Rattle.life_elab_laws.proofs.VariablePlaces.{IsVariableAt, IsVariableType, a_raw, a_reference, a_value, a_view, an_owner, owner_kind, variable_type, a_walker, walker_is}
 use Rattle.life_elab_laws.proofs.WrittenLocals.{IsLocalOf, locals_added, own_added}
 
 take_before : (xs ys : List ℕ) → take (length xs) (xs ++ ys) ≡ xs
@@ -102,6 +102,7 @@ module _ (types : Types) (f : Function) (a : Around) (front : IsFront a.program.
         go : IsVariableType false a.program.types u.ty → may_end types f (length s.locals) ≡ true
         go (a_value t is e) = object t is (value_kind t e)
         go (an_owner so t is o) = object t is (owner_kind a.program.types t o)
+        go (a_walker so t is w) = pointer t (type_there types f (length s.locals) l t there (typed t is) (walker_is a.program.types t w).reference) (walker_is a.program.types t w).pointer
         go (a_raw target constant is e) = pointer (ty.Raw target constant) (type_there types f (length s.locals) l (ty.Raw target constant) there (typed (ty.Raw target constant) is) refl) refl
         go (a_view so is) = pointer ty.View (type_there types f (length s.locals) l ty.View there (typed ty.View is) refl) refl
         go (a_reference target constant is e) =
@@ -273,8 +274,8 @@ module _ (types : Types) (texts : ℕ) (so_far : Bool) (fs : List Function) (f :
     declared_does = record {
       adds = adds;
       locals = λ are.
-          own_added types a w.state (variable_local a u) (record { number = v.declared; variable = u; there = at; of = its_local a u })
-          (locals_added types a s w.state made.grown.types made.registers are);
+          own_added so_far types a w.state (variable_local a u) (record { number = v.declared; variable = u; there = at; of = its_local a u })
+          (locals_added so_far types a s w.state made.grown.types made.registers are);
       order = made.registers.1;
       follows = follows_new types f a front v u (variable_local a u) (its_local a u) w.state later at built;
       code = made.code ++ code;

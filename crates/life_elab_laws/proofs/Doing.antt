@@ -28,7 +28,7 @@ module _ (types : Types) (texts : ℕ) (so_far : Bool) (fs : List Function) (f :
 
   pub record Does (a : Around) (v : Visible) (in_loop : Bool) (s s' : State) : Type 0 where
     pub adds : Adds types f s s'
-    pub locals : AreWrittenLocals types a s → AreWrittenLocals types a s'
+    pub locals : AreWrittenLocals so_far types a s → AreWrittenLocals so_far types a s'
     pub order : KeepsOrder s.types s'.types
     pub follows : Follows types f a v s'
     pub code : List Tree
@@ -115,7 +115,7 @@ module _ (types : Types) (texts : ℕ) (so_far : Bool) (fs : List Function) (f :
   pub does_made : {A : Type 0} (a : Around) (v : Visible) (in_loop : Bool) (into : Option ℕ) (s : State) (w : Gives A) (Q : Gift types texts so_far fs f A) → Follows types f a v s → Makes types texts so_far fs f into s w Q → Does a v in_loop s w.state
   does_made a v in_loop into s w Q h made = record {
     adds = grows_adds types f s w.state made.grown;
-    locals = locals_added types a s w.state made.grown.types made.registers;
+    locals = locals_added so_far types a s w.state made.grown.types made.registers;
     order = made.registers.1;
     follows = follows_grown types f a v s w.state made.grown h;
     code = made.code;

@@ -32,7 +32,7 @@ use Rattle.life_writer.specs.Bases.{base as base_of, element}
 use Rattle.life_writer.specs.ExpressionForms.{form_uses, uses}
 use Rattle.life_writer.specs.Using.{value}
 use Rattle.life_writer.specs.Writing.{State, ◌>>◌, gives, mapped}
-use Rattle.life_elab_laws.specs.Reached.{is_owner_of_values, is_reached_either, is_reached_method, is_reached_object, is_reached_type}
+use Rattle.life_elab_laws.specs.Reached.{is_owner_of_values, is_reached_either, is_reached_method, is_reached_object, is_owner_type}
 use Rattle.life_elab_laws.proofs.BaseSteps.{IsWhich, IsWhichOf, a_which}
 use Rattle.life_elab_laws.proofs.ExpressionForms.{IsForm, IsWhole, Placed, Standing, value_form}
 use Rattle.life_elab_laws.proofs.Gifts.{a_number, nothing as no_gift}
@@ -48,29 +48,29 @@ position_number (Of t) p = p
 position_number _ p = absurd (false≢true p)
 
 -- what is asked has a value, or is an owner
-pub either_reached : (so_far : Bool) (base : Form) (value : Bool) → is_reached_either so_far base value ≡ true → (value ≡ true) ⊎ ((is_reached_type so_far (typed_in base).ty ≡ false) × (is_reached_object base ≡ true))
-either_reached so_far base value h = go (is_reached_type so_far (typed_in base).ty) refl h
+pub either_reached : (so_far : Bool) (base : Form) (value : Bool) → is_reached_either so_far base value ≡ true → (value ≡ true) ⊎ ((is_owner_type so_far (typed_in base).ty ≡ true) × (is_reached_object base ≡ true))
+either_reached so_far base value h = go (is_owner_type so_far (typed_in base).ty) refl h
   where
-    go : (b : Bool) → is_reached_type so_far (typed_in base).ty ≡ b → (if b then value else is_reached_object base) ≡ true → (value ≡ true) ⊎ ((is_reached_type so_far (typed_in base).ty ≡ false) × (is_reached_object base ≡ true))
-    go true is h = inl h
-    go false is h = inr (is, h)
+    go : (b : Bool) → is_owner_type so_far (typed_in base).ty ≡ b → (if b then is_reached_object base else value) ≡ true → (value ≡ true) ⊎ ((is_owner_type so_far (typed_in base).ty ≡ true) × (is_reached_object base ≡ true))
+    go true is h = inr (is, h)
+    go false is h = inl h
 
 module _ (a : Around) (visible : List ℕ) (types : Types) (texts : ℕ) (so_far : Bool) (fs : List Function) (f : Function) (setting : Setting so_far a types fs f) where
   -- ---- an owner, by what it is made by
 
   mutual
-    pub object_expression : (form : Form) → is_reached_object form ≡ true → is_reached_type so_far (typed_in form).ty ≡ false → IsExpression a.program a.function.locals visible form → IsObject a visible types texts so_far fs f setting form
+    pub object_expression : (form : Form) → is_reached_object form ≡ true → is_owner_type so_far (typed_in form).ty ≡ true → IsExpression a.program a.function.locals visible form → IsObject a visible types texts so_far fs f setting form
     object_expression (typed place t c form) b n h = object_made form (record { place = place; ty = t; category = c; form = form }) b n h place
     object_expression _ b n h = absurd h
 
-    object_made : (form : Form) (e : Typed) → is_reached_object form ≡ true → is_reached_type so_far e.ty ≡ false → IsMadeOf a.program a.function.locals visible e form → (place : Place)
+    object_made : (form : Form) (e : Typed) → is_reached_object form ≡ true → is_owner_type so_far e.ty ≡ true → IsMadeOf a.program a.function.locals visible e form → (place : Place)
         → IsObjectAt a visible types texts so_far fs f setting e ((form_uses a form place e.ty e.category).at)
     object_made (local x) e b n h place = variable_object a visible types texts so_far fs f setting x e n h.0 h.1
     object_made (paren inner closing) e b n h place =
         let same = ok_same h.0 in
         let t : (typed_in inner).ty ≡ e.ty = ap (λ (y : Typed). y.ty) same in
         object_same a visible types texts so_far fs f setting (typed_in inner) e ((uses a inner).at) t (ap (λ (y : Typed). y.category) same)
-        (object_expression inner b (ap (is_reached_type so_far) t ∙ n) h.1)
+        (object_expression inner b (ap (is_owner_type so_far) t ∙ n) h.1)
     object_made (typed place t c form) e b n h at = absurd h
     object_made _ e b n h place = absurd (false≢true b)
 

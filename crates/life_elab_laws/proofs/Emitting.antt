@@ -1,5 +1,5 @@
 -- A register that an instruction writes.
-use Rattle.std.proofs.Common.{◌≡◌, ◌<◌, ℕ, true, List, length, slice_get, slice_set, Option, Some, None, refl, sym, ap, ◌∙◌, arith}
+use Rattle.std.proofs.Common.{◌≡◌, ◌<◌, ℕ, true, List, length, slice_get, slice_set, Option, Some, None, refl, sym, ap, ◌∙◌, arith, Bool}
 use Rattle.std.proofs.lemmas.Option.{none-some, same_Some, slice_get_within}
 use Rattle.life_types.specs.Trees.{HasPartsBelow}
 use Rattle.life_types.specs.TypeTests.{is_value}
@@ -59,23 +59,23 @@ keeps_set f n into r a k is beside = record {
         let one : is.local ≡ l = same_Some is.local l (sym is.there ∙ ap (slice_get f.locals) e ∙ there) in
         none-some name (sym is.nameless ∙ ap (λ (u : Local). u.name) one ∙ named)
 
-module _ (types : Types) (f : Function) where
+module _ (so_far : Bool) (types : Types) (f : Function) where
   -- the register that is written, where a part has begun
   pub record Targets (into : Option ℕ) (s : State) (w : Gives ℕ) : Type 0 where
     pub grown : Grows s w.state
-    pub registers : AddsRegisters types s w.state
+    pub registers : AddsRegisters so_far types s w.state
     pub unwritten : w.state.code ≡ s.code
     pub below : w.given < length w.state.locals
     pub there : Begins types f w.state → IsNameless f w.given
     pub beside : (y : ℕ) → y < length s.locals → IsBeside into y → w.given ≡ y → ⊥
 
-  register_new : (place : Place) (t : Ty) (s : State) → fits_register types t ≡ true → HasPartsBelow s.types (length s.types.types) t → AddsRegisters types s (new_register place t s).state
+  register_new : (place : Place) (t : Ty) (s : State) → fits_register so_far types t ≡ true → HasPartsBelow s.types (length s.types.types) t → AddsRegisters so_far types s (new_register place t s).state
   register_new place t s fits below = (
-    register_pushed types (new_register place t s).state.types s.locals (added place t s) (record { nameless = refl; kind = refl; ty = t; typed = type_added s.types.types t; fits = fits }),
+    register_pushed so_far types (new_register place t s).state.types s.locals (added place t s) (record { nameless = refl; kind = refl; ty = t; typed = type_added s.types.types t; fits = fits }),
     type_ordered s.types t below,
   )
 
-  pub new_targeted : (place : Place) (t : Ty) (s : State) → fits_register types t ≡ true → HasPartsBelow s.types (length s.types.types) t → Targets None s (new_register place t s)
+  pub new_targeted : (place : Place) (t : Ty) (s : State) → fits_register so_far types t ≡ true → HasPartsBelow s.types (length s.types.types) t → Targets None s (new_register place t s)
   new_targeted place t s fits below = record {
     grown = register_grows place t s;
     registers = register_new place t s fits below;
@@ -86,10 +86,10 @@ module _ (types : Types) (f : Function) where
   }
 
   pub targeted : (place : Place) (t : Ty) (s : State) (into : Option ℕ) → is_value t ≡ true → IsInto s into → Targets into s (target place into t s)
-  targeted place t s None e h = new_targeted place t s (value_fits types t e) (fits_below s.types s.types (omega arith) t (value_fits s.types t e))
+  targeted place t s None e h = new_targeted place t s (value_fits so_far types t e) (fits_below so_far s.types s.types (omega arith) t (value_fits so_far s.types t e))
   targeted place t s (Some r) e h = record {
     grown = grows_none s;
-    registers = registers_none types s;
+    registers = registers_none so_far types s;
     unwritten = refl;
     below = slice_get_within s.locals r h.local h.there;
     there = λ b. record { local = h.local; there = b.locals r h.local h.there; nameless = h.nameless; kind = h.kind };

@@ -140,7 +140,7 @@ module _ (a : Around) (visible : List ℕ) (types : Types) (texts : ℕ) (so_far
       go true = here
       go false = refl
 
-  pointer_part : (w : State → Gives Pointing) (t : ExprType) (u : Ty) (place : Place) (s : State) → t ≡ Of u → is_location u ≡ true → fits_register a.program.types u ≡ true → Standing s → Points t s (w s)
+  pub pointer_part : (w : State → Gives Pointing) (t : ExprType) (u : Ty) (place : Place) (s : State) → t ≡ Of u → is_location u ≡ true → fits_register so_far a.program.types u ≡ true → Standing s → Points t s (w s)
       → Pointed u s (located place (own_type t) (w s).given (w s).state)
   pointer_part w t u place s is raw fits stands first =
       subst (λ (x : ExprType). Pointed u s (located place (own_type x) (w s).given (w s).state)) (sym is) (go (subst (λ (x : ExprType). Points x s (w s)) is first))
@@ -148,13 +148,15 @@ module _ (a : Around) (visible : List ℕ) (types : Types) (texts : ℕ) (so_far
       go : Points (Of u) s (w s) → Pointed u s (located place u (w s).given (w s).state)
       go first =
           then_part types texts so_far fs f (gifts.nothing types texts so_far fs f) tt None s (w s) _ (a_pointing types texts so_far fs f (Of u)) (a_pointer types texts so_far fs f u) stands.opened first
-          (located_part types texts so_far fs f (w s).given u place (w s).state raw (fits_later a.program.types types setting.front u fits)
-          (fits_below a.program.types (w s).state.types (front_length a.program.types.types (w s).state.types.types (front_then a.program.types.types s.types.types (w s).state.types.types stands.table first.grown.types)) u fits))
+          (located_part types texts so_far fs f (w s).given u place (w s).state raw (fits_later so_far a.program.types types setting.front u fits)
+          (fits_below so_far a.program.types (w s).state.types (front_length a.program.types.types (w s).state.types.types (front_then a.program.types.types s.types.types (w s).state.types.types stands.table first.grown.types)) u fits))
 
   -- a raw pointer or a view is tested, and is located, as what it is
   itself : (e : Uses) (t : Ty) (s : State) → is_location t ≡ true → pointing_by t e s ≡ e.pointing s
   itself e (ty.Raw target constant) s loc = refl
   itself e ty.View s loc = refl
+  itself e (ty.Iterator target constant) s loc = refl
+  itself e (ty.Span target constant) s loc = refl
   itself e _ s loc = absurd (false≢true loc)
 
   raw_tested : (t : Ty) → is_raw t ≡ true → tested_type t ≡ t
@@ -164,6 +166,8 @@ module _ (a : Around) (visible : List ℕ) (types : Types) (texts : ℕ) (so_far
   own_register : (wanted t : Ty) → is_location t ≡ true → register_type wanted t ≡ t
   own_register wanted (ty.Raw target constant) loc = refl
   own_register wanted ty.View loc = refl
+  own_register wanted (ty.Iterator target constant) loc = refl
+  own_register wanted (ty.Span target constant) loc = refl
   own_register wanted _ loc = absurd (false≢true loc)
 
   pub nullable_raw : (e : Uses) (t : Ty) (s : State) → own e ≡ t → is_raw t ≡ true → nullable e s ≡ located e.place t (e.pointing s).given (e.pointing s).state
@@ -220,8 +224,8 @@ module _ (a : Around) (visible : List ℕ) (types : Types) (texts : ℕ) (so_far
       u : Uses
       u = uses a (typed place t c form)
 
-      fits : (x : Ty) → t ≡ Of x → is_location x ≡ true → fits_register a.program.types x ≡ true
-      fits x at loc = subst (λ (y : ExprType). fits_register a.program.types (own_type y) ≡ true) at (pointer_fits so_far a.program.types e is.kind.kind (ap (λ (y : ExprType). is_location (own_type y)) at ∙ loc))
+      fits : (x : Ty) → t ≡ Of x → is_location x ≡ true → fits_register so_far a.program.types x ≡ true
+      fits x at loc = subst (λ (y : ExprType). fits_register so_far a.program.types (own_type y) ≡ true) at (pointer_fits so_far a.program.types e is.kind.kind (ap (λ (y : ExprType). is_location (own_type y)) at ∙ loc))
 
       named : is_number t ≡ true → (id : TyId) (constant : Bool) → c ≡ category.Place id constant → (s : State) → Standing s → Placed (own_type t) constant s ((uses a (typed place t c form)).at s)
       named n id constant at s stands =

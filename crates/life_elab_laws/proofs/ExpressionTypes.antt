@@ -46,10 +46,10 @@ own_no_unique so_far types e (no_value is v) = ap (λ (x : ExprType). is_unique 
 own_no_unique so_far types e (a_null is v) = ap (λ (x : ExprType). is_unique (own_type x)) is
 
 -- a pointer is one to a value, or a view
-pub pointer_fits : (so_far : Bool) (types : Types) (e : Typed) → HasKind so_far types e → is_location (own_type e.ty) ≡ true → fits_register types (own_type e.ty) ≡ true
-pointer_fits so_far types e (a_number t is v) r = ap (λ (x : ExprType). fits_register types (own_type x)) is ∙ value_fits types t v
-pointer_fits so_far types e (a_pointer target constant is v) r = ap (λ (x : ExprType). fits_register types (own_type x)) is ∙ v
-pointer_fits so_far types e (a_view so is) r = ap (λ (x : ExprType). fits_register types (own_type x)) is
+pub pointer_fits : (so_far : Bool) (types : Types) (e : Typed) → HasKind so_far types e → is_location (own_type e.ty) ≡ true → fits_register so_far types (own_type e.ty) ≡ true
+pointer_fits so_far types e (a_number t is v) r = ap (λ (x : ExprType). fits_register so_far types (own_type x)) is ∙ value_fits so_far types t v
+pointer_fits so_far types e (a_pointer target constant is v) r = ap (λ (x : ExprType). fits_register so_far types (own_type x)) is ∙ v
+pointer_fits so_far types e (a_view so is) r = ap (λ (x : ExprType). fits_register so_far types (own_type x)) is
 pointer_fits so_far types e (a_text is v) r = absurd (false≢true (sym (ap (λ (x : ExprType). is_location (own_type x)) is) ∙ r))
 pointer_fits so_far types e (no_value is v) r = absurd (false≢true (sym (ap (λ (x : ExprType). is_location (own_type x)) is) ∙ r))
 pointer_fits so_far types e (a_null is v) r = absurd (false≢true (sym (ap (λ (x : ExprType). is_location (own_type x)) is) ∙ r))

@@ -19,11 +19,11 @@ use Rattle.life_core.specs.declared.program.LocalKind.TheVariants.{Object, Regis
 use Rattle.life_elab_laws.proofs.Among.{Among}
 use Rattle.life_elab_laws.proofs.Shaped.{AreShaped, shaped_at}
 use Rattle.life_elab_laws.proofs.Following.{may_end}
-use Rattle.life_elab_laws.proofs.VariablePlaces.{IsVariableType, a_raw, a_reference, a_value, a_view, an_owner, variable_type}
+use Rattle.life_elab_laws.proofs.VariablePlaces.{IsVariableType, a_raw, a_reference, a_value, a_view, an_owner, variable_type, a_walker}
 use Rattle.life_proper.specs.Placed.{is_slot_local, result_at, slot_at}
 use Rattle.life_proper.specs.WellFormed.{can_end}
 use Rattle.life_elab_laws.proofs.FormedVariables.{type_found}
-use Rattle.life_elab_laws.specs.Reached.{is_owner_of_values}
+use Rattle.life_elab_laws.specs.Reached.{is_owner_of_values, is_walker_of_values}
 
 -- ---- slots
 
@@ -45,6 +45,10 @@ value_no_slot types _ v = refl
 pub reference_no_slot : (types : Types) (target : TyId) (constant : Bool) → is_value (type_at types target) ≡ true → is_slot_type types (Some (ty.Reference target constant)) ≡ false
 reference_no_slot types target true v = refl
 reference_no_slot types target false v = ap is_slot_target (type_found types types (λ n x e. e) target v) ∙ value_no_target (type_at types target) v
+
+walker_no_slot : (types : Types) (t : Ty) → is_walker_of_values types t ≡ true → is_slot_type types (Some t) ≡ false
+walker_no_slot types (ty.Reference target constant) w = absurd (false≢true w)
+walker_no_slot types _ w = refl
 
 owner_no_slot : (types : Types) (t : Ty) → is_owner_of_values types t ≡ true → is_slot_type types (Some t) ≡ false
 owner_no_slot types (ty.Reference target constant) o = absurd (false≢true o)
@@ -82,6 +86,7 @@ module _ (types : Types) (texts : ℕ) (so_far : Bool) (fs : List Function) (f :
 
       go : IsVariableType false types l.ty → can_end types texts fs f y ≡ true
       go (a_value t found v) = both (ap (is_slot_type types) found ∙ value_no_slot types t v)
+      go (a_walker so t found w) = both (ap (is_slot_type types) found ∙ walker_no_slot types t w)
       go (an_owner so t found o) = both (ap (is_slot_type types) found ∙ owner_no_slot types t o)
       go (a_raw target constant found v) = both (ap (is_slot_type types) found)
       go (a_view so found) = both (ap (is_slot_type types) found)

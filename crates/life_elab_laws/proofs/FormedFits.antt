@@ -1,5 +1,5 @@
 -- What the rules of initialisation let a pointer be given it takes, and so does a reference: of one target, and const stays const.
-use Rattle.std.proofs.Common.{◌≡◌, Bool, true, false, ◌&&◌, not, cond, Err, refl, ap, ◌∙◌, subst, rules}
+use Rattle.std.proofs.Common.{◌≡◌, Bool, true, false, ◌&&◌, not, cond, Err, refl, ap, ◌∙◌, subst, rules, ◌||◌}
 use Rattle.std.proofs.lemmas.Bool.{and_from, false≢true}
 use Rattle.life_types.specs.Pointees.{ty_of}
 use Rattle.life_types.specs.TypeTests.{is_value}
@@ -9,7 +9,7 @@ use Rattle.life_types.specs.declared.ty.Ty.TheVariants as ty
 use Rattle.life_types.specs.declared.ty.TyId.{TyId}
 use Rattle.life_built.specs.Built.{needs_no_temporary}
 use Rattle.life_typed.specs.BaseTypes.{type_at}
-use Rattle.life_typed.specs.Conversions.{fits, initialised, is_place_of, pointer_from, unless}
+use Rattle.life_typed.specs.Conversions.{fits, initialised, is_place_of, pointer_from, unless, same_target}
 use Rattle.life_typed.specs.TypedForm.{Typed}
 use Rattle.life_typed.specs.declared.misfit.Misfit.TheVariants.{General, Constant}
 use Rattle.life_typed.specs.declared.typed_expr.Category.{Category}
@@ -18,14 +18,16 @@ use Rattle.life_typed.specs.declared.typed_expr.ExprType.{ExprType}
 use Rattle.life_typed.specs.declared.typed_expr.ExprType.TheVariants.{Of, NullPointer, TextLiteral}
 use Rattle.life_type_expr.specs.Lists.{fits_at_all}
 use Rattle.life_well_typed.specs.Given.{is_given}
-use Rattle.life_proper.specs.OperandTypes.{keeps_const, same}
+use Rattle.life_proper.specs.OperandTypes.{keeps_const, same, takes}
 use Rattle.life_elab_laws.proofs.Gifts.{takes_from}
 use Rattle.life_elab_laws.proofs.FormedVariables.{type_later}
 use Rattle.life_elab_laws.proofs.Fronts.{IsFront}
 use Rattle.life_elab_laws.proofs.Locations.{is_seen}
 use Rattle.life_elab_laws.proofs.OperandsThere.{value_same}
+use Rattle.life_types.specs.declared.ty.Ty.{Ty}
+use Rattle.life_elab_laws.specs.Reached.{is_owner_of_values, is_walker_of_values}
 
-same_id : (a b : TyId) → id.eq a b ≡ true → a ≡ b
+pub same_id : (a b : TyId) → id.eq a b ≡ true → a ≡ b
 same_id a b e = search rules
 
 keeps_as : (c held : Bool) → fits_at_all (unless (held && not c) Constant) ≡ true → keeps_const c held ≡ true
@@ -95,3 +97,80 @@ bound_place types target constant t (category.Place found held) is e =
 pub given_reference : (types : Types) (target : TyId) (constant : Bool) (e : Typed) → is_value (type_at types target) ≡ true → needs_no_temporary (ty.Reference target constant) e ≡ true
     → is_given types (ty.Reference target constant) e ≡ true → IsBoundTo target constant e.category
 given_reference types target constant e worth place given = bound_place types target constant e.ty e.category place given
+
+-- ---- owners
+
+tested_as : (b : Bool) → fits_at_all (unless (not b) General) ≡ true → b ≡ true
+tested_as true h = refl
+tested_as false h = absurd (false≢true h)
+
+-- an owner that an owner is given has its type
+pub given_owner : (types : Types) (t u : Ty) (e : Typed) → is_owner_of_values types t ≡ true → is_owner_of_values types u ≡ true → e.ty ≡ Of u → is_given types t e ≡ true → u ≡ t
+given_owner types t u e o own is given = go t u o own (subst (λ (x : ExprType). fits_at_all (fits types t x e.category) ≡ true) is given)
+  where
+    go : (t u : Ty) → is_owner_of_values types t ≡ true → is_owner_of_values types u ≡ true → fits_at_all (fits types t (Of u) e.category) ≡ true → u ≡ t
+    go ty.Text ty.Text o own h = refl
+    go ty.Text (ty.Vector found) o own h = absurd (false≢true h)
+    go ty.Text _ o own h = absurd (false≢true own)
+    go (ty.Vector item) (ty.Vector found) o own h = ap ty.Vector (same_id found item (tested_as (id.eq found item) h))
+    go (ty.Vector item) ty.Text o own h = absurd (false≢true h)
+    go (ty.Vector item) _ o own h = absurd (false≢true own)
+    go _ u o own h = absurd (false≢true o)
+
+-- .. and one that a view is given is a string
+pub given_string : (types : Types) (u : Ty) (e : Typed) → is_owner_of_values types u ≡ true → e.ty ≡ Of u → is_given types ty.View e ≡ true → u ≡ ty.Text
+given_string types u e own is given = go u own (subst (λ (x : ExprType). fits_at_all (fits types ty.View x e.category) ≡ true) is given)
+  where
+    go : (u : Ty) → is_owner_of_values types u ≡ true → fits_at_all (fits types ty.View (Of u) e.category) ≡ true → u ≡ ty.Text
+    go ty.Text own h = refl
+    go (ty.Vector found) own h = absurd (false≢true h)
+    go _ own h = absurd (false≢true own)
+
+-- ---- iterators and spans
+
+tested_both : (same_one held : Bool) (constant : Bool) → fits_at_all (unless (not same_one || (held && not constant)) General) ≡ true → (same_one ≡ true) × (keeps_const constant held ≡ true)
+tested_both true false constant h = (refl, keeps_none constant)
+  where
+    keeps_none : (c : Bool) → keeps_const c false ≡ true
+    keeps_none true = refl
+    keeps_none false = refl
+tested_both true true true h = (refl, refl)
+tested_both true true false h = absurd (false≢true h)
+tested_both false held constant h = absurd (false≢true h)
+
+tested_target : (same_one held : Bool) (constant : Bool) → fits_at_all (same_target same_one held constant) ≡ true → (same_one ≡ true) × (keeps_const constant held ≡ true)
+tested_target true held constant h = (refl, keeps_as constant held h)
+tested_target false held constant h = absurd (false≢true h)
+
+module _ (few more : Types) (front : IsFront few.types more.types) where
+  one_item : (item found : TyId) → is_value (type_at few item) ≡ true → id.eq found item ≡ true → same (ty_of more item) (ty_of more found) ≡ true
+  one_item item found v e = ap (λ (i : TyId). same (ty_of more item) (ty_of more i)) (same_id found item e) ∙ value_same (ty_of more item) (ap is_value (type_later few more front item v) ∙ v)
+
+  -- one that is given to another
+  pub given_walker : (t u : Ty) (e : Typed) → is_walker_of_values few t ≡ true → is_walker_of_values few u ≡ true → e.ty ≡ Of u → is_given few t e ≡ true → takes more t u ≡ true
+  given_walker t u e w own is given = go t u w own (subst (λ (x : ExprType). fits_at_all (fits few t x e.category) ≡ true) is given)
+    where
+      go : (t u : Ty) → is_walker_of_values few t ≡ true → is_walker_of_values few u ≡ true → fits_at_all (fits few t (Of u) e.category) ≡ true → takes more t u ≡ true
+      go (ty.Iterator item c) (ty.Iterator found held) w own h =
+          let both = tested_both (id.eq found item) held c h in and_from (same (ty_of more item) (ty_of more found)) (keeps_const c held) (one_item item found w both.0) both.1
+      go (ty.Iterator item c) (ty.Span found held) w own h = absurd (false≢true h)
+      go (ty.Iterator item c) _ w own h = absurd (false≢true own)
+      go (ty.Span item c) (ty.Span found held) w own h =
+          let both = tested_target (id.eq found item) held c h in and_from (same (ty_of more item) (ty_of more found)) (keeps_const c held) (one_item item found w both.0) both.1
+      go (ty.Span item c) (ty.Iterator found held) w own h = absurd (false≢true h)
+      go (ty.Span item c) _ w own h = absurd (false≢true own)
+      go _ u w own h = absurd (false≢true w)
+
+-- a span that is given an owner is given a vector of its elements
+pub record IsSpanOf (item : TyId) (constant held : Bool) (u : Ty) : Type 0 where
+  pub is : u ≡ ty.Vector item
+  pub kept : keeps_const constant held ≡ true
+
+pub given_vector : (types : Types) (item : TyId) (constant held : Bool) (id_of : TyId) (u : Ty) (e : Typed) → is_owner_of_values types u ≡ true → e.ty ≡ Of u → e.category ≡ category.Place id_of held → is_given types (ty.Span item constant) e ≡ true → IsSpanOf item constant held u
+given_vector types item constant held id_of u e own is place given =
+    go u own (subst (λ (c : Category). fits_at_all (fits types (ty.Span item constant) (Of u) c) ≡ true) place (subst (λ (x : ExprType). fits_at_all (fits types (ty.Span item constant) x e.category) ≡ true) is given))
+  where
+    go : (u : Ty) → is_owner_of_values types u ≡ true → fits_at_all (fits types (ty.Span item constant) (Of u) (category.Place id_of held)) ≡ true → IsSpanOf item constant held u
+    go (ty.Vector found) own h = let both = tested_target (id.eq found item) held constant h in record { is = ap ty.Vector (same_id found item both.0); kept = both.1 }
+    go ty.Text own h = absurd (false≢true h)
+    go _ own h = absurd (false≢true own)

@@ -37,7 +37,7 @@ use Rattle.life_elab_laws.proofs.Fronts.{IsFront, front_length, passed_at}
 use Rattle.life_elab_laws.proofs.OperandsThere.{type_either}
 use Rattle.life_elab_laws.proofs.Reaching.{IsReachedType, variable_found}
 use Rattle.life_elab_laws.proofs.WrittenLocals.{AreWrittenLocals, IsIntermediate, IsOwn, fits_later, fits_local, fits_register, local_later, owner_local, register_local}
-use Rattle.life_elab_laws.specs.Reached.{is_owner_of_values}
+use Rattle.life_elab_laws.specs.Reached.{is_owner_of_values, is_walker_of_values}
 
 -- ---- what a register or a variable holds
 
@@ -64,8 +64,8 @@ module _ (types : Types) where
       go (ty.Reference target constant) h = value_tree id.0 target h
       go (ty.Vector element) h = value_tree id.0 element h
       go (ty.Unique target) h = absurd (false≢true h)
-      go (ty.Iterator target constant) h = absurd (false≢true h)
-      go (ty.Span target constant) h = absurd (false≢true h)
+      go (ty.Iterator target constant) h = value_tree id.0 target h
+      go (ty.Span target constant) h = value_tree id.0 target h
       go (ty.Struct number) h = absurd (false≢true h)
       go _ h = refl
 
@@ -89,29 +89,43 @@ module _ (types : Types) where
   fits_no_void ty.Void h = absurd (false≢true h)
   fits_no_void _ h = refl
 
-  fits_kept : (t : Ty) → fits_register types t ≡ true → fits_kind Register t ≡ true
-  fits_kept ty.Void h = absurd (false≢true h)
-  fits_kept ty.Text h = absurd (false≢true h)
-  fits_kept (ty.Vector element) h = absurd (false≢true h)
-  fits_kept (ty.Unique target) h = absurd (false≢true h)
-  fits_kept (ty.Struct number) h = absurd (false≢true h)
-  fits_kept _ h = refl
+  fits_kept : (so_far : Bool) (t : Ty) → fits_register so_far types t ≡ true → fits_kind Register t ≡ true
+  fits_kept so_far ty.Void h = absurd (false≢true h)
+  fits_kept so_far ty.Text h = absurd (false≢true h)
+  fits_kept so_far (ty.Vector element) h = absurd (false≢true h)
+  fits_kept so_far (ty.Unique target) h = absurd (false≢true h)
+  fits_kept so_far (ty.Struct number) h = absurd (false≢true h)
+  fits_kept so_far _ h = refl
 
   module _ (so_far : Bool) where
     pub variable_fits : (t : Ty) → IsReachedType so_far types t → fits_local types t ≡ true
     variable_fits t (inr (inl v)) = ap (fits_local types) v.1
-    variable_fits t (inr (inr o)) = owner_local types t o.1
+    variable_fits t (inr (inr (inl o))) = owner_local types t o.1
+    variable_fits t (inr (inr (inr w))) = go t w.1
+      where
+        go : (t : Ty) → is_walker_of_values types t ≡ true → fits_local types t ≡ true
+        go (ty.Iterator target constant) w = w
+        go (ty.Span target constant) w = w
+        go _ w = absurd (false≢true w)
     variable_fits t (inl b) = go t b
       where
         go : (t : Ty) → (is_value t || is_pointing types t) ≡ true → fits_local types t ≡ true
         go ty.View b = absurd (false≢true b)
         go ty.Text b = absurd (false≢true b)
         go (ty.Vector element) b = absurd (false≢true b)
+        go (ty.Iterator target constant) b = absurd (false≢true b)
+        go (ty.Span target constant) b = absurd (false≢true b)
         go _ b = b
 
     variable_kept : (t : Ty) → IsReachedType so_far types t → fits_kind (kind (class (Some t))) t ≡ true
     variable_kept t (inr (inl v)) = ap (λ (u : Ty). fits_kind (kind (class (Some u))) u) v.1
-    variable_kept t (inr (inr o)) = go t o.1
+    variable_kept t (inr (inr (inr w))) = go t w.1
+      where
+        go : (t : Ty) → is_walker_of_values types t ≡ true → fits_kind (kind (class (Some t))) t ≡ true
+        go (ty.Iterator target constant) w = refl
+        go (ty.Span target constant) w = refl
+        go _ w = absurd (false≢true w)
+    variable_kept t (inr (inr (inl o))) = go t o.1
       where
         go : (t : Ty) → is_owner_of_values types t ≡ true → fits_kind (kind (class (Some t))) t ≡ true
         go ty.Text o = refl
@@ -131,7 +145,13 @@ module _ (types : Types) where
 
     variable_named : (t : Ty) (name : NameId) → IsReachedType so_far types t → is_named_as (kind (class (Some t))) t (Some name) ≡ true
     variable_named t name (inr (inl v)) = ap (λ (u : Ty). is_named_as (kind (class (Some u))) u (Some name)) v.1
-    variable_named t name (inr (inr o)) = go t o.1
+    variable_named t name (inr (inr (inr w))) = go t w.1
+      where
+        go : (t : Ty) → is_walker_of_values types t ≡ true → is_named_as (kind (class (Some t))) t (Some name) ≡ true
+        go (ty.Iterator target constant) w = refl
+        go (ty.Span target constant) w = refl
+        go _ w = absurd (false≢true w)
+    variable_named t name (inr (inr (inl o))) = go t o.1
       where
         go : (t : Ty) → is_owner_of_values types t ≡ true → is_named_as (kind (class (Some t))) t (Some name) ≡ true
         go ty.Text o = refl
@@ -209,7 +229,7 @@ result_worth types id o _ v h = h
 -- as it is written, in a finished table that begins with the one behind it
 module _ (so_far : Bool) (p : ProgramForm) (of : FunctionForm) (T types : Types) (names : ℕ) (made : IsFunctionOf so_far p of) (table : IsFront p.types.types T.types) (front : IsFront p.types.types types.types)
     (grown : IsFront (first_state (around p of) T).locals (written (around p of) T).locals) (later : IsFront (written (around p of) T).types.types types.types)
-    (own : AreWrittenLocals p.types (around p of) (written (around p of) T)) (named : is_function_named names of ≡ true) where
+    (own : AreWrittenLocals so_far p.types (around p of) (written (around p of) T)) (named : is_function_named names of ≡ true) where
   abbrev core : Function
   core = function_from of (written (around p of) T)
 
@@ -223,11 +243,11 @@ module _ (so_far : Bool) (p : ProgramForm) (of : FunctionForm) (T types : Types)
           let there : slice_get core.locals x ≡ Some found.0 = grown x found.0 (parameters_front (around p of) T made.typed.parameters table made.built.result x found.0 found.1) in
           ap (λ (l : Local). is_some l.name) (same_Some l found.0 (sym at ∙ there)) ∙ found.2
 
-  intermediate_formed : (x : ℕ) (l : Local) → slice_get core.locals x ≡ Some l → IsIntermediate p.types (written (around p of) T).types l → is_well_formed_local types names core.parameters x l ≡ true
+  intermediate_formed : (x : ℕ) (l : Local) → slice_get core.locals x ≡ Some l → IsIntermediate so_far p.types (written (around p of) T).types l → is_well_formed_local types names core.parameters x l ≡ true
   intermediate_formed x l at is =
-      let fit = fits_later p.types types front is.ty is.fits in
-      local_formed types names core.parameters x l is.ty (later l.ty.0 is.ty is.typed) (register_local types is.ty fit)
-      (ap (λ (k : LocalKind). fits_kind k is.ty) is.kind ∙ fits_kept types is.ty fit) (ap (is_named_as l.kind is.ty) is.nameless) (ap (is_name_if names) is.nameless) (has_name x l at)
+      let fit = fits_later so_far p.types types front is.ty is.fits in
+      local_formed types names core.parameters x l is.ty (later l.ty.0 is.ty is.typed) (register_local so_far types is.ty fit)
+      (ap (λ (k : LocalKind). fits_kind k is.ty) is.kind ∙ fits_kept types so_far is.ty fit) (ap (is_named_as l.kind is.ty) is.nameless) (ap (is_name_if names) is.nameless) (has_name x l at)
 
   own_formed : (x : ℕ) (l : Local) → slice_get core.locals x ≡ Some l → IsOwn (around p of) l → is_well_formed_local types names core.parameters x l ≡ true
   own_formed x l at is =
@@ -244,7 +264,7 @@ module _ (so_far : Bool) (p : ProgramForm) (of : FunctionForm) (T types : Types)
   locals_formed : are_well_formed_locals types names core.parameters 0 core.locals ≡ true
   locals_formed = all_formed types names core.parameters 0 core.locals (λ y l at. subst (λ (z : ℕ). is_well_formed_local types names core.parameters z l ≡ true) (omega arith) (each y l at (own y l at)))
     where
-      each : (y : ℕ) (l : Local) → slice_get core.locals y ≡ Some l → IsIntermediate p.types (written (around p of) T).types l ⊎ IsOwn (around p of) l → is_well_formed_local types names core.parameters y l ≡ true
+      each : (y : ℕ) (l : Local) → slice_get core.locals y ≡ Some l → IsIntermediate so_far p.types (written (around p of) T).types l ⊎ IsOwn (around p of) l → is_well_formed_local types names core.parameters y l ≡ true
       each y l at (inl is) = intermediate_formed y l at is
       each y l at (inr is) = own_formed y l at is
 

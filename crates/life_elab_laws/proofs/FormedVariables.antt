@@ -25,10 +25,10 @@ use Rattle.life_writer.specs.Writing.{State}
 use Rattle.life_elab_laws.proofs.Fronts.{IsFront}
 use Rattle.life_elab_laws.proofs.Growing.{Begins}
 use Rattle.life_elab_laws.proofs.Locations.{is_location}
-use Rattle.life_elab_laws.proofs.TypedKinds.{place_same, owner_named}
+use Rattle.life_elab_laws.proofs.TypedKinds.{place_same, owner_named, walker_named}
 use Rattle.life_elab_laws.proofs.Types.{value_kind}
 use Rattle.life_elab_laws.proofs.Values.{by_values}
-use Rattle.life_elab_laws.proofs.VariablePlaces.{IsVariableAt, IsVariableType, a_raw, a_reference, a_value, a_view, kind_is, place_is, variable_type, an_owner, owner_kind}
+use Rattle.life_elab_laws.proofs.VariablePlaces.{IsVariableAt, IsVariableType, a_raw, a_reference, a_value, a_view, kind_is, place_is, variable_type, an_owner, owner_kind, a_walker, walker_is}
 use Rattle.life_proper.specs.OperandTypes.{keeps_const}
 use Rattle.life_proper.specs.Placed as placed
 use Rattle.life_elab_laws.proofs.Gifts.{IsAt, IsPlaceOf}
@@ -71,6 +71,11 @@ owner_no_value types ty.Text o v = false≢true v
 owner_no_value types (ty.Vector element) o v = false≢true v
 owner_no_value types _ o v = false≢true o
 
+pub owner_no_reference : (types : Types) (t : Ty) → is_owner_of_values types t ≡ true → is_reference t ≡ false
+owner_no_reference types ty.Text o = refl
+owner_no_reference types (ty.Vector element) o = refl
+owner_no_reference types _ o = absurd (false≢true o)
+
 -- a reference to a value is no slot
 value_referred : (id target : TyId) (t : Ty) → is_value t ≡ true → referred id target t ≡ id
 value_referred id target (ty.Iterator item constant) v = absurd (false≢true v)
@@ -82,6 +87,8 @@ value_referred id target _ v = refl
 pub location_no_reference : (t : Ty) → is_location t ≡ true → is_reference t ≡ false
 location_no_reference (ty.Raw target constant) loc = refl
 location_no_reference ty.View loc = refl
+location_no_reference (ty.Iterator target constant) loc = refl
+location_no_reference (ty.Span target constant) loc = refl
 location_no_reference _ loc = absurd (false≢true loc)
 
 module _ (types : Types) (f : Function) where
@@ -152,6 +159,10 @@ module _ (types : Types) (texts : ℕ) (so_far : Bool) (fs : List Function) (f :
             let place : variable_of t a.program.types v.ty v.constant e.place form ≡ place_typed a.program.types v.ty v.constant e.place form =
             by_values (λ u. variable_of u a.program.types v.ty v.constant e.place form ≡ place_typed a.program.types v.ty v.constant e.place form) refl refl refl refl refl t w in
             object t found w (named t found ∙ place)
+        go (a_walker so t found w) =
+            let one : v.ty ≡ id = place_same v.ty id v.constant constant (own v.ty v.constant (walker_named a.program.types e v.ty v.constant form t w (named t found))) in
+            let here : type_at a.program.types id ≡ t = ap (type_at a.program.types) (sym one) ∙ ap (λ (o : Option Ty). unwrap_or o ty.Void) found in
+            absurd (false≢true (sym (ap is_value here ∙ (walker_is a.program.types t w).value) ∙ value))
         go (an_owner so t found o) =
             let one : v.ty ≡ id = place_same v.ty id v.constant constant (own v.ty v.constant (owner_named a.program.types e v.ty v.constant form t o (named t found))) in
             let here : type_at a.program.types id ≡ t = ap (type_at a.program.types) (sym one) ∙ ap (λ (o : Option Ty). unwrap_or o ty.Void) found in
@@ -178,12 +189,7 @@ module _ (types : Types) (texts : ℕ) (so_far : Bool) (fs : List Function) (f :
     owner_formed t constant found o =
         let object = kind_is a s x v h t found ∙ owner_kind a.program.types t o in
         subst (IsPlaceOf types texts so_far fs f t constant) (sym (place_is a s x v h Object object))
-        (object_place (variable s x) t constant (object_there types f (variable s x) h.local there object) (type_there types f (variable s x) h.local t there (typed_as t found) (plain t o)))
-      where
-        plain : (t : Ty) → is_owner_of_values a.program.types t ≡ true → is_reference t ≡ false
-        plain ty.Text o = refl
-        plain (ty.Vector element) o = refl
-        plain _ o = absurd (false≢true o)
+        (object_place (variable s x) t constant (object_there types f (variable s x) h.local there object) (type_there types f (variable s x) h.local t there (typed_as t found) (owner_no_reference a.program.types t o)))
 
     -- the variable of a raw pointer or a view has its type
     pub pointer_formed : (t : Ty) → is_location t ≡ true → slice_get a.program.types.types v.ty.0 ≡ Some t → IsAt types texts so_far fs f t (whole (variable s x))

@@ -84,7 +84,7 @@ module _ (types : Types) (texts : ℕ) (so_far : Bool) (fs : List Function) (f :
   -- ---- an instruction that writes a register, behind what gave x
 
   pub emit_part : {A C : Type 0} (P : G A) (x : A) (into : Option ℕ) (s : State) (w : Gives ℕ) (place : Place) (step : ℕ → Step) (y : C) (O : G C)
-      → Targets types f into s w
+      → Targets so_far types f into s w
       → (Begins types f w.state → P.typed x → IsFineStep types texts so_far fs f (step w.given) × O.typed y)
       → ((r n : ℕ) (k : List Known) → is_register_at f r ≡ true → P.ready x n k → Fills f k (step r) r)
       → ((k : List Known) → w.given < length w.state.locals → known_at k w.given ≡ known.Ready → O.ready y (length w.state.locals) k)
@@ -128,7 +128,7 @@ module _ (types : Types) (texts : ℕ) (so_far : Bool) (fs : List Function) (f :
       → Part types texts so_far fs f P x into s (computed into t place step s) (a_number types texts so_far fs f t)
   computed_part P x into t place step s v wanted is =
       let w = target place into t s in
-      emit_part P x into s w place step w.given (a_number types texts so_far fs f t) (targeted types f place t s into v (is_into t s into wanted))
+      emit_part P x into s w place step w.given (a_number types texts so_far fs f t) (targeted so_far types f place t s into v (is_into t s into wanted))
       (λ b p. let here = target_number place into t s v wanted b in (is.fine w.given here p, here))
       is.fills (λ k lt e. (lt, e))
 
@@ -275,19 +275,19 @@ module _ (types : Types) (texts : ℕ) (so_far : Bool) (fs : List Function) (f :
 
   -- a variable is where it is, and anything else comes into a register that takes it
   located_from : (source : ExprType) (t : Ty) → IsTakenBy types t source → ((l : Location) → IsGivenAs types texts so_far fs f source (As l) → IsAt types texts so_far fs f t l)
-      → (p : Pointing) (place : Place) (s : State) → is_location t ≡ true → fits_register types t ≡ true → HasPartsBelow s.types (length s.types.types) t
+      → (p : Pointing) (place : Place) (s : State) → is_location t ≡ true → fits_register so_far types t ≡ true → HasPartsBelow s.types (length s.types.types) t
       → Part types texts so_far fs f (a_pointing types texts so_far fs f source) p None s (located place t p s) (a_pointer types texts so_far fs f t)
   located_from source t taken here (As l) place s loc fits below =
       gives_part types texts so_far fs f (a_pointing types texts so_far fs f source) (As l) None l s (a_pointer types texts so_far fs f t) (λ b h. here l h) (λ b k alive h. h)
   located_from source t taken here (By step) place s loc fits below =
       let w = new_register place t s in
       emit_part (a_pointing types texts so_far fs f source) (By step) None s w place (λ r. step (whole r)) (whole w.given) (a_pointer types texts so_far fs f t)
-      (new_targeted types f place t s fits below)
+      (new_targeted so_far types f place t s fits below)
       (λ b h. let at = location_at place t s loc b in (h t (whole w.given) loc at taken, at))
       (λ r n k e h. filling_fills f step n k h r)
       (λ k lt e. record { local = w.given; is = refl; below = lt; held = e })
 
-  pub located_part : (p : Pointing) (t : Ty) (place : Place) (s : State) → is_location t ≡ true → fits_register types t ≡ true → HasPartsBelow s.types (length s.types.types) t
+  pub located_part : (p : Pointing) (t : Ty) (place : Place) (s : State) → is_location t ≡ true → fits_register so_far types t ≡ true → HasPartsBelow s.types (length s.types.types) t
       → Part types texts so_far fs f (a_pointing types texts so_far fs f (Of t)) p None s (located place t p s) (a_pointer types texts so_far fs f t)
   located_part p t place s loc fits below = located_from (Of t) t (inl refl) (λ l h. h) p place s loc fits below
 
@@ -324,7 +324,7 @@ module _ (types : Types) (texts : ℕ) (so_far : Bool) (fs : List Function) (f :
       → Part types texts so_far fs f P x None s (gives tt (emit place i s)) (nothing types texts so_far fs f)
   acted_typed_part P x place i s acts = record {
     grown = grows_none s;
-    registers = registers_none types s;
+    registers = registers_none so_far types s;
     code = Acts place i ∷ [];
     written = refl;
     runs = λ b p. let is = acts p in record {
@@ -344,7 +344,7 @@ module _ (types : Types) (texts : ℕ) (so_far : Bool) (fs : List Function) (f :
       → Part types texts so_far fs f P x None s (gives tt (emit place i s)) (nothing types texts so_far fs f)
   acted_part P x place i s fine ready after = record {
     grown = grows_none s;
-    registers = registers_none types s;
+    registers = registers_none so_far types s;
     code = Acts place i ∷ [];
     written = refl;
     runs = λ b p. record {

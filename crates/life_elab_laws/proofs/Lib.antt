@@ -1,5 +1,7 @@
+pub mod AdvancedForms
 pub mod Aiming
 pub mod Among
+pub mod AppendForms
 pub mod BaseSteps
 pub mod Beginning
 pub mod Branching
@@ -9,6 +11,7 @@ pub mod Callees
 pub mod Calls
 pub mod ChangeForms
 pub mod ChangeSteps
+pub mod ComparedForms
 pub mod Conditions
 pub mod DeclarationWriting
 pub mod Declaring
@@ -16,6 +19,7 @@ pub mod Doing
 pub mod ElementForms
 pub mod Emitting
 pub mod Ending
+pub mod EraseForms
 pub mod Exits
 pub mod ExpressionForms
 pub mod ExpressionKinds
@@ -40,6 +44,7 @@ pub mod ItemTokens
 pub mod KeptGiven
 pub mod Knowledge
 pub mod Leaving
+pub mod ListBirths
 pub mod Locations
 pub mod Looping
 pub mod Making
@@ -50,6 +55,8 @@ pub mod OperandsThere
 pub mod OperatorForms
 pub mod OrderedTypes
 pub mod Outputs
+pub mod OwnerBirths
+pub mod OwnerSteps
 pub mod Parts
 pub mod Pending
 pub mod PointerForms
@@ -59,6 +66,7 @@ pub mod ProperTranslations
 pub mod Reaching
 pub mod Returning
 pub mod RowTypes
+pub mod SeenForms
 pub mod ServedLocals
 pub mod Setting
 pub mod Shaped
@@ -67,14 +75,18 @@ pub mod ShortPlaces
 pub mod SimpleStatements
 pub mod SimpleTypes
 pub mod Simples
+pub mod SpanForms
 pub mod Statements
 pub mod Stopping
+pub mod SubspanForms
 pub mod TypedKinds
 pub mod Types
 pub mod Values
 pub mod VariablePlaces
 pub mod ViewForms
 pub mod ViewSteps
+pub mod WalkerForms
+pub mod WalkerSteps
 pub mod WellFormedTranslations
 pub mod WrittenLocals
 pub mod WrittenResults

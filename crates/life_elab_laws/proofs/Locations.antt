@@ -1,4 +1,4 @@
--- Pointers that lie in a location of their own: raw pointers and views. And what gives them something.
+-- Pointers that lie in a location of their own: raw pointers, views, iterators and spans. And what gives them something.
 use Rattle.std.proofs.Common.{◌≡◌, ◌⊎◌, inl, inr, Bool, true, false, refl, ◌∙◌, sym}
 use Rattle.std.proofs.lemmas.Bool.{false≢true}
 use Rattle.life_types.specs.TypeTests.{is_raw, is_value, is_view}
@@ -13,6 +13,8 @@ use Rattle.life_elab_laws.proofs.Values.{by_values}
 abbrev pub is_location : Ty → Bool
 is_location (ty.Raw target constant) = true
 is_location ty.View = true
+is_location (ty.Iterator target constant) = true
+is_location (ty.Span target constant) = true
 is_location _ = false
 
 -- an expression of this type gives a pointer something: it is one itself, nullptr, or a literal

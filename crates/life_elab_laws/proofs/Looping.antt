@@ -239,7 +239,7 @@ module _ (types : Types) (texts : ℕ) (so_far : Bool) (fs : List Function) (f :
       loop_does = record {
         does = record {
           adds = adds_then types f s (past t) r (adds_then types f s w.state (past t) (grows_adds types f s w.state test.grown) to_body) step.does.adds;
-          locals = λ are. step.does.locals (body.does.locals (locals_added types a s w.state test.grown.types test.registers are));
+          locals = λ are. step.does.locals (body.does.locals (locals_added so_far types a s w.state test.grown.types test.registers are));
           order = order_then s.types w.state.types r.types test.registers.1 (order_then w.state.types t.types r.types body.does.order step.does.order);
           follows = step.does.follows;
           code = turns ∷ [];

@@ -12,7 +12,7 @@ use Rattle.life_typed.specs.declared.typed_program.TypedLocal.{TypedLocal}
 use Rattle.life_core.specs.Function.{Function}
 use Rattle.life_core.specs.Operands.{Operand, object_named, whole}
 use Rattle.life_core.specs.Step.{Save}
-use Rattle.life_core.specs.declared.program.LocalKind.TheVariants.{Object}
+use Rattle.life_core.specs.declared.program.LocalKind.TheVariants.{Object, Register}
 use Rattle.life_proper.specs.OperandTypes.{keeps_const, same}
 use Rattle.life_proper.specs.Placed.{is_const_place, is_number_of, object_at, register_at, type_in}
 use Rattle.life_proper.specs.Placed as placed
@@ -23,7 +23,7 @@ use Rattle.life_writer.specs.Writing.{State}
 use Rattle.life_elab_laws.proofs.Aiming.{keeps_further}
 use Rattle.life_elab_laws.proofs.CallParts.{goes_object}
 use Rattle.life_elab_laws.proofs.Declaring.{with_new}
-use Rattle.life_elab_laws.proofs.FormedVariables.{location_no_reference, object_place, reference_there, type_found, type_later}
+use Rattle.life_elab_laws.proofs.FormedVariables.{location_no_reference, object_place, reference_there, type_found, type_later, owner_no_reference}
 use Rattle.life_elab_laws.proofs.Fronts.{IsFront, front_itself, last_there}
 use Rattle.life_elab_laws.proofs.Gifts.{IsAt, IsPlaceOf}
 use Rattle.life_elab_laws.proofs.Growing.{Begins}
@@ -84,16 +84,27 @@ module _ (a : Around) (types : Types) (texts : ℕ) (so_far : Bool) (fs : List F
         or_left (object_at types f (length s.locals)) _
         (object_there types f (length s.locals) (variable_local a v) there (ap (λ (u : Option Ty). kind (class u)) found ∙ owner_kind a.program.types t o))
 
+    pub owner_declared : (t : Ty) → slice_get a.program.types.types v.ty.0 ≡ Some t → is_owner_of_values a.program.types t ≡ true → IsPlaceOf types texts so_far fs f t false (object_named (length s.locals))
+    owner_declared t found o =
+        object_place types texts so_far fs f (length s.locals) t false
+        (object_there types f (length s.locals) (variable_local a v) there (ap (λ (u : Option Ty). kind (class u)) found ∙ owner_kind a.program.types t o))
+        (type_there types f (length s.locals) (variable_local a v) t there (front v.ty.0 t found) (owner_no_reference a.program.types t o))
+
     -- of the type of a raw pointer or a view
     pub location_declared : (t : Ty) → is_location t ≡ true → slice_get a.program.types.types v.ty.0 ≡ Some t → IsAt types texts so_far fs f t (whole (length s.locals))
     location_declared t loc found = record { typed = type_there types f (length s.locals) (variable_local a v) t there (front v.ty.0 t found) (location_no_reference t loc); served = λ so. refl }
 
-    pub raw_lives : (target : TyId) (constant : Bool) → slice_get a.program.types.types v.ty.0 ≡ Some (ty.Raw target constant) → can_live types texts fs f (length s.locals) ≡ true
-    raw_lives target constant found =
-        let at = location_declared (ty.Raw target constant) refl found in
+    -- .. it can live where it is no reference
+    pub location_lives : (t : Ty) → is_location t ≡ true → is_pointer t ≡ true → kind (class (Some t)) ≡ Register → slice_get a.program.types.types v.ty.0 ≡ Some t → can_live types texts fs f (length s.locals) ≡ true
+    location_lives t loc pointer kept found =
+        let at = location_declared t loc found in
         or_right (object_at types f (length s.locals)) _
-        (and_from (register_at types f (length s.locals)) _ (register_there types f (length s.locals) (variable_local a v) there (ap (λ (o : Option Ty). kind (class o)) found))
-        (and_from (is_pointer (placed.type_at types f (length s.locals))) (not (is_reference (placed.type_at types f (length s.locals)))) (ap is_pointer at.typed) (ap (λ (t : Ty). not (is_reference t)) at.typed)))
+        (and_from (register_at types f (length s.locals)) _ (register_there types f (length s.locals) (variable_local a v) there (ap (λ (o : Option Ty). kind (class o)) found ∙ kept))
+        (and_from (is_pointer (placed.type_at types f (length s.locals))) (not (is_reference (placed.type_at types f (length s.locals)))) (ap is_pointer at.typed ∙ pointer)
+        (ap (λ (t : Ty). not (is_reference t)) at.typed ∙ ap not (location_no_reference t loc))))
+
+    pub raw_lives : (target : TyId) (constant : Bool) → slice_get a.program.types.types v.ty.0 ≡ Some (ty.Raw target constant) → can_live types texts fs f (length s.locals) ≡ true
+    raw_lives target constant found = location_lives (ty.Raw target constant) refl refl refl found
 
     -- of a reference type
     module _ (target : TyId) (constant : Bool) (found : slice_get a.program.types.types v.ty.0 ≡ Some (ty.Reference target constant)) (worth : is_value (type_at a.program.types target) ≡ true) where

@@ -1,6 +1,6 @@
 -- Owners that stand at a place, and what has elements: how each is written.
-use Rattle.std.proofs.Common.{◌≡◌, ◌||◌, ℕ, Bool, true, false, not, List, Contains, slice_get, Option, Some, None, refl, sym, ap, ◌∙◌, subst, unwrap_or, [], ◌∷◌}
-use Rattle.std.proofs.lemmas.Bool.{false≢true}
+use Rattle.std.proofs.Common.{◌≡◌, ℕ, Bool, true, false, not, List, Contains, slice_get, Option, Some, None, refl, sym, ap, ◌∙◌, subst, unwrap_or, [], ◌∷◌}
+use Rattle.std.proofs.lemmas.Bool.{false≢true, and_parts}
 use Rattle.life_types.specs.TypeTests.{is_value}
 use Rattle.life_types.specs.Types.{Types}
 use Rattle.life_types.specs.declared.place.Place.{Place}
@@ -31,7 +31,7 @@ use Rattle.life_writer.specs.Using.{operand, pointer}
 use Rattle.life_writer.specs.Variables.{variable_place}
 use Rattle.life_writer.specs.Writing.{Gives, State, ◌>>◌, gives, mapped}
 use Rattle.life_writer.specs.declared.behind.Behind.{Behind}
-use Rattle.life_elab_laws.specs.Reached.{is_owner_of_values, is_reached_type}
+use Rattle.life_elab_laws.specs.Reached.{is_owner_of_values, is_owner_type}
 use Rattle.life_elab_laws.proofs.BaseSteps.{a_base, a_which, element_part, size_part, zero_part}
 use Rattle.life_elab_laws.proofs.ExpressionForms.{IsForm, IsWhole, Placed, Standing, Valued, place_form}
 use Rattle.life_elab_laws.proofs.ExpressionKinds.{variable_built}
@@ -42,9 +42,9 @@ use Rattle.life_elab_laws.proofs.Locations.{number_no_pointer}
 use Rattle.life_elab_laws.proofs.Parts.{Makes, and_part, leaf_part, seen_part, then_part}
 use Rattle.life_elab_laws.proofs.PointerForms.{own_typed, placed_operand, pointer_whole}
 use Rattle.life_elab_laws.proofs.Setting.{Setting}
-use Rattle.life_elab_laws.proofs.TypedKinds.{a_number as is_number_kind, owner_named, place_same, value_place}
+use Rattle.life_elab_laws.proofs.TypedKinds.{a_number as is_number_kind, owner_named, place_same, value_place, walker_named}
 use Rattle.life_elab_laws.proofs.Values.{by_values}
-use Rattle.life_elab_laws.proofs.VariablePlaces.{IsVariableType, a_raw, a_reference, a_value, a_view, an_owner, stands_later, variable_there, variable_type}
+use Rattle.life_elab_laws.proofs.VariablePlaces.{IsVariableType, a_raw, a_reference, a_value, a_view, an_owner, stands_later, variable_there, variable_type, a_walker, walker_is}
 use Rattle.life_well_typed.specs.Given.{is_number}
 
 -- ---- types
@@ -56,15 +56,14 @@ pub record IsOwnerType (so_far : Bool) (t : ExprType) : Type 0 where
   pub is : t ≡ Of ty
   pub owner : is_owner ty ≡ true
 
-pub owner_type : (so_far : Bool) (t : ExprType) → is_reached_type so_far t ≡ false → IsOwnerType so_far t
-owner_type so_far NullPointer n = absurd (false≢true (sym n))
-owner_type so_far TextLiteral n = absurd (false≢true (sym n))
-owner_type so_far (Of t) n = go so_far refl (is_owner t) refl n
+pub owner_type : (so_far : Bool) (t : ExprType) → is_owner_type so_far t ≡ true → IsOwnerType so_far t
+owner_type so_far NullPointer n = absurd (false≢true n)
+owner_type so_far TextLiteral n = absurd (false≢true n)
+owner_type so_far (Of t) n = let parts = and_parts (not so_far) (is_owner t) n in record { wide = go so_far parts.0; ty = t; is = refl; owner = parts.1 }
   where
-    go : (b : Bool) → so_far ≡ b → (c : Bool) → is_owner t ≡ c → (b || not c) ≡ false → IsOwnerType so_far (Of t)
-    go true so c is n = absurd (false≢true (sym n))
-    go false so false is n = absurd (false≢true (sym n))
-    go false so true is n = record { wide = so; ty = t; is = refl; owner = is }
+    go : (b : Bool) → not b ≡ true → b ≡ false
+    go false e = refl
+    go true e = absurd (false≢true e)
 
 -- what an owner of values holds
 pub element_value : (types : Types) (t : Ty) → is_owner_of_values types t ≡ true → is_value (element_type types t) ≡ true
@@ -104,7 +103,7 @@ module _ (a : Around) (visible : List ℕ) (types : Types) (texts : ℕ) (so_far
   object_same e e' at t c is = record { wide = is.wide; ty = is.ty; is = sym t ∙ is.is; owner = is.owner; id = is.id; constant = is.constant; place = sym c ∙ is.place; here = is.here; names = is.names }
 
   -- a variable
-  pub variable_object : (x : ℕ) (e : Typed) → is_reached_type so_far e.ty ≡ false → Contains visible x → IsVariable a.program.types x (slice_get a.function.locals x) e → IsObjectAt e (λ s. gives (variable_place s x) s)
+  pub variable_object : (x : ℕ) (e : Typed) → is_owner_type so_far e.ty ≡ true → Contains visible x → IsVariable a.program.types x (slice_get a.function.locals x) e → IsObjectAt e (λ s. gives (variable_place s x) s)
   variable_object x e n c h = go (slice_get a.function.locals x) refl h
     where
       own : IsOwnerType so_far e.ty
@@ -139,6 +138,7 @@ module _ (a : Around) (visible : List ℕ) (types : Types) (texts : ℕ) (so_far
           kind (a_raw target constant at v) = other (ty.Raw target constant) (ap (λ (y : Typed). y.ty) (named (ty.Raw target constant) at) ∙ ap Of (typed (ty.Raw target constant) at)) refl
           kind (a_view so at) = other ty.View (ap (λ (y : Typed). y.ty) (named ty.View at) ∙ ap Of (typed ty.View at)) refl
           kind (a_reference target constant at v) = other (type_at a.program.types target) (ap (λ (y : Typed). y.ty) (named (ty.Reference target constant) at)) (value_alone (type_at a.program.types target) v)
+          kind (a_walker so t at w) = other t (ap (λ (y : Typed). y.ty) (walker_named a.program.types e l.ty l.constant (local x) t w (named t at)) ∙ ap Of (typed t at)) (walker_is a.program.types t w).owner
           kind (an_owner so t at o) = record {
             wide = so;
             ty = t;

@@ -6,7 +6,7 @@ use Rattle.life_types.specs.Types.{Types}
 use Rattle.life_types.specs.declared.place.Place.{Place}
 use Rattle.life_types.specs.declared.ty.Ty.{Ty}
 use Rattle.life_types.specs.declared.ty.Ty.TheVariants as ty
-use Rattle.life_elab_laws.specs.Reached.{is_reached_item}
+use Rattle.life_elab_laws.specs.Reached.{is_reached_item, is_owner_of_values, is_reached_expression}
 use Rattle.life_typed.specs.TypedForm.{Typed, whole as whole_form}
 use Rattle.life_typed.specs.TypedStatement.{ItemForm, line_end, printed}
 use Rattle.life_typed.specs.declared.typed_expr.ExprType.{ExprType}
@@ -21,18 +21,17 @@ use Rattle.life_well_typed.specs.Given.{is_number}
 use Rattle.life_well_typed.specs.Statements.{IsItem}
 use Rattle.life_proper.proofs.ReadyTests.{uses_ready}
 use Rattle.life_writer.specs.Around.{Around, own_type}
-use Rattle.life_writer.specs.Characters.{Seen, seen, viewed}
+use Rattle.life_writer.specs.Characters.{seen, viewed}
 use Rattle.life_writer.specs.ExpressionForms.{uses}
 use Rattle.life_writer.specs.Registers.{new_register}
-use Rattle.life_writer.specs.Using.{pointer, value}
-use Rattle.life_writer.specs.Writing.{Gives, State, ◌>>◌, emit, gives}
+use Rattle.life_writer.specs.Using.{value}
+use Rattle.life_writer.specs.Writing.{State, ◌>>◌, emit, gives}
 use Rattle.life_elab.specs.StatementForms.{item}
 use Rattle.life_elab.specs.Statements.{end_line}
 use Rattle.life_elab_laws.proofs.Emitting.{new_targeted}
 use Rattle.life_elab_laws.proofs.ExpressionTypes.{own_value}
 use Rattle.life_elab_laws.proofs.ExpressionForms.{IsWhole}
 use Rattle.life_elab_laws.proofs.Expressions.{whole_expression}
-use Rattle.life_elab_laws.proofs.PointerForms.{seen_view, view_whole}
 use Rattle.life_elab_laws.proofs.Fronts.{last_there}
 use Rattle.life_elab_laws.proofs.Gifts.{Gift, a_number, a_pointer, held_stays, nothing}
 use Rattle.life_elab_laws.proofs.Growing.{Begins, added}
@@ -47,6 +46,10 @@ use Rattle.life_elab_laws.proofs.Simples.{Acts}
 use Rattle.life_elab_laws.proofs.SimpleTypes.{printed_type}
 use Rattle.life_elab_laws.proofs.Types.{type_added}
 use Rattle.life_elab_laws.proofs.VariablePlaces.{Stands}
+use Rattle.life_elab_laws.proofs.SeenForms.{Shows, a_shown, string_shows, viewed_part, whole_shows}
+use Rattle.life_elab_laws.proofs.ObjectForms.{IsObject}
+use Rattle.life_elab_laws.proofs.ElementForms.{either_reached, object_expression}
+use Rattle.life_typed.specs.Statements.{is_printed}
 
 module _ (a : Around) (visible : List ℕ) (types : Types) (texts : ℕ) (so_far : Bool) (fs : List Function) (f : Function) (setting : Setting so_far a types fs f) where
   -- a view in a register
@@ -64,7 +67,7 @@ module _ (a : Around) (visible : List ℕ) (types : Types) (texts : ℕ) (so_far
       let aimed : State = emit place (Aim (whole_local w.given) (Text (end_line a))) w.state in
       then_part types texts so_far fs f (nothing types texts so_far fs f) tt None s (gives w.given aimed) _ a_view (nothing types texts so_far fs f) stands.opened
       (emit_part types texts so_far fs f (nothing types texts so_far fs f) tt None s w place (λ r. Aim (whole_local r) (Text (end_line a))) w.given a_view
-      (new_targeted types f place ty.View s refl tt)
+      (new_targeted so_far types f place ty.View s refl tt)
       (λ b p. (
         record {
           plain = λ so. refl;
@@ -96,26 +99,47 @@ module _ (a : Around) (visible : List ℕ) (types : Types) (texts : ℕ) (so_far
       (acted_part types texts so_far fs f (a_number types texts so_far fs f t) w.given e.place (Ports (Writes w.given)) w.state (λ h. record { plain = λ so. refl; given = refl; formed = number_any types f t w.given h; served = λ so. refl })
       (λ n k p. uses_ready k (w.given ∷ []) [] (one_there k w.given p.1)) (λ n m k p. keeps_all f m None k)))
 
-  -- characters that are seen by a view
-  seen_part : (e : Typed) (behind : Place) (s : State) → IsWhole a visible types texts so_far fs f setting (whole_form e) → is_seen e.ty ≡ true → Stands a visible s → Acts a visible types texts so_far fs f setting s (item a (printed e) behind s)
-  seen_part e behind s is sees stands =
+  -- characters that are seen
+  seen_part : (e : Typed) (behind : Place) (s : State) → Shows a visible types texts so_far fs f setting (whole_form e) → is_value (own_type e.ty) ≡ false → Stands a visible s → Acts a visible types texts so_far fs f setting s (item a (printed e) behind s)
+  seen_part e behind s shows no_value stands =
       let u = uses a (whole_form e) in
-      let w = pointer u ty.View s in
+      let x = seen u s in
+      let l = viewed x.given x.state in
+      let P = a_shown types texts so_far fs f in
       let Q = a_pointer types texts so_far fs f ty.View in
-      subst (λ (b : Bool). Acts a visible types texts so_far fs f setting s (cond b (value u behind (own_type e.ty) None s >> λ r s. emit e.place (Ports (Writes r)) s) (seen u s >> λ x s. viewed x s >> λ l s. emit e.place (Ports (WritesView l)) s))) (sym (no_value e.ty sees))
-      (subst (λ (v : Gives Seen). Acts a visible types texts so_far fs f setting s (v >> λ x s. viewed x s >> λ l s. emit e.place (Ports (WritesView l)) s)) (sym (seen_view a visible types texts so_far fs f setting (whole_form e) sees s))
-      (then_part types texts so_far fs f (nothing types texts so_far fs f) tt None s w _ Q (nothing types texts so_far fs f) stands.opened (view_whole a visible types texts so_far fs f setting (whole_form e) is sees s stands)
-      (acted_part types texts so_far fs f Q w.given e.place (Ports (WritesView w.given)) w.state (λ h. record { plain = λ so. refl; given = refl; formed = ap is_view h.typed; served = h.served })
-      (λ n k p. uses_ready k (w.given.local ∷ []) [] (one_there k w.given.local (ap (λ (q : Location). known_at k q.local) p.is ∙ p.held))) (λ n m k p. keeps_all f m None k))))
+      subst (λ (b : Bool). Acts a visible types texts so_far fs f setting s (cond b (value u behind (own_type e.ty) None s >> λ r s. emit e.place (Ports (Writes r)) s) (seen u s >> λ x s. viewed x s >> λ l s. emit e.place (Ports (WritesView l)) s))) (sym no_value)
+      (then_part types texts so_far fs f (nothing types texts so_far fs f) tt None s l _ Q (nothing types texts so_far fs f) stands.opened
+      (then_part types texts so_far fs f (nothing types texts so_far fs f) tt None s x l P Q stands.opened (shows s stands) (viewed_part types texts so_far fs f x.given x.state))
+      (acted_part types texts so_far fs f Q l.given e.place (Ports (WritesView l.given)) l.state (λ h. record { plain = λ so. refl; given = refl; formed = ap is_view h.typed; served = h.served })
+      (λ n k p. uses_ready k (l.given.local ∷ []) [] (one_there k l.given.local (ap (λ (q : Location). known_at k q.local) p.is ∙ p.held))) (λ n m k p. keeps_all f m None k)))
+
+  -- what is printed and is no number has no value
+  seen_no_value : (t : ExprType) → is_seen t ≡ true → is_value (own_type t) ≡ false
+  seen_no_value (Of ty.View) e = refl
+  seen_no_value (Of _) e = absurd (false≢true e)
+  seen_no_value NullPointer e = refl
+  seen_no_value TextLiteral e = refl
+
+  -- a string
+  string_part : (e : Typed) (behind : Place) (s : State) → IsObject a visible types texts so_far fs f setting (whole_form e) → is_printed e.ty ≡ true → Stands a visible s → Acts a visible types texts so_far fs f setting s (item a (printed e) behind s)
+  string_part e behind s is shown stands =
+      let text = go is.ty is.owner (sym (ap is_printed is.is) ∙ shown) in
+      seen_part e behind s (string_shows a visible types texts so_far fs f setting (whole_form e) is text) (ap (λ (x : ExprType). is_value (own_type x)) is.is ∙ ap is_value text) stands
     where
-      no_value : (t : ExprType) → is_seen t ≡ true → is_value (own_type t) ≡ false
-      no_value (Of ty.View) e = refl
-      no_value (Of _) e = absurd (false≢true e)
-      no_value NullPointer e = refl
-      no_value TextLiteral e = refl
+      go : (t : Ty) → is_owner_of_values a.program.types t ≡ true → is_printed (Of t) ≡ true → t ≡ ty.Text
+      go ty.Text o p = refl
+      go (ty.Vector element) o p = absurd (false≢true p)
+      go _ o p = absurd (false≢true o)
 
   pub item_part : nat_lt (end_line a) texts ≡ true → (i : ItemForm) (behind : Place) (s : State) → is_reached_item texts so_far i ≡ true → IsItem a.program a.function.locals a.function.result visible i → Stands a visible s → Acts a visible types texts so_far fs f setting s (item a i behind s)
   item_part lines (printed e) behind s b h stands =
-      let is = whole_expression a visible types texts so_far fs f setting (whole_form e) b h.2 in
-      elim (printed_type so_far a.program.types e is.kind.kind h.0) [ inl n ↦ printed_part e behind s is n stands | inr sees ↦ seen_part e behind s is sees stands ]
+      elim (either_reached so_far (whole_form e) (is_reached_expression texts so_far e) b) [
+        | inl value ↦
+            let is = whole_expression a visible types texts so_far fs f setting (whole_form e) value h.2 in
+            elim (printed_type so_far a.program.types e is.kind.kind h.0) [
+              | inl n ↦ printed_part e behind s is n stands
+              | inr sees ↦ seen_part e behind s (whole_shows a visible types texts so_far fs f setting (whole_form e) is sees) (seen_no_value e.ty sees) stands
+            ]
+        | inr owner ↦ string_part e behind s (object_expression a visible types texts so_far fs f setting (whole_form e) owner.1 owner.0 h.2) h.0 stands
+      ]
   item_part lines (line_end place) behind s b h stands = line_part place behind s lines stands

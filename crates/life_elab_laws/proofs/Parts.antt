@@ -31,7 +31,7 @@ module _ (types : Types) (texts : ℕ) (so_far : Bool) (fs : List Function) (f :
   -- behind what gave x
   pub record Part {A B : Type 0} (P : Gift types texts so_far fs f A) (x : A) (into : Option ℕ) (s : State) (w : Gives B) (Q : Gift types texts so_far fs f B) : Type 0 where
     pub grown : Grows s w.state
-    pub registers : AddsRegisters types s w.state
+    pub registers : AddsRegisters so_far types s w.state
     pub code : List Tree
     pub written : w.state.code ≡ s.code ++ code
     pub runs : Begins types f w.state → P.typed x → Runs P x into s w Q code
@@ -47,7 +47,7 @@ module _ (types : Types) (texts : ℕ) (so_far : Bool) (fs : List Function) (f :
       → (Begins types f s → (k : List Known) → Alive f s k → P.ready x (length s.locals) k → Q.ready y (length s.locals) k) → Part P x into s (gives y s) Q
   gives_part P x into y s Q typed ready = record {
     grown = grows_none s;
-    registers = registers_none types s;
+    registers = registers_none so_far types s;
     code = [];
     written = sym (append-nil s.code);
     runs = λ b p. record {
@@ -103,7 +103,7 @@ module _ (types : Types) (texts : ℕ) (so_far : Bool) (fs : List Function) (f :
     pub then_part : Part P x into s v O
     then_part = record {
       grown = grows_then s w.state v.state first.grown second.grown;
-      registers = registers_then types s w.state v.state second.grown.types first.registers second.registers;
+      registers = registers_then so_far types s w.state v.state second.grown.types first.registers second.registers;
       code = first.code ++ second.code;
       written = second.written ∙ ap (λ (c : List Tree). c ++ second.code) first.written ∙ append_assoc s.code first.code second.code;
       runs = λ b p. let q = first.runs (before b) p in let r = second.runs b q.typed in record {

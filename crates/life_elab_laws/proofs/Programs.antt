@@ -21,7 +21,7 @@ use Rattle.life_elab.specs.Functions.{function_from}
 use Rattle.life_elab.specs.ProgramForms.{all_functions, first_state, functions, translated, written}
 use Rattle.life_elab.specs.Programs.{Functions, around, texts_of, with_function}
 use Rattle.life_well_typed.specs.Names.{HasNames, is_function_named}
-use Rattle.life_well_typed.specs.Results.{HasResults, HaveResults}
+use Rattle.life_well_typed.specs.Results.{HasResults, HaveResults, HasTable}
 use Rattle.life_elab_laws.proofs.Beginning.{first_locals, first_shaped, first_types}
 use Rattle.life_elab_laws.proofs.Callees.{IsBegun, IsFunctionOf, callee_from, gives_from, reached_parts, result_nameless, takes_values, type_found, values_at}
 use Rattle.life_elab_laws.proofs.Calls.{IsCallee}
@@ -35,6 +35,8 @@ use Rattle.life_elab_laws.proofs.Setting.{Setting}
 use Rattle.life_elab_laws.proofs.Shaped.{AreShaped, shaped_later}
 use Rattle.life_elab_laws.proofs.ShortPlaces.{short_function}
 use Rattle.life_elab_laws.proofs.WrittenLocals.{AreWrittenLocals}
+use Rattle.life_typed.specs.declared.basic.TheConstants.{CHAR}
+use Rattle.life_types.specs.declared.ty.Ty.TheVariants as ty
 
 -- ---- one function among others
 
@@ -47,11 +49,11 @@ result_at : (types : Types) (fs : List FunctionForm) (n : ℕ) (f : FunctionForm
 result_at types fs n f h at = there types.types f.result.0 (each_at (λ (g : FunctionForm). g.result.0 < length types.types) (HaveResults types) (λ g gs h. h) fs n f h at)
 
 -- what is written for a function, whatever the table has by then, adds to what stands there where its body begins
-pub record FunctionGrows (p : ProgramForm) (f : FunctionForm) (T : Types) : Type 0 where
+pub record FunctionGrows (so_far : Bool) (p : ProgramForm) (f : FunctionForm) (T : Types) : Type 0 where
   pub locals : IsFront (first_state (around p f) T).locals (written (around p f) T).locals
   pub table : IsFront T.types (written (around p f) T).types.types
   pub shaped : AreShaped p.types (written (around p f) T).locals
-  pub own : AreWrittenLocals p.types (around p f) (written (around p f) T)
+  pub own : AreWrittenLocals so_far p.types (around p f) (written (around p f) T)
   pub order : KeepsOrder T (written (around p f) T).types
 
 -- a core function is what is written for a typed one, in a table that the program's ends with
@@ -81,12 +83,12 @@ pub record AllWritten (p : ProgramForm) (fs : List FunctionForm) (w : Functions)
   pub order : KeepsOrder w.types (functions p fs w).types
   pub each : (types : Types) → IsFront (functions p fs w).types.types types.types → AreWritten p types fs more
 
-all_written : (p : ProgramForm) (fs : List FunctionForm) (w : Functions) → ((n : ℕ) (f : FunctionForm) → slice_get fs n ≡ Some f → (T : Types) → IsFront p.types.types T.types → FunctionGrows p f T) → IsFront p.types.types w.types.types → AllWritten p fs w
-all_written p [] w grows table = record { more = []; listed = sym (append-nil w.functions); table = front_itself w.types.types; order = order_none w.types; each = λ types later. tt }
-all_written p (f ∷ fs) w grows table =
+all_written : (so_far : Bool) (p : ProgramForm) (fs : List FunctionForm) (w : Functions) → ((n : ℕ) (f : FunctionForm) → slice_get fs n ≡ Some f → (T : Types) → IsFront p.types.types T.types → FunctionGrows so_far p f T) → IsFront p.types.types w.types.types → AllWritten p fs w
+all_written so_far p [] w grows table = record { more = []; listed = sym (append-nil w.functions); table = front_itself w.types.types; order = order_none w.types; each = λ types later. tt }
+all_written so_far p (f ∷ fs) w grows table =
     let s = written (around p f) w.types in
     let one = grows zero f refl w.types table in
-    let rest = all_written p fs (with_function f s w) (λ n. grows (suc n)) (front_then p.types.types w.types.types s.types.types table one.table) in
+    let rest = all_written so_far p fs (with_function f s w) (λ n. grows (suc n)) (front_then p.types.types w.types.types s.types.types table one.table) in
     record {
       more = function_from f s ∷ rest.more;
       listed = rest.listed ∙ append_assoc w.functions (function_from f s ∷ []) rest.more;
@@ -95,7 +97,7 @@ all_written p (f ∷ fs) w grows table =
       each = λ types later. (record { before = w.types; table = table; is = refl; later = front_then s.types.types _ types.types rest.table later }, rest.each types later);
     }
 
-module _ (so_far : Bool) (p : ProgramForm) (typed : IsWellTyped p) (built : are_reached_functions (length (texts_of p)) so_far p.types p.functions ≡ true) (results : HasResults p) where
+module _ (so_far : Bool) (p : ProgramForm) (typed : IsWellTyped p) (built : are_reached_functions (length (texts_of p)) so_far p.types p.functions ≡ true) (results : HasResults p) (chars : so_far ≡ false → type_at p.types CHAR ≡ ty.Char) where
   pub of_program : (n : ℕ) (f : FunctionForm) → slice_get p.functions n ≡ Some f → IsFunctionOf so_far p f
   of_program n f at =
       let t = result_at p.types p.functions n f results at in
@@ -106,7 +108,7 @@ module _ (so_far : Bool) (p : ProgramForm) (typed : IsWellTyped p) (built : are_
   setting_of T types fs f core n at begun callees shaped = let is = of_program n f at in record {
     front = front_then p.types.types T.types types.types begun.table begun.later;
     variables = is.built.variables;
-    chars = is.built.chars;
+    chars = chars;
     returned = λ g of there. (of_program g of there).built.result;
     result = is.built.result;
     taken = λ g of there m id at. values_at p.types (take (length of.parameters) of.locals) (of_program g of there).built.parameters m id at;
@@ -136,7 +138,7 @@ module _ (so_far : Bool) (p : ProgramForm) (typed : IsWellTyped p) (built : are_
       let is = of_program n f at in
       setting_of p.types p.types (map begun p.functions) f (begun f) n at (begun_so f) begun_callee (first_shaped (around p f) p.types is.typed.parameters (front_itself p.types.types) is.built.any is.built.result)
 
-  pub grows : (n : ℕ) (f : FunctionForm) → slice_get p.functions n ≡ Some f → (T : Types) → IsFront p.types.types T.types → FunctionGrows p f T
+  pub grows : (n : ℕ) (f : FunctionForm) → slice_get p.functions n ≡ Some f → (T : Types) → IsFront p.types.types T.types → FunctionGrows so_far p f T
   grows n f at T table =
       let is = of_program n f at in
       let first = first_types (around p f) T is.typed.parameters table in
@@ -145,7 +147,7 @@ module _ (so_far : Bool) (p : ProgramForm) (typed : IsWellTyped p) (built : are_
         locals = done.does.adds.locals;
         table = subst (λ (x : Types). IsFront x.types (written (around p f) T).types.types) first done.does.adds.table;
         shaped = done.does.adds.shaped (first_shaped (around p f) T is.typed.parameters table is.built.any is.built.result);
-        own = done.does.locals (first_locals (around p f) T is.typed.parameters table p.types is.ty is.result is.built.result);
+        own = done.does.locals (first_locals (around p f) T is.typed.parameters table so_far p.types is.ty is.result is.built.result);
         order = subst (λ (x : Types). KeepsOrder x (written (around p f) T).types) first done.does.order;
       }
 
@@ -155,7 +157,7 @@ module _ (so_far : Bool) (p : ProgramForm) (typed : IsWellTyped p) (built : are_
   whole = all_functions p
 
   all : AllWritten p p.functions (record { types = p.types; functions = [] })
-  all = all_written p p.functions (record { types = p.types; functions = [] }) grows (front_itself p.types.types)
+  all = all_written so_far p p.functions (record { types = p.types; functions = [] }) grows (front_itself p.types.types)
 
   -- .. in whose table each type comes behind its parts, and which has no more structs
   pub whole_order : KeepsOrder p.types whole.types
@@ -254,5 +256,5 @@ module _ (so_far : Bool) (p : ProgramForm) (typed : IsWellTyped p) (built : are_
 pub functions_reached : (p : ProgramForm) → is_reached p ≡ true → are_reached_functions (length (texts_of p)) false p.types p.functions ≡ true
 functions_reached p b = (and_parts (has_no_structs p.structs) (are_reached_functions (length (texts_of p)) false p.types p.functions) b).1
 
-pub reached_short : (p : ProgramForm) → IsWellTyped p → HasResults p → is_reached p ≡ true → HaveShortPlaces (translated p).types (translated p).functions
-reached_short p typed results b = program_short false p typed (functions_reached p b) results
+pub reached_short : (p : ProgramForm) → IsWellTyped p → HasResults p → HasTable p → is_reached p ≡ true → HaveShortPlaces (translated p).types (translated p).functions
+reached_short p typed results table b = program_short false p typed (functions_reached p b) results (λ so. table.chars)

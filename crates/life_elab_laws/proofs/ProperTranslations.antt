@@ -1,5 +1,5 @@
 -- The core program of a well typed program that the law reaches and that passes no limit is proper; where the program is built, all of it is served so far.
-use Rattle.std.proofs.Common.{◌≡◌, Bool, true, false, length, refl, ◌∙◌}
+use Rattle.std.proofs.Common.{◌≡◌, Bool, true, false, length, refl, ◌∙◌, true≢false}
 use Rattle.std.proofs.lemmas.Bool.{and_parts}
 use Rattle.life_built.specs.Built.{are_built_functions, has_built_types, has_no_structs, is_built}
 use Rattle.life_typed.specs.Programs.{ProgramForm}
@@ -25,11 +25,11 @@ use Rattle.life_elab_laws.proofs.WrittenResults.{program_writes_results}
 proper_parts : (so_far : Bool) (p : ProgramForm) → IsWellTyped p → HasResults p → HasTable p → HasNames p → HasIntMain p → has_no_structs p.structs ≡ true → are_reached_functions (length (texts_of p)) so_far p.types p.functions ≡ true
     → IsProgramWithinLimits (translated p) → HasProperParts (translated p)
 proper_parts so_far p typed results table names mains none reached limits = record {
-  well_formed = program_formed so_far p typed reached results names table.ordered table.once (no_structs_there p.structs p.types.structs none table.structs) none;
-  ready = ready_program (translated p) (program_checked so_far p typed reached results);
-  results = program_writes_results so_far p typed reached results mains;
-  breaks = program_breaks so_far p typed reached results;
-  given = program_keeps so_far p typed reached results;
+  well_formed = program_formed so_far p typed reached results (λ so. table.chars) names table.ordered table.once (no_structs_there p.structs p.types.structs none table.structs) none;
+  ready = ready_program (translated p) (program_checked so_far p typed reached results (λ so. table.chars));
+  results = program_writes_results so_far p typed reached results (λ so. table.chars) mains;
+  breaks = program_breaks so_far p typed reached results (λ so. table.chars);
+  given = program_keeps so_far p typed reached results (λ so. table.chars);
   limits = limits;
 }
 
@@ -48,7 +48,7 @@ module _ (p : ProgramForm) (built : is_built p ≡ true) where
   reached = functions_as (length (texts_of p)) p.types p.functions (and_parts (has_no_structs p.structs) (are_built_functions p.types p.functions) (and_parts (has_built_types p.types) _ built).1).1
 
   pub built_short : IsWellTyped p → HasResults p → HaveShortPlaces (translated p).types (translated p).functions
-  built_short typed results = program_short true p typed reached results
+  built_short typed results = program_short true p typed reached results (λ so. absurd (true≢false so))
 
   pub built_proper : IsWellTyped p → HasResults p → HasTable p → HasNames p → HasIntMain p → IsProgramWithinLimits (translated p) → IsProperProgram (translated p)
   built_proper typed results table names mains limits = let parts = proper_parts true p typed results table names mains none reached limits in record {
@@ -59,8 +59,8 @@ module _ (p : ProgramForm) (built : is_built p ≡ true) where
     given = parts.given;
     limits = parts.limits;
     so_far = record {
-      by_value = plain_calls (translated p) ∙ program_plain true p typed reached results refl;
-      serves = program_serves true p typed reached results refl;
+      by_value = plain_calls (translated p) ∙ program_plain true p typed reached results (λ so. absurd (true≢false so)) refl;
+      serves = program_serves true p typed reached results (λ so. absurd (true≢false so)) refl;
     };
   }
 

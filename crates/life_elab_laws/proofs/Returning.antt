@@ -177,7 +177,7 @@ module _ (a : Around) (types : Types) (texts : ℕ) (so_far : Bool) (fs : List F
         returned_from : Does types texts so_far fs f a v in_loop s behind
         returned_from = record {
           adds = grows_adds types f s w.state made.grown;
-          locals = locals_added types a s w.state made.grown.types made.registers;
+          locals = locals_added so_far types a s w.state made.grown.types made.registers;
           order = made.registers.1;
           follows = later;
           code = made.code ++ back;

@@ -27,7 +27,7 @@ abbrev IsServedAs : LocalKind → Ty → Type 0
 IsServedAs k t = is_served_as k (held_if (class (Some t)) k (Some t)) ≡ true
 
 module _ (types : Types) where
-  pub register_served : (t : Ty) → fits_register types t ≡ true → IsServedAs Register t
+  pub register_served : (t : Ty) → fits_register true types t ≡ true → IsServedAs Register t
   register_served ty.Bool h = refl
   register_served ty.Char h = refl
   register_served ty.Int h = refl
@@ -38,9 +38,10 @@ module _ (types : Types) where
   register_served (ty.Reference target constant) h = refl
   register_served _ h = absurd (false≢true h)
 
-  pub variable_served : (so_far : Bool) → so_far ≡ true → (t : Ty) → IsReachedType so_far types t → IsServedAs (kind (class (Some t))) t × (fits_register types t ≡ true)
+  pub variable_served : (so_far : Bool) → so_far ≡ true → (t : Ty) → IsReachedType so_far types t → IsServedAs (kind (class (Some t))) t × (fits_register true types t ≡ true)
   variable_served so_far so t (inr (inl v)) = absurd (false≢true (sym v.0 ∙ so))
-  variable_served so_far so t (inr (inr o)) = absurd (false≢true (sym o.0 ∙ so))
+  variable_served so_far so t (inr (inr (inl o))) = absurd (false≢true (sym o.0 ∙ so))
+  variable_served so_far so t (inr (inr (inr w))) = absurd (false≢true (sym w.0 ∙ so))
   variable_served so_far so t (inl b) = (go t b, fits t b)
     where
       go : (t : Ty) → (is_value t || is_pointing types t) ≡ true → IsServedAs (kind (class (Some t))) t
@@ -53,11 +54,11 @@ module _ (types : Types) where
       go (ty.Reference target constant) b = refl
       go _ b = absurd (false≢true b)
 
-      fits : (t : Ty) → (is_value t || is_pointing types t) ≡ true → fits_register types t ≡ true
+      fits : (t : Ty) → (is_value t || is_pointing types t) ≡ true → fits_register true types t ≡ true
       fits ty.View b = absurd (false≢true b)
       fits _ b = b
 
-  no_slot : (t : Ty) → fits_register types t ≡ true → is_slot_type types (Some t) ≡ false
+  no_slot : (t : Ty) → fits_register true types t ≡ true → is_slot_type types (Some t) ≡ false
   no_slot ty.Bool h = refl
   no_slot ty.Char h = refl
   no_slot ty.Int h = refl
@@ -68,7 +69,7 @@ module _ (types : Types) where
   no_slot (ty.Reference target constant) h = reference_no_slot types target constant h
   no_slot _ h = absurd (false≢true h)
 
-  pub local_served : (l : Local) (k : LocalKind) (t : Ty) → l.kind ≡ k → slice_get types.types l.ty.0 ≡ Some t → fits_register types t ≡ true → IsServedAs k t → is_served_local types l ≡ true
+  pub local_served : (l : Local) (k : LocalKind) (t : Ty) → l.kind ≡ k → slice_get types.types l.ty.0 ≡ Some t → fits_register true types t ≡ true → IsServedAs k t → is_served_local types l ≡ true
   local_served l k t kept at fits served =
       and_from (is_served_as l.kind (held_by types (Some l))) (not (is_slot_at types l.ty))
       (ap (λ (c : LocalKind). is_served_as c (held_if (class_at types l.ty) c (slice_get types.types l.ty.0))) kept ∙ ap (λ (o : Option Ty). is_served_as k (held_if (class o) k o)) at ∙ served)

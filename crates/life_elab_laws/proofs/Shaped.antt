@@ -8,7 +8,7 @@ use Rattle.life_types.specs.declared.ty.Ty.{Ty}
 use Rattle.life_types.specs.declared.ty.Ty.TheVariants as ty
 use Rattle.life_types.specs.declared.ty.TyId.{TyId}
 use Rattle.life_built.specs.Built.{is_pointing}
-use Rattle.life_elab_laws.specs.Reached.{is_owner_of_values, is_reached_variable}
+use Rattle.life_elab_laws.specs.Reached.{is_owner_of_values, is_reached_variable, is_walker_of_values}
 use Rattle.life_typed.specs.BaseTypes.{type_at}
 use Rattle.life_core.specs.declared.program.Local.{Local}
 use Rattle.life_proper.specs.Knowing.{is_intermediate}
@@ -35,10 +35,16 @@ module _ (few more : Types) (front : IsFront few.types more.types) where
   owner_later (ty.Vector element) o = value_later element o
   owner_later _ o = absurd (false≢true o)
 
+  pub walker_later : (t : Ty) → is_walker_of_values few t ≡ true → is_walker_of_values more t ≡ true
+  walker_later (ty.Iterator target constant) w = value_later target w
+  walker_later (ty.Span target constant) w = value_later target w
+  walker_later _ w = absurd (false≢true w)
+
   reached_later : (so_far : Bool) (t : Ty) → IsReachedType so_far few t → IsReachedType so_far more t
   reached_later so_far t (inl b) = inl (type_later t b)
   reached_later so_far t (inr (inl v)) = inr (inl v)
-  reached_later so_far t (inr (inr o)) = inr (inr (o.0, owner_later t o.1))
+  reached_later so_far t (inr (inr (inl o))) = inr (inr (inl (o.0, owner_later t o.1)))
+  reached_later so_far t (inr (inr (inr w))) = inr (inr (inr (w.0, walker_later t w.1)))
 
   pub variable_later : (so_far : Bool) (id : TyId) → is_reached_variable so_far few id ≡ true → is_reached_variable so_far more id ≡ true
   variable_later so_far id b =

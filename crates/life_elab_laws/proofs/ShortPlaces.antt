@@ -78,6 +78,10 @@ module _ (types : Types) where
   unfolding tree_at
   short_parts id b x = go (slice_get types.types id.0) b
     where
+      plain : (b : Bool) → (b || false) ≡ true → b ≡ true
+      plain true e = refl
+      plain false e = e
+
       value_parts : (n : ℕ) (item : TyId) → is_value (type_at types item) ≡ true → AreShort (map element.At (places_in (owned_place (local_place x)) (tree_within n types item)))
       value_parts zero item v = (omega arith, tt)
       value_parts (suc n) item v = parts (slice_get types.types item.0) v
@@ -92,7 +96,7 @@ module _ (types : Types) where
 
       go : (o : Option Ty) → reaches false types (unwrap_or o ty.Void) ≡ true → AreShort (map element.At (places_in (local_place x) (tree_of types (tree_within id.0 types) o)))
       go (Some ty.Text) b = (omega arith, (omega arith, tt))
-      go (Some (ty.Vector item)) b = (omega arith, value_parts id.0 item b)
+      go (Some (ty.Vector item)) b = (omega arith, value_parts id.0 item (plain (is_value (type_at types item)) b))
       go (Some (ty.Unique target)) b = absurd (false≢true b)
       go (Some (ty.Struct number)) b = absurd (false≢true b)
       go _ b = (omega arith, tt)

@@ -1,8 +1,8 @@
 -- Assignments, steps, and calls that stand alone.
-use Rattle.std.proofs.Common.{◌≡◌, ◌⊎◌, inl, inr, ℕ, Bool, true, false, List, [], ◌∷◌, Contains, cond, not, Some, None, refl, sym, ap, ◌∙◌, subst, arith, ◌&&◌}
+use Rattle.std.proofs.Common.{◌≡◌, ◌⊎◌, inl, inr, ℕ, Bool, true, false, List, [], ◌∷◌, Contains, cond, not, Some, None, refl, sym, ap, ◌∙◌, subst, arith, ◌&&◌, ◌||◌}
 use Rattle.std.proofs.lemmas.Bool.{and_from, and_parts, false≢true, or_cases}
 use Rattle.std.specs.Prelude.{pos}
-use Rattle.life_types.specs.TypeTests.{is_value, is_void}
+use Rattle.life_types.specs.TypeTests.{is_value, is_void, is_text, is_view, is_iterator}
 use Rattle.life_types.specs.Types.{Types, class}
 use Rattle.life_types.specs.declared.place.Place.{Place}
 use Rattle.life_types.specs.declared.ty.Class.{Class}
@@ -12,7 +12,7 @@ use Rattle.life_types.specs.declared.ty.Ty.TheVariants as ty
 use Rattle.life_tree.specs.declared.operator.CompoundOperator.{CompoundOperator}
 use Rattle.life_tree.specs.declared.operator.StepOperator.{StepOperator}
 use Rattle.life_built.specs.Built.{is_call}
-use Rattle.life_elab_laws.specs.Reached.{is_reached_expression, is_reached_simple, is_changing, is_reached_change, is_reached_form, is_reached_object, is_reached_type}
+use Rattle.life_elab_laws.specs.Reached.{is_reached_expression, is_reached_simple, is_changing, is_reached_change, is_reached_form, is_reached_object, is_reached_append, is_reached_either, is_owner_of_values, is_reached_assigned, is_owner_type, is_reached_walker, is_walker_of_values, is_erased, is_walker_type}
 use Rattle.life_typed.specs.Operators.{promoted}
 use Rattle.life_typed.specs.Statements.{can_step, compounded}
 use Rattle.life_typed.specs.TypedForm.{Form, Typed, call, typed, whole as whole_form, method}
@@ -21,14 +21,15 @@ use Rattle.life_typed.specs.declared.typed_expr.Category.{Category}
 use Rattle.life_typed.specs.declared.typed_expr.Category.TheVariants as category
 use Rattle.life_typed.specs.declared.typed_expr.ExprType.{ExprType}
 use Rattle.life_typed.specs.declared.typed_expr.ExprType.TheVariants.{Of}
+use Rattle.life_typed.specs.declared.typed_expr.Method.TheVariants as methods
 use Rattle.life_type_expr.specs.Lists.{fits_at_all}
 use Rattle.life_core.specs.Function.{Function}
-use Rattle.life_core.specs.Operands.{Operand}
-use Rattle.life_core.specs.Step.{Save}
+use Rattle.life_core.specs.Operands.{Operand, Location}
+use Rattle.life_core.specs.Step.{Save, Advance}
 use Rattle.life_core.specs.Touched.{place_uses}
 use Rattle.life_core.specs.declared.operation.Operation.TheVariants as operation
 use Rattle.life_core.specs.declared.operation.Operator.{Operator}
-use Rattle.life_proper.specs.OperandTypes.{is_promoted}
+use Rattle.life_proper.specs.OperandTypes.{is_promoted, keeps_const, same}
 use Rattle.life_proper.specs.Placed.{is_const_place, is_number_of, type_of}
 use Rattle.life_proper.specs.ReadyKnown.{are_known, is_known}
 use Rattle.life_proper.specs.WellFormed.{answer_of}
@@ -40,44 +41,61 @@ use Rattle.life_well_typed.specs.Statements.{IsSimple}
 use Rattle.life_proper.proofs.ReadyTests.{uses_ready}
 use Rattle.life_writer.specs.Around.{Around, own_type}
 use Rattle.life_writer.specs.Around as around
-use Rattle.life_writer.specs.Assigning.{assigned_by}
+use Rattle.life_writer.specs.Assigning.{assigned_by, acted, owner_by}
 use Rattle.life_writer.specs.Calls.{Called, called_alone, form_call}
 use Rattle.life_writer.specs.ExpressionForms.{all_uses, uses}
 use Rattle.life_writer.specs.Giving as giving
-use Rattle.life_writer.specs.Pointers.{pointed}
+use Rattle.life_writer.specs.Pointers.{pointed, By}
 use Rattle.life_writer.specs.Registers.{computed, constant as constant_step, converted}
 use Rattle.life_writer.specs.Uses.{Uses, own}
 use Rattle.life_writer.specs.Using.{operand, pointer, pointing, value}
 use Rattle.life_writer.specs.Values.{read}
 use Rattle.life_writer.specs.Values as values
 use Rattle.life_writer.specs.Writing.{State, Gives, ◌>>◌, emit, gives}
-use Rattle.life_elab.specs.SimpleForms.{advanced, appended, assigned, combined, done, simple, stepped, target_of, thrown, thrown_by}
+use Rattle.life_elab.specs.SimpleForms.{advanced, appended, assigned, combined, done, simple, stepped, target_of, thrown, thrown_by, direction}
 use Rattle.life_elab.specs.Simples.{compound_operator, held, put_back, step_operator}
 use Rattle.life_elab_laws.proofs.Aiming.{pointed_fine, pointed_keeps, pointed_ready}
 use Rattle.life_elab_laws.proofs.CallParts.{alone_fine}
 use Rattle.life_elab_laws.proofs.Calls.{alone_after, alone_ready}
 use Rattle.life_elab_laws.proofs.ExpressionTypes.{own_no_iterator, own_no_text, own_value, seen_kind}
 use Rattle.life_elab_laws.proofs.ExpressionForms.{IsCall, IsWhole}
-use Rattle.life_elab_laws.proofs.Expressions.{whole_expression, wholes}
+use Rattle.life_elab_laws.proofs.Expressions.{whole_expression, wholes, walker_expression}
 use Rattle.life_elab_laws.proofs.PointerForms.{placed_operand, pointer_whole, points_whole, result_later}
-use Rattle.life_elab_laws.proofs.FormedFits.{given_raw, given_seen}
+use Rattle.life_elab_laws.proofs.FormedFits.{given_raw, given_seen, given_owner, given_string, given_walker, given_vector}
 use Rattle.life_elab_laws.proofs.Gifts.{Gift, IsPlaceOf, takes_from, a_number, a_place, a_pointer, a_pointing, arguments, both, nothing}
 use Rattle.life_elab_laws.proofs.GivenKinds.{given_number, given_pointer, given_view}
 use Rattle.life_elab_laws.proofs.Growing.{Grows}
 use Rattle.life_elab_laws.proofs.Held.{place_there, ready_there}
 use Rattle.life_elab_laws.proofs.Instructions.{acted_part, as_type_part, constant_part, converted_part, load_part, operator_part}
-use Rattle.life_elab_laws.proofs.Locations.{is_location, is_pointed, seen_pointed}
+use Rattle.life_elab_laws.proofs.Locations.{is_location, is_pointed, seen_pointed, location_is, view_location}
 use Rattle.life_elab_laws.proofs.Making.{IsHeld, IsOpen, IsPlace, Keeps, keeps_all}
 use Rattle.life_elab_laws.proofs.Parts.{Makes, Part, and_part, gives_part, keep_part, seen_part, then_part, under_part}
 use Rattle.life_elab_laws.proofs.Pending.{same_pending}
 use Rattle.life_elab_laws.proofs.RowTypes.{promoted_is}
 use Rattle.life_elab_laws.proofs.Setting.{Setting}
 use Rattle.life_elab_laws.proofs.SimpleTypes.{IsFree, compound_answer, compounded_numbers, free_place, own_counts, own_same, step_answer, step_value}
-use Rattle.life_elab_laws.proofs.TypedKinds.{HasKind, a_null, a_number as of_number, a_pointer as of_pointer, a_text, a_view as of_view, no_value, promoted_value, value_place}
+use Rattle.life_elab_laws.proofs.TypedKinds.{HasKind, a_null, a_number as of_number, a_pointer as of_pointer, a_text, a_view as of_view, no_value, promoted_value, value_place, none_some}
 use Rattle.life_elab_laws.proofs.Values.{by_values}
-use Rattle.life_elab_laws.proofs.VariablePlaces.{Stands, stands_later}
-use Rattle.life_elab_laws.proofs.ChangeForms.{change_part}
-use Rattle.life_elab_laws.proofs.ElementForms.{object_expression}
+use Rattle.life_elab_laws.proofs.VariablePlaces.{Stands, stands_later, walker_is}
+use Rattle.life_elab_laws.proofs.ChangeForms.{change_part, object_part}
+use Rattle.life_elab_laws.proofs.ElementForms.{object_expression, either_reached}
+use Rattle.life_elab_laws.proofs.AppendForms.{appended_part, text_gains}
+use Rattle.life_elab_laws.proofs.ComparedForms.{IsEither}
+use Rattle.life_type_stmt.specs.Simples.{is_place}
+use Rattle.life_type_expr.specs.Operands.{is_constant}
+use Rattle.life_elab_laws.proofs.ObjectForms.{IsObject}
+use Rattle.life_elab_laws.proofs.OwnerSteps.{copies_part}
+use Rattle.life_elab_laws.proofs.SeenForms.{string_points}
+use Rattle.life_elab_laws.proofs.WalkerForms.{IsWalker, walker_pointer, walker_points, vector_points}
+use Rattle.life_elab_laws.proofs.WalkerSteps.{advance_filling, advance_given, keeps_itself}
+use Rattle.life_elab_laws.proofs.FormedVariables.{type_later}
+use Rattle.life_elab_laws.proofs.OperandsThere.{value_same}
+use Rattle.life_types.specs.Pointees.{ty_of}
+use Rattle.life_types.specs.declared.ty.TyId.{TyId}
+use Rattle.life_typed.specs.BaseTypes.{type_at}
+use Rattle.life_elab_laws.proofs.ViewForms.{gives_as}
+use Rattle.life_well_typed.specs.Members.{IsCalled}
+use Rattle.life_typed.specs.Conversions.{fits}
 
 value_class : (t : Ty) → is_value t ≡ true → class (Some t) ≡ classes.Value
 value_class = by_values (λ t. class (Some t) ≡ classes.Value) refl refl refl refl refl
@@ -151,21 +169,27 @@ module _ (a : Around) (visible : List ℕ) (types : Types) (texts : ℕ) (so_far
       (and_part types texts so_far fs f no_gift tt s w u (a_value t) (a_target t) stands.opened first second)
       (saved_part (both_of (a_value t) (a_target t)) (w.given, u.given) t w.given u.given equals u.state (λ h. h.0) (λ h. h.1) (λ n k p. p))
 
-  pointer_assigned_part : (target e : Typed) (equals behind : Place) (s : State) (u : Ty) → is_location u ≡ true → IsWhole a visible types texts so_far fs f setting (whole_form target) → IsWhole a visible types texts so_far fs f setting (whole_form e) → target.ty ≡ Of u
-      → is_pointed e.ty ≡ true → takes_from types u e.ty ≡ true → Standing s → Acts s (assigned_by classes.Pointer (uses a (whole_form e)) (own_type target.ty) (target_of (uses a (whole_form target))) equals behind s)
-  pointer_assigned_part target e equals behind s u loc at from is pointed_one taken stands =
+  -- a pointer, which is given what an expression gives it as one of a type
+  pointer_given_part : (target e : Typed) (equals behind : Place) (s : State) (u : Ty) (source : ExprType) → is_location u ≡ true → ((s : State) → Standing s → Makes types texts so_far fs f None s (pointer (uses a (whole_form target)) (own (uses a (whole_form target))) s) (a_pointer types texts so_far fs f u))
+      → Makes types texts so_far fs f None s (pointing (uses a (whole_form e)) s) (a_pointing types texts so_far fs f source) → takes_from types u source ≡ true → Standing s
+      → Acts s (assigned_by classes.Pointer (uses a (whole_form e)) (own_type target.ty) (target_of (uses a (whole_form target))) equals behind s)
+  pointer_given_part target e equals behind s u source loc lies first taken stands =
       let w = pointing (uses a (whole_form e)) s in
       let l = pointer (uses a (whole_form target)) (own (uses a (whole_form target))) w.state in
-      let P = a_pointing types texts so_far fs f e.ty in
+      let P = a_pointing types texts so_far fs f source in
       let Q = a_pointer types texts so_far fs f u in
-      let first = points_whole a visible types texts so_far fs f setting (whole_form e) from pointed_one s stands in
-      let second = pointer_whole a visible types texts so_far fs f setting (whole_form target) at u is loc (own (uses a (whole_form target))) w.state (stands_later a visible s w.state first.grown stands) in
+      let second = lies w.state (stands_later a visible s w.state first.grown stands) in
       then_part types texts so_far fs f no_gift tt None s (gives (w.given, l.given) l.state) _ (both_of P Q) no_gift stands.opened
       (and_part types texts so_far fs f no_gift tt s w l P Q stands.opened first second)
       (acted_part types texts so_far fs f (both_of P Q) (w.given, l.given) e.place (pointed w.given l.given) l.state
-      (λ h. pointed_fine types texts so_far fs f l.given u e.ty w.given loc h.1 taken h.0)
+      (λ h. pointed_fine types texts so_far fs f l.given u source w.given loc h.1 taken h.0)
       (λ n k p. pointed_ready f l.given n n w.given k p.1 p.0)
       (λ n m k p. pointed_keeps f l.given n n m w.given k p.1 p.0))
+
+  pointer_assigned_part : (target e : Typed) (equals behind : Place) (s : State) (u : Ty) → is_location u ≡ true → IsWhole a visible types texts so_far fs f setting (whole_form target) → IsWhole a visible types texts so_far fs f setting (whole_form e) → target.ty ≡ Of u
+      → is_pointed e.ty ≡ true → takes_from types u e.ty ≡ true → Standing s → Acts s (assigned_by classes.Pointer (uses a (whole_form e)) (own_type target.ty) (target_of (uses a (whole_form target))) equals behind s)
+  pointer_assigned_part target e equals behind s u loc at from is pointed_one taken stands =
+      pointer_given_part target e equals behind s u e.ty loc (λ s stands. pointer_whole a visible types texts so_far fs f setting (whole_form target) at u is loc (own (uses a (whole_form target))) s stands) (points_whole a visible types texts so_far fs f setting (whole_form e) from pointed_one s stands) taken stands
 
   assigned_part : (target e : Typed) (equals behind : Place) (s : State) → (bt : is_reached_expression texts so_far target ≡ true) → (be : is_reached_expression texts so_far e ≡ true) → IsSimple a.program a.function.locals a.function.result visible (assign target equals (one e)) → Standing s
       → Acts s (assigned a target equals (one e) behind s)
@@ -323,21 +347,189 @@ module _ (a : Around) (visible : List ℕ) (types : Types) (texts : ℕ) (so_far
   changed_statement : (form : Form) (e : Typed) (behind : Place) (s : State) → e.form ≡ form → is_reached_change texts so_far form ≡ true → Whole e → Standing s → Acts s (thrown e.category (uses a (whole_form e)) behind s)
   changed_statement (method base m given d) e behind s same b h stands =
       let one = and_parts (is_changing m) _ b in
-      let two = and_parts (not (is_reached_type so_far (typed_in base).ty)) (is_reached_object base && is_reached_form texts so_far given) one.1 in
+      let two = and_parts (is_owner_type so_far (typed_in base).ty) (is_reached_object base && is_reached_form texts so_far given) one.1 in
       let three = and_parts (is_reached_object base) (is_reached_form texts so_far given) two.1 in
       let made : IsMadeOf a.program a.function.locals visible e (method base m given d) = subst (IsMadeOf a.program a.function.locals visible e) same h in
       change_part a visible types texts so_far fs f setting base m given d e behind s same
-      (object_expression a visible types texts so_far fs f setting base three.0 (not_true (is_reached_type so_far (typed_in base).ty) two.0) made.1)
+      (object_expression a visible types texts so_far fs f setting base three.0 two.0 made.1)
       (wholes a visible types texts so_far fs f setting given three.1 made.2) one.0 made.0 stands
   changed_statement _ e behind s same b h stands = absurd (false≢true b)
 
-  -- ---- any of these
+  -- ---- an element is erased
 
-  done_part : (it : SimpleForm) (behind : Place) (s : State) → is_reached_simple texts so_far it ≡ true → IsSimple a.program a.function.locals a.function.result visible it → Standing s → Acts s (done a it behind s)
-  done_part (assign target equals (one e)) behind s b h stands =
-      let parts = and_parts (is_reached_expression texts so_far target) (is_reached_expression texts so_far e) b in assigned_part target e equals behind s parts.0 parts.1 h stands
-  done_part (assign target equals (several list)) behind s b h stands = absurd (false≢true (and_parts (is_reached_expression texts so_far target) false b).1)
-  done_part (compound target o place e) behind s b h stands =
+  erased_statement : (form : Form) (e : Typed) (behind : Place) (s : State) → e.form ≡ form → is_erased texts so_far form ≡ true → is_reached_walker texts so_far (whole_form e) ≡ true → Whole e → Standing s → Acts s (thrown e.category (uses a (whole_form e)) behind s)
+  erased_statement (method base methods.Erase given d) e behind s same erases b h stands =
+      let is = walker_expression a visible types texts so_far fs f setting (whole_form e) b h in
+      let parts = and_parts (is_walker_type so_far e.ty) (is_reached_walker texts so_far e.form) b in
+      let told : is_reached_walker texts so_far (method base methods.Erase given d) ≡ true = ap (is_reached_walker texts so_far) (sym same) ∙ parts.1 in
+      let one = and_parts (is_owner_type so_far (typed_in base).ty) (is_reached_object base && is_reached_walker texts so_far given) told in
+      let two = and_parts (is_reached_object base) (is_reached_walker texts so_far given) one.1 in
+      let made : IsMadeOf a.program a.function.locals visible e (method base methods.Erase given d) = subst (IsMadeOf a.program a.function.locals visible e) same h in
+      let from = object_expression a visible types texts so_far fs f setting (base) two.0 one.0 made.1 in
+      let held = erased_value from.ty from.owner (subst (λ (x : ExprType). IsCalled a.program.types x (typed_in base).category methods.Erase given e) from.is made.0) in
+      let u = uses a (whole_form e) in
+      subst (Acts s)
+      (sym (ap (λ (k : Category). thrown k u behind s) held
+      ∙ ap (λ (x : Ty). cond (is_void x) (u.alone s) (thrown_by (class (Some x)) u behind s)) (ap own_type is.is)
+      ∙ by_walker is.ty is.walker))
+      (seen_part types texts so_far fs f no_gift tt None s (pointer u (own u) s) (a_pointer types texts so_far fs f is.ty) (λ (l : Location). tt) no_gift (walker_pointer a visible types texts so_far fs f setting (whole_form e) is (own u) s stands) (λ b h. tt) (λ n k h. tt))
+    where
+      erased_value : (t : Ty) → is_owner_of_values a.program.types t ≡ true → IsCalled a.program.types (Of t) (typed_in base).category methods.Erase given e → e.category ≡ category.Value
+      erased_value ty.Text o c = absurd (none_some c.2)
+      erased_value (ty.Vector item) o c = (gives_as (Of (ty.Iterator item false), category.Value) e c.2).1
+      erased_value _ o c = absurd (false≢true o)
+
+      by_walker : (t : Ty) → is_walker_of_values a.program.types t ≡ true → cond (is_void t) ((uses a (whole_form e)).alone s) (thrown_by (class (Some t)) (uses a (whole_form e)) behind s) ≡ (pointer (uses a (whole_form e)) (own (uses a (whole_form e))) s).state
+      by_walker (ty.Iterator item constant) w = refl
+      by_walker (ty.Span item constant) w = refl
+      by_walker _ w = absurd (false≢true w)
+  erased_statement (method base _ given d) e behind s same erases b h stands = absurd (false≢true erases)
+  erased_statement _ e behind s same erases b h stands = absurd (false≢true erases)
+
+  -- ---- assignments of owners
+
+  to_free : (c : Category) (constant : Bool) → is_constant c ≡ constant → not (is_constant c) ≡ true → constant ≡ false
+  to_free c constant is h = sym is ∙ not_true (is_constant c) h
+
+  -- a copy
+  copied_part : (target e : Typed) (equals behind : Place) (s : State) → (to : IsObject a visible types texts so_far fs f setting (whole_form target)) → to.constant ≡ false → (from : IsObject a visible types texts so_far fs f setting (whole_form e)) → from.ty ≡ to.ty → Standing s
+      → Acts s (assigned a target equals (one e) behind s)
+  copied_part target e equals behind s to free from alike stands =
+      let w = (uses a (whole_form e)).at s in
+      let o = operand (uses a (whole_form target)) w.state in
+      let P = a_place types texts so_far fs f to.ty from.constant in
+      let Q = a_target to.ty in
+      let first = subst (λ (t : Ty). Makes types texts so_far fs f None s w (a_place types texts so_far fs f t from.constant)) alike (from.names s stands) in
+      let second = object_part a visible types texts so_far fs f setting (whole_form target) to free w.state (stands_later a visible s w.state first.grown stands) in
+      subst (Acts s)
+      (sym (ap (λ (k : Class). assigned_by k (uses a (whole_form e)) (own_type target.ty) (target_of (uses a (whole_form target))) equals behind s) (ap (λ (t : Ty). class (Some t)) (ap own_type to.is) ∙ owner_class to.ty to.owner)
+      ∙ ap (λ (c : Category). acted (owner_by c (uses a (whole_form e)) (own_type target.ty) s) (target_of (uses a (whole_form target))) equals) from.place))
+      (then_part types texts so_far fs f no_gift tt None s (gives (w.given, o.given) o.state) _ (both_of P Q) no_gift stands.opened
+      (and_part types texts so_far fs f no_gift tt s w o P Q stands.opened first second)
+      (copies_part types texts so_far fs f (both_of P Q) (w.given, o.given) a.program.types to.ty from.constant o.given w.given equals o.state to.wide to.owner (λ h. (h.1, h.0)) (λ n k q. (q.1, q.0))))
+    where
+      owner_class : (t : Ty) → is_owner_of_values a.program.types t ≡ true → class (Some t) ≡ classes.Owner
+      owner_class ty.Text o = refl
+      owner_class (ty.Vector item) o = refl
+      owner_class _ o = absurd (false≢true o)
+
+  -- an iterator or a span
+  walker_assigned_part : (target e : Typed) (equals behind : Place) (s : State) → (to : IsWalker a visible types texts so_far fs f setting (whole_form target)) → (from : IsWalker a visible types texts so_far fs f setting (whole_form e)) → is_given a.program.types to.ty e ≡ true → Standing s
+      → Acts s (assigned a target equals (one e) behind s)
+  walker_assigned_part target e equals behind s to from given stands =
+      subst (λ (k : Class). Acts s (assigned_by k (uses a (whole_form e)) (own_type target.ty) (target_of (uses a (whole_form target))) equals behind s)) (sym (ap (λ (t : Ty). class (Some t)) (ap own_type to.is) ∙ walker_class to.ty to.walker))
+      (pointer_given_part target e equals behind s to.ty (Of from.ty) (walker_is a.program.types to.ty to.walker).location
+      (λ s stands. walker_pointer a visible types texts so_far fs f setting (whole_form target) to (own (uses a (whole_form target))) s stands)
+      (walker_points a visible types texts so_far fs f setting (whole_form e) from s stands) (given_walker a.program.types types setting.front to.ty from.ty e to.walker from.walker from.is given) stands)
+    where
+      walker_class : (t : Ty) → is_walker_of_values a.program.types t ≡ true → class (Some t) ≡ classes.Pointer
+      walker_class (ty.Iterator item constant) w = refl
+      walker_class (ty.Span item constant) w = refl
+      walker_class _ w = absurd (false≢true w)
+
+  -- a span of the whole of a vector
+  span_assigned_part : (target e : Typed) (equals behind : Place) (s : State) → (to : IsWalker a visible types texts so_far fs f setting (whole_form target)) → (from : IsObject a visible types texts so_far fs f setting (whole_form e)) → is_given a.program.types to.ty e ≡ true → Standing s
+      → Acts s (assigned a target equals (one e) behind s)
+  span_assigned_part target e equals behind s to from given stands = go to.ty refl to.walker given
+    where
+      go : (t : Ty) → to.ty ≡ t → is_walker_of_values a.program.types t ≡ true → is_given a.program.types t e ≡ true → Acts s (assigned a target equals (one e) behind s)
+      go (ty.Span item constant) span worth h =
+          let vector = given_vector a.program.types item constant from.constant from.id from.ty e from.owner from.is from.place h in
+          let t = ty.Span item constant in
+          subst (λ (k : Class). Acts s (assigned_by k (uses a (whole_form e)) (own_type target.ty) (target_of (uses a (whole_form target))) equals behind s)) (sym (ap (λ (t : Ty). class (Some t)) (ap own_type to.is ∙ span)))
+          (pointer_given_part target e equals behind s t (Of t) refl
+          (λ s stands. subst (λ (t : Ty). Makes types texts so_far fs f None s (pointer (uses a (whole_form target)) (own (uses a (whole_form target))) s) (a_pointer types texts so_far fs f t)) span
+          (walker_pointer a visible types texts so_far fs f setting (whole_form target) to (own (uses a (whole_form target))) s stands))
+          (vector_points a visible types texts so_far fs f setting (whole_form e) from item constant vector.is vector.kept s stands)
+          (and_from (same (ty_of types item) (ty_of types item)) (keeps_const constant constant) (value_same (ty_of types item) (ap is_value (type_later a.program.types types setting.front item worth) ∙ worth)) (keeps_itself constant)) stands)
+      go (ty.Iterator item constant) span worth h = absurd (false≢true (sym (no_iterator from.ty from.owner) ∙ subst (λ (x : ExprType). fits_at_all (fits a.program.types (ty.Iterator item constant) x e.category) ≡ true) from.is h))
+        where
+          no_iterator : (u : Ty) → is_owner_of_values a.program.types u ≡ true → fits_at_all (fits a.program.types (ty.Iterator item constant) (Of u) e.category) ≡ false
+          no_iterator ty.Text o = refl
+          no_iterator (ty.Vector found) o = refl
+          no_iterator _ o = absurd (false≢true o)
+      go _ span worth h = absurd (false≢true worth)
+
+  owned_assigned_part : (target e : Typed) (equals behind : Place) (s : State)
+      → (((is_owner_type so_far target.ty && is_reached_object (whole_form target)) || (is_view (own_type target.ty) && is_reached_expression texts so_far target)) && (is_owner_type so_far e.ty && is_reached_object (whole_form e))) ≡ true → IsSimple a.program a.function.locals a.function.result visible (assign target equals (one e)) → Standing s
+      → Acts s (assigned a target equals (one e) behind s)
+  owned_assigned_part target e equals behind s b h stands =
+      let goals : Bool = is_owner_type so_far target.ty && is_reached_object (whole_form target) in
+      let views : Bool = is_view (own_type target.ty) && is_reached_expression texts so_far target in
+      let one = and_parts (goals || views) (is_owner_type so_far e.ty && is_reached_object (whole_form e)) b in
+      let source = and_parts (is_owner_type so_far e.ty) (is_reached_object (whole_form e)) one.1 in
+      let from = object_expression a visible types texts so_far fs f setting (whole_form e) source.1 source.0 h.1.1 in
+      let given : is_given a.program.types (own_type target.ty) e ≡ true = subst (λ (t : Ty). is_given a.program.types t e ≡ true) (own_same target.ty) h.1.0 in
+      elim (or_cases goals views one.0) [
+        | inl owner ↦
+            let parts = and_parts (is_owner_type so_far target.ty) (is_reached_object (whole_form target)) owner in
+            let to = object_expression a visible types texts so_far fs f setting (whole_form target) parts.1 parts.0 h.0.1 in
+            copied_part target e equals behind s to (to_free target.category to.constant (ap is_constant to.place) (and_parts (is_place target.ty target.category) (not (is_constant target.category)) h.0.0).1) from
+            (given_owner a.program.types to.ty from.ty e to.owner from.owner from.is (subst (λ (t : Ty). is_given a.program.types t e ≡ true) (ap own_type to.is) given)) stands
+        | inr view ↦
+            let parts = and_parts (is_view (own_type target.ty)) (is_reached_expression texts so_far target) view in
+            let is = whole target parts.1 h.0.1 in
+            let viewed : own_type target.ty ≡ ty.View = view_is (own_type target.ty) parts.0 in
+            let at : target.ty ≡ Of ty.View = location_is target.ty (view_location (own_type target.ty) parts.0) ∙ ap Of viewed in
+            subst (λ (k : Class). Acts s (assigned_by k (uses a (whole_form e)) (own_type target.ty) (target_of (uses a (whole_form target))) equals behind s)) (sym (ap (λ (t : Ty). class (Some t)) viewed))
+            (pointer_given_part target e equals behind s ty.View (Of ty.View) refl (λ s stands. pointer_whole a visible types texts so_far fs f setting (whole_form target) is ty.View at refl (own (uses a (whole_form target))) s stands)
+            (string_points a visible types texts so_far fs f setting (whole_form e) from (given_string a.program.types from.ty e from.owner from.is (subst (λ (t : Ty). is_given a.program.types t e ≡ true) viewed given)) s stands) refl stands)
+      ]
+    where
+      view_is : (t : Ty) → is_view t ≡ true → t ≡ ty.View
+      view_is ty.View v = refl
+      view_is _ v = absurd (false≢true v)
+
+  reassigned_part : (target e : Typed) (equals behind : Place) (s : State) → is_reached_assigned texts so_far target (one e) ≡ true → IsSimple a.program a.function.locals a.function.result visible (assign target equals (one e)) → Standing s
+      → Acts s (assigned a target equals (one e) behind s)
+  reassigned_part target e equals behind s b h stands = elim (or_cases _ (is_reached_walker texts so_far (whole_form target) && (is_reached_walker texts so_far (whole_form e) || (is_owner_type so_far e.ty && is_reached_object (whole_form e)))) b) [
+    | inl owned ↦ owned_assigned_part target e equals behind s owned h stands
+    | inr walks ↦
+        let parts = and_parts (is_reached_walker texts so_far (whole_form target)) (is_reached_walker texts so_far (whole_form e) || (is_owner_type so_far e.ty && is_reached_object (whole_form e))) walks in
+        let to = walker_expression a visible types texts so_far fs f setting (whole_form target) parts.0 h.0.1 in
+        let given : is_given a.program.types to.ty e ≡ true = subst (λ (t : Ty). is_given a.program.types t e ≡ true) (ap own_type to.is) (subst (λ (t : Ty). is_given a.program.types t e ≡ true) (own_same target.ty) h.1.0) in
+        elim (or_cases (is_reached_walker texts so_far (whole_form e)) (is_owner_type so_far e.ty && is_reached_object (whole_form e)) parts.1) [
+          | inl walker ↦ walker_assigned_part target e equals behind s to (walker_expression a visible types texts so_far fs f setting (whole_form e) walker h.1.1) given stands
+          | inr owner ↦
+              let source = and_parts (is_owner_type so_far e.ty) (is_reached_object (whole_form e)) owner in
+              span_assigned_part target e equals behind s to (object_expression a visible types texts so_far fs f setting (whole_form e) source.1 source.0 h.1.1) given stands
+        ]
+  ]
+
+  -- ---- an iterator steps
+
+  advanced_part : (target : Typed) (o : StepOperator) (place : Place) (s : State) → (is : IsWalker a visible types texts so_far fs f setting (whole_form target)) → (item : TyId) (constant : Bool) → is.ty ≡ ty.Iterator item constant → Standing s
+      → Acts s (advanced (uses a (whole_form target)) o place s)
+  advanced_part target o place s is item constant iterator stands =
+      let u = uses a (whole_form target) in
+      let t = ty.Iterator item constant in
+      let l = pointer u (own u) s in
+      let r = computed None ty.Int place (constant_step (pos 1)) l.state in
+      let P = a_pointer types texts so_far fs f t in
+      let Q = a_value ty.Int in
+      let step = By (λ p. Advance p l.given r.given (direction o)) in
+      let first = subst (λ (x : Ty). Makes types texts so_far fs f None s l (a_pointer types texts so_far fs f x)) iterator (walker_pointer a visible types texts so_far fs f setting (whole_form target) is (own u) s stands) in
+      let second = constant_part types texts so_far fs f None ty.Int place (pos 1) l.state refl tt in
+      then_part types texts so_far fs f no_gift tt None s (gives (l.given, r.given) r.state) _ (both_of P Q) no_gift stands.opened
+      (and_part types texts so_far fs f no_gift tt s l r P Q stands.opened first second)
+      (acted_part types texts so_far fs f (both_of P Q) (l.given, r.given) place (Advance l.given l.given r.given (direction o)) r.state
+      (λ h. pointed_fine types texts so_far fs f l.given t (Of t) step refl h.0
+      (and_from (same (ty_of types item) (ty_of types item)) (keeps_const constant constant) (value_same (ty_of types item) worth) (keeps_itself constant))
+      (advance_given types texts so_far fs f item constant ty.Int l.given r.given (direction o) is.wide h.0 worth h.1))
+      (λ n k p. pointed_ready f l.given n n step k p.0 (advance_filling types texts so_far fs f l.given r.given (direction o) n k p.0 p.1))
+      (λ n m k p. pointed_keeps f l.given n n m step k p.0 (advance_filling types texts so_far fs f l.given r.given (direction o) n k p.0 p.1)))
+    where
+      worth : is_value (ty_of types item) ≡ true
+      worth =
+          let v : is_value (type_at a.program.types item) ≡ true = subst (λ (t : Ty). is_walker_of_values a.program.types t ≡ true) iterator is.walker in
+          ap is_value (type_later a.program.types types setting.front item v) ∙ v
+
+  -- ---- assignments that compute
+
+  -- of numbers
+  counted_part : (target : Typed) (o : CompoundOperator) (place : Place) (e : Typed) (behind : Place) (s : State) → (is_reached_expression texts so_far target && is_reached_expression texts so_far e) ≡ true
+      → IsSimple a.program a.function.locals a.function.result visible (compound target o place e) → Standing s → Acts s (done a (compound target o place e) behind s)
+  counted_part target o place e behind s b h stands =
       let parts = and_parts (is_reached_expression texts so_far target) (is_reached_expression texts so_far e) b in
       let is = whole target parts.0 h.1.1 in
       let plain = own_no_text so_far a.program.types target is.kind.kind in
@@ -345,17 +537,69 @@ module _ (a : Around) (visible : List ℕ) (types : Types) (texts : ℕ) (so_far
       subst (λ (b : Bool). Acts s (cond b (appended a target place e s) (combined a target o place e behind (promoted (own_type target.ty) (own_type e.ty)) s))) (sym plain)
       (combined_part target e o place behind (promoted (own_type target.ty) (own_type e.ty)) s is (whole e parts.1 h.2) (free_place so_far a.program.types target is.kind h.1.0) (own_counts target.ty n.0) n.1
       (promoted_value (own_type target.ty) (own_type e.ty)) (promoted_is (own_type target.ty) (own_type e.ty)) stands)
-  done_part (step target o place) behind s b h stands =
+
+  -- .. of characters
+  gained_part : (target : Typed) (o : CompoundOperator) (place : Place) (e : Typed) (behind : Place) (s : State) → is_reached_append texts so_far target e ≡ true
+      → IsSimple a.program a.function.locals a.function.result visible (compound target o place e) → Standing s → Acts s (done a (compound target o place e) behind s)
+  gained_part target o place e behind s b h stands =
+      let one = and_parts (is_owner_type so_far target.ty) (is_reached_object (whole_form target) && is_reached_either so_far (whole_form e) (is_reached_expression texts so_far e)) b in
+      let two = and_parts (is_reached_object (whole_form target)) (is_reached_either so_far (whole_form e) (is_reached_expression texts so_far e)) one.1 in
+      let to = object_expression a visible types texts so_far fs f setting (whole_form target) two.0 one.0 h.1.1 in
+      let from : IsEither a visible types texts so_far fs f setting (whole_form e) = elim (either_reached so_far (whole_form e) (is_reached_expression texts so_far e) two.1) [
+        | inl value ↦ inl (whole e value h.2)
+        | inr owner ↦ inr (object_expression a visible types texts so_far fs f setting (whole_form e) owner.1 owner.0 h.2)
+      ] in
+      let own_is : own_type target.ty ≡ to.ty = ap own_type to.is in
+      let fits : fits_at_all (compounded o to.ty e.ty) ≡ true = subst (λ (t : Ty). fits_at_all (compounded o t e.ty) ≡ true) own_is (subst (λ (t : Ty). fits_at_all (compounded o t e.ty) ≡ true) (own_same target.ty) h.0) in
+      let told = text_gains a.program.types o to.ty e.ty to.owner fits in
+      subst (λ (t : Ty). Acts s (cond (is_text t) (appended a target place e s) (combined a target o place e behind (promoted t (own_type e.ty)) s))) (sym (own_is ∙ told.0))
+      (appended_part a visible types texts so_far fs f setting (whole_form target) (whole_form e) place s to told.0 (to_free target.category to.constant (ap is_constant to.place) (and_parts (is_place target.ty target.category) (not (is_constant target.category)) h.1.0).1) from told.1 stands)
+
+  -- ---- steps
+
+  number_stepped_part : (target : Typed) (o : StepOperator) (place behind : Place) (s : State) → is_reached_expression texts so_far target ≡ true → IsSimple a.program a.function.locals a.function.result visible (step target o place) → Standing s
+      → Acts s (done a (step target o place) behind s)
+  number_stepped_part target o place behind s b h stands =
       let is = whole target b h.1.1 in
       let plain = own_no_iterator so_far a.program.types target is.kind.kind in
       let n = step_value (own_type target.ty) plain (subst (λ (t : Ty). can_step t ≡ true) (own_same target.ty) h.0) in
       subst (λ (b : Bool). Acts s (cond b (advanced (uses a (whole_form target)) o place s) (stepped a target o place (promoted (own_type target.ty) (own_type target.ty)) s))) (sym plain)
       (stepped_part target o place (promoted (own_type target.ty) (own_type target.ty)) s is (free_place so_far a.program.types target is.kind h.1.0) (own_counts target.ty n)
       (promoted_value (own_type target.ty) (own_type target.ty)) (promoted_is (own_type target.ty) (own_type target.ty)) stands)
+
+  walker_stepped_part : (target : Typed) (o : StepOperator) (place behind : Place) (s : State) → is_reached_walker texts so_far (whole_form target) ≡ true → IsSimple a.program a.function.locals a.function.result visible (step target o place) → Standing s
+      → Acts s (done a (step target o place) behind s)
+  walker_stepped_part target o place behind s b h stands =
+      let is = walker_expression a visible types texts so_far fs f setting (whole_form target) b h.1.1 in
+      go is.ty is is.walker refl (subst (λ (t : Ty). can_step t ≡ true) (own_same target.ty ∙ ap own_type is.is) h.0)
+    where
+      go : (t : Ty) → (is : IsWalker a visible types texts so_far fs f setting (whole_form target)) → is_walker_of_values a.program.types t ≡ true → is.ty ≡ t → can_step t ≡ true → Acts s (done a (step target o place) behind s)
+      go (ty.Iterator item constant) is w at can =
+          subst (λ (b : Bool). Acts s (cond b (advanced (uses a (whole_form target)) o place s) (stepped a target o place (promoted (own_type target.ty) (own_type target.ty)) s))) (sym (ap (λ (x : ExprType). is_iterator (own_type x)) is.is ∙ ap is_iterator at))
+          (advanced_part target o place s is item constant at stands)
+      go (ty.Span item constant) is w at can = absurd (false≢true can)
+      go _ is w at can = absurd (false≢true w)
+
+  -- ---- any of these
+
+  done_part : (it : SimpleForm) (behind : Place) (s : State) → is_reached_simple texts so_far it ≡ true → IsSimple a.program a.function.locals a.function.result visible it → Standing s → Acts s (done a it behind s)
+  done_part (assign target equals (one e)) behind s b h stands =
+      elim (or_cases (is_reached_expression texts so_far target && is_reached_expression texts so_far e) (is_reached_assigned texts so_far target (one e)) b) [
+        | inl values ↦ let parts = and_parts (is_reached_expression texts so_far target) (is_reached_expression texts so_far e) values in assigned_part target e equals behind s parts.0 parts.1 h stands
+        | inr owned ↦ reassigned_part target e equals behind s owned h stands
+      ]
+  done_part (assign target equals (several list)) behind s b h stands =
+      elim (or_cases (is_reached_expression texts so_far target && false) false b) [ inl values ↦ absurd (false≢true (and_parts (is_reached_expression texts so_far target) false values).1) | inr none ↦ absurd (false≢true none) ]
+  done_part (compound target o place e) behind s b h stands =
+      elim (or_cases (is_reached_expression texts so_far target && is_reached_expression texts so_far e) (is_reached_append texts so_far target e) b) [ inl values ↦ counted_part target o place e behind s values h stands | inr texts_too ↦ gained_part target o place e behind s texts_too h stands ]
+  done_part (step target o place) behind s b h stands = elim (or_cases (is_reached_expression texts so_far target) (is_reached_walker texts so_far (whole_form target)) b) [ inl value ↦ number_stepped_part target o place behind s value h stands | inr walks ↦ walker_stepped_part target o place behind s walks h stands ]
   done_part (discarded e) behind s b h stands =
-      elim (or_cases (is_call e.form && is_reached_expression texts so_far e) (is_reached_change texts so_far e.form) b) [
-        | inl called ↦ let parts = and_parts (is_call e.form) (is_reached_expression texts so_far e) called in discarded_part e.form e behind s refl parts.1 h parts.0 stands
-        | inr changes ↦ changed_statement e.form e behind s refl changes h stands
+      elim (or_cases ((is_call e.form && is_reached_expression texts so_far e) || is_reached_change texts so_far e.form) (is_erased texts so_far e.form && is_reached_walker texts so_far (whole_form e)) b) [
+        | inl others ↦ elim (or_cases (is_call e.form && is_reached_expression texts so_far e) (is_reached_change texts so_far e.form) others) [
+          | inl called ↦ let parts = and_parts (is_call e.form) (is_reached_expression texts so_far e) called in discarded_part e.form e behind s refl parts.1 h parts.0 stands
+          | inr changes ↦ changed_statement e.form e behind s refl changes h stands
+        ]
+        | inr erases ↦ let parts = and_parts (is_erased texts so_far e.form) (is_reached_walker texts so_far (whole_form e)) erases in erased_statement e.form e behind s refl parts.0 parts.1 h stands
       ]
 
   -- .. makes no temporaries

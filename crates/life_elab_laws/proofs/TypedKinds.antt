@@ -1,5 +1,5 @@
 -- The types that well typed expressions have, where the law reaches them: values, pointers to values, views, literals, nothing, and nullptr.
-use Rattle.std.proofs.Common.{◌≡◌, inl, inr, Bool, true, false, ◌||◌, cond, subst, Option, Some, None, Result, Ok, Err, refl, sym, ap, ◌∙◌}
+use Rattle.std.proofs.Common.{◌≡◌, inl, inr, Bool, true, false, ◌||◌, cond, subst, Option, Some, None, Result, Ok, Err, refl, sym, ap, ◌∙◌, not, ◌&&◌}
 use Rattle.std.proofs.lemmas.Bool.{false≢true}
 use Rattle.std.proofs.lemmas.Option.{cond_some}
 use Rattle.life_types.specs.TypeTests.{is_iterator, is_text, is_unique, is_value, is_view, is_void}
@@ -19,7 +19,7 @@ use Rattle.life_typed.specs.declared.typed_expr.ExprType.TheVariants.{Of, NullPo
 use Rattle.life_type_expr.specs.Operands.{answer_of, combination, combined_to, place_of, value, variable_of}
 use Rattle.life_elab_laws.proofs.Reaching.{IsReachedType}
 use Rattle.life_elab_laws.proofs.Values.{by_values}
-use Rattle.life_elab_laws.specs.Reached.{is_owner_of_values, is_reached_type}
+use Rattle.life_elab_laws.specs.Reached.{is_owner_of_values, is_reached_type, is_walker_of_values}
 use Rattle.life_typed.specs.declared.typed_expr.ExprType.{ExprType}
 
 -- ---- what equations say
@@ -122,13 +122,26 @@ owner_named types e id c form _ o is = absurd (false≢true o)
 
 -- .. and no value
 owner_refused : (so_far : Bool) (types : Types) (t : Ty) → so_far ≡ false → is_owner_of_values types t ≡ true → is_reached_type so_far (Of t) ≡ true → ⊥
-owner_refused so_far types ty.Text so o n = false≢true (sym (ap (λ (b : Bool). b || false) so) ∙ n)
-owner_refused so_far types (ty.Vector element) so o n = false≢true (sym (ap (λ (b : Bool). b || false) so) ∙ n)
+owner_refused so_far types ty.Text so o n = false≢true (sym (ap (λ (b : Bool). not ((not b && true) || (not b && false))) so) ∙ n)
+owner_refused so_far types (ty.Vector element) so o n = false≢true (sym (ap (λ (b : Bool). not ((not b && true) || (not b && false))) so) ∙ n)
 owner_refused so_far types _ so o n = false≢true o
+
+-- so is an iterator or a span
+pub walker_named : (types : Types) (e : Typed) (id : TyId) (c : Bool) (form : Form) (t : Ty) → is_walker_of_values types t ≡ true → e ≡ variable_of t types id c e.place form → e ≡ place_of types id c e.place form
+walker_named types e id c form (ty.Iterator target constant) w is = is
+walker_named types e id c form (ty.Span target constant) w is = is
+walker_named types e id c form _ w is = absurd (false≢true w)
+
+walker_refused : (so_far : Bool) (types : Types) (t : Ty) → so_far ≡ false → is_walker_of_values types t ≡ true → is_reached_type so_far (Of t) ≡ true → ⊥
+walker_refused so_far types (ty.Iterator target constant) so w n = false≢true (sym (ap (λ (b : Bool). not ((not b && false) || (not b && true))) so) ∙ n)
+walker_refused so_far types (ty.Span target constant) so w n = false≢true (sym (ap (λ (b : Bool). not ((not b && false) || (not b && true))) so) ∙ n)
+walker_refused so_far types _ so w n = false≢true w
 
 pub kind_of_variable : (so_far : Bool) (types : Types) (e : Typed) (id : TyId) (c : Bool) (form : Form) (t : Ty) → type_at types id ≡ t → IsReachedType so_far types t
     → is_reached_type so_far e.ty ≡ true → e ≡ variable_of t types id c e.place form → IsKind so_far types e
-kind_of_variable so_far types e id c form t at (inr (inr o)) n is =
+kind_of_variable so_far types e id c form t at (inr (inr (inr w))) n is =
+    absurd (walker_refused so_far types t w.0 w.1 (subst (λ (x : ExprType). is_reached_type so_far x ≡ true) (ap (λ (x : Typed). x.ty) (walker_named types e id c form t w.1 is) ∙ ap Of at) n))
+kind_of_variable so_far types e id c form t at (inr (inr (inl o))) n is =
     absurd (owner_refused so_far types t o.0 o.1 (subst (λ (x : ExprType). is_reached_type so_far x ≡ true) (ap (λ (x : Typed). x.ty) (owner_named types e id c form t o.1 is) ∙ ap Of at) n))
 kind_of_variable so_far types e id c form t at (inr (inl v)) n is =
     kind_of_place so_far types e id c form (is ∙ ap (λ (u : Ty). variable_of u types id c e.place form) v.1)

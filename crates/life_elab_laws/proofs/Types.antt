@@ -17,7 +17,7 @@ use Rattle.life_elab_laws.proofs.Values.{by_values}
 
 -- ---- numbers
 
-same_type : (t : Ty) → compared.eq t t ≡ true
+pub same_type : (t : Ty) → compared.eq t t ≡ true
 same_type t = search rules
 
 pub same_types : (t u : Ty) → compared.eq t u ≡ true → t ≡ u

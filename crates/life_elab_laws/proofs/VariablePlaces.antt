@@ -2,12 +2,12 @@
 use Rattle.std.proofs.Common.{◌≡◌, ◌<◌, inl, inr, ℕ, Bool, true, false, List, [], ◌∷◌, Contains, length, slice_get, Option, Some, refl, sym, ap, ◌∙◌, subst, unwrap_or, arith}
 use Rattle.std.proofs.lemmas.Bool.{false≢true}
 use Rattle.std.proofs.lemmas.Option.{slice_get_within}
-use Rattle.life_types.specs.TypeTests.{is_value}
+use Rattle.life_types.specs.TypeTests.{is_value, is_pointer, is_reference, is_view}
 use Rattle.life_types.specs.Types.{Types, class, class_at}
 use Rattle.life_types.specs.declared.ty.Ty.{Ty}
 use Rattle.life_types.specs.declared.ty.Ty.TheVariants as ty
 use Rattle.life_types.specs.declared.ty.TyId.{TyId}
-use Rattle.life_elab_laws.specs.Reached.{is_owner_of_values, is_reached_variable}
+use Rattle.life_elab_laws.specs.Reached.{is_owner_of_values, is_reached_variable, is_walker_of_values, is_walker}
 use Rattle.life_typed.specs.BaseTypes.{type_at}
 use Rattle.life_typed.specs.TypedForm.{Form, Typed}
 use Rattle.life_typed.specs.declared.typed_expr.ExprType.TheVariants.{Of}
@@ -29,17 +29,18 @@ use Rattle.life_elab_laws.proofs.Locations.{is_location}
 use Rattle.life_elab_laws.proofs.Making.{Alive, IsOpen, IsPlace, IsPointer}
 use Rattle.life_elab_laws.proofs.Reaching.{IsReachedType, variable_found}
 use Rattle.life_elab_laws.proofs.Values.{by_values}
-use Rattle.life_elab_laws.proofs.TypedKinds.{owner_named}
+use Rattle.life_elab_laws.proofs.TypedKinds.{owner_named, walker_named}
 use Rattle.life_proper.specs.OperandTypes.{is_owner}
 
 -- ---- what a variable is
 
--- a value, or a pointer or reference to one, a view, or an owner of values
+-- a value, or a pointer or reference to one, a view, an iterator or a span, or an owner of values
 pub data IsVariableType (so_far : Bool) (types : Types) (id : TyId) : Type 0 where
   a_value : (t : Ty) → slice_get types.types id.0 ≡ Some t → is_value t ≡ true → IsVariableType so_far types id
   a_raw : (target : TyId) (constant : Bool) → slice_get types.types id.0 ≡ Some (ty.Raw target constant) → is_value (type_at types target) ≡ true → IsVariableType so_far types id
   a_reference : (target : TyId) (constant : Bool) → slice_get types.types id.0 ≡ Some (ty.Reference target constant) → is_value (type_at types target) ≡ true → IsVariableType so_far types id
   a_view : so_far ≡ false → slice_get types.types id.0 ≡ Some ty.View → IsVariableType so_far types id
+  a_walker : so_far ≡ false → (t : Ty) → slice_get types.types id.0 ≡ Some t → is_walker_of_values types t ≡ true → IsVariableType so_far types id
   an_owner : so_far ≡ false → (t : Ty) → slice_get types.types id.0 ≡ Some t → is_owner_of_values types t ≡ true → IsVariableType so_far types id
 
 pub variable_type : (so_far : Bool) (types : Types) (id : TyId) → is_reached_variable so_far types id ≡ true → IsVariableType so_far types id
@@ -47,7 +48,8 @@ variable_type so_far types id b = let found = variable_found so_far types id b i
   where
     go : (t : Ty) → slice_get types.types id.0 ≡ Some t → IsReachedType so_far types t → IsVariableType so_far types id
     go t at (inr (inl v)) = a_view v.0 (at ∙ ap Some v.1)
-    go t at (inr (inr o)) = an_owner o.0 t at o.1
+    go t at (inr (inr (inl o))) = an_owner o.0 t at o.1
+    go t at (inr (inr (inr w))) = a_walker w.0 t at w.1
     go ty.Bool at (inl b) = a_value ty.Bool at refl
     go ty.Char at (inl b) = a_value ty.Char at refl
     go ty.Int at (inl b) = a_value ty.Int at refl
@@ -61,6 +63,22 @@ pub owner_is : (types : Types) (t : Ty) → is_owner_of_values types t ≡ true 
 owner_is types ty.Text o = refl
 owner_is types (ty.Vector element) o = refl
 owner_is types _ o = absurd (false≢true o)
+
+-- what an iterator or a span is
+pub record IsWalking (types : Types) (t : Ty) : Type 0 where
+  pub kind : kind (class (Some t)) ≡ Register
+  pub pointer : is_pointer t ≡ true
+  pub reference : is_reference t ≡ false
+  pub owner : is_owner t ≡ false
+  pub value : is_value t ≡ false
+  pub location : is_location t ≡ true
+  pub walker : is_walker t ≡ true
+  pub view : is_view t ≡ false
+
+pub walker_is : (types : Types) (t : Ty) → is_walker_of_values types t ≡ true → IsWalking types t
+walker_is types (ty.Iterator target constant) w = record { kind = refl; pointer = refl; reference = refl; owner = refl; value = refl; location = refl; walker = refl; view = refl }
+walker_is types (ty.Span target constant) w = record { kind = refl; pointer = refl; reference = refl; owner = refl; value = refl; location = refl; walker = refl; view = refl }
+walker_is types _ w = absurd (false≢true w)
 
 -- an owner is an object
 pub owner_kind : (types : Types) (t : Ty) → is_owner_of_values types t ≡ true → kind (class (Some t)) ≡ Object
@@ -168,4 +186,5 @@ named_pointer so_far types e v form reached is t of loc = go (variable_type so_f
     go (a_raw target constant at w) = at ∙ ap Some (sym (same (sym of ∙ ap (λ (x : Typed). x.ty) (found (ty.Raw target constant) at) ∙ ap Of (typed (ty.Raw target constant) at))))
     go (a_reference target constant at w) = absurd (not_value (type_at types target) w (ap (λ (x : Typed). x.ty) (found (ty.Reference target constant) at)))
     go (an_owner so u at o) = absurd (not_owner u o (ap (λ (x : Typed). x.ty) (owner_named types e v.ty v.constant form u o (found u at)) ∙ ap Of (typed u at)))
+    go (a_walker so u at w) = at ∙ ap Some (sym (same (sym of ∙ ap (λ (x : Typed). x.ty) (walker_named types e v.ty v.constant form u w (found u at)) ∙ ap Of (typed u at))))
     go (a_view so at) = at ∙ ap Some (sym (same (sym of ∙ ap (λ (x : Typed). x.ty) (found ty.View at) ∙ ap Of (typed ty.View at))))

@@ -1,5 +1,5 @@
 -- The instruction that gives a part of a view.
-use Rattle.std.proofs.Common.{◌≡◌, ◌<◌, ◌≤◌, ℕ, Bool, true, false, List, [], ◌∷◌, ◌++◌, Option, Some, None, inl, inr, if◌then◌else◌, refl, sym, ap, ◌∙◌, subst}
+use Rattle.std.proofs.Common.{◌≡◌, ◌<◌, ◌≤◌, ℕ, Bool, true, false, List, [], ◌∷◌, ◌++◌, Option, Some, None, inl, inr, refl, sym, ap, ◌∙◌, subst}
 use Rattle.std.proofs.lemmas.Bool.{and_from, false≢true}
 use Rattle.life_types.specs.Types.{Types}
 use Rattle.life_types.specs.declared.ty.Ty.{Ty}
@@ -22,14 +22,19 @@ use Rattle.life_elab_laws.proofs.Making.{AreHeld, IsFilling, IsHeld, IsPointer, 
 pub pointer_held : (l : Location) (n : ℕ) (k : List Known) → IsPointer l n k → known_at k l.local ≡ known.Ready
 pointer_held l n k p = ap (λ (q : Location). known_at k q.local) p.is ∙ p.held
 
+pub pointer_is_held : (l : Location) (n : ℕ) (k : List Known) → IsPointer l n k → IsHeld l.local n k
+pointer_is_held l n k p = (subst (λ (q : Location). q.local < n) (sym p.is) p.below, pointer_held l n k p)
+
 -- what a view is given goes to a view
-view_taker : (types : Types) (u : Ty) → is_location u ≡ true → IsTakenBy types u (Of ty.View) → u ≡ ty.View
+pub view_taker : (types : Types) (u : Ty) → is_location u ≡ true → IsTakenBy types u (Of ty.View) → u ≡ ty.View
 view_taker types u loc (inl e) = sym (same_of e)
   where
     same_of : Of ty.View ≡ Of u → ty.View ≡ u
     same_of e = cc
 view_taker types ty.View loc (inr e) = refl
 view_taker types (ty.Raw target constant) loc (inr e) = absurd (false≢true e)
+view_taker types (ty.Iterator target constant) loc (inr e) = absurd (false≢true e)
+view_taker types (ty.Span target constant) loc (inr e) = absurd (false≢true e)
 view_taker types _ loc (inr e) = absurd (false≢true loc)
 
 -- a number that may be left out
@@ -65,13 +70,10 @@ module _ (types : Types) (texts : ℕ) (so_far : Bool) (fs : List Function) (f :
   pub cut_filling : (x : (Location × ℕ) × Option ℕ) (n : ℕ) (k : List Known) → Cuts.ready x n k → IsFilling f (λ p. Cut p x.0.0 x.0.1 x.1) n k
   cut_filling x n k h = record {
     uses = x.0.0.local ∷ x.0.1 ∷ (count_uses x.1 ++ []);
-    held = (pointer_there x.0.0 h.0.0, (h.0.1, counted x.1 h.1));
+    held = (pointer_is_held x.0.0 n k h.0.0, (h.0.1, counted x.1 h.1));
     touches = λ y. refl;
   }
     where
-      pointer_there : (l : Location) → IsPointer l n k → IsHeld l.local n k
-      pointer_there l p = (subst (λ (q : Location). q.local < n) (sym p.is) p.below, pointer_held l n k p)
-
       counted : (o : Option ℕ) → IsCounted o n k → AreHeld (count_uses o ++ []) n k
       counted None p = tt
       counted (Some r) p = (p, tt)

@@ -1,5 +1,5 @@
 -- The core program of a well typed program that the law reaches is well formed, is served where it is one that is served so far, and leaves alone what is given over.
-use Rattle.std.proofs.Common.{◌≡◌, ◌⊎◌, inl, inr, ℕ, Bool, true, List, [], length, nat_le, slice_get, Option, Some, refl, ap, ◌∙◌, subst, Bool}
+use Rattle.std.proofs.Common.{◌≡◌, ◌⊎◌, inl, inr, ℕ, Bool, true, List, [], length, nat_le, slice_get, Option, Some, refl, ap, ◌∙◌, subst, Bool, false}
 use Rattle.std.specs.List.{list_all}
 use Rattle.std.proofs.lemmas.Bool.{and_from}
 use Rattle.life_types.specs.Trees.{IsOrdered}
@@ -30,14 +30,17 @@ use Rattle.life_elab_laws.proofs.ServedLocals.{all_pass, local_served, register_
 use Rattle.life_elab_laws.proofs.KeptGiven.{keeps_all}
 use Rattle.life_elab_laws.proofs.ProgramNames.{no_members, own_names}
 use Rattle.life_elab_laws.proofs.Programs.{IsWritten, each_written, front, grows, of_program, one_body, one_head, passed_by_all, whole, whole_order}
-use Rattle.life_elab_laws.proofs.WrittenLocals.{IsIntermediate, IsOwn, fits_later}
+use Rattle.life_elab_laws.proofs.WrittenLocals.{IsIntermediate, IsOwn, fits_later, fits_register}
+use Rattle.life_typed.specs.BaseTypes.{type_at}
+use Rattle.life_typed.specs.declared.basic.TheConstants.{CHAR}
+use Rattle.life_types.specs.declared.ty.Ty.TheVariants as ty
 
-module _ (so_far : Bool) (p : ProgramForm) (typed : IsWellTyped p) (built : are_reached_functions (length (texts_of p)) so_far p.types p.functions ≡ true) (results : HasResults p) where
+module _ (so_far : Bool) (p : ProgramForm) (typed : IsWellTyped p) (built : are_reached_functions (length (texts_of p)) so_far p.types p.functions ≡ true) (results : HasResults p) (chars : so_far ≡ false → type_at p.types CHAR ≡ ty.Char) where
   abbrev functions : List Function
-  functions = (whole so_far p typed built results).functions
+  functions = (whole so_far p typed built results chars).functions
 
   abbrev types : Types
-  types = (whole so_far p typed built results).types
+  types = (whole so_far p typed built results chars).types
 
   abbrev names : ℕ
   names = length p.names
@@ -49,31 +52,31 @@ module _ (so_far : Bool) (p : ProgramForm) (typed : IsWellTyped p) (built : are_
 
   module _ (n : ℕ) (f : FunctionForm) (at : slice_get p.functions n ≡ Some f) (core : Function) (w : IsWritten p types f core) where
     served_local : so_far ≡ true → (x : ℕ) (l : Local) → slice_get core.locals x ≡ Some l → is_served_local types l ≡ true
-    served_local so x l there = go ((grows so_far p typed built results n f at w.before w.table).own x l (subst (λ (c : Function). slice_get c.locals x ≡ Some l) w.is there))
+    served_local so x l there = go ((grows so_far p typed built results chars n f at w.before w.table).own x l (subst (λ (c : Function). slice_get c.locals x ≡ Some l) w.is there))
       where
         front_is : IsFront p.types.types types.types
-        front_is = front so_far p typed built results n f at core w
+        front_is = front so_far p typed built results chars n f at core w
 
-        go : IsIntermediate p.types (written (around p f) w.before).types l ⊎ IsOwn (around p f) l → is_served_local types l ≡ true
-        go (inl is) = let fits = fits_later p.types types front_is is.ty is.fits in local_served types l Register is.ty is.kind (w.later l.ty.0 is.ty is.typed) fits (register_served types is.ty fits)
+        go : IsIntermediate so_far p.types (written (around p f) w.before).types l ⊎ IsOwn (around p f) l → is_served_local types l ≡ true
+        go (inl is) = let fits = fits_later true p.types types front_is is.ty (subst (λ (b : Bool). fits_register b p.types is.ty ≡ true) so is.fits) in local_served types l Register is.ty is.kind (w.later l.ty.0 is.ty is.typed) fits (register_served types is.ty fits)
         go (inr is) =
-            let found = variable_found so_far p.types is.variable.ty (variable_built so_far p.types f.locals is.number is.variable (of_program so_far p typed built results n f at).built.variables is.there) in
+            let found = variable_found so_far p.types is.variable.ty (variable_built so_far p.types f.locals is.number is.variable (of_program so_far p typed built results chars n f at).built.variables is.there) in
             let served = variable_served p.types so_far so found.0 found.2 in
             local_served types l (kind (class (Some found.0))) found.0 (is.of.kind ∙ ap (λ (o : Option Ty). kind (class o)) found.1)
             (ap (λ (id : TyId). slice_get types.types id.0) is.of.typed ∙ front_is is.variable.ty.0 found.0 found.1)
-            (fits_later p.types types front_is found.0 served.1) served.0
+            (fits_later true p.types types front_is found.0 served.1) served.0
 
     one_served : so_far ≡ true → is_served types core ≡ true
     one_served so =
         and_from (list_all (is_served_local types) core.locals) (list_all (is_served_spot types core) (spots core.body)) (all_pass (is_served_local types) core.locals (served_local so))
-        ((one_body so_far p typed built results n f at core w).stated.served so)
+        ((one_body so_far p typed built results chars n f at core w).stated.served so)
 
     body_formed : is_well_formed_tree types texts functions core core.body ≡ true
-    body_formed = (one_body so_far p typed built results n f at core w).stated.formed
+    body_formed = (one_body so_far p typed built results chars n f at core w).stated.formed
 
     one_formed : HasNames p → is_well_formed_function types names texts functions core ≡ true
     one_formed named =
-        let head = one_head so_far p typed built results n f at core w named in
+        let head = one_head so_far p typed built results chars n f at core w named in
         and_from (is_name names core.name) _ head.name
         (and_from (nat_le core.parameters (length core.locals)) _ head.count
         (and_from (names_parameters core.parameters core.promise) _ head.promise
@@ -81,25 +84,25 @@ module _ (so_far : Bool) (p : ProgramForm) (typed : IsWellTyped p) (built : are_
         (and_from (are_well_formed_locals types names core.parameters 0 core.locals) (is_well_formed_tree types texts functions core core.body) head.locals body_formed))))
 
     one_keeps : all_keep_given types core ≡ true
-    one_keeps = keeps_all types core (one_body so_far p typed built results n f at core w).stated.given
+    one_keeps = keeps_all types core (one_body so_far p typed built results chars n f at core w).stated.given
 
   -- ---- all of them
 
   pub program_keeps : keeps_all_given (translated p) ≡ true
-  program_keeps = passed_by_all so_far p typed built results (all_keep_given types) (list_all (all_keep_given types)) refl (λ core cores. refl) one_keeps
+  program_keeps = passed_by_all so_far p typed built results chars (all_keep_given types) (list_all (all_keep_given types)) refl (λ core cores. refl) one_keeps
 
   pub program_serves : so_far ≡ true → is_served_program (translated p) ≡ true
-  program_serves so = passed_by_all so_far p typed built results (is_served types) (list_all (is_served types)) refl (λ core cores. refl) (λ n f at core w. one_served n f at core w so)
+  program_serves so = passed_by_all so_far p typed built results chars (is_served types) (list_all (is_served types)) refl (λ core cores. refl) (λ n f at core w. one_served n f at core w so)
 
   pub program_formed : HasNames p → IsOrdered p.types → HasEachOnce p.types → p.types.structs ≡ [] → has_no_structs p.structs ≡ true → IsWellFormedProgram (translated p)
   program_formed named ordered once structs none =
-      let order = whole_order so_far p typed built results in
+      let order = whole_order so_far p typed built results chars in
       record {
         table = order.ordered ordered;
         once = order.once once;
         members = no_members names types.structs p.structs (order.structs ∙ structs) none;
-        own_names = own_names p types p.functions functions (each_written so_far p typed built results) ∙ named.own;
+        own_names = own_names p types p.functions functions (each_written so_far p typed built results chars) ∙ named.own;
         functions =
-            passed_by_all so_far p typed built results (is_well_formed_function types names texts functions) (list_all (is_well_formed_function types names texts functions)) refl (λ core cores. refl)
+            passed_by_all so_far p typed built results chars (is_well_formed_function types names texts functions) (list_all (is_well_formed_function types names texts functions)) refl (λ core cores. refl)
             (λ n f at core w. one_formed n f at core w named);
       }

@@ -24,6 +24,7 @@ use Rattle.life_elab_laws.proofs.GivingBack.{GivesValue}
 use Rattle.life_elab_laws.proofs.Programs.{IsWritten, of_all, of_program, one_body, whole, written_result}
 use Rattle.life_elab_laws.proofs.TypedKinds.{none_some}
 use Rattle.life_elab_laws.proofs.Values.{by_results, by_values}
+use Rattle.life_typed.specs.declared.basic.TheConstants.{CHAR}
 
 -- ---- what must be written is a value, and control doesn't run past the end
 
@@ -45,24 +46,24 @@ int_at p = each_at (λ (f : FunctionForm). is_main p.names f.name ≡ true → t
 
 -- ---- each function
 
-module _ (so_far : Bool) (p : ProgramForm) (typed : IsWellTyped p) (built : are_reached_functions (length (texts_of p)) so_far p.types p.functions ≡ true) (results : HasResults p) (mains : HasIntMain p) where
-  module _ (n : ℕ) (f : FunctionForm) (at : slice_get p.functions n ≡ Some f) (core : Function) (w : IsWritten p (whole so_far p typed built results).types f core) where
-    gives : writes_result p.names (whole so_far p typed built results).types core ≡ true → GivesValue (around p f)
+module _ (so_far : Bool) (p : ProgramForm) (typed : IsWellTyped p) (built : are_reached_functions (length (texts_of p)) so_far p.types p.functions ≡ true) (results : HasResults p) (chars : so_far ≡ false → type_at p.types CHAR ≡ ty.Char) (mains : HasIntMain p) where
+  module _ (n : ℕ) (f : FunctionForm) (at : slice_get p.functions n ≡ Some f) (core : Function) (w : IsWritten p (whole so_far p typed built results chars).types f core) where
+    gives : writes_result p.names (whole so_far p typed built results chars).types core ≡ true → GivesValue (around p f)
     gives must =
-        let of = of_program so_far p typed built results n f at in
+        let of = of_program so_far p typed built results chars n f at in
         needs (is_main p.names f.name) (type_at p.types f.result) (ends f.body) of.built.result (int_at p p.functions n f mains at) of.typed.ending
         (ap (λ (x : NameId). is_written_by (is_main p.names x) (Some (type_at p.types f.result))) (sym (ap (λ (c : Function). c.name) w.is))
-        ∙ ap (is_written_by (is_main p.names core.name)) (sym (written_result so_far p typed built results n f at core w))
+        ∙ ap (is_written_by (is_main p.names core.name)) (sym (written_result so_far p typed built results chars n f at core w))
         ∙ must)
 
-    one_result : HasResultWritten p.names (whole so_far p typed built results).types core
+    one_result : HasResultWritten p.names (whole so_far p typed built results chars).types core
     one_result must = λ q bits l way here is.
         let g = gives must in
-        let body = one_body so_far p typed built results n f at core w in
-        results_found (whole so_far p typed built results).types core body.checked core.parameters (body.returns g) q bits l way here is
+        let body = one_body so_far p typed built results chars n f at core w in
+        results_found (whole so_far p typed built results chars).types core body.checked core.parameters (body.returns g) q bits l way here is
 
   pub program_writes_results : WritesResults (translated p)
   program_writes_results =
       let names = p.names in
-      let types = (whole so_far p typed built results).types in
-      of_all so_far p typed built results (HasResultWritten names types) (HaveResultsWritten names types) tt (λ core cores one others. (one, others)) one_result
+      let types = (whole so_far p typed built results chars).types in
+      of_all so_far p typed built results chars (HasResultWritten names types) (HaveResultsWritten names types) tt (λ core cores one others. (one, others)) one_result

@@ -32,5 +32,5 @@ pub fn translations_have_proper_parts()
 
 /// Its places are short.
 pub fn reached_translations_have_short_places()
-    ensures { (p : ProgramForm) → IsWellTyped p → HasResults p → IsTrue (is_reached p) → HaveShortPlaces (translated p).types (translated p).functions }
+    ensures { (p : ProgramForm) → IsWellTyped p → HasResults p → HasTable p → IsTrue (is_reached p) → HaveShortPlaces (translated p).types (translated p).functions }
 {}

@@ -191,6 +191,7 @@ module _ (tree : Program) (q : ProgressView) (ends : Ends (bodies_of tree) (text
   table_well = record {
     ordered = ends.under.sound.ordered;
     once = ends.under.sound.based.once base_once;
+    chars = ap (λ (o : Option Ty). unwrap_or o ty.Void) (ends.under.sound.based.types 2 ty.Char refl);
     structs = ends.under.structs;
   }
 

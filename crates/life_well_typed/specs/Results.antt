@@ -2,8 +2,11 @@
 use Rattle.std.specs.Prelude.{◌≡◌, ◌<◌, List, [], ◌∷◌, length}
 use Rattle.life_types.specs.Trees.{IsOrdered}
 use Rattle.life_types.specs.Types.{HasEachOnce, HasType, Types}
+use Rattle.life_types.specs.declared.ty.Ty.TheVariants as ty
 use Rattle.life_types.specs.declared.ty.TyId.{TyId}
+use Rattle.life_typed.specs.BaseTypes.{type_at}
 use Rattle.life_typed.specs.Programs.{FunctionForm, ProgramForm, StructForm}
+use Rattle.life_typed.specs.declared.basic.TheConstants.{CHAR}
 
 abbrev pub HaveResults : Types → List FunctionForm → Type 0
 HaveResults types [] = Unit {0}
@@ -23,5 +26,7 @@ pub record HasTable (p : ProgramForm) : Type 0 where
   pub ordered : IsOrdered p.types
   -- no type stands twice
   pub once : HasEachOnce p.types
+  -- it has chars where each table has them
+  pub chars : type_at p.types CHAR ≡ ty.Char
   -- it has each struct of the program, and no others
   pub structs : HaveMembers p.structs p.types.structs
