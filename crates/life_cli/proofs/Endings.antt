@@ -7,9 +7,9 @@ use Rattle.life_base.specs.Edges.{AppendsFront, Directory}
 use Rattle.life_cli.proofs.Fronts.{known_of, whole_front}
 use Rattle.life_cli.proofs.Questions.{answer_then}
 use Rattle.life_cli.specs.Ends.{Closes, Ends, EndsWell, GainsFront, GainsSomeText, Gives, IsReady, Port, Works, status_of, text_of}
-use Rattle.life_cli.specs.Question.{AsksFor, NoJob, OfFile, Question}
+use Rattle.life_cli.specs.Question.{AsksFor, NoJob, OfFile, OfMade, Question}
 use Rattle.life_cli.specs.Status.{IsSettled}
-use Rattle.life_cli.specs.Words.{Asked, Job}
+use Rattle.life_cli.specs.Words.{Asked, Make, OnFile, Task}
 use Rattle.life_cli.specs.declared.status.Status.{Status}
 use Rattle.life_cli.specs.declared.status.Status.TheVariants.{NoMemory, ReadFault, WriteFault}
 use Rattle.life_cli.specs.declared.stop.Stop.{Stop}
@@ -58,20 +58,22 @@ module _ (asked : Option Question) (reads reads' : ℕ) (out out' err err' : Por
   ]
 
 -- .. on whatever is asked
-pub all_ends : (words : Option Job) (asked : Asked) (told : Option Directory) (reads reads' : ℕ) (out out' err err' : Port) (ended : Result Ending Stop) (status : Status) → AsksFor words asked told (λ question. Works question reads reads' out out' ended)
+pub all_ends : (words : Option Task) (asked : Asked) (told : Option Directory) (reads reads' : ℕ) (out out' err err' : Port) (ended : Result Ending Stop) (status : Status) → AsksFor words asked told (λ question. Works question reads reads' out out' ended)
     → Closes err err' (text_of ended) (status_of ended) status → AsksFor words asked told (λ question. Ends question reads reads' out out' err err' status)
 all_ends None asked told reads reads' out out' err err' ended status work close = record {
   reason = work.reason;
   is_told = work.is_told;
   is = ends (Some (NoJob work.reason)) reads reads' out out' err err' ended status work.is close;
 }
-all_ends (Some job) asked told reads reads' out out' err err' ended status work close = record {
+all_ends (Some (OnFile job)) asked told reads reads' out out' err err' ended status work close = record {
   directory = work.directory;
   text = work.text;
   agrees = work.agrees;
   read = work.read;
   is = ends (Some (OfFile job work.directory work.text)) reads reads' out out' err err' ended status work.is close;
 }
+all_ends (Some (Make number size)) asked told reads reads' out out' err err' ended status work close =
+    ends (Some (OfMade number size)) reads reads' out out' err err' ended status work close
 
 -- what a settled status of the work tells, that of the command tells too
 pub ends_settled : (err err' : Port) (settled : Status) {P : Type 0} (ended : Result Ending Stop) (status : Status) → IsSettled settled

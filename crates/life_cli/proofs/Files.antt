@@ -5,12 +5,8 @@ use Rattle.std.proofs.lemmas.Bool.Decides.{nat_tests}
 use Rattle.life_base.specs.Edges.{Directory}
 use Rattle.life_cli.proofs.Fetching.{is_long}
 use Rattle.life_cli.specs.FileText.{Absent, FileText, Holds, TooLong, bytes_text, file_text, most_bytes}
-use Rattle.life_cli.specs.Question.{OfFile, OfFiles, OfJob, Question}
+use Rattle.life_cli.specs.Question.{OfFile, OfFiles, OfJob, Question, no_files}
 use Rattle.life_cli.specs.Words.{Job}
-
--- no file has any name
-pub no_files : Directory
-no_files name = None
 
 -- the files that are told, or no files
 any_files : (told : Option Directory) → (d : Directory) × IfSome told (λ held. d ≡ held)
@@ -41,7 +37,7 @@ pub record WithText (told : Option Directory) (name : List ℕ) (text : FileText
 is_not_less : (a b : ℕ) → b ≤ a → nat_lt a b ≡ false
 is_not_less a b h = grind (arith, nat_tests)
 
-is_short : (bytes : List ℕ) → length bytes ≤ most_bytes → bytes_text bytes ≡ Holds bytes
+pub is_short : (bytes : List ℕ) → length bytes ≤ most_bytes → bytes_text bytes ≡ Holds bytes
 is_short bytes few = ap (λ (b : Bool). cond b TooLong (Holds bytes)) (is_not_less most_bytes (length bytes) few)
 
 long_list : (n : ℕ) → (bytes : List ℕ) × (n < length bytes)

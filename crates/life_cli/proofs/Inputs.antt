@@ -5,7 +5,7 @@ use Rattle.life_base.specs.Edges.{Directory}
 use Rattle.life_core.specs.Function.{Program}
 use Rattle.life_input.specs.Input.{numbers_in}
 use Rattle.life_store.specs.NoFault.{NoFault}
-use Rattle.life_cli.proofs.Files.{WithText, for_any, has_file, no_files}
+use Rattle.life_cli.proofs.Files.{WithText, for_any, has_file}
 use Rattle.life_cli.proofs.Served.{text_serves}
 use Rattle.life_cli.proofs.Statuses.{IsInput, numbers_input, run_fits}
 use Rattle.life_cli.proofs.Working.{are_asked, refusal_on, serves_on, stopped_on}
@@ -14,7 +14,7 @@ use Rattle.life_cli.specs.Ends.{Port, Serves, Tells, WorksOn}
 use Rattle.life_cli.specs.Entry.{entry_of}
 use Rattle.life_cli.specs.FileText.{Absent, Fetches, FileText, Holds, TooLong, file_text, most_bytes}
 use Rattle.life_cli.specs.InputFile.{Numbers, input_in, numbers_or}
-use Rattle.life_cli.specs.Question.{OfFiles, OfRun, run_asked}
+use Rattle.life_cli.specs.Question.{OfFiles, OfRun, no_files, run_asked}
 use Rattle.life_cli.specs.Runs.{RanFrom, RanWith}
 use Rattle.life_cli.specs.Status.{IsFaultless}
 use Rattle.life_cli.specs.declared.fetch.Fetched.TheVariants as fetched

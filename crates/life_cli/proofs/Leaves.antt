@@ -8,6 +8,7 @@ use Rattle.life_check.specs.Findings.{Finds}
 use Rattle.life_check.specs.declared.fault.CheckFault.{CheckFault}
 use Rattle.life_check.specs.declared.fault.CheckFault.TheVariants as check
 use Rattle.life_core.specs.Function.{Program}
+use Rattle.life_job.specs.Job as words
 use Rattle.life_rules.specs.declared.diag.Diag.{Diag}
 use Rattle.life_types.specs.Places.{position_text}
 use Rattle.life_cli.proofs.Files.{files_then, for_any, for_job, for_text, text_read}
@@ -18,31 +19,48 @@ use Rattle.life_cli.specs.CheckedFile.{IsLine, fault_line, lex_fault_text, limit
 use Rattle.life_cli.specs.Ends.{Port, Tells, Works, WorksOn}
 use Rattle.life_cli.specs.FileText.{Absent, Fetches, FileText, Holds, TooLong, file_text}
 use Rattle.life_cli.specs.IllFormed.{ill_text}
-use Rattle.life_cli.specs.Question.{AsksFor, OfFile, OfFiles, OfJob, OfProgram, Question, program_asked, text_asked}
+use Rattle.life_cli.specs.Question.{Asks, AsksFor, OfFile, OfFiles, OfJob, OfMade, OfProgram, Question, program_asked, text_asked}
 use Rattle.life_cli.specs.Refusals.{TellsFault}
 use Rattle.life_cli.specs.Status.{IsFaultless, IsOfJob}
-use Rattle.life_cli.specs.Words.{Asked, AsksUnchecked, IsUnchecked, Job}
+use Rattle.life_cli.specs.Words.{AsksUnchecked, IsUnchecked, Job, Make, OnFile, task}
 use Rattle.life_cli.specs.declared.fetch.Fetched.TheVariants as fetched
 use Rattle.life_cli.specs.declared.status.Status.{Status}
 use Rattle.life_cli.specs.declared.status.Status.TheVariants.{Fault, Ill, Limit, NoFile, Syntax, Usage}
 use Rattle.life_cli.specs.declared.stop.Ending.{Ending}
 use Rattle.life_cli.specs.declared.stop.Stop.{Stop}
 
--- ---- words
+-- ---- tasks
 
--- the words were this job
-module _ (told : Option Directory) (reads reads' : ℕ) (out out' : Port) (result : Result Ending Stop) (job : Job) (words : Option Job) (is : Some job ≡ words)
-    (on : OfJob job told (λ asked. WorksOn asked (IsUnchecked job.command) reads reads' out out' result)) where
-  pub job_works : (asked : Asked) → AsksFor words asked told (λ question. Works question reads reads' out out' result)
-  job_works asked =
-      subst (λ w. AsksFor w asked told (λ question. Works question reads reads' out out' result)) is
+-- the work on a task that doesn't ask for more
+pub not_usage : (asked : Option Question) (MayFault : Type 0) (reads reads' : ℕ) (out out' : Port) (result : Result Ending Stop) → WorksOn asked MayFault reads reads' out out' result
+    → IfOk result (λ (ending : Ending). ending.status ≡ Usage → ⊥)
+not_usage asked MayFault reads reads' out out' result on = IfOk-weaker result (λ (e : Ending). IsOfJob e.status) (λ (e : Ending). e.status ≡ Usage → ⊥) (λ e of_job same. subst IsOfJob same of_job) on.status
+
+-- a job on a file
+module _ (told : Option Directory) (reads reads' : ℕ) (out out' : Port) (result : Result Ending Stop) (job : Job) (asked : words.Job) (is : OnFile job ≡ task asked)
+    (on : OfJob job told (λ question. WorksOn question (IsUnchecked job.command) reads reads' out out' result)) where
+  pub job_works : Asks (Ok asked) told (λ question. Works question reads reads' out out' result)
+  job_works =
+      subst (λ t. AsksFor (Some t) (Ok asked) told (λ question. Works question reads reads' out out' result)) is
       (record { directory = on.directory; text = on.text; agrees = on.agrees; read = on.read; is = on.is.works })
 
-  pub job_is_there : IfOk result (λ (ending : Ending). ending.status ≡ Usage → words ≡ None)
-  job_is_there = IfOk-weaker result (λ (e : Ending). IsOfJob e.status) (λ (e : Ending). e.status ≡ Usage → words ≡ None) (λ e of_job same. absurd (subst IsOfJob same of_job)) on.is.status
+  pub job_is_there : IfOk result (λ (ending : Ending). ending.status ≡ Usage → ⊥)
+  job_is_there = not_usage (Some (OfFile job on.directory on.text)) (IsUnchecked job.command) reads reads' out out' result on.is
 
-  pub job_is_unchecked : IfOk result (λ (ending : Ending). ending.status ≡ Fault → AsksUnchecked words)
-  job_is_unchecked = IfOk-weaker result (λ (e : Ending). e.status ≡ Fault → IsUnchecked job.command) (λ (e : Ending). e.status ≡ Fault → AsksUnchecked words) (λ e may same. subst AsksUnchecked is (may same)) on.is.fault
+  pub job_is_unchecked : IfOk result (λ (ending : Ending). ending.status ≡ Fault → AsksUnchecked (Some (task asked)))
+  job_is_unchecked = subst (λ t. IfOk result (λ (ending : Ending). ending.status ≡ Fault → AsksUnchecked (Some t))) is on.is.fault
+
+-- a file that is made
+module _ (reads reads' : ℕ) (out out' : Port) (result : Result Ending Stop) (number size : ℕ) (asked : words.Job) (is : Make number size ≡ task asked)
+    (on : WorksOn (Some (OfMade number size)) ⊥ reads reads' out out' result) where
+  pub made_works : (told : Option Directory) → Asks (Ok asked) told (λ question. Works question reads reads' out out' result)
+  made_works told = subst (λ t. AsksFor (Some t) (Ok asked) told (λ question. Works question reads reads' out out' result)) is on.works
+
+  pub made_is_there : IfOk result (λ (ending : Ending). ending.status ≡ Usage → ⊥)
+  made_is_there = not_usage (Some (OfMade number size)) ⊥ reads reads' out out' result on
+
+  pub made_is_unchecked : IfOk result (λ (ending : Ending). ending.status ≡ Fault → AsksUnchecked (Some (task asked)))
+  made_is_unchecked = subst (λ t. IfOk result (λ (ending : Ending). ending.status ≡ Fault → AsksUnchecked (Some t))) is on.fault
 
 -- ---- the file of a job
 

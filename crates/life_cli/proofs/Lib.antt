@@ -9,6 +9,7 @@ pub mod Functions
 pub mod Inputs
 pub mod Leaves
 pub mod Machines
+pub mod Making
 pub mod Programs
 pub mod Questions
 pub mod Served

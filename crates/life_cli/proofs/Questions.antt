@@ -1,6 +1,6 @@
 -- Answers to a question: there is at most one.
 use Rattle.std.proofs.Common.{◌≡◌, ℕ, ℤ, Bool, true, false, List, [], ◌∷◌, Option, None, Some, Ok, Err, IfSome, ap, sym, ◌∙◌, subst}
-use Rattle.std.specs.Prelude.{nat_lt, length}
+use Rattle.std.specs.Prelude.{codes, nat_lt, length}
 use Rattle.std.proofs.lemmas.Option.{IfSome_then}
 use Rattle.life_base.specs.Edges.{Directory}
 use Rattle.life_check.proofs.OneFinding.{one_finding}
@@ -8,16 +8,18 @@ use Rattle.life_check.specs.CheckedText.{ComesTo, Faulty, Finding, Listed}
 use Rattle.life_core.specs.Function.{Function, Program}
 use Rattle.life_psets.proofs.OneTable.{one_table}
 use Rattle.life_rules.specs.declared.diag.Diag.{Diag}
+use Rattle.life_vectors.specs.Generated.{generated, most_functions}
 use Rattle.life_cli.specs.Answer.{Answer}
 use Rattle.life_cli.specs.CheckedFile.{IsLine, fault_line}
 use Rattle.life_cli.specs.Concluding.{AnswersFile, AnswersFinding, Concludes, IsTabled, RanDiagnosed, RanJob, tabled}
 use Rattle.life_cli.specs.Entry.{Absent as NoEntry, Begins, Entry, NotValue, entry_of}
-use Rattle.life_cli.specs.FileText.{Absent, FileText, Holds, TooLong}
+use Rattle.life_cli.specs.FileText.{Absent, FileText, Holds, TooLong, bytes_text}
 use Rattle.life_cli.specs.InputFile.{Numbers, input_of}
-use Rattle.life_cli.specs.Question.{AnswersText, IsAnswer, NoJob, OfFile, OfProgram, OfRun, Question, TheAnswer}
+use Rattle.life_cli.specs.Question.{AnswersSized, AnswersText, IsAnswer, NoJob, OfFile, OfMade, OfProgram, OfRun, Question, TheAnswer, made_job, no_files}
+use Rattle.life_cli.specs.Made.{SumsUp, default_options, summary}
 use Rattle.life_cli.specs.Runs.{IsEnd, RanFrom, RanUnless, RanWith, ended_as, run_with}
 use Rattle.life_job.specs.Job.{RunJob}
-use Rattle.life_cli.specs.Words.{Check, Command, Job, Psets, Run}
+use Rattle.life_cli.specs.Words.{Check, Command, Job, Made, Psets, Run}
 use Rattle.life_job.specs.declared.job.RunOptions.{RunOptions}
 use Rattle.life_cli.specs.declared.status.Status.{Status}
 
@@ -47,6 +49,11 @@ same_run options name p (Ok input) a b x y = same_from options name p input (ent
 pub same_table : (p : Program) (a b : Answer) → IsTabled p a → IsTabled p b → a ≡ b
 same_table p a b x y = x.is ∙ ap (tabled p) (one_table p x.sets y.sets x.are y.are) ∙ sym y.is
 
+-- a run has one end, so a program is summed up in one way
+pub same_summary : (bytes : ℕ) (p : Program) (a b : Answer) → SumsUp bytes p a → SumsUp bytes p b → a ≡ b
+same_summary bytes p a b x y =
+    x.is ∙ ap (summary bytes p) (same_run default_options (codes "main") p (Ok []) x.ran y.ran x.is_run y.is_run) ∙ sym y.is
+
 same_line : (line : Option (Status × List ℕ)) (a b : Answer) → IsLine line a → IsLine line b → a ≡ b
 same_line None a b x y = absurd x
 same_line (Some told) a b x y = x ∙ sym y
@@ -64,6 +71,8 @@ module _ (directory : Directory) where
   same_conclusion (Run run) p [] a b x y = same_job run p a b x y
   same_conclusion (Run run) p (d ∷ ds) a b x y = same_diagnosed run.options.unchecked run p (d ∷ ds) a b x y
   same_conclusion Psets p ds a b x y = same_table p a b x y
+  same_conclusion (Made bytes) p [] a b x y = same_summary bytes p a b x y
+  same_conclusion (Made bytes) p (d ∷ ds) a b x y = x ∙ sym y
 
   same_finding : (command : Command) (f : Finding) (a b : Answer) → AnswersFinding command directory f a → AnswersFinding command directory f b → a ≡ b
   same_finding command (Faulty fault) a b x y = same_line (fault_line fault) a b x y
@@ -81,6 +90,10 @@ module _ (directory : Directory) where
   same_text job TooLong a b x y = x ∙ sym y
   same_text job (Holds bytes) a b x y = same_file job.command bytes a b x y
 
+same_sized : (large : Bool) (bytes : List ℕ) (a b : Answer) → AnswersSized large bytes a → AnswersSized large bytes b → a ≡ b
+same_sized true bytes a b x y = x ∙ sym y
+same_sized false bytes a b x y = same_text no_files (made_job bytes) (bytes_text bytes) a b x y
+
 -- ---- questions
 
 -- a question has at most one answer
@@ -89,6 +102,7 @@ same_answer (NoJob told) a b x y = x ∙ sym y
 same_answer (OfFile job directory text) a b x y = same_text directory job text a b x y
 same_answer (OfProgram command directory p ds) a b x y = same_conclusion directory command p ds a b x.concluded y.concluded
 same_answer (OfRun options name p numbers) a b x y = same_run options name p numbers a b x y
+same_answer (OfMade number size) a b x y = same_sized (nat_lt most_functions size) (generated number size) a b x y
 
 -- what is known of one answer is known of the only one
 pub the_answer : (question : Question) (answer : Answer) (P : Answer → Type 0) → IsAnswer question answer → P answer → TheAnswer (Some question) P

@@ -5,9 +5,10 @@ use Rattle.life_base.specs.Edges.{AppendsFront}
 use Rattle.life_core.specs.Function.{Program}
 use Rattle.life_rules.specs.declared.diag.Diag.{Diag}
 use Rattle.life_cli.specs.Answer.{Answer, answer_in}
-use Rattle.life_cli.proofs.Questions.{same_table}
+use Rattle.life_cli.proofs.Questions.{same_summary, same_table}
 use Rattle.life_cli.specs.Concluding.{IsTabled, reported}
 use Rattle.life_cli.specs.Ends.{HandsOut, Port, Reports, Serves, ServesFront}
+use Rattle.life_cli.specs.Made.{SumsUp}
 use Rattle.life_cli.specs.declared.reply.Reply.{Reply}
 use Rattle.life_cli.specs.declared.status.Status.{Status}
 use Rattle.life_cli.specs.declared.stop.Ending.{Ending}
@@ -52,3 +53,6 @@ report_serves json p ds reply out out' result same hands = reply_serves (λ a. a
 
 pub table_serves : (p : Program) (reply : Reply) (out out' : Port) (result : Result Ending Stop) → IsTabled p (answer_in reply) → HandsOut reply out out' result → Serves (IsTabled p) out out' result
 table_serves p reply out out' result is hands = reply_serves (IsTabled p) reply out out' result is (λ a such. same_table p a (answer_in reply) such is) hands
+
+pub summary_serves : (bytes : ℕ) (p : Program) (reply : Reply) (out out' : Port) (result : Result Ending Stop) → SumsUp bytes p (answer_in reply) → HandsOut reply out out' result → Serves (SumsUp bytes p) out out' result
+summary_serves bytes p reply out out' result is hands = reply_serves (SumsUp bytes p) reply out out' result is (λ a such. same_summary bytes p a (answer_in reply) such is) hands

@@ -1,6 +1,6 @@
 -- Which status an answer may have.
 use Rattle.std.proofs.Common.{◌≡◌, ◌≤◌, ℕ, ℤ, Bool, true, false, cond, List, [], ◌∷◌, Option, None, Some, Result, Ok, Err, refl, sym, subst, arith}
-use Rattle.std.specs.Prelude.{nat_lt, length, slice_get}
+use Rattle.std.specs.Prelude.{codes, nat_lt, length, slice_get}
 use Rattle.std.proofs.lemmas.Bool.Decides.{nat_tests}
 use Rattle.life_core.specs.Function.{Function, Program}
 use Rattle.life_rules.specs.declared.diag.Diag.{Diag}
@@ -12,6 +12,7 @@ use Rattle.life_cli.specs.Answer.{Answer}
 use Rattle.life_cli.specs.Concluding.{verdict}
 use Rattle.life_cli.specs.Entry.{Absent, Begins, Entry, NotValue, entry_at, entry_numbered, entry_of, function_number, may_begin}
 use Rattle.life_cli.specs.InputFile.{Numbers, numbers_or}
+use Rattle.life_cli.specs.Made.{SumsUp, default_options, summary}
 use Rattle.life_cli.specs.Runs.{IsEnd, Ran, RanFrom, RanUnless, RanWith, ended_as, fault_end, run_with, setting_of, steps_end, trap_end, value_end, with_output}
 use Rattle.life_cli.specs.Status.{IsFaultless, IsOfJob, IsSettled}
 use Rattle.life_job.specs.declared.job.RunOptions.{RunOptions}
@@ -106,3 +107,7 @@ module _ (p : Program) where
   pub run_fits : (options : RunOptions) (name : List ℕ) (numbers : Numbers) (a : Answer) → IsInput numbers → RanWith options name p numbers a → Fits (NoFault p → ⊥) a.status
   run_fits options name (Err refused) a good is = fits_as (NoFault p → ⊥) a refused is (faultless_fits (NoFault p → ⊥) refused.status good)
   run_fits options name (Ok input) a good is = from_fits options name input (entry_of p name) a (there_numbered (function_number p name)) is
+
+  -- .. also where it is summed up
+  pub summary_fits : (bytes : ℕ) (a : Answer) → SumsUp bytes p a → Fits (NoFault p → ⊥) a.status
+  summary_fits bytes a is = fits_as (NoFault p → ⊥) a (summary bytes p is.ran) is.is (run_fits default_options (codes "main") (Ok []) is.ran tt is.is_run)

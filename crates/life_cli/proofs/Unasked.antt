@@ -1,8 +1,7 @@
--- The work on words that ask for nothing that is served.
+-- The work on words that ask for nothing.
 use Rattle.std.proofs.Common.{◌≡◌, ◌++◌, ℕ, List, Option, None, Some, IfSome, IfOk, Result, Ok, Err, refl, sym, subst}
 use Rattle.life_base.specs.Edges.{Directory}
 use Rattle.life_job.proofs.Parsed.{SomeTold}
-use Rattle.life_job.specs.Job as asked
 use Rattle.life_job.specs.Refusals.{Help, Lacking, Named, Told, Version}
 use Rattle.life_job.specs.Texts.{help_text, version_text}
 use Rattle.life_job.specs.Words.{IsToldOfAsked}
@@ -12,10 +11,10 @@ use Rattle.life_cli.proofs.Questions.{the_answer}
 use Rattle.life_cli.proofs.Served.{text_serves}
 use Rattle.life_cli.specs.Answer.{Answer, line}
 use Rattle.life_cli.specs.Ends.{IsReady, Port, RefusesWords, Reports, Serves, Tells, Works}
-use Rattle.life_cli.specs.Question.{Asks, AsksFor, NoJob, OfFile, Question}
+use Rattle.life_cli.specs.Question.{Asks, AsksFor, NoJob, OfFile, OfMade, Question}
 use Rattle.life_cli.specs.Status.{IsSettled}
 use Rattle.life_cli.specs.Usage.{no_job, usage}
-use Rattle.life_cli.specs.Words.{Asked, AsksUnchecked, IsTold, IsToldUnserved, Job, served, served_of}
+use Rattle.life_cli.specs.Words.{Asked, AsksUnchecked, Make, OnFile, Task, task, task_among}
 use Rattle.life_cli.specs.declared.status.Status.{Status}
 use Rattle.life_cli.specs.declared.status.Status.TheVariants.{Fault, Usage}
 use Rattle.life_cli.specs.declared.stop.Ending.{Ending}
@@ -40,23 +39,23 @@ module _ (reads : ℕ) (out out' : Port) where
   abbrev WorksFor : Result Ending Stop → Option Question → Type 0
   WorksFor result question = Works question reads reads out out' result
 
-  none_asked : (words : Option Job) (asked : Asked) (held : Option Directory) (told : Told) (result : Result Ending Stop) → words ≡ None → IsTold asked told
+  none_asked : (words : Option Task) (asked : Asked) (held : Option Directory) (told : Told) (result : Result Ending Stop) → words ≡ None → IsToldOfAsked asked told
       → Serves (λ a. a ≡ no_job told) out out' result → AsksFor words asked held (WorksFor result)
   none_asked None asked held told result none is serves = record { reason = told; is_told = is; is = told_works told result serves }
-  none_asked (Some job) asked held told result none is serves = cc
+  none_asked (Some t) asked held told result none is serves = cc
 
 -- memory was wanted before anything was written
 module _ (reads : ℕ) (out : Port) (held : Option Directory) where
   wants : (question : Option Question) → Works question reads reads out out (Err stop.NoMemory)
   wants question = record { read_faults = refl; out_faults = refl; front = gains_nothing question out.taken }
 
-  wants_for : (asked : Asked) → SomeTold asked → AsksFor (served_of asked) asked held (λ question. Works question reads reads out out (Err stop.NoMemory))
+  wants_for : (asked : Asked) → SomeTold asked → AsksFor (task_among asked) asked held (λ question. Works question reads reads out out (Err stop.NoMemory))
   wants_for (Err fault) told = record { reason = told.0; is_told = told.1; is = wants (Some (NoJob told.0)) }
-  wants_for (Ok job) told = go (served_of (Ok job)) refl
+  wants_for (Ok job) told = go (task job)
     where
-      go : (words : Option Job) → served_of (Ok job) ≡ words → AsksFor words (Ok job) held (λ question. Works question reads reads out out (Err stop.NoMemory))
-      go None none = record { reason = Lacking; is_told = subst (λ (w : Option Job). IsToldUnserved w Lacking) (sym none) refl; is = wants (Some (NoJob Lacking)) }
-      go (Some j) is = for_job j held (λ question. Works question reads reads out out (Err stop.NoMemory)) (λ d text. wants (Some (OfFile j d text)))
+      go : (t : Task) → AsksFor (Some t) (Ok job) held (λ question. Works question reads reads out out (Err stop.NoMemory))
+      go (OnFile j) = for_job j held (λ question. Works question reads reads out out (Err stop.NoMemory)) (λ d text. wants (Some (OfFile j d text)))
+      go (Make number size) = wants (Some (OfMade number size))
 
 -- a refusal of the words
 refusal_for : (reads : ℕ) (out out' : Port) (held : Option Directory) (asked : Asked) (told : Told) (result : Result Ending Stop) → IsToldOfAsked asked told → Serves (λ a. a ≡ no_job told) out out' result
@@ -76,7 +75,7 @@ not_both result ending ended wanted = cc
 
 -- there is no job where the work came to an end
 pub refused_no_job : (asked : Asked) (told : Option Told) (out out' : Port) (result : Result Ending Stop) → IfSome told (IsToldOfAsked asked) → RefusesWords told out out' result
-    → IfOk result (λ ending. ending.status ≡ Usage → served_of asked ≡ None)
+    → IfOk result (λ ending. ending.status ≡ Usage → task_among asked ≡ None)
 refused_no_job asked told out out' (Err reason) is refuses = tt
 refused_no_job (Err fault) told out out' (Ok ending) is refuses = λ usage. refl
 refused_no_job (Ok job) (Some told) out out' (Ok ending) is refuses = absurd is
@@ -91,13 +90,6 @@ refused_unrun P told out out' (Err reason) refuses = tt
 refused_unrun P (Some told) out out' (Ok ending) refuses =
     λ fault. not_fault ending.status (subst (λ (a : Answer). ending.status ≡ a.status) refuses.is_such refuses.ready.status_is) fault
 refused_unrun P None out out' (Ok ending) refuses = absurd (not_both (Ok ending) ending refl refuses.1)
-
--- what is asked for isn't served
-pub unserved_works : (reads : ℕ) (out : Port) (held : Option Directory) (job : asked.Job) (result : Result Ending Stop) → None ≡ served job → Tells Usage usage result
-    → Asks (Ok job) held (λ question. Works question reads reads out out result)
-unserved_works reads out held job result none tells =
-    none_asked reads out out (served job) (Ok job) held Lacking result (sym none) (subst (λ (w : Option Job). IsToldUnserved w Lacking) none refl)
-    (text_serves (λ a. a ≡ no_job Lacking) Usage (line usage) out result refl tells)
 
 -- ---- what is told of each
 
@@ -122,8 +114,10 @@ module _ (asked asked' : Asked) (same : asked ≡ asked') (result : Result Endin
   pub asked_works : (held : Option Directory) (reads reads' : ℕ) (out out' : Port) → Asks asked' held (λ question. Works question reads reads' out out' result) → Asks asked held (λ question. Works question reads reads' out out' result)
   asked_works held reads reads' out out' works = subst (λ a. Asks a held (λ question. Works question reads reads' out out' result)) (sym same) works
 
-  pub asked_no_job : IfOk result (λ ending. ending.status ≡ Usage → served_of asked' ≡ None) → IfOk result (λ ending. ending.status ≡ Usage → served_of asked ≡ None)
-  asked_no_job told = subst (λ (a : Asked). IfOk result (λ ending. ending.status ≡ Usage → served_of a ≡ None)) (sym same) told
+  pub asked_unchecked : IfOk result (λ ending. ending.status ≡ Fault → AsksUnchecked (task_among asked')) → IfOk result (λ ending. ending.status ≡ Fault → AsksUnchecked (task_among asked))
+  asked_unchecked told = subst (λ (a : Asked). IfOk result (λ ending. ending.status ≡ Fault → AsksUnchecked (task_among a))) (sym same) told
 
-  pub asked_unchecked : IfOk result (λ ending. ending.status ≡ Fault → AsksUnchecked (served_of asked')) → IfOk result (λ ending. ending.status ≡ Fault → AsksUnchecked (served_of asked))
-  asked_unchecked told = subst (λ (a : Asked). IfOk result (λ ending. ending.status ≡ Fault → AsksUnchecked (served_of a))) (sym same) told
+-- a task is never answered by how the program is called
+pub never_usage : (P : Type 0) (result : Result Ending Stop) → IfOk result (λ ending. ending.status ≡ Usage → ⊥) → IfOk result (λ ending. ending.status ≡ Usage → P)
+never_usage P (Ok ending) never = λ same. absurd (never same)
+never_usage P (Err reason) never = tt

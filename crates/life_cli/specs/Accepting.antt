@@ -1,6 +1,6 @@
 -- When a command accepts its file.
 use Rattle.std.specs.Prelude.{◌≡◌, false}
-use Rattle.life_cli.specs.Words.{Check, Command, Psets, Run}
+use Rattle.life_cli.specs.Words.{Check, Command, Made, Psets, Run}
 use Rattle.life_cli.specs.declared.status.Status.{Status}
 use Rattle.life_cli.specs.declared.status.Status.TheVariants.{Done, Input, Steps, Trap}
 
@@ -18,3 +18,4 @@ abbrev pub Accepts : Command → Status → Type 0
 Accepts (Check json) status = status ≡ Done
 Accepts (Run run) status = (run.options.unchecked ≡ false) × IsPast status
 Accepts Psets status = ⊥
+Accepts (Made bytes) status = IsPast status

@@ -12,9 +12,10 @@ use Rattle.life_store.specs.NoFault.{NoFault}
 use Rattle.life_cli.specs.Answer.{Answer}
 use Rattle.life_cli.specs.CheckedFile.{IsLine, fault_line}
 use Rattle.life_cli.specs.InputFile.{input_of}
+use Rattle.life_cli.specs.Made.{SumsUp}
 use Rattle.life_cli.specs.Runs.{RanWith}
 use Rattle.life_job.specs.Job.{RunJob}
-use Rattle.life_cli.specs.Words.{Check, Command, Psets, Run}
+use Rattle.life_cli.specs.Words.{Check, Command, Made, Psets, Run}
 use Rattle.life_cli.specs.declared.status.Status.{Status}
 use Rattle.life_cli.specs.declared.status.Status.TheVariants.{Done, Diagnosed}
 
@@ -60,6 +61,8 @@ Concludes (Check json) directory p ds answer = answer ≡ reported json p ds
 Concludes (Run run) directory p [] answer = RanJob run directory p answer
 Concludes (Run run) directory p (d ∷ ds) answer = RanDiagnosed run.options.unchecked run directory p (d ∷ ds) answer
 Concludes Psets directory p ds answer = IsTabled p answer
+Concludes (Made bytes) directory p [] answer = SumsUp bytes p answer
+Concludes (Made bytes) directory p (d ∷ ds) answer = answer ≡ not_run p (d ∷ ds)
 
 -- the answer is the command's to the program and its list of diagnostics; where that is empty, no run of the program, on whatever
 -- input, with whatever limits, growth and number of steps, uses a null, dangling or moved-from place

@@ -7,6 +7,7 @@ pub mod Entry
 pub mod FileText
 pub mod IllFormed
 pub mod InputFile
+pub mod Made
 pub mod Question
 pub mod Refusals
 pub mod Runs

@@ -1,4 +1,4 @@
--- The answer to words that ask for nothing that is served.
+-- The answer to words that ask for nothing.
 use Rattle.std.specs.Prelude.{◌++◌, ℕ, List, [], codes}
 use Rattle.life_job.specs.Refusals.{Told, Help, Version, Lacking, Named}
 use Rattle.life_job.specs.Texts.{help_text, version_text}

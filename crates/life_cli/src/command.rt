@@ -4,10 +4,11 @@ ghost use Rattle.life_check.specs.CheckedText.{IsProgramOf};
 ghost use Rattle.life_core.specs.Function.{Program};
 ghost use Rattle.life_job.specs.Words.{asked_of};
 ghost use Rattle.life_store.specs.NoFault.{NoFault};
-ghost use Rattle.life_cli.specs.Accepting.{Accepts};
+ghost use Rattle.life_vectors.specs.Generated.{generated};
+ghost use Rattle.life_cli.specs.Accepting.{Accepts, IsPast};
 ghost use Rattle.life_cli.specs.Ends.{Closes, Ends, status_of, text_of};
 ghost use Rattle.life_cli.specs.Question.{Asks};
-ghost use Rattle.life_cli.specs.Words.{job_of, AsksUnchecked, Job};
+ghost use Rattle.life_cli.specs.Words.{task_of, AsksUnchecked, Job, Make, OnFile};
 ghost use Rattle.life_cli.specs.declared.status.Status.TheVariants.{Fault, Usage};
 
 use crate::Status;
@@ -27,9 +28,12 @@ pub fn run_command<F: Files, O: Sink, E: Sink>(
 ) -> Status
     // Whenever it accepts a file that tells its bytes, there is the program of these bytes, and no run of
     // it uses what is null, dangling or moved from.
-    ensures accepted { (job : Job) → job_of (map string_bytes words.now) ≡ Some job → Accepts job.command result
+    ensures accepted { (job : Job) → task_of (map string_bytes words.now) ≡ Some (OnFile job) → Accepts job.command result
         → (bytes : List ℕ) × (IfSome (F.held files.old) (λ held. held job.file ≡ Some bytes)
         × ((p : Program) × (IsProgramOf bytes p × NoFault p))) }
+    // .. and so is it with a file that it makes, and comes to run.
+    ensures made { (number size : ℕ) → task_of (map string_bytes words.now) ≡ Some (Make number size) → IsPast result
+        → (p : Program) × (IsProgramOf (generated number size) p × NoFault p) }
     // It answers what is asked of the files that are held; where that isn't told, there are some bytes to
     // which this is the answer.
     ensures ends { Asks (asked_of (map string_bytes words.now)) (F.held files.old) (λ asked. Ends asked
@@ -38,8 +42,8 @@ pub fn run_command<F: Files, O: Sink, E: Sink>(
         (record { taken = O.taken out.new; faults = O.faults out.new })
         (record { taken = E.taken err.old; faults = E.faults err.old })
         (record { taken = E.taken err.new; faults = E.faults err.new }) result) }
-    ensures no_job { result ≡ Usage → job_of (map string_bytes words.now) ≡ None }
-    ensures faults_unchecked { result ≡ Fault → AsksUnchecked (job_of (map string_bytes words.now)) }
+    ensures no_job { result ≡ Usage → task_of (map string_bytes words.now) ≡ None }
+    ensures faults_unchecked { result ≡ Fault → AsksUnchecked (task_of (map string_bytes words.now)) }
 {
     let ended = work(alloc, words, files, out);
     close(ended, err)

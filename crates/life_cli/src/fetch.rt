@@ -7,7 +7,7 @@ use life_base::{Files, ReadError, read_rest};
 use std::alloc::Global;
 
 /// The most bytes of a file.
-const MOST_BYTES: usize = 1_048_576;
+pub const MOST_BYTES: usize = 1_048_576;
 
 /// What there is of a file.
 #[derive(Drop)]

@@ -8,13 +8,16 @@ mod execute;
 mod fetch;
 mod input;
 mod job;
+mod made;
 mod refusal;
 mod reply;
 mod serve;
 mod source_refusal;
 mod status;
 mod stop;
+mod summary;
 mod table;
+mod unheard;
 mod usage;
 mod work;
 

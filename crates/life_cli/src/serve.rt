@@ -18,6 +18,7 @@ use crate::input::run_job;
 use crate::job::Command;
 use crate::reply::{Reply, hand_out};
 use crate::stop::{Ending, Stop};
+use crate::summary::sum_up;
 use crate::table::tell_sets;
 use life_base::{Files, Sink};
 use life_core::CoreProgram;
@@ -48,6 +49,7 @@ pub fn serve_accepted<F: Files, O: Sink>(
         Command::Check { json } => report(alloc, json, program, &[], out),
         Command::Run(run) => run_job(alloc, run, program, files, out),
         Command::Psets => tell_sets(alloc, program, out),
+        Command::Made { bytes } => sum_up(alloc, bytes, program, out),
     }
 }
 
@@ -75,6 +77,7 @@ pub fn serve_rejected<F: Files, O: Sink>(
         Command::Run(run) if run.options.unchecked => run_job(alloc, run, program, files, out),
         Command::Run(_) => report_instead(alloc, program, found),
         Command::Psets => tell_sets(alloc, program, out),
+        Command::Made { .. } => report_instead(alloc, program, found),
     }
 }
 

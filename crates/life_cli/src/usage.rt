@@ -1,4 +1,4 @@
-// Words that ask for nothing that is served: help, the version, or a line on err that says what is wrong.
+// Words that ask for nothing: help, the version, or a line on err that says what is wrong.
 ghost use Rattle.std.specs.Prelude.{◌≡◌, ◌++◌, IfOk};
 ghost use Rattle.life_job.specs.Refusals.{told_by};
 ghost use Rattle.life_cli.specs.Answer.{answer_in, line};
@@ -18,8 +18,8 @@ use std::alloc::Global;
 /// How the program is called.
 const USAGE: &str = "usage: lifecheck COMMAND FILE [OPTIONS]";
 
-/// How the program is called, on err.
-pub fn tell_usage(alloc: Global) -> Result<Ending, Stop>
+// How the program is called, on err.
+fn tell_usage(alloc: Global) -> Result<Ending, Stop>
     ensures { Tells Usage usage result }
 {
     tell(alloc, Status::Usage, USAGE)

@@ -1,23 +1,24 @@
 // The work of a command: it reads the file and serves its bytes.
-ghost use Rattle.std.specs.Prelude.{◌≡◌, ◌≤◌, None, IfOk, Ok, length, map, string_bytes};
+ghost use Rattle.std.specs.Prelude.{◌≡◌, ◌≤◌, None, Some, IfOk, Ok, length, map, string_bytes};
 ghost use Rattle.life_job.specs.Job as asked_job;
 ghost use Rattle.life_job.specs.Matched as matched;
 ghost use Rattle.life_job.specs.Words.{asked_of};
 ghost use Rattle.life_cli.specs.Ends.{Works, WorksOn};
 ghost use Rattle.life_cli.specs.FileText.{Holds, most_bytes};
 ghost use Rattle.life_cli.specs.Question.{text_asked, Asks, OfFiles, OfJob};
-ghost use Rattle.life_cli.specs.Words.{command_seen, job_of, job_seen, served, AsksUnchecked, HasFewSteps, IsUnchecked};
+ghost use Rattle.life_cli.specs.Words.{command_seen, job_seen, task, task_of, AsksUnchecked, HasFewSteps, IsUnchecked};
 ghost use Rattle.life_cli.specs.declared.status.Status.TheVariants.{Fault, Usage};
 
 use crate::Status;
 use crate::counted::checked;
 use crate::fetch::{Fetched, fetch};
-use crate::job::{Job, served};
+use crate::job::{Job, Task, asked_task};
+use crate::made::serve_made;
 use crate::refusal::{refuse_name, tell};
 use crate::serve::{serve_accepted, serve_rejected};
 use crate::source_refusal::refuse_text;
 use crate::stop::{Ending, Stop};
-use crate::usage::{refuse_words, tell_usage};
+use crate::usage::refuse_words;
 use life_base::{Files, Sink};
 use life_check::Checked;
 use life_job::{Job as AskedJob, read_words};
@@ -34,8 +35,8 @@ pub fn work<F: Files, O: Sink>(
         (F.faults files.old) (F.faults files.new)
         (record { taken = O.taken out.old; faults = O.faults out.old })
         (record { taken = O.taken out.new; faults = O.faults out.new }) result) }
-    ensures no_job { IfOk result (λ ending. ending.status ≡ Usage → job_of (map string_bytes words.now) ≡ None) }
-    ensures faults_unchecked { IfOk result (λ ending. ending.status ≡ Fault → AsksUnchecked (job_of (map string_bytes words.now))) }
+    ensures no_job { IfOk result (λ ending. ending.status ≡ Usage → task_of (map string_bytes words.now) ≡ None) }
+    ensures faults_unchecked { IfOk result (λ ending. ending.status ≡ Fault → AsksUnchecked (task_of (map string_bytes words.now))) }
 {
     match read_words(alloc, words) {
         Ok(asked) => serve_asked(alloc, asked, files, out),
@@ -43,8 +44,7 @@ pub fn work<F: Files, O: Sink>(
     }
 }
 
-// Does what is asked for, where it is served.
-#[tactic(auto, using(crate::proofs::Unasked::unserved_works))]
+// Does what is asked for.
 fn serve_asked<F: Files, O: Sink>(
     alloc: Global,
     asked: AskedJob,
@@ -56,12 +56,12 @@ fn serve_asked<F: Files, O: Sink>(
         (F.faults files.old) (F.faults files.new)
         (record { taken = O.taken out.old; faults = O.faults out.old })
         (record { taken = O.taken out.new; faults = O.faults out.new }) result) }
-    ensures no_job { IfOk result (λ ending. ending.status ≡ Usage → served (asked_job.job_seen asked.entry) ≡ None) }
-    ensures faults_unchecked { IfOk result (λ ending. ending.status ≡ Fault → AsksUnchecked (served (asked_job.job_seen asked.entry))) }
+    ensures no_job { IfOk result (λ ending. ending.status ≡ Usage → ⊥) }
+    ensures faults_unchecked { IfOk result (λ ending. ending.status ≡ Fault → AsksUnchecked (Some (task (asked_job.job_seen asked.entry)))) }
 {
-    match served(asked) {
-        Some(job) => serve_job(alloc, job, files, out),
-        None => tell_usage(alloc),
+    match asked_task(asked) {
+        Task::OnFile(job) => serve_job(alloc, job, files, out),
+        Task::Make { number, size } => serve_made(alloc, number, size, files, out),
     }
 }
 
@@ -86,8 +86,8 @@ fn serve_job<F: Files, O: Sink>(
     }
 }
 
-// Serves a file of these bytes: its program is accepted or has diagnostics, or it has none that is checked.
-fn serve_bytes<F: Files, O: Sink>(
+/// Serves a file of these bytes: its program is accepted or has diagnostics, or it has none that is checked.
+pub fn serve_bytes<F: Files, O: Sink>(
     alloc: Global,
     job: Job,
     bytes: &[u8],

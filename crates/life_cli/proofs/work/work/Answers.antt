@@ -1,13 +1,13 @@
 use Rattle.std.proofs.Common.{map, string_bytes}
 use Rattle.life_job.proofs.Parsed.{some_told}
-use Rattle.life_cli.proofs.Unasked.{asked_no_job, asked_unchecked, asked_works, refused_no_job, refused_unrun, refused_works}
+use Rattle.life_cli.proofs.Unasked.{asked_unchecked, asked_works, never_usage, refused_no_job, refused_unrun, refused_works}
 use Rattle.life_cli.proofs.work.work.Goals as goal
 
 pub returns-in-Ok-clause-works : goal.returns-in-Ok-clause-works
 returns-in-Ok-clause-works g c = asked_works _ _ c.in-Ok.ensures.read c.serve_asked.result _ _ _ _ _ c.serve_asked.ensures.works
 
 pub returns-in-Ok-clause-no_job : goal.returns-in-Ok-clause-no_job
-returns-in-Ok-clause-no_job g c = asked_no_job _ _ c.in-Ok.ensures.read c.serve_asked.result c.serve_asked.ensures.no_job
+returns-in-Ok-clause-no_job g c = never_usage _ c.serve_asked.result c.serve_asked.ensures.no_job
 
 pub returns-in-Ok-clause-faults_unchecked : goal.returns-in-Ok-clause-faults_unchecked
 returns-in-Ok-clause-faults_unchecked g c = asked_unchecked _ _ c.in-Ok.ensures.read c.serve_asked.result c.serve_asked.ensures.faults_unchecked
