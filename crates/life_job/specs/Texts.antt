@@ -17,7 +17,7 @@ help_text = lines
     ∷ codes "  check FILE       write the report on FILE"
     ∷ codes "  run FILE         check FILE, and run it if nothing is diagnosed"
     ∷ codes "  psets FILE       write what each pointer of FILE may point to, at each point"
-    ∷ codes "  gen NUMBER SIZE  make the file with this number, 0 to 18446744073709551615, of SIZE functions, 0 to 200, and run it (not built yet)"
+    ∷ codes "  gen NUMBER SIZE  make the file with this number, 0 to 18446744073709551615, of SIZE functions, 0 to 200, check it and run it"
     ∷ codes ""
     ∷ codes "options, in any order:"
     ∷ codes "  --entry NAME     the function with which a run begins; default main"

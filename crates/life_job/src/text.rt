@@ -11,7 +11,7 @@ commands:
   check FILE       write the report on FILE
   run FILE         check FILE, and run it if nothing is diagnosed
   psets FILE       write what each pointer of FILE may point to, at each point
-  gen NUMBER SIZE  make the file with this number, 0 to 18446744073709551615, of SIZE functions, 0 to 200, and run it (not built yet)
+  gen NUMBER SIZE  make the file with this number, 0 to 18446744073709551615, of SIZE functions, 0 to 200, check it and run it
 
 options, in any order:
   --entry NAME     the function with which a run begins; default main
