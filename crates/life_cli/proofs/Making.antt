@@ -1,5 +1,5 @@
 -- The work on a file that is made.
-use Rattle.std.proofs.Common.{◌≡◌, ◌≤◌, ◌<◌, ◌++◌, ℕ, Bool, true, false, List, [], ◌∷◌, Option, None, Some, Result, Ok, Err, append_assoc, ap, refl, sym, subst, ◌∙◌, arith}
+use Rattle.std.proofs.Common.{◌≡◌, ◌≤◌, ◌<◌, ◌++◌, ℕ, Bool, true, false, List, [], ◌∷◌, Option, None, Some, Result, Ok, Err, append_assoc, refl, sym, subst, ◌∙◌, arith}
 use Rattle.std.specs.Prelude.{codes, decimal, length, nat_lt}
 use Rattle.std.proofs.lemmas.Bool.Decides.{nat_tests}
 use Rattle.life_base.specs.Edges.{Directory}
@@ -14,7 +14,7 @@ use Rattle.life_cli.specs.Concluding.{AnswersFile, AnswersFinding}
 use Rattle.life_cli.specs.Ends.{Port, Serves, Tells, WorksOn}
 use Rattle.life_cli.specs.Entry.{entry_of}
 use Rattle.life_cli.specs.FileText.{FileText, Holds, TooLong, most_bytes}
-use Rattle.life_cli.specs.Made.{IsHeard, SumsUp, default_options, summary}
+use Rattle.life_cli.specs.Made.{IsHeard, SumsUp, default_options}
 use Rattle.life_cli.specs.Question.{AnswersSized, OfFile, OfFiles, OfMade, made_asked, made_job, no_files, text_asked}
 use Rattle.life_cli.specs.Runs.{RanFrom}
 use Rattle.life_cli.specs.Words.{Job, Made}

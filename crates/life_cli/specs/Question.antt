@@ -1,5 +1,5 @@
 -- What the words and the files ask, and the answers to it.
-use Rattle.std.specs.Prelude.{◌≡◌, ◌<◌, ◌++◌, ℕ, Bool, true, false, nat_lt, List, [], Option, Some, None, IfSome, codes, length, option_map}
+use Rattle.std.specs.Prelude.{◌≡◌, ◌++◌, ℕ, Bool, true, false, nat_lt, List, [], Option, Some, None, IfSome, codes, length, option_map}
 use Rattle.life_base.specs.Edges.{Directory}
 use Rattle.life_core.specs.Function.{Program}
 use Rattle.life_job.specs.Refusals.{Told}
