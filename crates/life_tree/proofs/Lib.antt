@@ -1,4 +1,1 @@
-pub mod BranchKeys
-pub mod SeparatedKeys
 pub mod SeparatedTrees
-pub mod Written

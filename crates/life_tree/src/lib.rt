@@ -1,4 +1,4 @@
-//! The trees of source files: one type for each rule of the grammar, and a tree's tokens.
+//! The trees of source files: one type for each rule of the grammar.
 //!
 //! The grammar is a subset of ISO/IEC 14882:2017 [gram]. It has no preprocessor, no templates but
 //! the named ones of the library, one declarator a declaration, and no statements that the lifetime
@@ -22,12 +22,6 @@ mod simple;
 mod stmt;
 mod token;
 mod type_name;
-mod write_expr;
-mod write_program;
-mod write_simple;
-mod write_stmt;
-mod write_token;
-mod write_type;
 
 pub use arithmetic::{Additive, AdditivePart, Multiplicative, MultiplicativePart};
 pub use attribute::{Attribute, AttributeArguments, AttributeScope, AttributeWord};
@@ -51,4 +45,3 @@ pub use stmt::{
 };
 pub use token::TreeToken;
 pub use type_name::{Base, IteratorKind, IteratorName, Suffix, TypeArgument, TypeName};
-pub use write_program::write_tokens;

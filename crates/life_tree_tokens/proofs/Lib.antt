@@ -1,0 +1,3 @@
+pub mod BranchKeys
+pub mod SeparatedKeys
+pub mod Written
