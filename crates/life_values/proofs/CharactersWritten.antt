@@ -12,11 +12,13 @@ use Rattle.life_store.proofs.MapLemmas.{set-set, set-unset, set_back}
 use Rattle.life_forest.specs.Values.{AllWide}
 use Rattle.life_forest.proofs.Puts.{put_in}
 use Rattle.life_seen.specs.Housed.{Shows}
-use Rattle.life_seen.specs.Kinds.{Kinds}
+use Rattle.life_seen.specs.Kinds.{AreWhole, Kinds}
 use Rattle.life_seen.specs.Named.{names_of}
+use Rattle.life_seen.specs.Rowed.{AreRowed}
 use Rattle.life_seen.specs.Seen.{object_seen, seen}
 use Rattle.life_seen.proofs.PlainWords.{shows_number}
 use Rattle.life_seen.proofs.Resizing.{count_seen}
+use Rattle.life_words.proofs.Rowing.{plain_apart, put_still}
 use Rattle.life_values.specs.Texts.{with_characters, CanWrite}
 use Rattle.life_values.proofs.Owners.{with_word_is}
 use Rattle.life_values.proofs.SeenAs.{seen_as, IsSeenAs}
@@ -100,6 +102,11 @@ module _ (kinds : Kinds) (r : ObjRef) (ws : List ℕ) (c : Content) (rows : Rows
         let s = can.count in
         let w = can.width in
         subst (λ x. IfSome x (HasWord j 0)) (sym now.found) (record { has_slot = omega (arith, a, b, f, s, lt); has_word = omega (arith, e, w) })
+
+    pub put_keeps : ((x : Object) → AreWhole (kinds x.ty)) → (i v : ℕ) (e : Content) (after : Rows) → IfSome (object_of d new r) (λ o. e ≡ with_object r.birth (with_word i 0 v o) d) → after ≡ new → AreRowed kinds d new → AreRowed kinds e after
+    put_keeps whole i v e after put same rowed =
+        put_still kinds d new rowed r now.object now.found e after i 0 v (whole now.object) (plain_apart (ap (λ (x : Object). kinds x.ty 0) now.same ∙ can.plain))
+        (subst (λ z. IfSome z (λ o. e ≡ with_object r.birth (with_word i 0 v o) d)) now.found put) same
 
     module _ (v : ℕ) (here : slice_get ws j ≡ Some v) (e : Content) (after : Rows) (put : IfSome (object_of d new r) (λ o. e ≡ with_object r.birth (with_word j 0 v o) d)) (same : after ≡ new) where
       put_is : e ≡ with_object r.birth (with_word j 0 v now.object) d

@@ -15,11 +15,12 @@ use Rattle.life_seen.specs.Seen.{seen}
 use Rattle.life_seen.proofs.References.{later_same, later_then}
 use Rattle.life_values.specs.Copied.{copied_number, recopied_each, slots_copied, CanCopySlots, CanRecopy, ComesCopied}
 use Rattle.life_values.specs.Layouts.{owners_at, AreLaid}
-use Rattle.life_values.specs.Moved.{CanCopyWords}
+use Rattle.life_values.specs.Moved.{AreUncut, CanCopyWords}
 use Rattle.life_values.specs.declared.copying.CopyFault.{CopyFault}
 use Rattle.life_values.specs.declared.copying.CopyFault.TheVariants as copy_fault
 use Rattle.life_values.specs.declared.layout.Layout.{Layout}
 use Rattle.life_values.proofs.CopiedGood.{each_grew, got_is, raw_grew, Grew}
+use Rattle.life_values.proofs.CopiedRowed.{all_uncut}
 use Rattle.life_values.proofs.Filling.{some_setting, still_placed}
 use Rattle.life_values.proofs.Recopying.{copies_good}
 
@@ -70,6 +71,9 @@ module _ (types : Types) (layouts : List Layout) (laid : AreLaid types layouts) 
       from_small = omega (arith, small);
       to_small = omega (arith, small);
     }
+
+    pub words_uncut : AreUncut (kinds_of types p.can.target.ty) 0 w
+    words_uncut = all_uncut types p.can.target.ty w (sym p.can.target_width ∙ (p.can.good.good to.birth p.can.target p.can.target_there).width)
 
     module _ (e : Content) (after : Rows) (shows : Shows (kinds_of types) e after (wrote to.birth i 0 (words_at (seen (kinds_of types) d new) from.birth i 0 w) (seen (kinds_of types) d new))) (later : Later d e new after) where
       raw : Grew (forest_kinds types) limit to.birth (seen (kinds_of types) d new) (wrote to.birth i 0 (words_at (seen (kinds_of types) d new) from.birth i 0 w) (seen (kinds_of types) d new))

@@ -12,6 +12,7 @@ use Rattle.life_seen.specs.Housed.{IsHoused, Shows, Later}
 use Rattle.life_seen.specs.Kinds.{kinds_of, Kinds}
 use Rattle.life_store.specs.Kinds.{Owner}
 use Rattle.life_seen.specs.Named.{names_of}
+use Rattle.life_seen.specs.Rowed.{AreRowed}
 use Rattle.life_seen.specs.Seen.{object_seen, seen}
 use Rattle.life_words.specs.Owning.{with_owner, IsOwner}
 use Rattle.life_values.specs.Ended.{ended_number}
@@ -20,7 +21,8 @@ use Rattle.life_values.specs.Layouts.{owners_at, AreLayouts, AreOwners}
 use Rattle.life_values.specs.declared.deep_end.Found.{Found}
 use Rattle.life_values.specs.declared.layout.Layout.{Layout}
 use Rattle.life_values.proofs.AlikeKinds.{alike_kinds}
-use Rattle.life_values.proofs.Deep.{Progress, deeper, has_words, next_slot, next_word, now, owned_can, progress_end, shape_before}
+use Rattle.life_values.proofs.Deep.{Progress, deeper, has_words, next_slot, next_word, now, now_there, owned_can, progress_end, shape_before}
+use Rattle.life_values.proofs.StillRowed.{owner_keeps, OwnerKeeps}
 
 module _ (types : Types) (layouts : List Layout) (depth : ℕ) (r : ObjRef) (c : Content) (rows : Rows) (can : CanEnd (kinds_of types) (forest_kinds types) depth r c rows) (laid : AreLayouts (kinds_of types) layouts)
     (shape : Shape) (asked : asked_of (object_of c rows r) shape_of ≡ Ok shape) (owners : List ℕ) (own : owners ≡ owners_at layouts shape.ty) (d : Content) (new : Rows) (slot index : ℕ)
@@ -57,6 +59,11 @@ module _ (types : Types) (layouts : List Layout) (depth : ℕ) (r : ObjRef) (c :
 
     pub word_there : slot < shape.length → IfSome (object_of d new r) (HasWord slot f.word)
     word_there within = words_there within f.index f.word (next (Some f) told).2
+
+    pub word_keeps : (e : Content) (after : Rows) → OwnerKeeps d new r f.word e after → AreRowed (kinds_of types) d new → AreRowed (kinds_of types) e after
+    word_keeps =
+        owner_keeps types d new r p.ending.object p.housed p.placed (now_there (kinds_of types) (forest_kinds types) (alike_kinds types) depth r c rows can owners d new slot index p) f.word
+        (are.sound f.index f.word (next (Some f) told).2)
 
     module _ (within : slot < shape.length) (e : Content) (after : Rows) (took : (kinds : Kinds) (o : Object) → IsOwner kinds d new r f.word o → Shows kinds e after (with_owner kinds d new r slot f.word o None)) (same : after ≡ new) where
       owner : kinds_of types p.ending.object.ty f.word ≡ Owner

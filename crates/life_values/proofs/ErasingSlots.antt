@@ -24,13 +24,14 @@ use Rattle.life_values.specs.Emptied.{emptied_each, CanEmpty}
 use Rattle.life_values.specs.Ended.{ended_number}
 use Rattle.life_values.specs.Erased.{erased_words, CanErase}
 use Rattle.life_values.specs.Layouts.{flat, leaves_at, owners_at, width_at, AreLaid, AreOwners}
-use Rattle.life_values.specs.Moved.{slots_moved, CanMoveSlots}
+use Rattle.life_values.specs.Moved.{slots_moved, AreUncut, CanMoveSlots}
 use Rattle.life_values.specs.Popped.{CanGive, IsGiving}
 use Rattle.life_values.specs.Regrown.{slot_at, slots_taken, CanTakeSlots}
 use Rattle.life_values.specs.declared.layout.Layout.{Layout}
 use Rattle.life_values.specs.declared.layout.Leaf.{Leaf}
 use Rattle.life_values.proofs.AlikeKinds.{alike_kinds}
 use Rattle.life_values.proofs.Beginning.{width_of_type}
+use Rattle.life_values.proofs.CopiedRowed.{all_uncut}
 use Rattle.life_values.proofs.EmptiedThen.{emptied_births, emptied_clock, still_giving, still_like}
 use Rattle.life_values.proofs.Filling.{still_placed}
 use Rattle.life_values.proofs.Flat.{layouts_own}
@@ -162,6 +163,9 @@ module _ (types : Types) (layouts : List Layout) (depth : ℕ) (r : ObjRef) (ind
 
         width_e : taken.object.width ≡ width
         width_e = taken.like.width ∙ like.width ∙ width_is
+
+        pub still_uncut : (x : Object) × (at (seen (kinds_of types) e after).objects r.birth ≡ Some x) × AreUncut (kinds_of types x.ty) 0 width
+        still_uncut = (taken.object, at_e, all_uncut types taken.object.ty width (parts_width ∙ ap (λ ty. parts_width_of (parts_at types ty)) (sym (taken.like.ty ∙ like.ty ∙ ty_is))))
 
         pub move_can : CanMoveSlots (kinds_of types) (record { object = r; slot = index + 1; word = 0 }) (record { object = r; slot = index; word = 0 }) count width owners e after
         move_can =

@@ -132,11 +132,11 @@ module _ (kinds : Kinds) (types : Types) (f : Form) (limit : ℕ) (spot : Spot) 
           let k = p.can.slot in
           subst (λ x. IfSome x (HasWord spot.slot (spot.word + l.word))) (sym now.found) (record { has_slot = omega (arith, n, s, k); has_word = omega (arith, v, o) })
 
-      kind_now : kinds now.object.ty (spot.word + l.word) ≡ kind_of l.holds
+      pub kind_now : kinds now.object.ty (spot.word + l.word) ≡ kind_of l.holds
       kind_now = ap (λ (x : Object). kinds x.ty (spot.word + l.word)) now.same ∙ p.can.own j l here
 
       module _ (h : Content) (last : Rows) (put : IfSome (object_of e after spot.object) (λ o. h ≡ with_object spot.object.birth (with_word spot.slot (spot.word + l.word) w o) e)) (same : last ≡ after) where
-        put_now : h ≡ with_object spot.object.birth (with_word spot.slot (spot.word + l.word) w now.object) e
+        pub put_now : h ≡ with_object spot.object.birth (with_word spot.slot (spot.word + l.word) w now.object) e
         put_now = subst (λ x. IfSome x (λ o. h ≡ with_object spot.object.birth (with_word spot.slot (spot.word + l.word) w o) e)) now.found put
 
         module _ (s : Setting) (cells : s.given.cells ≡ limit) where
@@ -157,7 +157,7 @@ module _ (kinds : Kinds) (types : Types) (f : Form) (limit : ℕ) (spot : Spot) 
               ∙ ap (λ y. Got (wrote_if y spot.object.birth spot.slot (spot.word + l.word) (x.0 ∷ []) x.1)) (there_then s cells)
               ∙ ap (λ (y : Content). Got y) (sym shows.is)
 
-        after_put : with_object spot.object.birth (with_word spot.slot (spot.word + l.word) (first (some_setting limit) refl).0 p.can.object) (first (some_setting limit) refl).1 ≡ seen kinds h last
+        pub after_put : with_object spot.object.birth (with_word spot.slot (spot.word + l.word) (first (some_setting limit) refl).0 p.can.object) (first (some_setting limit) refl).1 ≡ seen kinds h last
         after_put = sym (shows (some_setting limit) refl).is
 
         count_put_in : (v : ℕ) → length (with_word spot.slot (spot.word + l.word) v p.can.object).slots ≡ length p.can.object.slots

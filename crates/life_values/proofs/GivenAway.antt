@@ -23,11 +23,13 @@ use Rattle.life_seen.specs.Seen.{seen}
 use Rattle.life_seen.proofs.Resizing.{shape_seen}
 use Rattle.life_values.specs.Consumed.{stored, CanConsume}
 use Rattle.life_values.specs.Layouts.{flat, leaves_at, owner_words, owners_at, width_at, AreLaid}
+use Rattle.life_values.specs.Moved.{AreUncut}
 use Rattle.life_values.specs.Regrown.{handed_over, CanHandOver}
 use Rattle.life_values.specs.declared.layout.Layout.{Layout}
 use Rattle.life_values.specs.declared.layout.Leaf.{Leaf}
 use Rattle.life_values.proofs.Beginning.{width_of_type}
 use Rattle.life_values.proofs.ConsumedMeant.{consumed_meant}
+use Rattle.life_values.proofs.CopiedRowed.{all_uncut}
 use Rattle.life_values.proofs.Elements.{not_itself}
 use Rattle.life_values.proofs.Flat.{owner_words_own}
 use Rattle.life_values.proofs.LeafOwners.{characters_own, leaf_within}
@@ -101,6 +103,9 @@ module _ (types : Types) (layouts : List Layout) (laid : AreLaid types layouts) 
 
     leaf_small : (j : ℕ) (l : Leaf) → slice_get leaves j ≡ Some l → 0 + l.word < 2 ^ 64
     leaf_small j l at_j = let q = leaf_within element 0 j l (ap (λ ls. slice_get ls j) (sym leaves_are) ∙ at_j) in let e = width_is in omega (arith, q, e, small)
+
+    pub target_uncut : AreUncut (kinds_of types can.target.ty) 0 w
+    target_uncut = all_uncut types can.target.ty w (width_is ∙ ap (λ ty. parts_width (parts_at types ty)) can.alike)
 
     pub hand_can : (p : Parts) × CanHandOver (kinds_of types) (forest_kinds types) p r to w leaves owners slot 1 c rows
     hand_can =

@@ -27,18 +27,20 @@ use Rattle.life_forest.proofs.Regrowing.{left}
 use Rattle.life_seen.specs.Housed.{Shows, Later}
 use Rattle.life_seen.specs.Kinds.{kinds_of, Kinds}
 use Rattle.life_seen.specs.Named.{names_of}
+use Rattle.life_seen.specs.Rowed.{AreRowed}
 use Rattle.life_seen.specs.Seen.{object_seen, seen}
 use Rattle.life_seen.proofs.References.{later_then}
 use Rattle.life_seen.proofs.Resizing.{count_seen, shape_seen}
 use Rattle.life_words.specs.Owning.{number_of, with_owner, IsOwner}
 use Rattle.life_values.specs.Layouts.{flat, leaves_at, owner_words, owners_at, width_at, AreLaid}
-use Rattle.life_values.specs.Moved.{place}
+use Rattle.life_values.specs.Moved.{place, AreUncut}
 use Rattle.life_values.specs.Regrown.{handed_over, then_owned, CanHandOver, CanRegrow}
 use Rattle.life_values.specs.Texts.{IsBuffer}
 use Rattle.life_values.specs.declared.layout.Layout.{Layout}
 use Rattle.life_values.specs.declared.layout.Leaf.{Leaf}
 use Rattle.life_values.specs.declared.spot.Spot.{Spot}
 use Rattle.life_values.proofs.Beginning.{birth_full, birth_room, width_of_type}
+use Rattle.life_values.proofs.CopiedRowed.{all_uncut}
 use Rattle.life_values.proofs.Filling.{still_placed}
 use Rattle.life_values.proofs.Flat.{owner_words_own}
 use Rattle.life_values.proofs.LeafOwners.{characters_own, leaf_within}
@@ -48,6 +50,7 @@ use Rattle.life_values.proofs.Popping.{ok_shape}
 use Rattle.life_values.proofs.RegrownMeant.{buffer_apart, buffer_there, fresh, fresh_then, fresh_there, fresh_width, from_free, holder_there, over, over_births, over_clock, over_forest, over_held, regrown_meant, sized, sized_births, sized_clock, to_free}
 use Rattle.life_values.proofs.Renewed.{not_itself, owned_there, rank_less}
 use Rattle.life_values.proofs.SeenAs.{seen_as, IsSeenAs}
+use Rattle.life_values.proofs.StillRowed.{are_whole, seen_keeps, OwnerKeeps}
 
 module _ (types : Types) (layouts : List Layout) (laid : AreLaid types layouts) (spot : Spot) (b : ObjRef) (capacity size : ℕ) (c : Content) (rows : Rows) (can : CanRegrow types spot b capacity size c rows) where
   abbrev m : Content
@@ -191,6 +194,9 @@ module _ (types : Types) (layouts : List Layout) (laid : AreLaid types layouts) 
           let k = can.own.word in
           subst (λ x. IfSome x (HasWord spot.slot spot.word)) (sym owner_d.found) (record { has_slot = omega (arith, p, q, i); has_word = omega (arith, e, k) })
 
+      pub own_keeps : (e : Content) (after : Rows) → OwnerKeeps d new spot.object spot.word e after → AreRowed (kinds_of types) d new → AreRowed (kinds_of types) e after
+      own_keeps = seen_keeps (kinds_of types) (are_whole types) d new shows.housed spot.object o owner_d spot.word can.own.owns
+
       module _ (e : Content) (after : Rows) (owned_shows : (ks : Kinds) (x : Object) → IsOwner ks d new spot.object spot.word x → Shows ks e after (with_owner ks d new spot.object spot.slot spot.word x (option_map number_of (Some f)))) (same : after ≡ new) where
         shows_owned : Shows (kinds_of types) e after (with_object spot.object.birth (with_word spot.slot spot.word (owner_word (Some f.birth)) o) (seen (kinds_of types) d new))
         shows_owned =
@@ -228,6 +234,11 @@ module _ (types : Types) (layouts : List Layout) (laid : AreLaid types layouts) 
         target_e : at (seen (kinds_of types) e after).objects f.birth ≡ Some target
         target_e =
             (λ j. at (over_is j).objects (number j)) ∙ fresh_there kind ob.ty element (place spot) b.birth can.own.hand m o ob can.own.forest own_buffer capacity size can.enough us
+
+        pub fresh_uncut : (x : Object) × (at (seen (kinds_of types) e after).objects f.birth ≡ Some x) × AreUncut (kinds_of types x.ty) 0 w
+        fresh_uncut =
+            let of_type = (fresh kind ob.ty element (place spot) b.birth can.own.hand m o ob can.own.forest own_buffer capacity size can.enough us).type in
+            (target, target_e, all_uncut types target.ty w (width_is ∙ ap (λ ty. width (parts_at types ty)) (sym of_type)))
 
         module _ (leaves : List Leaf) (leaves_of : leaves ≡ leaves_at layouts shape.ty) (owners : List ℕ) (owners_of : owners ≡ owners_at layouts shape.ty) (small : w < 2 ^ 64) where
           leaves_are : leaves ≡ flat 0 element

@@ -62,7 +62,7 @@ module _ (kinds : Seen) (kind : Kinds) (alike : AreAlike kinds kind) (element : 
     from_d : at (seen kinds d new).objects from.birth ≡ Some taken.object
     from_d = ap (λ (x : Content). at x.objects from.birth) shows.is ∙ taken.found
 
-    to_d : at (seen kinds d new).objects to.birth ≡ Some can.target
+    pub to_d : at (seen kinds d new).objects to.birth ≡ Some can.target
     to_d = ap (λ (x : Content). at x.objects to.birth) shows.is ∙ target_then
 
     from_placed : at new from.birth ≡ Some from.row

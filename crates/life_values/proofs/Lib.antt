@@ -11,6 +11,7 @@ pub mod CopiedAside
 pub mod CopiedGood
 pub mod CopiedKept
 pub mod CopiedMeant
+pub mod CopiedRowed
 pub mod CopiedWords
 pub mod CopyableFromTypes
 pub mod CopyingDeep
@@ -29,6 +30,7 @@ pub mod ErasingSlots
 pub mod Filling
 pub mod Flat
 pub mod FreshMeant
+pub mod FreshRowed
 pub mod GivenAway
 pub mod GoingOver
 pub mod GoodSteps
@@ -65,6 +67,7 @@ pub mod SlotsShifted
 pub mod SlotsTaken
 pub mod SlotsTaking
 pub mod StillFull
+pub mod StillRowed
 pub mod TakenLeaves
 pub mod TakenMeant
 pub mod TakenOver

@@ -15,8 +15,9 @@ use Rattle.life_store.specs.declared.object.BirthFault.TheVariants as birth_faul
 use Rattle.life_store.specs.declared.object.ObjRef.{ObjRef}
 use Rattle.life_store.specs.declared.run.TrapKind.TheVariants as trap
 use Rattle.life_seen.specs.Housed.{Later, Shows}
-use Rattle.life_seen.specs.Kinds.{kinds_of, Kinds}
+use Rattle.life_seen.specs.Kinds.{kinds_of, AreWhole, Kinds}
 use Rattle.life_seen.specs.Named.{names_of}
+use Rattle.life_seen.specs.Rowed.{AreRowed}
 use Rattle.life_seen.specs.Seen.{object_seen, seen}
 use Rattle.life_seen.proofs.Resizing.{count_seen}
 use Rattle.life_words.specs.Numbers.{IsPlain}
@@ -30,6 +31,7 @@ use Rattle.life_values.specs.declared.layout.Layout.{Layout}
 use Rattle.life_values.specs.declared.spot.Spot.{Spot}
 use Rattle.life_values.proofs.RoomThen.{has, pushed_is, seen_is, target, target_slot, target_there, target_type, target_width, trapped_then, was}
 use Rattle.life_values.proofs.SeenAs.{seen_as, IsSeenAs}
+use Rattle.life_values.proofs.StillRowed.{are_whole}
 
 -- no room was made, so nothing is added
 pub push_fails : (types : Types) (spot : Spot) (b : ObjRef) (c : Content) (rows : Rows) (s : Setting) (o : Object) (value : Content → Words) (fault : BirthFault) (d : Content) (new : Rows)
@@ -59,6 +61,16 @@ module _ (types : Types) (layouts : List Layout) (laid : AreLaid types layouts) 
       let v = target_width types layouts laid wide spot b c rows can.push s f d new came later in
       let w = wide ob.ty in
       subst (λ y. IfSome y (HasWord size 0)) (sym now.found) (record { has_slot = omega (arith, p, q, t, count); has_word = omega (arith, e, v, w) })
+
+  pub put_keeps : (e : Content) (after : Rows) → ((kinds : Kinds) (y : Object) → IsPlain kinds d new f 0 y → AreWhole (kinds y.ty) → AreRowed kinds d new → AreRowed kinds e after) → AreRowed (kinds_of types) d new → AreRowed (kinds_of types) e after
+  put_keeps e after keeps =
+      keeps (kinds_of types) now.object
+      (record {
+        housed = came.2.housed;
+        there = now.found;
+        plain = ap (λ (y : Object). kinds_of types y.ty 0) now.same ∙ ap (λ t. kinds_of types t 0) (target_type types layouts laid wide spot b c rows can.push s f d new came later) ∙ can.plain;
+      })
+      (are_whole types now.object)
 
   module _ (value : ℕ) (e : Content) (after : Rows)
       (shows : (kinds : Kinds) (y : Object) → IsPlain kinds d new f 0 y → Shows kinds e after (with_object f.birth (with_word size 0 value (object_seen kinds (names_of d new) y)) (seen kinds d new))) where

@@ -20,6 +20,7 @@ use Rattle.life_forest.proofs.Laying.{IsMade, made_at}
 use Rattle.life_seen.specs.Housed.{Shows, Later}
 use Rattle.life_seen.specs.Kinds.{kinds_of, Kinds as Seen}
 use Rattle.life_seen.specs.Named.{names_of}
+use Rattle.life_seen.specs.Rowed.{AreRowed}
 use Rattle.life_seen.specs.Seen.{object_seen, seen}
 use Rattle.life_seen.proofs.References.{later_same, later_then}
 use Rattle.life_seen.proofs.Resizing.{count_seen}
@@ -36,6 +37,7 @@ use Rattle.life_values.proofs.CopiedGood.{got_is, number_grew, word_grew, Copied
 use Rattle.life_values.proofs.Filling.{some_setting, still_placed}
 use Rattle.life_values.proofs.Flat.{drop_here, layouts_own}
 use Rattle.life_values.proofs.SeenAs.{seen_as, IsSeenAs}
+use Rattle.life_values.proofs.StillRowed.{are_whole, seen_keeps, OwnerKeeps}
 
 -- ---- what is owned has a lesser type
 
@@ -188,6 +190,9 @@ module _ (types : Types) (layouts : List Layout) (laid : AreLaid types layouts) 
 
             pub copy_placed : at after b.birth ≡ Some b.row
             copy_placed = (came (some_setting limit) refl).3
+
+            pub own_keeps : (f : Content) (last : Rows) → OwnerKeeps e after r u f last → AreRowed (kinds_of types) e after → AreRowed (kinds_of types) f last
+            own_keeps = seen_keeps (kinds_of types) (are_whole types) e after shows_e.housed r p.can.object seen_e u (p.can.own j u here).0
 
             module _ (f : Content) (last : Rows) (owned_shows : (ks : Seen) (o : Object) → IsOwner ks e after r u o → Shows ks f last (with_owner ks e after r i u o (option_map number_of (Some b)))) (same : last ≡ after) where
               shows_f : Shows (kinds_of types) f last (with_object r.birth (with_word i u (suc b.birth) p.can.object) (seen (kinds_of types) e after))

@@ -12,9 +12,10 @@ use Rattle.life_forest.specs.Kinds.{Kinds}
 use Rattle.life_forest.specs.Owned.{times}
 use Rattle.life_forest.proofs.Counting.{one_same}
 use Rattle.life_seen.specs.Housed.{IsHoused, Shows, Later}
-use Rattle.life_seen.specs.Kinds.{Kinds as Seen}
+use Rattle.life_seen.specs.Kinds.{AreWhole, Kinds as Seen}
 use Rattle.life_seen.specs.Named.{names_of}
 use Rattle.life_seen.specs.Owned.{IsUnowned}
+use Rattle.life_seen.specs.Rowed.{AreRowed}
 use Rattle.life_seen.specs.Seen.{object_seen, seen}
 use Rattle.life_seen.proofs.References.{later_then}
 use Rattle.life_seen.proofs.Resizing.{count_seen}
@@ -25,6 +26,7 @@ use Rattle.life_values.proofs.Filling.{still_placed}
 use Rattle.life_values.proofs.Owners.{unowned_in_hand}
 use Rattle.life_values.proofs.Renewed.{one_held, owned_there, renewed_none, renewed_some, there_moved, word_like}
 use Rattle.life_values.proofs.SeenAs.{seen_as, IsSeenAs}
+use Rattle.life_values.proofs.StillRowed.{seen_keeps, OwnerKeeps}
 
 module _ (kinds : Seen) (kind : Kinds) (alike : AreAlike kinds kind) (r : ObjRef) (i u : ℕ) (c : Content) (rows : Rows) (can : CanRenew kinds kind r i u c rows) where
   abbrev m : Content
@@ -137,6 +139,9 @@ module _ (kinds : Seen) (kind : Kinds) (alike : AreAlike kinds kind) (r : ObjRef
 
         pub can_own : CanOwn last (Some p)
         can_own = placed
+
+        pub own_keeps : ((x : Object) → AreWhole (kinds x.ty)) → (g : Content) (final : Rows) → OwnerKeeps f last r u g final → AreRowed kinds f last → AreRowed kinds g final
+        own_keeps whole = seen_keeps kinds whole f last shows_moved.housed r (with_word i u 0 can.object) seen_f u can.own
 
         module _ (g : Content) (final : Rows) (owned_shows : (ks : Seen) (o : Object) → IsOwner ks f last r u o → Shows ks g final (with_owner ks f last r i u o (option_map number_of (Some p)))) (same_last : final ≡ last) where
           shows_back : Shows kinds g final (with_object r.birth (with_word i u (suc p.birth) (with_word i u 0 can.object)) (seen kinds f last))

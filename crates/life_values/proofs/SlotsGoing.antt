@@ -1,7 +1,8 @@
 -- A store goes the way of the meaning where the words of values go to other places, one slot after the other.
-use Rattle.std.proofs.Common.{◌≡◌, ◌≤◌, ◌<◌, ℕ, suc, ◌+◌, ◌-◌, List, sym, ap, ◌∙◌, arith}
+use Rattle.std.proofs.Common.{◌≡◌, ◌≤◌, ◌<◌, ℕ, suc, ◌+◌, ◌-◌, List, Some, sym, ap, ◌∙◌, arith}
+use Rattle.std.proofs.lemmas.Option.{same_Some}
 use Rattle.life_store.specs.Cells.{at}
-use Rattle.life_store.specs.Content.{Content}
+use Rattle.life_store.specs.Content.{Object, Content}
 use Rattle.life_store.specs.Places.{spot_words, wrote_spot}
 use Rattle.life_store.specs.References.{Rows}
 use Rattle.life_seen.specs.Housed.{Shows, Later}
@@ -53,6 +54,7 @@ module _ (kinds : Kinds) where
       pub can : CanMoveSlots kinds from to count w owners d new
       pub is : slots_moved (behind k (place from)) (behind k (place to)) w owners (count - k) (seen kinds d new) ≡ slots_moved (place from) (place to) w owners count (seen kinds c rows)
       pub later : Later c d rows new
+      pub type : (o : Object) → at (seen kinds c rows).objects to.object.birth ≡ Some o → can.target.ty ≡ o.ty
 
     pub progress_begin : (c : Content) (rows : Rows) → CanMoveSlots kinds from to count w owners c rows → Progress c rows c rows 0
     progress_begin c rows can = record {
@@ -63,6 +65,7 @@ module _ (kinds : Kinds) where
           let b : to.slot + 0 ≡ to.slot = omega arith in
           (λ j. slots_moved (record { object = from.object.birth; index = a j; word = from.word }) (record { object = to.object.birth; index = b j; word = to.word }) w owners (z j) (seen kinds c rows));
       later = later_same c c rows (omega arith);
+      type = λ o there. ap (λ (x : Object). x.ty) (same_Some can.target o (sym can.target_there ∙ there));
     }
 
     module _ (c : Content) (rows : Rows) (d : Content) (new : Rows) (k : ℕ) (p : Progress c rows d new k) where
@@ -132,4 +135,5 @@ module _ (kinds : Kinds) where
                 ∙ ap (λ n. slots_moved (behind k (place from)) (behind k (place to)) w owners n (seen kinds d new)) (sym z)
                 ∙ p.is;
             later = later_then c d e rows new after p.later later;
+            type = λ o there. (moved_kept to.object.birth p.can.target (seen kinds d new) p.can.target_there (place (slot_of k from)) (place (slot_of k to)) w owners).like.ty ∙ p.type o there;
           }

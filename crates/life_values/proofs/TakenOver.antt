@@ -10,8 +10,9 @@ use Rattle.life_store.specs.declared.object.ObjRef.{ObjRef}
 use Rattle.life_forest.specs.Kinds.{Kinds}
 use Rattle.life_forest.proofs.Below.{lives}
 use Rattle.life_seen.specs.Housed.{Shows, Later}
-use Rattle.life_seen.specs.Kinds.{Kinds as Seen}
+use Rattle.life_seen.specs.Kinds.{AreWhole, Kinds as Seen}
 use Rattle.life_seen.specs.Named.{names_of}
+use Rattle.life_seen.specs.Rowed.{AreRowed}
 use Rattle.life_seen.specs.Seen.{object_seen, seen}
 use Rattle.life_seen.proofs.References.{found_seen, later_then}
 use Rattle.life_seen.proofs.Resizing.{count_seen}
@@ -24,6 +25,7 @@ use Rattle.life_values.specs.declared.spot.Spot.{Spot}
 use Rattle.life_values.proofs.EmptiedThen.{still_forest, then_seen}
 use Rattle.life_values.proofs.Filling.{still_placed}
 use Rattle.life_values.proofs.SeenAs.{IsSeenAs}
+use Rattle.life_values.proofs.StillRowed.{seen_keeps, OwnerKeeps}
 use Rattle.life_values.proofs.Zeroing.{zeroed_like, IsLike}
 
 module _ (kinds : Seen) (kind : Kinds) (alike : AreAlike kinds kind) (depth : ℕ) (spot : Spot) (owners : List ℕ) (other : ObjRef) (c : Content) (rows : Rows) (can : CanReplace kinds kind depth spot owners other c rows)
@@ -63,6 +65,9 @@ module _ (kinds : Seen) (kind : Kinds) (alike : AreAlike kinds kind) (depth : �
   can_own =
       let x = other_lives in
       still_placed kinds c d rows new shows.housed later other.birth other.row x.0 (can.empty.housed.below other.birth other.row can.placed) can.placed x.1
+
+  pub own_keeps : ((x : Object) → AreWhole (kinds x.ty)) → (e : Content) (after : Rows) → OwnerKeeps d new spot.object spot.word e after → AreRowed kinds d new → AreRowed kinds e after
+  own_keeps whole = seen_keeps kinds whole d new shows.housed spot.object (zeroed spot.slot spot.word owners can.empty.object) now spot.word (ap (λ ty. kinds ty spot.word) like.ty ∙ owner)
 
   module _ (e : Content) (after : Rows) (owned : (ks : Seen) (o : Object) → IsOwner ks d new spot.object spot.word o → Shows ks e after (with_owner ks d new spot.object spot.slot spot.word o (option_map number_of (Some other)))) (same : after ≡ new) where
     shows_owned : Shows kinds e after (with_object spot.object.birth (with_word spot.slot spot.word (suc other.birth) (object_seen kinds (names_of d new) now.object)) (seen kinds d new))

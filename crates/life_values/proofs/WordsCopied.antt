@@ -30,7 +30,7 @@ use Rattle.life_values.proofs.Zeroing.{IsLike}
 use Rattle.life_values.proofs.Zeros.{wrote_with}
 use Rattle.life_values.proofs.SeenAs.{seen_as, IsSeenAs}
 
-ok_word : {o : Option Object} {y : ℕ} (i k : ℕ) (x : Object) → o ≡ Some x → asked_of o (λ (z : Object). word_at z i k) ≡ Ok y → y ≡ word_at x i k
+pub ok_word : {o : Option Object} {y : ℕ} (i k : ℕ) (x : Object) → o ≡ Some x → asked_of o (λ (z : Object). word_at z i k) ≡ Ok y → y ≡ word_at x i k
 ok_word {o = o} {y = y} i k x e asked = same (sym (ap (λ (z : Option Object). asked_of z (λ (v : Object). word_at v i k)) e) ∙ asked)
   where
     same : asked_of (Some x) (λ (v : Object). word_at v i k) ≡ Ok y → y ≡ word_at x i k

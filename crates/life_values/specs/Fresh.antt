@@ -5,7 +5,7 @@ use Rattle.life_types.specs.declared.ty.TyId.{TyId}
 use Rattle.life_core.specs.declared.instr.Form.{Form}
 use Rattle.life_core.specs.declared.instr.Form.TheVariants as form
 use Rattle.life_store.specs.Cells.{at}
-use Rattle.life_store.specs.Content.{Object, Content}
+use Rattle.life_store.specs.Content.{Object, Content, word_at}
 use Rattle.life_store.specs.Effects.{Setting, Attempt, Got, GotTrap, then_get}
 use Rattle.life_store.specs.Held.{owner_word, wrote}
 use Rattle.life_store.specs.Kinds.{Kind, Owner, Pointing}
@@ -68,6 +68,10 @@ pub record CanFill (kinds : Kinds) (spot : Spot) (leaves : List Leaf) (c : Conte
   pub own : (j : ℕ) (l : Leaf) → slice_get leaves j ≡ Some l → kinds object.ty (spot.word + l.word) ≡ kind_of l.holds
   pub within : (j : ℕ) (l : Leaf) → slice_get leaves j ≡ Some l → spot.word + l.word < object.width
   pub small : (j : ℕ) (l : Leaf) → slice_get leaves j ≡ Some l → spot.word + l.word < 2 ^ 64
+
+-- the words of each view behind its first are 0
+abbrev pub AreBlank : List Leaf → (slot word : ℕ) → Object → Type 0
+AreBlank leaves i w o = (j : ℕ) (l : Leaf) → slice_get leaves j ≡ Some l → l.holds ≡ holds.View → (n : ℕ) → 1 ≤ n → n ≤ 4 → word_at o i (w + l.word + n) ≡ 0
 
 -- the word in the store stands for what the meaning got, or the live words passed their limit there, too
 abbrev pub IsFirst : Kinds → Attempt (ℕ × Content) → Kind → Result ℕ BirthFault → Content → Rows → Type 0

@@ -3,7 +3,7 @@ use Rattle.std.specs.Prelude.{◌≡◌, ◌<◌, ◌≤◌, ◌+◌, ◌^◌, �
 use Rattle.std.proofs.Common.{◌⊎◌}
 use Rattle.life_store.specs.Cells.{at}
 use Rattle.life_store.specs.Content.{Object, Content, with_object}
-use Rattle.life_store.specs.Kinds.{Owner}
+use Rattle.life_store.specs.Kinds.{Kind, Owner, Pointing}
 use Rattle.life_store.specs.Places.{Spot as Place, spot_words, wrote_spot}
 use Rattle.life_store.specs.References.{Rows}
 use Rattle.life_forest.specs.Values.{AllWide}
@@ -37,6 +37,10 @@ moved_words from to w us c = disowned from us (wrote_spot to (spot_words c from 
 abbrev pub slots_moved : (from to : Place) → (width : ℕ) → (owners : List ℕ) → (count : ℕ) → Content → Content
 slots_moved from to w us zero c = c
 slots_moved from to w us (suc k) c = slots_moved (behind 1 from) (behind 1 to) w us k (moved_words from to w us c)
+
+-- each pointer lies whole among so many words, from one on, or beside them
+abbrev pub AreUncut : (ℕ → Kind) → (first count : ℕ) → Type 0
+AreUncut f a n = (u : ℕ) → f u ≡ Pointing 0 → (u + 5 ≤ a) ⊎ ((a + n ≤ u) ⊎ ((a ≤ u) × (u + 5 ≤ a + n)))
 
 -- ---- in a store
 

@@ -6,6 +6,7 @@ ghost use Rattle.life_store.specs.Owners.{consumed};
 ghost use Rattle.life_store.specs.Parts.{parts_at};
 ghost use Rattle.life_seen.specs.Housed.{Later, Shows};
 ghost use Rattle.life_seen.specs.Kinds.{kinds_of};
+ghost use Rattle.life_seen.specs.Rowed.{AreRowed};
 ghost use Rattle.life_seen.specs.Seen.{seen};
 ghost use Rattle.life_values.specs.Consumed.{stored, CanConsume};
 ghost use Rattle.life_values.specs.Layouts.{leaves_at, AreLaid};
@@ -34,6 +35,7 @@ pub fn consume<S: Store>(
         → Shows (kinds_of types.now) (S.content store.new) (S.rows store.new)
         (stored to.birth slot (consumed (parts_at types.now o.ty) temporary.birth (seen (kinds_of types.now) (S.content store.old) (S.rows store.old)))) }
     ensures later { Later (S.content store.old) (S.content store.new) (S.rows store.old) (S.rows store.new) }
+    ensures rowed { AreRowed (kinds_of types.now) (S.content store.old) (S.rows store.old) → AreRowed (kinds_of types.now) (S.content store.new) (S.rows store.new) }
     ensures limit { S.limit store.new ≡ S.limit store.old }
 {
     let shape = match store.shape(temporary) {

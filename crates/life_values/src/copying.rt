@@ -5,6 +5,7 @@ ghost use Rattle.life_store.specs.Effects.{Setting};
 ghost use Rattle.life_forest.specs.Kinds.{kinds_of as forest_kinds};
 ghost use Rattle.life_seen.specs.Housed.{Later};
 ghost use Rattle.life_seen.specs.Kinds.{kinds_of};
+ghost use Rattle.life_seen.specs.Rowed.{AreRowed};
 ghost use Rattle.life_seen.specs.Seen.{seen};
 ghost use Rattle.life_values.specs.Copied.{copied_number, copy_fault_of, recopied_each, slots_copied, CanCopy, CanCopySlots, CanRecopy, ComesCopied, Copies};
 ghost use Rattle.life_values.specs.Layouts.{owners_at, AreLaid};
@@ -47,6 +48,7 @@ pub fn copy_deep<S: Store>(
     ensures copied { (s : Setting) → s.given.cells ≡ S.limit store.old
         → Copies (kinds_of types.now) (copied_number s (owners_at layouts.now) depth object.birth (seen (kinds_of types.now) (S.content store.old) (S.rows store.old))) result (S.content store.new) (S.rows store.new) }
     ensures later { OnOk result (Later (S.content store.old) (S.content store.new) (S.rows store.old) (S.rows store.new)) }
+    ensures rowed { AreRowed (kinds_of types.now) (S.content store.old) (S.rows store.old) → OnOk result (AreRowed (kinds_of types.now) (S.content store.new) (S.rows store.new)) }
     ensures limit { S.limit store.new ≡ S.limit store.old }
 {
     let shape = match store.shape(object) {
@@ -95,6 +97,7 @@ fn copy_slots<S: Store>(
     ensures copied { (s : Setting) → s.given.cells ≡ S.limit store.old
         → ComesCopied (kinds_of types.now) (slots_copied (copied_number s (owners_at layouts.now) depth) owners.now width from.birth to.birth 0 length (seen (kinds_of types.now) (S.content store.old) (S.rows store.old))) result (S.content store.new) (S.rows store.new) }
     ensures later { OnOk result (Later (S.content store.old) (S.content store.new) (S.rows store.old) (S.rows store.new)) }
+    ensures rowed { AreRowed (kinds_of types.now) (S.content store.old) (S.rows store.old) → OnOk result (AreRowed (kinds_of types.now) (S.content store.new) (S.rows store.new)) }
     ensures limit { S.limit store.new ≡ S.limit store.old }
 {
     for slot in 0..length {
@@ -134,6 +137,7 @@ fn recopy<S: Store>(
     ensures copied { (s : Setting) → s.given.cells ≡ S.limit store.old
         → ComesCopied (kinds_of types.now) (recopied_each (copied_number s (owners_at layouts.now) depth) object.birth slot owners.now (seen (kinds_of types.now) (S.content store.old) (S.rows store.old))) result (S.content store.new) (S.rows store.new) }
     ensures later { OnOk result (Later (S.content store.old) (S.content store.new) (S.rows store.old) (S.rows store.new)) }
+    ensures rowed { AreRowed (kinds_of types.now) (S.content store.old) (S.rows store.old) → OnOk result (AreRowed (kinds_of types.now) (S.content store.new) (S.rows store.new)) }
     ensures limit { S.limit store.new ≡ S.limit store.old }
 {
     for word in owners {

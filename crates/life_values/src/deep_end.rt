@@ -6,6 +6,7 @@ ghost use Rattle.life_forest.specs.Kinds.{kinds_of as forest_kinds};
 ghost use Rattle.life_seen.specs.Housed.{IsHoused, Later, Shows};
 ghost use Rattle.life_seen.specs.Kinds.{kinds_of, Kinds};
 ghost use Rattle.life_seen.specs.Named.{names_of};
+ghost use Rattle.life_seen.specs.Rowed.{AreRowed};
 ghost use Rattle.life_seen.specs.Seen.{object_seen, seen};
 ghost use Rattle.life_values.specs.Ended.{ended_number};
 ghost use Rattle.life_values.specs.Ending.{CanEnd, NextIn};
@@ -37,6 +38,7 @@ pub fn end_deep<S: Store>(
     ensures ended { Shows (kinds_of types.now) (S.content store.new) (S.rows store.new)
         (ended_number (forest_kinds types.now) depth object.birth (seen (kinds_of types.now) (S.content store.old) (S.rows store.old))) }
     ensures later { Later (S.content store.old) (S.content store.new) (S.rows store.old) (S.rows store.new) }
+    ensures rowed { AreRowed (kinds_of types.now) (S.content store.old) (S.rows store.old) → AreRowed (kinds_of types.now) (S.content store.new) (S.rows store.new) }
     ensures limit { S.limit store.new ≡ S.limit store.old }
 {
     let shape = match store.shape(object) {

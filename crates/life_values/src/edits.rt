@@ -5,6 +5,7 @@ ghost use Rattle.life_store.specs.Content.{CanCount, Object};
 ghost use Rattle.life_forest.specs.Kinds.{kinds_of as forest_kinds};
 ghost use Rattle.life_seen.specs.Housed.{Later, Shows};
 ghost use Rattle.life_seen.specs.Kinds.{kinds_of};
+ghost use Rattle.life_seen.specs.Rowed.{AreRowed};
 ghost use Rattle.life_seen.specs.Seen.{seen};
 ghost use Rattle.life_values.specs.Cleared.{cleared_words, CanClear};
 ghost use Rattle.life_values.specs.Emptied.{emptied_each};
@@ -39,6 +40,7 @@ pub fn pop<S: Store>(
         (popped_words (ended_number (forest_kinds types.now) depth) (owners_at layouts.now o.ty) buffer.birth (length o.slots) (seen (kinds_of types.now) (S.content store.old) (S.rows store.old)))
         result (S.content store.new) (S.rows store.new) }
     ensures later { Later (S.content store.old) (S.content store.new) (S.rows store.old) (S.rows store.new) }
+    ensures rowed { AreRowed (kinds_of types.now) (S.content store.old) (S.rows store.old) → AreRowed (kinds_of types.now) (S.content store.new) (S.rows store.new) }
     ensures limit { S.limit store.new ≡ S.limit store.old }
 {
     let shape = match store.shape(buffer) {
@@ -73,6 +75,7 @@ pub fn clear<S: Store>(
         → Shows (kinds_of types.now) (S.content store.new) (S.rows store.new)
         (cleared_words (ended_number (forest_kinds types.now) depth) (owners_at layouts.now o.ty) buffer.birth (length o.slots) (seen (kinds_of types.now) (S.content store.old) (S.rows store.old))) }
     ensures later { Later (S.content store.old) (S.content store.new) (S.rows store.old) (S.rows store.new) }
+    ensures rowed { AreRowed (kinds_of types.now) (S.content store.old) (S.rows store.old) → AreRowed (kinds_of types.now) (S.content store.new) (S.rows store.new) }
     ensures limit { S.limit store.new ≡ S.limit store.old }
 {
     let shape = match store.shape(buffer) {
@@ -109,6 +112,7 @@ pub fn erase<S: Store>(
         → Shows (kinds_of types.now) (S.content store.new) (S.rows store.new)
         (erased_words (ended_number (forest_kinds types.now) depth) (leaves_at layouts.now o.ty) (width_at layouts.now o.ty) (owners_at layouts.now o.ty) buffer.birth index (length o.slots) (seen (kinds_of types.now) (S.content store.old) (S.rows store.old))) }
     ensures later { Later (S.content store.old) (S.content store.new) (S.rows store.old) (S.rows store.new) }
+    ensures rowed { AreRowed (kinds_of types.now) (S.content store.old) (S.rows store.old) → AreRowed (kinds_of types.now) (S.content store.new) (S.rows store.new) }
     ensures limit { S.limit store.new ≡ S.limit store.old }
 {
     let shape = match store.shape(buffer) {
@@ -158,6 +162,7 @@ fn end_slot<S: Store>(
         (emptied_each (ended_number (forest_kinds types.now) depth) object.birth slot 0 owners.now (seen (kinds_of types.now) (S.content store.old) (S.rows store.old))) }
     ensures small { width < 2 ^ 64 }
     ensures later { Later (S.content store.old) (S.content store.new) (S.rows store.old) (S.rows store.new) }
+    ensures rowed { AreRowed (kinds_of types.now) (S.content store.old) (S.rows store.old) → AreRowed (kinds_of types.now) (S.content store.new) (S.rows store.new) }
     ensures limit { S.limit store.new ≡ S.limit store.old }
 {
     let spot = Spot {

@@ -1,7 +1,8 @@
 // How a value comes to life in a slot.
 ghost use Rattle.std.specs.Prelude.{◌≡◌, ◌≤◌, ◌<◌, ◌+◌, ◌^◌, ℕ, length, IfOk, OnOk, Some};
 ghost use Rattle.life_core.specs.declared.instr.Form.{Form as Birth};
-ghost use Rattle.life_store.specs.Content.{CanCount};
+ghost use Rattle.life_store.specs.Cells.{at};
+ghost use Rattle.life_store.specs.Content.{CanCount, Object};
 ghost use Rattle.life_store.specs.Effects.{Got, Setting, then_get};
 ghost use Rattle.life_store.specs.Held.{owner_word};
 ghost use Rattle.life_store.specs.Kinds.{Owner};
@@ -9,8 +10,9 @@ ghost use Rattle.life_store.specs.Owners.{birth};
 ghost use Rattle.life_store.specs.Parts.{parts_at, width};
 ghost use Rattle.life_seen.specs.Housed.{IsHoused, Later};
 ghost use Rattle.life_seen.specs.Kinds.{kinds_of, Kinds};
+ghost use Rattle.life_seen.specs.Rowed.{AreRowed};
 ghost use Rattle.life_seen.specs.Seen.{seen};
-ghost use Rattle.life_values.specs.Fresh.{kind_of, leaf_born, leaves_wrote, raw_word, AreWide, CanFill, Comes, IsFirst};
+ghost use Rattle.life_values.specs.Fresh.{kind_of, leaf_born, leaves_wrote, raw_word, AreBlank, AreWide, CanFill, Comes, IsFirst};
 ghost use Rattle.life_values.specs.Layouts.{AreLaid};
 
 use crate::layout::{Holds, Layout, Leaf, width_of};
@@ -38,6 +40,8 @@ pub fn fresh<S: Store>(
     ensures comes { (s : Setting) → s.given.cells ≡ S.limit store.old
         → Comes (kinds_of types.now) (leaves_wrote s types.now form spot.object.birth spot.slot spot.word leaves.now (seen (kinds_of types.now) (S.content store.old) (S.rows store.old))) result (S.content store.new) (S.rows store.new) }
     ensures later { OnOk result (Later (S.content store.old) (S.content store.new) (S.rows store.old) (S.rows store.new)) }
+    ensures rowed { (o : Object) → at (seen (kinds_of types.now) (S.content store.old) (S.rows store.old)).objects spot.object.birth ≡ Some o → AreBlank leaves.now spot.slot spot.word o
+        → AreRowed (kinds_of types.now) (S.content store.old) (S.rows store.old) → OnOk result (AreRowed (kinds_of types.now) (S.content store.new) (S.rows store.new)) }
     ensures limit { S.limit store.new ≡ S.limit store.old }
 {
     let raw = raw_word(form);
@@ -67,6 +71,7 @@ fn first_word<S: Store>(
     ensures births { OnOk result ((S.content store.new).births ≤ (S.content store.old).births + 1) }
     ensures clock { OnOk result ((S.content store.new).clock ≡ (S.content store.old).clock) }
     ensures later { OnOk result (Later (S.content store.old) (S.content store.new) (S.rows store.old) (S.rows store.new)) }
+    ensures rowed { (kinds : Kinds) → AreRowed kinds (S.content store.old) (S.rows store.old) → OnOk result (AreRowed kinds (S.content store.new) (S.rows store.new)) }
     ensures limit { S.limit store.new ≡ S.limit store.old }
 {
     match holds {
@@ -87,6 +92,7 @@ fn buffer_word<S: Store>(store: &mut S, ty: TyId, width: u64) -> Result<u64, Bir
     ensures births { OnOk result ((S.content store.new).births ≤ (S.content store.old).births + 1) }
     ensures clock { OnOk result ((S.content store.new).clock ≡ (S.content store.old).clock) }
     ensures later { OnOk result (Later (S.content store.old) (S.content store.new) (S.rows store.old) (S.rows store.new)) }
+    ensures rowed { (kinds : Kinds) → AreRowed kinds (S.content store.old) (S.rows store.old) → OnOk result (AreRowed kinds (S.content store.new) (S.rows store.new)) }
     ensures limit { S.limit store.new ≡ S.limit store.old }
 {
     match born(store, ty, width, 0) {

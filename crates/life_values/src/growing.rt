@@ -8,10 +8,11 @@ ghost use Rattle.life_store.specs.Parts.{parts_at, Parts};
 ghost use Rattle.life_forest.specs.Kinds.{kinds_of as forest_kinds};
 ghost use Rattle.life_seen.specs.Housed.{Later, Shows};
 ghost use Rattle.life_seen.specs.Kinds.{kinds_of};
+ghost use Rattle.life_seen.specs.Rowed.{AreRowed};
 ghost use Rattle.life_seen.specs.Seen.{seen};
 ghost use Rattle.life_values.specs.Fresh.{AreWide};
 ghost use Rattle.life_values.specs.Layouts.{leaves_at, AreLaid};
-ghost use Rattle.life_values.specs.Moved.{place};
+ghost use Rattle.life_values.specs.Moved.{place, AreUncut};
 ghost use Rattle.life_values.specs.Regrown.{handed_over, then_owned, CanHandOver, CanRegrow};
 ghost use Rattle.life_values.specs.Texts.{IsBuffer};
 
@@ -44,6 +45,7 @@ pub fn regrow<S: Store>(
     ensures regrown { (s : Setting) (o : Object) → s.given.cells ≡ S.limit store.old → at (seen (kinds_of types.now) (S.content store.old) (S.rows store.old)).objects buffer.birth ≡ Some o
         → IsBuffer (kinds_of types.now) (then_owned (place spot) (regrown s o.ty (parts_at types.now o.ty) buffer.birth capacity size (seen (kinds_of types.now) (S.content store.old) (S.rows store.old)))) result (S.content store.new) (S.rows store.new) }
     ensures later { OnOk result (Later (S.content store.old) (S.content store.new) (S.rows store.old) (S.rows store.new)) }
+    ensures rowed { AreRowed (kinds_of types.now) (S.content store.old) (S.rows store.old) → OnOk result (AreRowed (kinds_of types.now) (S.content store.new) (S.rows store.new)) }
     ensures limit { S.limit store.new ≡ S.limit store.old }
 {
     let shape = match store.shape(buffer) {
@@ -94,6 +96,8 @@ pub(crate) fn hand_over<S: Store>(
     ensures over { Shows (kinds_of types.now) (S.content store.new) (S.rows store.new)
         (handed_over leaves.now width owners.now from.birth to.birth onto count (seen (kinds_of types.now) (S.content store.old) (S.rows store.old))) }
     ensures later { Later (S.content store.old) (S.content store.new) (S.rows store.old) (S.rows store.new) }
+    ensures rowed { (o : Object) → at (seen (kinds_of types.now) (S.content store.old) (S.rows store.old)).objects to.birth ≡ Some o → AreUncut (kinds_of types.now o.ty) 0 width
+        → AreRowed (kinds_of types.now) (S.content store.old) (S.rows store.old) → AreRowed (kinds_of types.now) (S.content store.new) (S.rows store.new) }
     ensures limit { S.limit store.new ≡ S.limit store.old }
 {
     take_slots(types, store, from, 0, count, leaves);

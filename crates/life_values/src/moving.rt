@@ -1,10 +1,14 @@
 // How the words of values go from one place to another.
-ghost use Rattle.std.specs.Prelude.{◌≡◌, ◌≤◌, ◌+◌, ◌^◌};
+ghost use Rattle.std.specs.Prelude.{◌≡◌, ◌≤◌, ◌+◌, ◌^◌, Some};
+ghost use Rattle.life_store.specs.Cells.{at};
+ghost use Rattle.life_store.specs.Content.{Object};
 ghost use Rattle.life_store.specs.Places.{spot_words, wrote_spot};
+ghost use Rattle.life_forest.specs.Values.{AllWide};
 ghost use Rattle.life_seen.specs.Housed.{Later, Shows};
 ghost use Rattle.life_seen.specs.Kinds.{kinds_of};
+ghost use Rattle.life_seen.specs.Rowed.{AreRowed};
 ghost use Rattle.life_seen.specs.Seen.{seen};
-ghost use Rattle.life_values.specs.Moved.{disowned, moved_words, place, slots_moved, CanCopyWords, CanDisown, CanMove, CanMoveSlots};
+ghost use Rattle.life_values.specs.Moved.{disowned, moved_words, place, slots_moved, AreUncut, CanCopyWords, CanDisown, CanMove, CanMoveSlots};
 
 use crate::spot::Spot;
 use life_store::Store;
@@ -24,6 +28,8 @@ pub(crate) fn copy_words<S: Store>(
         (wrote_spot (place to) (spot_words (seen (kinds_of types.now) (S.content store.old) (S.rows store.old)) (place from) width) (seen (kinds_of types.now) (S.content store.old) (S.rows store.old))) }
     ensures rows { S.rows store.new ≡ S.rows store.old }
     ensures later { Later (S.content store.old) (S.content store.new) (S.rows store.old) (S.rows store.new) }
+    ensures rowed { (o : Object) → at (seen (kinds_of types.now) (S.content store.old) (S.rows store.old)).objects to.object.birth ≡ Some o → AllWide o.width o.slots → AreUncut (kinds_of types.now o.ty) to.word width
+        → AreRowed (kinds_of types.now) (S.content store.old) (S.rows store.old) → AreRowed (kinds_of types.now) (S.content store.new) (S.rows store.new) }
     ensures limit { S.limit store.new ≡ S.limit store.old }
 {
     for word in 0..width {
@@ -56,6 +62,8 @@ pub(crate) fn move_slots<S: Store>(
         (slots_moved (place from) (place to) width owners.now count (seen (kinds_of types.now) (S.content store.old) (S.rows store.old))) }
     ensures rows { S.rows store.new ≡ S.rows store.old }
     ensures later { Later (S.content store.old) (S.content store.new) (S.rows store.old) (S.rows store.new) }
+    ensures rowed { (o : Object) → at (seen (kinds_of types.now) (S.content store.old) (S.rows store.old)).objects to.object.birth ≡ Some o → AreUncut (kinds_of types.now o.ty) to.word width
+        → AreRowed (kinds_of types.now) (S.content store.old) (S.rows store.old) → AreRowed (kinds_of types.now) (S.content store.new) (S.rows store.new) }
     ensures limit { S.limit store.new ≡ S.limit store.old }
 {
     for slot in 0..count {
@@ -87,6 +95,8 @@ pub(crate) fn move_words<S: Store>(
         (moved_words (place from) (place to) width owners.now (seen (kinds_of types.now) (S.content store.old) (S.rows store.old))) }
     ensures rows { S.rows store.new ≡ S.rows store.old }
     ensures later { Later (S.content store.old) (S.content store.new) (S.rows store.old) (S.rows store.new) }
+    ensures rowed { (o : Object) → at (seen (kinds_of types.now) (S.content store.old) (S.rows store.old)).objects to.object.birth ≡ Some o → AllWide o.width o.slots → AreUncut (kinds_of types.now o.ty) to.word width
+        → AreRowed (kinds_of types.now) (S.content store.old) (S.rows store.old) → AreRowed (kinds_of types.now) (S.content store.new) (S.rows store.new) }
     ensures limit { S.limit store.new ≡ S.limit store.old }
 {
     copy_words(types, store, from, to, width);
@@ -100,6 +110,7 @@ fn disown<S: Store>(types: &TypeTable, store: &mut S, spot: Spot, owners: &[u64]
         (disowned (place spot) owners.now (seen (kinds_of types.now) (S.content store.old) (S.rows store.old))) }
     ensures rows { S.rows store.new ≡ S.rows store.old }
     ensures later { Later (S.content store.old) (S.content store.new) (S.rows store.old) (S.rows store.new) }
+    ensures rowed { AreRowed (kinds_of types.now) (S.content store.old) (S.rows store.old) → AreRowed (kinds_of types.now) (S.content store.new) (S.rows store.new) }
     ensures limit { S.limit store.new ≡ S.limit store.old }
 {
     for owner in owners {

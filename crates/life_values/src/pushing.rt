@@ -8,6 +8,7 @@ ghost use Rattle.life_store.specs.Owners.{consumed};
 ghost use Rattle.life_store.specs.Parts.{parts_at};
 ghost use Rattle.life_seen.specs.Housed.{Later};
 ghost use Rattle.life_seen.specs.Kinds.{kinds_of};
+ghost use Rattle.life_seen.specs.Rowed.{AreRowed};
 ghost use Rattle.life_seen.specs.Seen.{seen};
 ghost use Rattle.life_values.specs.Fresh.{AreWide, Comes};
 ghost use Rattle.life_values.specs.Layouts.{leaves_at, AreLaid};
@@ -43,6 +44,7 @@ pub fn push_number<S: Store>(
     ensures pushed { (s : Setting) (o : Object) → s.given.cells ≡ S.limit store.old → s.given.growth ≡ growth → at (seen (kinds_of types.now) (S.content store.old) (S.rows store.old)).objects buffer.birth ≡ Some o
         → Comes (kinds_of types.now) (pushed s o.ty (parts_at types.now o.ty) (place spot) buffer.birth (λ c. (number ∷ [], c)) (seen (kinds_of types.now) (S.content store.old) (S.rows store.old))) result (S.content store.new) (S.rows store.new) }
     ensures later { OnOk result (Later (S.content store.old) (S.content store.new) (S.rows store.old) (S.rows store.new)) }
+    ensures rowed { AreRowed (kinds_of types.now) (S.content store.old) (S.rows store.old) → OnOk result (AreRowed (kinds_of types.now) (S.content store.new) (S.rows store.new)) }
     ensures limit { S.limit store.new ≡ S.limit store.old }
 {
     let shape = match store.shape(buffer) {
@@ -79,6 +81,7 @@ pub fn push_taken<S: Store>(
     ensures pushed { (s : Setting) (o : Object) → s.given.cells ≡ S.limit store.old → s.given.growth ≡ growth → at (seen (kinds_of types.now) (S.content store.old) (S.rows store.old)).objects buffer.birth ≡ Some o
         → Comes (kinds_of types.now) (pushed s o.ty (parts_at types.now o.ty) (place spot) buffer.birth (consumed (parts_at types.now o.ty) temporary.birth) (seen (kinds_of types.now) (S.content store.old) (S.rows store.old))) result (S.content store.new) (S.rows store.new) }
     ensures later { OnOk result (Later (S.content store.old) (S.content store.new) (S.rows store.old) (S.rows store.new)) }
+    ensures rowed { AreRowed (kinds_of types.now) (S.content store.old) (S.rows store.old) → OnOk result (AreRowed (kinds_of types.now) (S.content store.new) (S.rows store.new)) }
     ensures limit { S.limit store.new ≡ S.limit store.old }
 {
     let shape = match store.shape(buffer) {

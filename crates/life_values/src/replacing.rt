@@ -3,6 +3,7 @@ ghost use Rattle.std.specs.Prelude.{◌≡◌};
 ghost use Rattle.life_forest.specs.Kinds.{kinds_of as forest_kinds};
 ghost use Rattle.life_seen.specs.Housed.{Later, Shows};
 ghost use Rattle.life_seen.specs.Kinds.{kinds_of};
+ghost use Rattle.life_seen.specs.Rowed.{AreRowed};
 ghost use Rattle.life_seen.specs.Seen.{seen};
 ghost use Rattle.life_values.specs.Ended.{ended_number};
 ghost use Rattle.life_values.specs.Layouts.{AreLayouts};
@@ -31,6 +32,7 @@ pub fn replace<S: Store>(
     ensures replaced { Shows (kinds_of types.now) (S.content store.new) (S.rows store.new)
         (replaced_by (ended_number (forest_kinds types.now) depth) spot.object.birth spot.slot spot.word owners.now other.birth (seen (kinds_of types.now) (S.content store.old) (S.rows store.old))) }
     ensures later { Later (S.content store.old) (S.content store.new) (S.rows store.old) (S.rows store.new) }
+    ensures rowed { AreRowed (kinds_of types.now) (S.content store.old) (S.rows store.old) → AreRowed (kinds_of types.now) (S.content store.new) (S.rows store.new) }
     ensures limit { S.limit store.new ≡ S.limit store.old }
 {
     end_words(types, layouts, store, spot, owners, depth);

@@ -5,6 +5,7 @@ ghost use Rattle.life_store.specs.Kinds.{Plain};
 ghost use Rattle.life_forest.specs.Kinds.{kinds_of as forest_kinds};
 ghost use Rattle.life_seen.specs.Housed.{Later};
 ghost use Rattle.life_seen.specs.Kinds.{kinds_of};
+ghost use Rattle.life_seen.specs.Rowed.{AreRowed};
 ghost use Rattle.life_seen.specs.Seen.{seen};
 ghost use Rattle.life_values.specs.Ended.{ended_number};
 ghost use Rattle.life_values.specs.Fresh.{Comes};
@@ -39,6 +40,7 @@ pub fn rewrite<S: Store>(
     ensures rewritten { (s : Setting) → s.given.cells ≡ S.limit store.old
         → Comes (kinds_of types.now) (given_characters s (ended_number (forest_kinds types.now) depth) ty spot.object.birth spot.slot spot.word owners.now characters.now (seen (kinds_of types.now) (S.content store.old) (S.rows store.old))) result (S.content store.new) (S.rows store.new) }
     ensures later { OnOk result (Later (S.content store.old) (S.content store.new) (S.rows store.old) (S.rows store.new)) }
+    ensures rowed { AreRowed (kinds_of types.now) (S.content store.old) (S.rows store.old) → OnOk result (AreRowed (kinds_of types.now) (S.content store.new) (S.rows store.new)) }
     ensures limit { S.limit store.new ≡ S.limit store.old }
 {
     match text(types, store, ty, characters) {

@@ -7,6 +7,7 @@ ghost use Rattle.life_store.specs.Effects.{Setting};
 ghost use Rattle.life_store.specs.Parts.{parts_at};
 ghost use Rattle.life_seen.specs.Housed.{Later};
 ghost use Rattle.life_seen.specs.Kinds.{kinds_of};
+ghost use Rattle.life_seen.specs.Rowed.{AreRowed};
 ghost use Rattle.life_seen.specs.Seen.{seen};
 ghost use Rattle.life_values.specs.Fresh.{AreWide, Comes};
 ghost use Rattle.life_values.specs.Layouts.{leaves_at, AreLaid};
@@ -32,6 +33,7 @@ pub fn widen<S: Store>(types: &TypeTable, store: &mut S, buffer: ObjRef) -> bool
     ensures content_stays { result ≡ false → S.content store.new ≡ S.content store.old }
     ensures rows_stay { result ≡ false → S.rows store.new ≡ S.rows store.old }
     ensures later { Later (S.content store.old) (S.content store.new) (S.rows store.old) (S.rows store.new) }
+    ensures rowed { AreRowed (kinds_of types.now) (S.content store.old) (S.rows store.old) → AreRowed (kinds_of types.now) (S.content store.new) (S.rows store.new) }
     ensures limit { S.limit store.new ≡ S.limit store.old }
 {
     let shape = match store.shape(buffer) {
@@ -68,6 +70,7 @@ pub fn make_room<S: Store>(
     ensures room { (s : Setting) (o : Object) → s.given.cells ≡ S.limit store.old → s.given.growth ≡ growth → at (seen (kinds_of types.now) (S.content store.old) (S.rows store.old)).objects buffer.birth ≡ Some o
         → IsBuffer (kinds_of types.now) (then_owned (place spot) (with_room s o.ty (parts_at types.now o.ty) buffer.birth (seen (kinds_of types.now) (S.content store.old) (S.rows store.old)))) result (S.content store.new) (S.rows store.new) }
     ensures later { OnOk result (Later (S.content store.old) (S.content store.new) (S.rows store.old) (S.rows store.new)) }
+    ensures rowed { AreRowed (kinds_of types.now) (S.content store.old) (S.rows store.old) → OnOk result (AreRowed (kinds_of types.now) (S.content store.new) (S.rows store.new)) }
     ensures limit { S.limit store.new ≡ S.limit store.old }
 {
     if widen(types, store, buffer) {
@@ -106,6 +109,7 @@ pub fn reserve<S: Store>(
     ensures reserved { (s : Setting) (o : Object) → s.given.cells ≡ S.limit store.old → at (seen (kinds_of types.now) (S.content store.old) (S.rows store.old)).objects buffer.birth ≡ Some o
         → Comes (kinds_of types.now) (reserved s o.ty (parts_at types.now o.ty) (place spot) buffer.birth wanted (seen (kinds_of types.now) (S.content store.old) (S.rows store.old))) result (S.content store.new) (S.rows store.new) }
     ensures later { OnOk result (Later (S.content store.old) (S.content store.new) (S.rows store.old) (S.rows store.new)) }
+    ensures rowed { AreRowed (kinds_of types.now) (S.content store.old) (S.rows store.old) → OnOk result (AreRowed (kinds_of types.now) (S.content store.new) (S.rows store.new)) }
     ensures limit { S.limit store.new ≡ S.limit store.old }
 {
     let shape = match store.shape(buffer) {

@@ -4,6 +4,7 @@ ghost use Rattle.life_store.specs.Content.{CanCount};
 ghost use Rattle.life_forest.specs.Kinds.{kinds_of as forest_kinds};
 ghost use Rattle.life_seen.specs.Housed.{IsHoused, Later, Shows};
 ghost use Rattle.life_seen.specs.Kinds.{kinds_of};
+ghost use Rattle.life_seen.specs.Rowed.{AreRowed};
 ghost use Rattle.life_seen.specs.Seen.{seen};
 ghost use Rattle.life_values.specs.Regrown.{slots_taken, CanTakeSlots};
 ghost use Rattle.life_values.specs.Taken.{leaf_taken, leaves_taken, renewed, CanRenew, CanRenewIf, CanTake};
@@ -23,6 +24,7 @@ pub fn take_value<S: Store>(types: &TypeTable, store: &mut S, spot: Spot, leaves
     ensures taken { Shows (kinds_of types.now) (S.content store.new) (S.rows store.new)
         (leaves_taken spot.object.birth spot.slot spot.word leaves.now (seen (kinds_of types.now) (S.content store.old) (S.rows store.old))) }
     ensures later { Later (S.content store.old) (S.content store.new) (S.rows store.old) (S.rows store.new) }
+    ensures rowed { AreRowed (kinds_of types.now) (S.content store.old) (S.rows store.old) → AreRowed (kinds_of types.now) (S.content store.new) (S.rows store.new) }
     ensures limit { S.limit store.new ≡ S.limit store.old }
 {
     for leaf in leaves {
@@ -39,6 +41,7 @@ fn take_leaf<S: Store>(types: &TypeTable, store: &mut S, spot: Spot, leaf: Leaf)
     ensures shows { Shows (kinds_of types.now) (S.content store.new) (S.rows store.new)
         (leaf_taken spot.object.birth spot.slot (spot.word + leaf.word) leaf.holds (seen (kinds_of types.now) (S.content store.old) (S.rows store.old))) }
     ensures later { Later (S.content store.old) (S.content store.new) (S.rows store.old) (S.rows store.new) }
+    ensures rowed { AreRowed (kinds_of types.now) (S.content store.old) (S.rows store.old) → AreRowed (kinds_of types.now) (S.content store.new) (S.rows store.new) }
     ensures limit { S.limit store.new ≡ S.limit store.old }
 {
     match leaf.holds {
@@ -53,6 +56,7 @@ fn renew<S: Store>(types: &TypeTable, store: &mut S, object: ObjRef, slot: u32, 
     requires countable { CanCount (S.content store.old) }
     ensures shows { Shows (kinds_of types.now) (S.content store.new) (S.rows store.new) (renewed object.birth slot word (seen (kinds_of types.now) (S.content store.old) (S.rows store.old))) }
     ensures later { Later (S.content store.old) (S.content store.new) (S.rows store.old) (S.rows store.new) }
+    ensures rowed { AreRowed (kinds_of types.now) (S.content store.old) (S.rows store.old) → AreRowed (kinds_of types.now) (S.content store.new) (S.rows store.new) }
     ensures limit { S.limit store.new ≡ S.limit store.old }
 {
     if let Some(owned) = take_owned(store, object, slot, word) {
@@ -77,6 +81,7 @@ pub(crate) fn take_slots<S: Store>(
     ensures taken { Shows (kinds_of types.now) (S.content store.new) (S.rows store.new)
         (slots_taken leaves.now object.birth first count (seen (kinds_of types.now) (S.content store.old) (S.rows store.old))) }
     ensures later { Later (S.content store.old) (S.content store.new) (S.rows store.old) (S.rows store.new) }
+    ensures rowed { AreRowed (kinds_of types.now) (S.content store.old) (S.rows store.old) → AreRowed (kinds_of types.now) (S.content store.new) (S.rows store.new) }
     ensures limit { S.limit store.new ≡ S.limit store.old }
 {
     for slot in 0..count {

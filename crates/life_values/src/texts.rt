@@ -4,6 +4,7 @@ ghost use Rattle.life_store.specs.Effects.{Setting};
 ghost use Rattle.life_store.specs.Kinds.{Plain};
 ghost use Rattle.life_seen.specs.Housed.{IsHoused, Later, Shows};
 ghost use Rattle.life_seen.specs.Kinds.{kinds_of};
+ghost use Rattle.life_seen.specs.Rowed.{AreRowed};
 ghost use Rattle.life_seen.specs.Seen.{seen};
 ghost use Rattle.life_values.specs.Texts.{text_born, with_characters, CanWrite, IsBuffer};
 
@@ -26,6 +27,7 @@ pub fn text<S: Store>(
     ensures text { (s : Setting) → s.given.cells ≡ S.limit store.old
         → IsBuffer (kinds_of types.now) (text_born s ty characters.now (seen (kinds_of types.now) (S.content store.old) (S.rows store.old))) result (S.content store.new) (S.rows store.new) }
     ensures later { OnOk result (Later (S.content store.old) (S.content store.new) (S.rows store.old) (S.rows store.new)) }
+    ensures rowed { AreRowed (kinds_of types.now) (S.content store.old) (S.rows store.old) → OnOk result (AreRowed (kinds_of types.now) (S.content store.new) (S.rows store.new)) }
     ensures limit { S.limit store.new ≡ S.limit store.old }
 {
     match born_sized(store, ty, 1, characters.len() as u32) {
@@ -44,6 +46,7 @@ fn write_characters<S: Store>(types: &TypeTable, store: &mut S, text: ObjRef, ch
     ensures shows { Shows (kinds_of types.now) (S.content store.new) (S.rows store.new)
         (with_characters text.birth characters.now (seen (kinds_of types.now) (S.content store.old) (S.rows store.old))) }
     ensures rows { S.rows store.new ≡ S.rows store.old }
+    ensures rowed { AreRowed (kinds_of types.now) (S.content store.old) (S.rows store.old) → AreRowed (kinds_of types.now) (S.content store.new) (S.rows store.new) }
     ensures limit { S.limit store.new ≡ S.limit store.old }
 {
     let mut slot = 0;

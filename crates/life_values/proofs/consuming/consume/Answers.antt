@@ -1,5 +1,5 @@
 use Rattle.std.proofs.Common.{sym, ◌∙◌}
-use Rattle.life_values.proofs.GivenAway.{consume_shows, hand_births, hand_can, not_dead}
+use Rattle.life_values.proofs.GivenAway.{consume_shows, hand_births, hand_can, not_dead, target_uncut}
 use Rattle.life_values.proofs.consuming.consume.Goals as goal
 
 pub unreachable-requires : goal.unreachable-requires
@@ -21,3 +21,10 @@ returns-clause-consumed g c o there =
     consume_shows c.args.types.now c.args.layouts.now c.requires.layouts c.args.temporary c.args.to c.args.slot (g.S.Store.content c.args.store.now) (g.S.Store.rows c.args.store.now) c.requires.can
     c.in-Ok.shape (sym c.shape.ensures.shape ∙ c.in-Ok.is) c.width_of-width.result c.width_of-width.ensures c.is_width.ensures c.leaves_of-leaves.result.now c.leaves_of-leaves.ensures c.owners_of-owners.result.now c.owners_of-owners.ensures
     (g.S.Store.content c.hand_over.new.store) (g.S.Store.rows c.hand_over.new.store) c.hand_over.ensures.over o there
+
+pub returns-clause-rowed : goal.returns-clause-rowed
+returns-clause-rowed g c rowed =
+    c.hand_over.ensures.rowed c.requires.can.target c.requires.can.target_there
+    (target_uncut c.args.types.now c.args.layouts.now c.requires.layouts c.args.temporary c.args.to c.args.slot (g.S.Store.content c.args.store.now) (g.S.Store.rows c.args.store.now) c.requires.can
+    c.in-Ok.shape (sym c.shape.ensures.shape ∙ c.in-Ok.is) c.width_of-width.result c.width_of-width.ensures c.is_width.ensures c.leaves_of-leaves.result.now c.leaves_of-leaves.ensures c.owners_of-owners.result.now c.owners_of-owners.ensures)
+    rowed

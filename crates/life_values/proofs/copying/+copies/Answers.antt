@@ -6,8 +6,8 @@ use Rattle.life_seen.specs.Seen.{seen}
 use Rattle.life_values.specs.Copied.{copied_number, CanCopy, CanCopySlots, CanRecopy, Copies}
 use Rattle.life_values.specs.Layouts.{owners_at}
 use Rattle.life_values.proofs.CopyingDeep.{at_least, birth_fails, deep_enough, not_dead, slots_can, slots_come, slots_fail}
-use Rattle.life_values.proofs.CopyingSlots.{progress_begin as slots_begin, progress_end as slots_end, progress_next as slots_next, recopy_can, slot_fails, words_can}
-use Rattle.life_values.proofs.Recopying.{can_own, copy_can, copy_fails, copy_placed, none_comes, progress_begin as words_begin, progress_end as words_end, progress_next as words_next, word_there}
+use Rattle.life_values.proofs.CopyingSlots.{progress_begin as slots_begin, progress_end as slots_end, progress_next as slots_next, recopy_can, slot_fails, words_can, words_uncut}
+use Rattle.life_values.proofs.Recopying.{can_own, copy_can, copy_fails, copy_placed, none_comes, own_keeps, progress_begin as words_begin, progress_end as words_end, progress_next as words_next, word_there}
 use Rattle.life_values.proofs.copying.+copies.Goals as goal
 
 -- ---- an object
@@ -63,11 +63,15 @@ copy_deep-returns-in-Ok-copy_slots-clause-copied g t c s cells =
     c.in-Ok-born_sized.ensures.room c.in-Ok-born_sized.copy c.in-Ok-born_sized.ensures.number (g.S.Store.content c.born_sized.new.store) (g.S.Store.rows c.born_sized.new.store) (c.in-Ok-born_sized.ensures.shows (kinds_of c.args.types.now) c.requires.can.housed) c.in-Ok-born_sized.ensures.placed c.in-Ok-born_sized.ensures.later (g.S.Store.content c.copy_slots.new.store) (g.S.Store.rows c.copy_slots.new.store)
     (λ x limit. c.in-Ok-copy_slots.ensures.copied x (limit ∙ sym c.in-Ok-born_sized.ensures.limit)) c.in-Ok-copy_slots.ensures.later s cells
 
+pub copy_deep-returns-in-Ok-copy_slots-clause-rowed : goal.copy_deep-returns-in-Ok-copy_slots-clause-rowed
+copy_deep-returns-in-Ok-copy_slots-clause-rowed g t c rowed = c.in-Ok-copy_slots.ensures.rowed (c.in-Ok-born_sized.ensures.rowed (kinds_of c.args.types.now) rowed)
+
 -- ---- its slots
 
 pub copy_slots-loop-slot-init : goal.copy_slots-loop-slot-init
 copy_slots-loop-slot-init g t c = record {
   limit = refl;
+  rowed = λ rowed. rowed;
   progress = λ laid ordered. slots_begin c.args.types.now c.args.layouts.now laid ordered (g.S.Store.limit c.args.store.now) c.args.depth c.args.from c.args.to c.args.length c.args.width c.args.owners.now (g.S.Store.content c.args.store.now) (g.S.Store.rows c.args.store.now) c.requires.can;
 }
 
@@ -109,6 +113,13 @@ copy_slots-returns-in-Err-clause-limit g t c = c.in-Err.ensures.limit ∙ c.copy
 pub copy_slots-loop-slot-preserved : goal.copy_slots-loop-slot-preserved
 copy_slots-loop-slot-preserved g t c = record {
   limit = c.in-Ok.ensures.limit ∙ c.copy_words.ensures.limit ∙ c.loop-slot.invariant.limit;
+  rowed = λ rowed.
+      let progress = c.loop-slot.invariant.progress c.requires.layouts c.requires.ordered in
+      let can = progress.can in
+      c.in-Ok.ensures.rowed
+      (c.copy_words.ensures.rowed can.target can.target_there (can.good.good c.args.to.birth can.target can.target_there).long
+      (words_uncut c.args.types.now c.args.layouts.now c.requires.layouts c.requires.ordered (g.S.Store.limit c.args.store.now) c.args.depth c.args.from c.args.to c.args.length c.args.width c.args.owners.now (g.S.Store.content c.args.store.now) (g.S.Store.rows c.args.store.now) (g.S.Store.content c.loop-slot.store) (g.S.Store.rows c.loop-slot.store) c.loop-slot.slot progress c.loop-slot-test.true)
+      (c.loop-slot.invariant.rowed rowed));
   progress = λ laid ordered.
       slots_next c.args.types.now c.args.layouts.now laid ordered (g.S.Store.limit c.args.store.now) c.args.depth c.args.from c.args.to c.args.length c.args.width c.args.owners.now (g.S.Store.content c.args.store.now) (g.S.Store.rows c.args.store.now) (g.S.Store.content c.loop-slot.store) (g.S.Store.rows c.loop-slot.store) c.loop-slot.slot
       (c.loop-slot.invariant.progress laid ordered) c.loop-slot-test.true
@@ -128,11 +139,15 @@ copy_slots-returns-clause-later g t c = (c.loop-slot.invariant.progress c.requir
 pub copy_slots-returns-clause-limit : goal.copy_slots-returns-clause-limit
 copy_slots-returns-clause-limit g t c = c.loop-slot.invariant.limit
 
+pub copy_slots-returns-clause-rowed : goal.copy_slots-returns-clause-rowed
+copy_slots-returns-clause-rowed g t c = c.loop-slot.invariant.rowed
+
 -- ---- words that own
 
 pub recopy-loop-word-init : goal.recopy-loop-word-init
 recopy-loop-word-init g t c = record {
   limit = refl;
+  rowed = λ rowed. rowed;
   progress = λ laid ordered. words_begin c.args.types.now c.args.layouts.now laid ordered (g.S.Store.limit c.args.store.now) c.args.depth c.args.object c.args.slot c.args.owners.now (g.S.Store.content c.args.store.now) (g.S.Store.rows c.args.store.now) c.requires.can;
 }
 
@@ -192,6 +207,11 @@ recopy-own-requires-clause-lives g t c =
 pub recopy-loop-word-preserved : goal.recopy-loop-word-preserved
 recopy-loop-word-preserved g t c = record {
   limit = c.own.ensures.limit ∙ c.in-Ok.ensures.limit ∙ c.loop-word.invariant.limit;
+  rowed = λ rowed.
+      own_keeps c.args.types.now c.args.layouts.now c.requires.layouts c.requires.ordered (g.S.Store.limit c.args.store.now) c.args.depth c.args.object c.args.slot c.args.owners.now (g.S.Store.content c.args.store.now) (g.S.Store.rows c.args.store.now) (g.S.Store.content c.loop-word.store) (g.S.Store.rows c.loop-word.store) c.loop-word.word-index
+      (c.loop-word.invariant.progress c.requires.layouts c.requires.ordered) _ (slice_get-get_or c.args.owners.now c.loop-word.word-index 0 c.loop-word-test.true)
+      _ c.in-Some.ensures c.in-Some.held refl c.in-Ok.copy (g.S.Store.content c.copy_deep.new.store) (g.S.Store.rows c.copy_deep.new.store) (λ x limit. c.in-Ok.ensures.copied x (limit ∙ sym c.loop-word.invariant.limit)) c.in-Ok.ensures.later
+      (g.S.Store.content c.own.new.store) (g.S.Store.rows c.own.new.store) c.own.ensures.rowed (c.in-Ok.ensures.rowed (c.loop-word.invariant.rowed rowed));
   progress = λ laid ordered.
       words_next c.args.types.now c.args.layouts.now laid ordered (g.S.Store.limit c.args.store.now) c.args.depth c.args.object c.args.slot c.args.owners.now (g.S.Store.content c.args.store.now) (g.S.Store.rows c.args.store.now) (g.S.Store.content c.loop-word.store) (g.S.Store.rows c.loop-word.store) c.loop-word.word-index
       (c.loop-word.invariant.progress laid ordered) _ (slice_get-get_or c.args.owners.now c.loop-word.word-index 0 c.loop-word-test.true)
@@ -210,3 +230,6 @@ recopy-returns-clause-later g t c = (c.loop-word.invariant.progress c.requires.l
 
 pub recopy-returns-clause-limit : goal.recopy-returns-clause-limit
 recopy-returns-clause-limit g t c = c.loop-word.invariant.limit
+
+pub recopy-returns-clause-rowed : goal.recopy-returns-clause-rowed
+recopy-returns-clause-rowed g t c = c.loop-word.invariant.rowed

@@ -1,6 +1,9 @@
 use Rattle.std.proofs.Common.{refl, sym, ◌∙◌, arith}
+use Rattle.life_store.specs.References.{object_of}
+use Rattle.life_seen.specs.Kinds.{kinds_of}
 use Rattle.life_values.proofs.Flat.{layouts_own}
 use Rattle.life_values.proofs.SlotsCleared.{can_count, can_cut, clear_later, clear_shows, give_can, not_dead, progress_begin, progress_next, same_length, still_there}
+use Rattle.life_values.proofs.StillRowed.{slots_keep}
 use Rattle.life_values.proofs.edits.clear.Goals as goal
 
 pub unreachable-requires : goal.unreachable-requires
@@ -9,6 +12,7 @@ unreachable-requires g c = not_dead c.args.types.now c.args.layouts.now c.args.d
 pub loop-slot-init : goal.loop-slot-init
 loop-slot-init g c = record {
   limit = refl;
+  rowed = λ rowed. rowed;
   progress = λ can shape asked laid own wide. progress_begin c.args.types.now c.args.layouts.now c.args.depth c.args.buffer (g.S.Store.content c.args.store.now) (g.S.Store.rows c.args.store.now) can shape asked laid c.owners_of-owners.result.now own c.width_of-width.result wide;
 }
 
@@ -23,6 +27,7 @@ end_slot-requires-clause-can g c =
 pub loop-slot-preserved : goal.loop-slot-preserved
 loop-slot-preserved g c = record {
   limit = c.end_slot.ensures.limit ∙ c.loop-slot.invariant.limit;
+  rowed = λ rowed. c.end_slot.ensures.rowed (c.loop-slot.invariant.rowed rowed);
   progress = λ can shape asked laid own wide.
       let same = same_length shape c.in-Ok.shape (sym asked ∙ sym c.shape.ensures.shape ∙ c.in-Ok.is) in
       let test = c.loop-slot-test.true in
@@ -61,3 +66,8 @@ returns-clause-later g c =
 
 pub returns-clause-limit : goal.returns-clause-limit
 returns-clause-limit g c = c.in-Ok-resize.ensures.limit ∙ c.loop-slot.invariant.limit
+
+pub returns-clause-rowed : goal.returns-clause-rowed
+returns-clause-rowed g c rowed =
+    slots_keep (kinds_of c.args.types.now) (g.S.Store.content c.loop-slot.store) (g.S.Store.rows c.loop-slot.store) c.args.buffer (g.S.Store.content c.resize.new.self) (g.S.Store.rows c.resize.new.self) 0 0 (object_of (g.S.Store.content c.loop-slot.store) (g.S.Store.rows c.loop-slot.store) c.args.buffer) refl
+    c.in-Ok-resize.ensures.lives c.in-Ok-resize.ensures.resized c.in-Ok-resize.ensures.rows_stay (c.loop-slot.invariant.rowed rowed)

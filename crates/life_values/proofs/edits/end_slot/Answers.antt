@@ -12,3 +12,6 @@ end_words-requires-clause-can g c =
 
 pub returns-clause-small : goal.returns-clause-small
 returns-clause-small g c = let fits = c.ranges.width.fits in omega (arith, fits)
+
+pub returns-clause-rowed : goal.returns-clause-rowed
+returns-clause-rowed g c rowed = c.end_words.ensures.rowed rowed

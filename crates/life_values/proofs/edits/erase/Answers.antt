@@ -1,6 +1,9 @@
-use Rattle.std.proofs.Common.{◌+◌, ◌-◌, arith, sym, ◌∙◌}
-use Rattle.life_values.proofs.ErasingSlots.{can_count, can_cut, erase_later, erase_shows, give_can, inside, move_can, not_dead, still_there, take_births, take_can, take_clock}
+use Rattle.std.proofs.Common.{◌+◌, ◌-◌, arith, refl, sym, ◌∙◌}
+use Rattle.life_store.specs.References.{object_of}
+use Rattle.life_seen.specs.Kinds.{kinds_of}
+use Rattle.life_values.proofs.ErasingSlots.{can_count, can_cut, erase_later, erase_shows, give_can, inside, move_can, not_dead, still_there, still_uncut, take_births, take_can, take_clock}
 use Rattle.life_values.proofs.Flat.{layouts_own}
+use Rattle.life_values.proofs.StillRowed.{slots_keep}
 use Rattle.life_values.proofs.edits.erase.Goals as goal
 
 pub unreachable-requires : goal.unreachable-requires
@@ -150,3 +153,17 @@ returns-clause-later g c =
     (g.S.Store.content c.take_slots.new.store) (g.S.Store.rows c.take_slots.new.store) c.take_slots.ensures.taken c.take_slots.ensures.later
     (g.S.Store.content c.move_slots.new.store) (g.S.Store.rows c.move_slots.new.store) c.move_slots.ensures.moved c.move_slots.ensures.rows c.move_slots.ensures.later
     (g.S.Store.content c.resize.new.self) (g.S.Store.rows c.resize.new.self) c.in-Ok-resize.ensures.resized c.in-Ok-resize.ensures.rows_stay
+
+pub returns-clause-rowed : goal.returns-clause-rowed
+returns-clause-rowed g c rowed =
+    let i = inside c.args.types.now c.args.layouts.now c.args.depth c.args.buffer c.args.index (g.S.Store.content c.args.store.now) (g.S.Store.rows c.args.store.now) c.requires.can c.in-Ok.shape (sym c.shape.ensures.shape ∙ c.in-Ok.is) c.requires.layouts
+    c.owners_of-owners.result.now c.owners_of-owners.ensures c.width_of-width.result c.width_of-width.ensures in
+    let still =
+    still_uncut c.args.types.now c.args.layouts.now c.args.depth c.args.buffer c.args.index (g.S.Store.content c.args.store.now) (g.S.Store.rows c.args.store.now) c.requires.can c.in-Ok.shape (sym c.shape.ensures.shape ∙ c.in-Ok.is) c.requires.layouts
+    c.owners_of-owners.result.now c.owners_of-owners.ensures c.width_of-width.result c.width_of-width.ensures
+    c.end_slot.ensures.small (g.S.Store.content c.end_slot.new.store) (g.S.Store.rows c.end_slot.new.store) c.end_slot.ensures.emptied c.end_slot.ensures.later
+    c.leaves_of-leaves.result.now c.leaves_of-leaves.ensures (c.in-Ok.shape.length - (c.args.index + 1)) (omega (arith, i))
+    (g.S.Store.content c.take_slots.new.store) (g.S.Store.rows c.take_slots.new.store) c.take_slots.ensures.taken c.take_slots.ensures.later in
+    slots_keep (kinds_of c.args.types.now) (g.S.Store.content c.move_slots.new.store) (g.S.Store.rows c.move_slots.new.store) c.args.buffer (g.S.Store.content c.resize.new.self) (g.S.Store.rows c.resize.new.self) (c.in-Ok.shape.length - (c.args.index + 1) + c.args.index) c.args.index (object_of (g.S.Store.content c.move_slots.new.store) (g.S.Store.rows c.move_slots.new.store) c.args.buffer) refl
+    c.in-Ok-resize.ensures.lives c.in-Ok-resize.ensures.resized c.in-Ok-resize.ensures.rows_stay
+    (c.move_slots.ensures.rowed still.0 still.1 still.2 (c.take_slots.ensures.rowed (c.end_slot.ensures.rowed rowed)))

@@ -1,6 +1,9 @@
-use Rattle.std.proofs.Common.{sym, ◌∙◌, arith}
+use Rattle.std.proofs.Common.{◌-◌, refl, sym, ◌∙◌, arith}
+use Rattle.life_store.specs.References.{object_of}
+use Rattle.life_seen.specs.Kinds.{kinds_of}
 use Rattle.life_values.proofs.Flat.{layouts_own}
 use Rattle.life_values.proofs.Popping.{can_count, can_cut, last_can, not_dead, pop_later, pop_none, pop_shows, still_there}
+use Rattle.life_values.proofs.StillRowed.{slots_keep}
 use Rattle.life_values.proofs.edits.pop.Goals as goal
 
 pub unreachable-requires : goal.unreachable-requires
@@ -57,3 +60,11 @@ returns-clause-later g c =
     c.owners_of-owners.result.now c.owners_of-owners.ensures c.width_of-width.result c.width_of-width.ensures _ (omega (arith, some))
     c.end_slot.ensures.small (g.S.Store.content c.end_slot.new.store) (g.S.Store.rows c.end_slot.new.store) c.end_slot.ensures.emptied c.end_slot.ensures.later
     (g.S.Store.content c.resize.new.self) (g.S.Store.rows c.resize.new.self) c.in-Ok-resize.ensures.resized c.in-Ok-resize.ensures.rows_stay
+
+pub returns-clause-rowed : goal.returns-clause-rowed
+returns-clause-rowed g c rowed =
+    slots_keep (kinds_of c.args.types.now) (g.S.Store.content c.end_slot.new.store) (g.S.Store.rows c.end_slot.new.store) c.args.buffer (g.S.Store.content c.resize.new.self) (g.S.Store.rows c.resize.new.self) (c.in-Ok.shape.length - 1) (c.in-Ok.shape.length - 1) (object_of (g.S.Store.content c.end_slot.new.store) (g.S.Store.rows c.end_slot.new.store) c.args.buffer) refl
+    c.in-Ok-resize.ensures.lives c.in-Ok-resize.ensures.resized c.in-Ok-resize.ensures.rows_stay (c.end_slot.ensures.rowed rowed)
+
+pub returns-then-shape-eq0-clause-rowed : goal.returns-then-shape-eq0-clause-rowed
+returns-then-shape-eq0-clause-rowed g c rowed = rowed

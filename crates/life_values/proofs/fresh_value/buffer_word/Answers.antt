@@ -18,3 +18,6 @@ returns-in-Ok-clause-births g c = let e = ap (λ (x : Content). x.births) c.in-O
 
 pub returns-in-Ok-clause-clock : goal.returns-in-Ok-clause-clock
 returns-in-Ok-clause-clock g c = ap (λ (x : Content). x.clock) c.in-Ok.ensures.born
+
+pub returns-in-Ok-clause-rowed : goal.returns-in-Ok-clause-rowed
+returns-in-Ok-clause-rowed g c kinds rowed = c.in-Ok.ensures.rowed kinds rowed

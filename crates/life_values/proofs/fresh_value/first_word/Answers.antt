@@ -33,3 +33,18 @@ returns-in-Elements-clause-first g c kinds s f housed cells raw =
     buffer_first kinds s c.args.types.now f c.args.holds (holds.Elements c.in-Elements.ty) m c.in-Elements.is b.result (g.S.Store.content b.new.store) (g.S.Store.rows b.new.store)
     (subst (λ w. IsFirst kinds (then_get (birth s c.in-Elements.ty w 0 m) by_word) Owner b.result (g.S.Store.content b.new.store) (g.S.Store.rows b.new.store))
     (c.width_of.ensures ∙ width_of_type c.args.types.now c.args.layouts.now c.requires.layouts c.in-Elements.ty) (b.ensures.first kinds s housed cells))
+
+pub returns-in-Raw-clause-rowed : goal.returns-in-Raw-clause-rowed
+returns-in-Raw-clause-rowed g c kinds rowed = rowed
+
+pub returns-in-View-clause-rowed : goal.returns-in-View-clause-rowed
+returns-in-View-clause-rowed g c kinds rowed = rowed
+
+pub returns-in-Target-clause-rowed : goal.returns-in-Target-clause-rowed
+returns-in-Target-clause-rowed g c kinds rowed = rowed
+
+pub returns-in-Characters-clause-rowed : goal.returns-in-Characters-clause-rowed
+returns-in-Characters-clause-rowed g c kinds rowed = c.buffer_word.ensures.rowed kinds rowed
+
+pub returns-in-Elements-clause-rowed : goal.returns-in-Elements-clause-rowed
+returns-in-Elements-clause-rowed g c kinds rowed = c.buffer_word-in-Elements.ensures.rowed kinds rowed

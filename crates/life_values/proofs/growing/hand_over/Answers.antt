@@ -1,8 +1,12 @@
-use Rattle.std.proofs.Common.{arith}
+use Rattle.std.proofs.Common.{subst, sym, ◌∙◌, arith}
+use Rattle.std.proofs.lemmas.Option.{same_Some}
+use Rattle.life_store.specs.Content.{Object}
 use Rattle.life_forest.specs.Kinds.{kinds_of as forest_kinds}
 use Rattle.life_seen.specs.Kinds.{kinds_of}
+use Rattle.life_values.specs.Moved.{AreUncut}
 use Rattle.life_values.proofs.AlikeKinds.{alike_kinds}
-use Rattle.life_values.proofs.HandingOver.{from_lives, move_can, over_later, over_shows}
+use Rattle.life_values.proofs.HandingOver.{from_lives, move_can, over_later, over_shows, to_d}
+use Rattle.life_values.proofs.StillRowed.{end_keeps}
 use Rattle.life_values.proofs.growing.hand_over.Goals as goal
 
 pub take_slots-requires-clause-can : goal.take_slots-requires-clause-can
@@ -42,3 +46,13 @@ returns-clause-later g c =
     (g.S.Store.content c.take_slots.new.store) (g.S.Store.rows c.take_slots.new.store) c.take_slots.ensures.taken c.take_slots.ensures.later
     (g.S.Store.content c.move_slots.new.store) (g.S.Store.rows c.move_slots.new.store) c.move_slots.ensures.moved c.move_slots.ensures.rows
     (g.S.Store.content c.finish.new.self) (g.S.Store.rows c.finish.new.self) c.in-Ok.ensures.ended c.in-Ok.ensures.row c.move_slots.ensures.later
+
+pub returns-clause-rowed : goal.returns-clause-rowed
+returns-clause-rowed g c o there uncut rowed =
+    let can = c.requires.can.1 in
+    end_keeps (kinds_of c.args.types.now) (g.S.Store.content c.move_slots.new.store) (g.S.Store.rows c.move_slots.new.store) c.args.from (g.S.Store.content c.finish.new.self) (g.S.Store.rows c.finish.new.self) c.in-Ok.ensures.ended c.in-Ok.ensures.row
+    (c.move_slots.ensures.rowed can.target
+    (to_d (kinds_of c.args.types.now) (forest_kinds c.args.types.now) (alike_kinds c.args.types.now) c.requires.can.0 c.args.from c.args.to c.args.width c.args.leaves.now c.args.owners.now c.args.onto c.args.count
+    (g.S.Store.content c.args.store.now) (g.S.Store.rows c.args.store.now) can c.ranges.width.fits (g.S.Store.content c.take_slots.new.store) (g.S.Store.rows c.take_slots.new.store) c.take_slots.ensures.taken c.take_slots.ensures.later)
+    (subst (λ (x : Object). AreUncut (kinds_of c.args.types.now x.ty) 0 c.args.width) (same_Some o can.target (sym there ∙ can.target_there)) uncut)
+    (c.take_slots.ensures.rowed rowed))

@@ -1,6 +1,6 @@
 use Rattle.std.proofs.Common.{arith, sym, ◌∙◌}
 use Rattle.life_seen.specs.Kinds.{kinds_of}
-use Rattle.life_values.proofs.GoingOver.{at_least, birth_fails, hand_births, hand_can, hand_clock, not_dead, regrown_comes, regrown_later, word_there}
+use Rattle.life_values.proofs.GoingOver.{at_least, birth_fails, fresh_uncut, hand_births, hand_can, hand_clock, not_dead, own_keeps, regrown_comes, regrown_later, word_there}
 use Rattle.life_values.proofs.growing.regrow.Goals as goal
 
 pub unreachable-requires : goal.unreachable-requires
@@ -75,3 +75,16 @@ returns-in-Ok-born_roomy-clause-later g c =
     (g.S.Store.content c.own.new.store) (g.S.Store.rows c.own.new.store) c.own.ensures.shows c.own.ensures.rows
     c.leaves_of-leaves.result.now c.leaves_of-leaves.ensures c.owners_of-owners.result.now c.owners_of-owners.ensures c.is_width.ensures
     (g.S.Store.content c.hand_over.new.store) (g.S.Store.rows c.hand_over.new.store) c.hand_over.ensures.over c.hand_over.ensures.later
+
+pub returns-in-Ok-born_roomy-clause-rowed : goal.returns-in-Ok-born_roomy-clause-rowed
+returns-in-Ok-born_roomy-clause-rowed g c rowed =
+    let fresh =
+    fresh_uncut c.args.types.now c.args.layouts.now c.requires.layouts c.args.spot c.args.buffer c.args.capacity c.args.size (g.S.Store.content c.args.store.now) (g.S.Store.rows c.args.store.now) c.requires.can
+    c.in-Ok.shape (sym c.shape.ensures.shape ∙ c.in-Ok.is) c.width_of-width.result c.width_of-width.ensures
+    c.in-Ok-born_roomy.fresh c.in-Ok-born_roomy.ensures.number (g.S.Store.content c.born_roomy.new.store) (g.S.Store.rows c.born_roomy.new.store) (c.in-Ok-born_roomy.ensures.shows (kinds_of c.args.types.now) c.requires.can.own.housed) c.in-Ok-born_roomy.ensures.placed c.in-Ok-born_roomy.ensures.later
+    (g.S.Store.content c.own.new.store) (g.S.Store.rows c.own.new.store) c.own.ensures.shows c.own.ensures.rows in
+    c.hand_over.ensures.rowed fresh.0 fresh.1 fresh.2
+    (own_keeps c.args.types.now c.args.layouts.now c.requires.layouts c.args.spot c.args.buffer c.args.capacity c.args.size (g.S.Store.content c.args.store.now) (g.S.Store.rows c.args.store.now) c.requires.can
+    c.in-Ok.shape (sym c.shape.ensures.shape ∙ c.in-Ok.is) c.width_of-width.result c.width_of-width.ensures
+    c.in-Ok-born_roomy.fresh c.in-Ok-born_roomy.ensures.number (g.S.Store.content c.born_roomy.new.store) (g.S.Store.rows c.born_roomy.new.store) (c.in-Ok-born_roomy.ensures.shows (kinds_of c.args.types.now) c.requires.can.own.housed) c.in-Ok-born_roomy.ensures.placed c.in-Ok-born_roomy.ensures.later
+    (g.S.Store.content c.own.new.store) (g.S.Store.rows c.own.new.store) c.own.ensures.rowed (c.in-Ok-born_roomy.ensures.rowed (kinds_of c.args.types.now) rowed))

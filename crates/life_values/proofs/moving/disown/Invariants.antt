@@ -1,5 +1,6 @@
 use Rattle.std.proofs.Common.{◌≡◌}
 use Rattle.life_seen.specs.Kinds.{kinds_of}
+use Rattle.life_seen.specs.Rowed.{AreRowed}
 use Rattle.life_values.proofs.Disowned.{Progress}
 use Rattle.life_values.proofs.moving.disown.Given as goal
 
@@ -7,5 +8,6 @@ abbrev pub invariant-loop-owner : goal.invariant-loop-owner
 invariant-loop-owner g l = record {
   limit : g.S.Store.limit l.store ≡ g.S.Store.limit l.fn.store;
   rows : g.S.Store.rows l.store ≡ g.S.Store.rows l.fn.store;
+  rowed : AreRowed (kinds_of l.types) (g.S.Store.content l.fn.store) (g.S.Store.rows l.fn.store) → AreRowed (kinds_of l.types) (g.S.Store.content l.store) (g.S.Store.rows l.store);
   progress : Progress (kinds_of l.types) l.spot l.owners (g.S.Store.content l.fn.store) (g.S.Store.rows l.fn.store) (g.S.Store.content l.store) (g.S.Store.rows l.store) l.owner-index;
 }

@@ -1,5 +1,6 @@
-use Rattle.std.proofs.Common.{refl, arith, ◌∙◌}
+use Rattle.std.proofs.Common.{refl, subst, sym, arith, ◌∙◌}
 use Rattle.life_seen.specs.Kinds.{kinds_of}
+use Rattle.life_values.specs.Moved.{AreUncut}
 use Rattle.life_values.proofs.SlotsGoing.{progress_begin, progress_end, progress_next, slot_can}
 use Rattle.life_values.proofs.moving.move_slots.Goals as goal
 
@@ -7,6 +8,7 @@ pub loop-slot-init : goal.loop-slot-init
 loop-slot-init g c = record {
   limit = refl;
   rows = refl;
+  rowed = λ o there uncut rowed. rowed;
   progress = progress_begin (kinds_of c.args.types.now) c.args.from c.args.to c.args.count c.args.width c.args.owners.now (g.S.Store.content c.args.store.now) (g.S.Store.rows c.args.store.now) c.requires.can;
 }
 
@@ -27,6 +29,10 @@ pub loop-slot-preserved : goal.loop-slot-preserved
 loop-slot-preserved g c = record {
   limit = c.move_words.ensures.limit ∙ c.loop-slot.invariant.limit;
   rows = c.move_words.ensures.rows ∙ c.loop-slot.invariant.rows;
+  rowed = λ o there uncut rowed.
+      let can = c.loop-slot.invariant.progress.can in
+      c.move_words.ensures.rowed can.target can.target_there can.target_long
+      (subst (λ ty. AreUncut (kinds_of c.args.types.now ty) c.args.to.word c.args.width) (sym (c.loop-slot.invariant.progress.type o there)) uncut) (c.loop-slot.invariant.rowed o there uncut rowed);
   progress =
       progress_next (kinds_of c.args.types.now) c.args.from c.args.to c.args.count c.args.width c.args.owners.now (g.S.Store.content c.args.store.now) (g.S.Store.rows c.args.store.now)
       (g.S.Store.content c.loop-slot.store) (g.S.Store.rows c.loop-slot.store) c.loop-slot.slot c.loop-slot.invariant.progress c.loop-slot-test.true

@@ -20,3 +20,6 @@ pub returns-clause-later : goal.returns-clause-later
 returns-clause-later g c =
     later_then (g.S.Store.content c.args.store.now) (g.S.Store.content c.copy_words.new.store) (g.S.Store.content c.disown.new.store) (g.S.Store.rows c.args.store.now) (g.S.Store.rows c.copy_words.new.store) (g.S.Store.rows c.disown.new.store)
     c.copy_words.ensures.later c.disown.ensures.later
+
+pub returns-clause-rowed : goal.returns-clause-rowed
+returns-clause-rowed g c o there wide uncut rowed = c.disown.ensures.rowed (c.copy_words.ensures.rowed o there wide uncut rowed)

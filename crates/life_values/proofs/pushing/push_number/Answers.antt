@@ -1,6 +1,6 @@
 use Rattle.std.proofs.Common.{◌∷◌, [], refl, sym, ◌∙◌}
 use Rattle.life_values.proofs.MakingRoom.{length_is, not_dead}
-use Rattle.life_values.proofs.PushedNumber.{number_later, number_pushed, push_fails, slot_there}
+use Rattle.life_values.proofs.PushedNumber.{number_later, number_pushed, push_fails, put_keeps, slot_there}
 use Rattle.life_values.proofs.RoomThen.{setting_of}
 use Rattle.life_values.proofs.pushing.push_number.Goals as goal
 
@@ -31,3 +31,10 @@ returns-in-Ok-make_room-clause-later g c =
     (c.in-Ok-make_room.ensures.room (setting_of (g.S.Store.limit c.args.store.now) c.args.growth) c.requires.can.push.grow.own.buffer refl refl c.requires.can.push.grow.own.there) c.in-Ok-make_room.ensures.later c.in-Ok.shape.length
     (length_is c.args.types.now c.args.layouts.now c.requires.layouts c.args.spot c.args.buffer (g.S.Store.content c.args.store.now) (g.S.Store.rows c.args.store.now) c.requires.can.push.grow c.in-Ok.shape (sym c.shape.ensures.shape ∙ c.in-Ok.is))
     c.args.number (g.S.Store.content c.put_number.new.store) (g.S.Store.rows c.put_number.new.store) c.put_number.ensures.shows c.put_number.ensures.rows
+
+pub returns-in-Ok-make_room-clause-rowed : goal.returns-in-Ok-make_room-clause-rowed
+returns-in-Ok-make_room-clause-rowed g c rowed =
+    put_keeps c.args.types.now c.args.layouts.now c.requires.layouts c.requires.wide c.args.spot c.args.buffer (g.S.Store.content c.args.store.now) (g.S.Store.rows c.args.store.now) c.requires.can (setting_of (g.S.Store.limit c.args.store.now) c.args.growth) c.in-Ok-make_room.room (g.S.Store.content c.make_room.new.store) (g.S.Store.rows c.make_room.new.store)
+    (c.in-Ok-make_room.ensures.room (setting_of (g.S.Store.limit c.args.store.now) c.args.growth) c.requires.can.push.grow.own.buffer refl refl c.requires.can.push.grow.own.there) c.in-Ok-make_room.ensures.later c.in-Ok.shape.length
+    (length_is c.args.types.now c.args.layouts.now c.requires.layouts c.args.spot c.args.buffer (g.S.Store.content c.args.store.now) (g.S.Store.rows c.args.store.now) c.requires.can.push.grow c.in-Ok.shape (sym c.shape.ensures.shape ∙ c.in-Ok.is))
+    (g.S.Store.content c.put_number.new.store) (g.S.Store.rows c.put_number.new.store) c.put_number.ensures.rowed (c.in-Ok-make_room.ensures.rowed rowed)

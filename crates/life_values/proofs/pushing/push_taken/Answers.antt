@@ -50,3 +50,6 @@ pub returns-in-Ok-make_room-clause-later : goal.returns-in-Ok-make_room-clause-l
 returns-in-Ok-make_room-clause-later g c =
     later_then (g.S.Store.content c.args.store.now) (g.S.Store.content c.make_room.new.store) (g.S.Store.content c.consume.new.store) (g.S.Store.rows c.args.store.now) (g.S.Store.rows c.make_room.new.store) (g.S.Store.rows c.consume.new.store)
     c.in-Ok-make_room.ensures.later c.consume.ensures.later
+
+pub returns-in-Ok-make_room-clause-rowed : goal.returns-in-Ok-make_room-clause-rowed
+returns-in-Ok-make_room-clause-rowed g c rowed = c.consume.ensures.rowed (c.in-Ok-make_room.ensures.rowed rowed)

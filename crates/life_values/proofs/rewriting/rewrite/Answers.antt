@@ -30,3 +30,6 @@ pub returns-in-Ok-clause-later : goal.returns-in-Ok-clause-later
 returns-in-Ok-clause-later g c =
     later_then (g.S.Store.content c.args.store.now) (g.S.Store.content c.text.new.store) (g.S.Store.content c.replace.new.store) (g.S.Store.rows c.args.store.now) (g.S.Store.rows c.text.new.store) (g.S.Store.rows c.replace.new.store)
     c.in-Ok.ensures.later c.replace.ensures.later
+
+pub returns-in-Ok-clause-rowed : goal.returns-in-Ok-clause-rowed
+returns-in-Ok-clause-rowed g c rowed = c.replace.ensures.rowed (c.in-Ok.ensures.rowed rowed)

@@ -74,3 +74,9 @@ returns-in-Some-clause-later g c =
     later_still c.args.types.now c.args.layouts.now c.requires.layouts c.args.spot c.args.buffer (g.S.Store.content c.args.store.now) (g.S.Store.rows c.args.store.now) c.requires.can
     c.widen.result c.if-widen.false (g.S.Store.content c.widen.new.store) (g.S.Store.rows c.widen.new.store) c.widen.ensures.widened c.widen.ensures.content_stays c.widen.ensures.rows_stay
     c.regrow.result (g.S.Store.content c.regrow.new.store) (g.S.Store.rows c.regrow.new.store) c.regrow.ensures.later
+
+pub returns-in-Some-clause-rowed : goal.returns-in-Some-clause-rowed
+returns-in-Some-clause-rowed g c rowed = c.regrow.ensures.rowed (c.widen.ensures.rowed rowed)
+
+pub returns-then-widen-clause-rowed : goal.returns-then-widen-clause-rowed
+returns-then-widen-clause-rowed g c rowed = c.widen.ensures.rowed rowed

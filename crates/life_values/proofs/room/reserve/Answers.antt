@@ -33,3 +33,9 @@ returns-in-Ok-regrow-clause-reserved g c s o cells there =
     let more = c.if-wanted-shape.false in
     reserve_done c.args.types.now c.args.layouts.now c.requires.layouts c.args.spot c.args.buffer (g.S.Store.content c.args.store.now) (g.S.Store.rows c.args.store.now) c.requires.can c.in-Ok.shape (sym c.shape.ensures.shape ∙ c.in-Ok.is) s o there c.args.wanted (omega (arith, more))
     c.in-Some.capacity c.in-Some.ensures c.in-Ok-regrow.field-0 (g.S.Store.content c.regrow.new.store) (g.S.Store.rows c.regrow.new.store) (c.in-Ok-regrow.ensures.regrown s o cells there)
+
+pub returns-then-wanted-shape-clause-rowed : goal.returns-then-wanted-shape-clause-rowed
+returns-then-wanted-shape-clause-rowed g c rowed = rowed
+
+pub returns-in-Ok-regrow-clause-rowed : goal.returns-in-Ok-regrow-clause-rowed
+returns-in-Ok-regrow-clause-rowed g c rowed = c.in-Ok-regrow.ensures.rowed rowed

@@ -1,5 +1,7 @@
-use Rattle.std.proofs.Common.{sym, ◌∙◌, arith}
+use Rattle.std.proofs.Common.{◌+◌, refl, sym, ◌∙◌, arith}
+use Rattle.life_store.specs.References.{object_of}
 use Rattle.life_seen.specs.Kinds.{kinds_of}
+use Rattle.life_values.proofs.StillRowed.{slots_keep}
 use Rattle.life_values.proofs.Widening.{can_widen, is_full, not_dead, still_there, widen_later, widen_shows}
 use Rattle.life_values.proofs.room.widen.Goals as goal
 
@@ -32,3 +34,11 @@ returns-clause-later g c =
     let less = c.if-shape.false in
     widen_later (kinds_of c.args.types.now) c.args.buffer (g.S.Store.content c.args.store.now) (g.S.Store.rows c.args.store.now) c.requires.at c.in-Ok.shape (sym c.shape.ensures.shape ∙ c.in-Ok.is) (omega (arith, less))
     (g.S.Store.content c.resize.new.self) (g.S.Store.rows c.resize.new.self) c.in-Ok-resize.ensures.resized c.in-Ok-resize.ensures.rows_stay
+
+pub returns-clause-rowed : goal.returns-clause-rowed
+returns-clause-rowed g c rowed =
+    slots_keep (kinds_of c.args.types.now) (g.S.Store.content c.args.store.now) (g.S.Store.rows c.args.store.now) c.args.buffer (g.S.Store.content c.resize.new.self) (g.S.Store.rows c.resize.new.self) (c.in-Ok.shape.length + 1) c.in-Ok.shape.length (object_of (g.S.Store.content c.args.store.now) (g.S.Store.rows c.args.store.now) c.args.buffer) refl
+    c.in-Ok-resize.ensures.lives c.in-Ok-resize.ensures.resized c.in-Ok-resize.ensures.rows_stay rowed
+
+pub returns-then-shape-clause-rowed : goal.returns-then-shape-clause-rowed
+returns-then-shape-clause-rowed g c rowed = rowed

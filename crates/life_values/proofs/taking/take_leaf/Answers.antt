@@ -12,3 +12,6 @@ pub returns-in-Characters-clause-shows : goal.returns-in-Characters-clause-shows
 returns-in-Characters-clause-shows g c =
     characters_shown (kinds_of c.args.types.now) c.args.spot.object.birth c.args.spot.slot _ c.args.leaf.holds (seen (kinds_of c.args.types.now) (g.S.Store.content c.args.store.now) (g.S.Store.rows c.args.store.now))
     (g.S.Store.content c.renew.new.store) (g.S.Store.rows c.renew.new.store) c.in-Characters.is c.renew.ensures.shows
+
+pub returns-in-Characters-clause-rowed : goal.returns-in-Characters-clause-rowed
+returns-in-Characters-clause-rowed g c rowed = c.renew.ensures.rowed rowed

@@ -8,6 +8,7 @@ use Rattle.life_values.proofs.taking.take_slots.Goals as goal
 pub loop-slot-init : goal.loop-slot-init
 loop-slot-init g c = record {
   limit = refl;
+  rowed = λ rowed. rowed;
   progress = λ can. progress_begin (kinds_of c.args.types.now) (forest_kinds c.args.types.now) (alike_kinds c.args.types.now) c.args.object c.args.leaves.now c.args.first c.args.count (g.S.Store.content c.args.store.now) (g.S.Store.rows c.args.store.now) can;
 }
 
@@ -32,6 +33,7 @@ take_value-requires-clause-clock g c =
 pub loop-slot-preserved : goal.loop-slot-preserved
 loop-slot-preserved g c = record {
   limit = c.take_value.ensures.limit ∙ c.loop-slot.invariant.limit;
+  rowed = λ rowed. c.take_value.ensures.rowed (c.loop-slot.invariant.rowed rowed);
   progress = λ can.
       progress_next (kinds_of c.args.types.now) (forest_kinds c.args.types.now) (alike_kinds c.args.types.now) c.args.object c.args.leaves.now c.args.first c.args.count (g.S.Store.content c.args.store.now) (g.S.Store.rows c.args.store.now) can
       (g.S.Store.content c.loop-slot.store) (g.S.Store.rows c.loop-slot.store) c.loop-slot.slot (c.loop-slot.invariant.progress can) c.loop-slot-test.true
@@ -46,3 +48,6 @@ returns-clause-taken g c =
 
 pub returns-clause-later : goal.returns-clause-later
 returns-clause-later g c = (c.loop-slot.invariant.progress c.requires.can).later
+
+pub returns-clause-rowed : goal.returns-clause-rowed
+returns-clause-rowed g c rowed = c.loop-slot.invariant.rowed rowed

@@ -4,13 +4,15 @@ use Rattle.std.specs.Prelude.{slice_index_or}
 use Rattle.life_store.specs.Content.{with_object, with_word}
 use Rattle.life_store.specs.References.{object_of, HasWord}
 use Rattle.life_seen.specs.Kinds.{kinds_of}
-use Rattle.life_values.proofs.CharactersWritten.{progress_begin, progress_end, progress_next, slot_there, still_lives}
+use Rattle.life_values.proofs.CharactersWritten.{progress_begin, progress_end, progress_next, put_keeps, slot_there, still_lives}
+use Rattle.life_values.proofs.StillRowed.{are_whole}
 use Rattle.life_values.proofs.texts.write_characters.Goals as goal
 
 pub loop-character-init : goal.loop-character-init
 loop-character-init g c = record {
   slot = refl;
   limit = refl;
+  rowed = λ can rowed. rowed;
   progress = λ can. progress_begin (kinds_of c.args.types.now) c.args.text c.args.characters.now (g.S.Store.content c.args.store.now) (g.S.Store.rows c.args.store.now) can;
 }
 
@@ -37,6 +39,10 @@ pub loop-character-preserved : goal.loop-character-preserved
 loop-character-preserved g c = record {
   slot = let e = c.loop-character.invariant.slot in omega (arith, e);
   limit = c.in-Ok.ensures.limit ∙ c.loop-character.invariant.limit;
+  rowed = λ can rowed.
+      put_keeps (kinds_of c.args.types.now) c.args.text c.args.characters.now (g.S.Store.content c.args.store.now) (g.S.Store.rows c.args.store.now) can
+      (g.S.Store.content c.loop-character.store) (g.S.Store.rows c.loop-character.store) c.loop-character.character-index (c.loop-character.invariant.progress can) (are_whole c.args.types.now)
+      c.loop-character.slot (slice_index_or c.args.characters.now c.loop-character.character-index 0) (g.S.Store.content c.put.new.self) (g.S.Store.rows c.put.new.self) c.in-Ok.ensures.written c.in-Ok.ensures.rows_stay (c.loop-character.invariant.rowed can rowed);
   progress = λ can.
       let v = slice_index_or c.args.characters.now c.loop-character.character-index 0 in
       let d = g.S.Store.content c.loop-character.store in
@@ -55,3 +61,6 @@ returns-clause-shows g c =
 
 pub returns-clause-rows : goal.returns-clause-rows
 returns-clause-rows g c = (c.loop-character.invariant.progress c.requires.can).rows_stay
+
+pub returns-clause-rowed : goal.returns-clause-rowed
+returns-clause-rowed g c = c.loop-character.invariant.rowed c.requires.can
