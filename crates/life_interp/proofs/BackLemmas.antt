@@ -7,7 +7,8 @@ use Rattle.life_store.specs.Doing.{Setting, Next}
 use Rattle.life_interp.specs.SoFar.{results, target_given}
 use Rattle.life_store.specs.Content.{Content}
 use Rattle.life_store.specs.Meaning.{Back}
-use Rattle.life_interp.specs.Cells.{one_seen, state_of, world_of}
+use Rattle.life_interp.specs.Cells.{one_seen, world_of}
+use Rattle.life_cells.specs.Cells.{state_of}
 use Rattle.life_interp.specs.Frames.{function_at, stack_seen}
 use Rattle.life_interp.specs.Steps.{TellsEnd}
 use Rattle.life_interp.specs.PointsSoFar.{back}
@@ -17,7 +18,7 @@ use Rattle.life_interp.specs.declared.ending.Ending.{Ending}
 use Rattle.life_interp.specs.declared.ending.Ending.TheVariants as ending
 use Rattle.life_interp.specs.declared.frames.Frames.{Frames}
 use Rattle.life_interp.specs.declared.frames.Waiting.{Waiting}
-use Rattle.life_interp.specs.declared.value.Cell.{Cell}
+use Rattle.life_cells.specs.declared.cell.Cell.{Cell}
 use Rattle.life_interp.proofs.FrameLemmas.{stack_push}
 
 module _ (s : Setting) (p : Program) (frames : Frames) (c : Content) (ins : List ℤ) (f : Function) (is : function_at p.functions frames.function ≡ f) (given : Option Cell)

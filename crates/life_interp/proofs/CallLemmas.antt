@@ -15,7 +15,8 @@ use Rattle.life_store.specs.Content.{Content}
 use Rattle.life_store.specs.Meaning.{Trapped, Quit}
 use Rattle.life_store.specs.State as state
 use Rattle.life_store.specs.declared.run.TrapKind.TheVariants as trap
-use Rattle.life_interp.specs.Cells.{cells_seen, state_of, world_of}
+use Rattle.life_cells.specs.Cells.{cells_seen, state_of}
+use Rattle.life_interp.specs.Cells.{world_of}
 use Rattle.life_interp.specs.Frames.{function_at, stack_seen, waiting_seen}
 use Rattle.life_interp.specs.Steps.{TellsNone}
 use Rattle.life_interp.specs.Walk as walk
@@ -28,7 +29,7 @@ use Rattle.life_interp.specs.declared.ending.Halt.{Halt}
 use Rattle.life_interp.specs.declared.ending.Halt.TheVariants as halt
 use Rattle.life_interp.specs.declared.frames.Frames.{Frames}
 use Rattle.life_interp.specs.declared.frames.Waiting.{Waiting}
-use Rattle.life_interp.specs.declared.value.Cell.{Cell}
+use Rattle.life_cells.specs.declared.cell.Cell.{Cell}
 
 pub stack_length : (fs : List Function) (ws : List Waiting) → length (stack_seen fs ws) ≡ length ws
 stack_length fs ws = length-reverse (map (waiting_seen fs) ws) ∙ length-map ws (waiting_seen fs)

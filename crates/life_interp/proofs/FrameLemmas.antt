@@ -1,5 +1,5 @@
 -- Frames that wait, and those that begin.
-use Rattle.std.proofs.Common.{◌≡◌, ℕ, zero, suc, ◌+◌, ◌<◌, ◌≤◌, List, [], ◌∷◌, ◌++◌, map, drop, length, replicate, Option, Some, None, Result, Ok, Err, OnOk, refl, sym, ap, subst, ◌∙◌, arith, append-nil, append_assoc, IfSome}
+use Rattle.std.proofs.Common.{◌≡◌, ℕ, zero, suc, ◌+◌, ◌<◌, ◌≤◌, List, [], ◌∷◌, ◌++◌, map, drop, length, replicate, Option, Some, None, Result, Ok, Err, OnOk, refl, sym, ap, subst, ◌∙◌, arith, append-nil, append_assoc}
 use Rattle.std.proofs.lemmas.List.{reverse-append}
 use Rattle.std.proofs.lemmas.Option.{none-some, same_Some}
 use Rattle.std.specs.Prelude.{ℤ, slice_get, slice_index_or, option_map, reverse}
@@ -15,8 +15,9 @@ use Rattle.life_store.specs.Content.{Content}
 use Rattle.life_store.specs.Meaning.{empty_cell, frame}
 use Rattle.life_store.specs.References.{Rows}
 use Rattle.life_store.specs.State as state
-use Rattle.life_interp.specs.Cells.{cell_seen, cells_seen, one_seen, state_of, world_of}
-use Rattle.life_interp.specs.Fits.{CellFits, CellsFit, IsFit}
+use Rattle.life_cells.specs.Cells.{cell_seen, cells_seen, state_of}
+use Rattle.life_interp.specs.Cells.{one_seen, world_of}
+use Rattle.life_cells.specs.Fits.{CellFits, CellsFit, IsFit}
 use Rattle.life_interp.specs.Frames.{all_cells, function_at, stack_seen, waiting_cells, waiting_seen, AreThere}
 use Rattle.life_interp.specs.Steps.{TellsEnd}
 use Rattle.life_interp.specs.Walk as walk
@@ -27,10 +28,11 @@ use Rattle.life_interp.specs.declared.ending.Ending.{Ending}
 use Rattle.life_interp.specs.declared.ending.Ending.TheVariants as ending
 use Rattle.life_interp.specs.declared.frames.Frames.{Frames}
 use Rattle.life_interp.specs.declared.frames.Waiting.{Waiting}
-use Rattle.life_interp.specs.declared.value.Cell.{Cell}
-use Rattle.life_interp.specs.declared.value.Cell.TheVariants as held
+use Rattle.life_cells.specs.declared.cell.Cell.{Cell}
+use Rattle.life_cells.specs.declared.cell.Cell.TheVariants as held
 use Rattle.life_interp.proofs.CodeLists.{function_there}
-use Rattle.life_interp.proofs.FitLemmas.{cell_fits, fit_both}
+use Rattle.life_cells.proofs.FitLemmas.{other_cells}
+use Rattle.life_interp.proofs.FitLemmas.{fit_both}
 
 -- ---- the newest frame that waits
 
@@ -69,10 +71,6 @@ none_seen [] zero le = refl
 none_seen [] (suc i) le = refl
 none_seen (v ∷ vs) zero le = absurd (omega (arith, le))
 none_seen (v ∷ vs) (suc i) le = none_seen vs i (omega (arith, le))
-
-pub if_fits : (c : Content) (rows : Rows) (cells : List Cell) (x : ℕ) (o : Option Cell) → IfSome o (λ v. slice_get cells x ≡ Some v) → CellsFit c rows cells → IfSome o (CellFits c rows)
-if_fits c rows cells x None e h = e
-if_fits c rows cells x (Some v) e h = cell_fits c rows cells x v h e
 
 -- ---- what is given back
 
@@ -153,10 +151,9 @@ pub wait_fits : {A E : Type 0} (types : Types) (d : Content) (rows : Rows) (old 
     → OnOk result (waiting_cells new.waiting.items ≡ waiting_cells old.waiting.items ++ old.cells.items) → IsFit types d rows cells → CellsFit d rows (waiting_cells old.waiting.items ++ old.cells.items)
     → OnOk result (IsFit types d rows (all_cells new))
 wait_fits types d rows old new cells (Err e) same stacked fit waiting = tt
-wait_fits types d rows old new cells (Ok a) same stacked fit waiting = record {
-  housed = fit.housed;
-  held = fit_both d rows (waiting_cells new.waiting.items) new.cells.items (subst (CellsFit d rows) (sym stacked) waiting) (subst (CellsFit d rows) (sym same) fit.held);
-}
+wait_fits types d rows old new cells (Ok a) same stacked fit waiting =
+    other_cells types d rows cells (all_cells new) fit
+    (fit_both d rows (waiting_cells new.waiting.items) new.cells.items (subst (CellsFit d rows) (sym stacked) waiting) (subst (CellsFit d rows) (sym same) fit.held))
 
 pub stack_push : (fs : List Function) (ws : List Waiting) (w : Waiting) → stack_seen fs (ws ++ w ∷ []) ≡ waiting_seen fs w ∷ stack_seen fs ws
 stack_push fs ws w = ap (λ (vs : List walk.Waiting). reverse vs) (seen_waiting ws) ∙ reverse-append (map (waiting_seen fs) ws) (waiting_seen fs w ∷ [])

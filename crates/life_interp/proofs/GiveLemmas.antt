@@ -7,8 +7,8 @@ use Rattle.life_types.specs.declared.ty.TyId.{TyId}
 use Rattle.life_core.specs.declared.program.Local.{Local}
 use Rattle.life_core.specs.Function.{Function}
 use Rattle.life_core.specs.Holdings.{Holding, held_by}
-use Rattle.life_store.specs.Doing.{Setting, Effect, Next, Traps, Here, found_at, on_found, on_next, put_cell, with_value_object, word_of_number}
-use Rattle.life_interp.specs.SoFar.{born_with, given, given_if, given_to, saved}
+use Rattle.life_store.specs.Doing.{Setting, Effect, Next, Traps, Here, found_at, on_found, on_next, put_cell, saved, with_value_object, word_of_number}
+use Rattle.life_interp.specs.SoFar.{born_with, given, given_if, given_to}
 use Rattle.life_store.specs.Cells.{at, set, at-set_same}
 use Rattle.life_store.specs.Content.{Content, cost, newborn, with_object, with_word, live_words_of}
 use Rattle.life_store.specs.References.{Rows}
@@ -24,10 +24,11 @@ use Rattle.life_seen.specs.Kinds.{Kinds}
 use Rattle.life_seen.specs.Named.{names_of}
 use Rattle.life_seen.specs.Seen.{object_seen, seen}
 use Rattle.life_seen.proofs.LiveWords.{live_words_seen}
-use Rattle.life_interp.specs.Cells.{state_of}
-use Rattle.life_interp.specs.Fits.{most_births, CanBear, CanStep, CellFits, CellsFit, Gives, Grows}
-use Rattle.life_interp.specs.declared.value.Cell.{Cell}
-use Rattle.life_interp.proofs.FitLemmas.{cell_fits}
+use Rattle.life_cells.specs.Cells.{state_of}
+use Rattle.life_interp.specs.Fits.{most_births, CanBear, CanStep, Gives, Grows}
+use Rattle.life_cells.specs.Fits.{CellFits, CellsFit}
+use Rattle.life_cells.specs.declared.cell.Cell.{Cell}
+use Rattle.life_cells.proofs.FitLemmas.{cell_fits}
 use Rattle.life_interp.proofs.NumberLemmas.{unborn, IsNewValue}
 
 -- ---- an object with a value
@@ -48,9 +49,9 @@ pub born_with_is : (s : Setting) (ty : TyId) (z : ℤ) (x : ℕ) (c : Content) (
 born_with_is s ty z x c cells output input within =
     let st = state_of c cells output input in
     let born = put_cell x (state.Named c.births) (state_of (with_value_object ty c) cells output input) in
-    let writes : State → Effect = λ b. on_found (found_at b.world.content c.births 0) (λ n i o. Next (saved z n i o b)) in
+    let writes : State → Effect = λ b. on_found (found_at b.world.content c.births 0) (λ n i o. Next (saved z n i 0 o b)) in
     ⊎_elim (λ t. absurd (within t.1)) (λ t. ap (λ b. on_next (cond b (Traps trap.Cells) (Next born)) writes) t.0) (leb_tells (suc s.given.cells) (live_words_of c + 3))
-    ∙ ap (λ f. on_found f (λ n i o. Next (saved z n i o born))) (value_found ty c)
+    ∙ ap (λ f. on_found f (λ n i o. Next (saved z n i 0 o born))) (value_found ty c)
 
 -- the words that live are three more
 live_more : (z : ℤ) (ty : TyId) (c : Content) → at c.objects c.births ≡ None → live_words_of (given_content z ty c) ≡ live_words_of c + 3

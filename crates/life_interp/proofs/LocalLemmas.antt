@@ -1,5 +1,5 @@
 -- Locals come to life and end as the meaning says.
-use Rattle.std.proofs.Common.{◌≡◌, ℕ, suc, ◌+◌, ◌<◌, List, Option, Some, None, Result, Ok, Err, cond, sym, ap, subst, ◌∙◌, arith, ⊎_elim}
+use Rattle.std.proofs.Common.{◌≡◌, ℕ, suc, ◌+◌, ◌<◌, List, Some, None, Result, Ok, Err, cond, sym, ap, subst, ◌∙◌, arith, ⊎_elim}
 use Rattle.std.proofs.lemmas.Bool.{lt-ltb}
 use Rattle.std.proofs.lemmas.Bool.Decides.{leb_tells}
 use Rattle.std.specs.Prelude.{ℤ, slice_get, slice_set, option_map}
@@ -10,9 +10,8 @@ use Rattle.life_core.specs.declared.program.Local.{Local}
 use Rattle.life_core.specs.Function.{Function}
 use Rattle.life_core.specs.Holdings.{Holding, held_by, sort_of}
 use Rattle.life_store.specs.Content.{Content, live_words_of}
-use Rattle.life_store.specs.Doing.{Setting, born_pointer, Effect, Next, Traps, Strays, put_cell, born_object, end_cell, end_object, with_value_object, on_next, cell}
+use Rattle.life_store.specs.Doing.{Setting, live_as, live_over, live_local, Effect, Next, Traps, Strays, put_cell, born_object, end_cell, end_object, with_value_object, on_next, cell}
 use Rattle.life_store.specs.Parts.{local_parts}
-use Rattle.life_interp.specs.SoFar.{live_as, live_over, live_local}
 use Rattle.life_store.specs.References.{Rows, object_of}
 use Rattle.life_store.specs.State as state
 use Rattle.life_store.specs.State.{State}
@@ -24,17 +23,14 @@ use Rattle.life_seen.specs.Named.{names_of}
 use Rattle.life_seen.specs.Seen.{object_seen}
 use Rattle.life_seen.proofs.LiveWords.{live_words_seen}
 use Rattle.life_seen.proofs.References.{seen_by_number}
-use Rattle.life_interp.specs.Cells.{cells_seen, pointer_seen, state_of}
-use Rattle.life_interp.specs.Fits.{meant, PointerFits}
+use Rattle.life_cells.specs.Cells.{cells_seen, state_of}
+use Rattle.life_cells.specs.Fits.{meant}
 use Rattle.life_interp.specs.Steps.{BirthFails, Leaves, TellsEnd}
 use Rattle.life_interp.specs.declared.ending.Ending.{Ending}
 use Rattle.life_interp.specs.declared.ending.Ending.TheVariants as ending
-use Rattle.life_core.specs.declared.instr.Form.TheVariants as forms
-use Rattle.life_interp.specs.declared.value.Pointer.{Pointer}
-use Rattle.life_interp.specs.declared.value.Pointer.TheVariants as leads
-use Rattle.life_interp.specs.declared.value.Cell.{Cell}
-use Rattle.life_interp.specs.declared.value.Cell.TheVariants as held
-use Rattle.life_interp.proofs.StepLemmas.{put_now}
+use Rattle.life_cells.specs.declared.cell.Cell.{Cell}
+use Rattle.life_cells.specs.declared.cell.Cell.TheVariants as held
+use Rattle.life_cells.proofs.LocationLemmas.{put_now}
 
 pub ok_err : {A B : Type 0} (a : A) (b : B) → ◌≡◌ {A = Result A B} (Ok a) (Err b) → ⊥
 ok_err a b e = cc
@@ -66,18 +62,12 @@ birth_fails s ty x c types rows cells limit ending.WriteFault output input full 
 
 -- what comes to life where nothing is alive
 pub live_is : (s : Setting) (types : Types) (f : Function) (x : ℕ) (l : Local) (k : Holding) (form : Form) (st : State) → slice_get f.locals x ≡ Some l → cell st x ≡ Some state.Empty → k ≡ held_by types (Some l)
-    → live_local s types f (slice_get f.locals x) form x st ≡ live_as s k l.ty form x st
+    → live_local s types f (slice_get f.locals x) form x st ≡ live_as s types k l.ty form x st
 live_is s types f x l k form st there empty sort =
     ap (λ o. live_local s types f o form x st) there
-    ∙ ap (λ c. live_over s c (sort_of types f x) l.ty form x st) empty
-    ∙ ap (λ o. live_as s (held_by types o) l.ty form x st) there
-    ∙ ap (λ h. live_as s h l.ty form x st) (sym sort)
-
--- what is alive doesn't come to life again
-pub live_strays : (s : Setting) (types : Types) (f : Function) (x : ℕ) (l : Local) (form : Form) (st : State) (o : Option state.Cell) → slice_get f.locals x ≡ Some l → cell st x ≡ o
-    → live_over s o (sort_of types f x) l.ty form x st ≡ Strays → live_local s types f (slice_get f.locals x) form x st ≡ Strays
-live_strays s types f x l form st o there is strays =
-    ap (λ q. live_local s types f q form x st) there ∙ ap (λ c. live_over s c (sort_of types f x) l.ty form x st) is ∙ strays
+    ∙ ap (λ c. live_over s types c (sort_of types f x) l.ty form x st) empty
+    ∙ ap (λ o. live_as s types (held_by types o) l.ty form x st) there
+    ∙ ap (λ h. live_as s types h l.ty form x st) (sym sort)
 
 pub none_strays : (s : Setting) (types : Types) (f : Function) (x : ℕ) (form : Form) (st : State) → slice_get f.locals x ≡ None → live_local s types f (slice_get f.locals x) form x st ≡ Strays
 none_strays s types f x form st gone = ap (λ q. live_local s types f q form x st) gone
@@ -106,24 +96,3 @@ on_next_ends e (ending.Fault kind) go h = ap (λ x. on_next x go) h
 on_next_ends e ending.Stray go h = ap (λ x. on_next x go) h
 on_next_ends e ending.NoMemory go h = tt
 on_next_ends e ending.WriteFault go h = h
-
--- ---- pointers
-
-pub born_fits : (form : Form) (p : Pointer) (c : Content) (rows : Rows) → pointer_seen p ≡ born_pointer form → PointerFits c rows p
-born_fits form leads.Null c rows e = tt
-born_fits form leads.Wild c rows e = tt
-born_fits form (leads.Static characters) c rows e = tt
-born_fits form (leads.To index object moment) c rows e = absurd (clash form e)
-  where
-    clash : (given : Form) → pointer_seen (leads.To index object moment) ≡ born_pointer given → ⊥
-    clash forms.Plain h = cc
-    clash forms.Zero h = cc
-
-pub static_fits : (p : Pointer) (v : state.Characters) (c : Content) (rows : Rows) → pointer_seen p ≡ state.Static v → PointerFits c rows p
-static_fits leads.Null v c rows e = tt
-static_fits leads.Wild v c rows e = tt
-static_fits (leads.Static characters) v c rows e = tt
-static_fits (leads.To index object moment) v c rows e = absurd (clash v e)
-  where
-    clash : (given : state.Characters) → pointer_seen (leads.To index object moment) ≡ state.Static given → ⊥
-    clash given h = cc

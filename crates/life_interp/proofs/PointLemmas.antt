@@ -1,5 +1,5 @@
 -- What is done at a point is what the walk does there.
-use Rattle.std.proofs.Common.{◌≡◌, ◌<◌, ℕ, List, [], ◌++◌, length, map, Option, Some, Result, Ok, Err, refl, sym, ap, ◌∙◌, append-nil, arith}
+use Rattle.std.proofs.Common.{◌≡◌, ◌<◌, ℕ, List, [], ◌++◌, length, map, Option, Some, Result, Ok, Err, refl, sym, ap, ◌∙◌, append-nil}
 use Rattle.std.specs.declared.alloc.Global.{Global}
 use Rattle.std.specs.declared.vec.Vec.{Vec}
 use Rattle.std.specs.Prelude.{ℤ, option_and_then, option_map, slice_get}
@@ -19,8 +19,8 @@ use Rattle.life_types.specs.declared.place.Place.{Place}
 use Rattle.life_store.specs.Content.{Content}
 use Rattle.life_store.specs.Doing.{Setting, Next}
 use Rattle.life_interp.specs.SoFar.{does}
-use Rattle.life_interp.specs.Cells.{state_of, world_of}
-use Rattle.life_interp.specs.Fits.{most_births, Grows}
+use Rattle.life_cells.specs.Cells.{state_of}
+use Rattle.life_interp.specs.Cells.{world_of}
 use Rattle.life_interp.specs.Frames.{function_at, point_at, stack_seen}
 use Rattle.life_interp.specs.Runs.{links_seen}
 use Rattle.life_interp.specs.PointsSoFar.{at_node, at_point}
@@ -31,7 +31,7 @@ use Rattle.life_interp.specs.declared.ending.Ending.TheVariants as ending
 use Rattle.life_interp.specs.declared.ending.Halt.{Halt}
 use Rattle.life_interp.specs.declared.ending.Halt.TheVariants as halt
 use Rattle.life_interp.specs.declared.frames.Frames.{Frames}
-use Rattle.life_interp.specs.declared.value.Cell.{Cell}
+use Rattle.life_cells.specs.declared.cell.Cell.{Cell}
 use Rattle.life_interp.proofs.CodeLists.{code_at, there_at}
 
 -- what isn't a call
@@ -55,9 +55,6 @@ own_else (instrs.Change o c) h = tt
 own_else (instrs.Make u made) h = tt
 own_else (instrs.Call target f xs) h = h target f xs refl
 own_else (instrs.Port port) h = tt
-
-pub grows_more : (c d : Content) → Grows 1 c d → Grows most_births c d
-grows_more c d h = record { births = omega (arith, h.births); clock = omega (arith, h.clock) }
 
 -- a point at which nothing goes in or out
 pub leads_quiet : {A : Type 0} (at : Doing) (fs : List Function) (c : Content) (ins : List ℤ) (new : Frames) (d : Content) (k : Sunk) (result : Result A Halt) → Takes k [] → Moves at fs c new d ins result

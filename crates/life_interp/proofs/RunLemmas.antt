@@ -22,7 +22,8 @@ use Rattle.life_store.specs.declared.run.FaultKind.{FaultKind}
 use Rattle.life_store.specs.declared.run.TrapKind.{TrapKind}
 use Rattle.life_store.specs.declared.run.TrapKind.TheVariants as trap
 use Rattle.life_store.proofs.NeverLost.{first_suited, never_lost}
-use Rattle.life_interp.specs.Cells.{state_of, world_of}
+use Rattle.life_cells.specs.Cells.{state_of}
+use Rattle.life_interp.specs.Cells.{world_of}
 use Rattle.life_interp.specs.Frames.{function_at, stack_seen, AllBegin}
 use Rattle.life_interp.specs.Runs.{barred_as, IsBarred, RunEnds, TakesFront}
 use Rattle.life_interp.specs.SoFar as so_far

@@ -24,7 +24,7 @@ use Rattle.life_store.specs.State.{Cell, State, ready_of}
 use Rattle.life_store.specs.declared.run.TrapKind.TheVariants as trap
 use Rattle.life_store.proofs.Handing as handing
 use Rattle.life_store.proofs.Handing.{AreSuited, HandsAll}
-use Rattle.life_interp.specs.Cells.{state_of}
+use Rattle.life_cells.specs.Cells.{state_of}
 use Rattle.life_interp.specs.Frames.{function_at, stack_seen}
 use Rattle.life_interp.specs.PointsSoFar as points
 use Rattle.life_interp.specs.SoFar as so_far
@@ -33,7 +33,6 @@ use Rattle.life_interp.specs.Walk as walk
 use Rattle.life_interp.specs.Walk.{Go, Waiting, chosen, first_way, let_in, moved, second_way}
 use Rattle.life_interp.specs.Walking.{IsOwn, IsSoundWalk, means, passes}
 use Rattle.life_interp.specs.declared.frames.Frames.{Frames}
-use Rattle.life_interp.proofs.FirstWords.{AreFirst, seen_first}
 use Rattle.life_interp.proofs.SameCalls.{alone_same, handed_same, parameters_same, result_same, taken_same}
 use Rattle.life_interp.proofs.SameSteps.{does_same, test_same}
 use Rattle.life_interp.proofs.SoundCalls.{left_sorted, lent_so, result_given, sorted_call, waiting_call, waiting_cells}
@@ -59,14 +58,14 @@ module _ (types : Types) (f : Function) (st : State) (served : list_all (is_serv
   slots_none x zero = refl
   slots_none x (suc n) = ap (λ vs. vs ++ whole.slots_back types f (x + 1) n st) (slot_none x) ∙ slots_none (x + 1) n
 
-module _ (s : Setting) (p : Program) (go : Go) (n : ℕ) (ws : List Waiting) (f : Function) (q : ℕ) (st : State) (sound : AreSound p ws f (Some q) st) (l : Linked) (here : numbered (code_of f) q ≡ Some l) (first : AreFirst st.cells) where
+module _ (s : Setting) (p : Program) (go : Go) (n : ℕ) (ws : List Waiting) (f : Function) (q : ℕ) (st : State) (sound : AreSound p ws f (Some q) st) (l : Linked) (here : numbered (code_of f) q ≡ Some l) where
   -- ---- an instruction
 
   own_same : (i : Step) → l.spot.node ≡ Action i → IsOwn i
       → moved (go ws f (first_way l.leads)) l.spot.place st.world (does s p.types f i st) ≡ moved (go ws f (first_way l.leads)) l.spot.place st.world (so_far.does s p.types f i st)
   own_same i is own =
       ap (moved (go ws f (first_way l.leads)) l.spot.place st.world)
-      (does_same s p.types p.functions f st sound.stands.sorted first i (own_plain i own) (subst (IsNodeSorted p.types f p.functions (ready_of st)) is (asked p ws f q st sound l here)))
+      (does_same s p.types p.functions f st sound.stands.sorted i (own_plain i own) (subst (IsNodeSorted p.types f p.functions (ready_of st)) is (asked p ws f q st sound l here)))
 
   module _ (target : Option Location) (g : FnId) (xs : List Argument) (is : l.spot.node ≡ Action (Call target g xs)) where
     abbrev waits : Waiting
@@ -130,10 +129,10 @@ module _ (s : Setting) (p : Program) (go : Go) (n : ℕ) (f : Function) (q : ℕ
 
 -- ---- any point
 
-module _ (s : Setting) (p : Program) (go : Go) (n : ℕ) (ws : List Waiting) (f : Function) (q : ℕ) (st : State) (sound : AreSound p ws f (Some q) st) (first : AreFirst st.cells) where
+module _ (s : Setting) (p : Program) (go : Go) (n : ℕ) (ws : List Waiting) (f : Function) (q : ℕ) (st : State) (sound : AreSound p ws f (Some q) st) where
   node_same : (l : Linked) → numbered (code_of f) q ≡ Some l → (node : Node) → l.spot.node ≡ node → walk.at_node s p go ws f node l.spot.place l.leads n st ≡ points.at_node s p go ws f node l.spot.place l.leads n st
-  node_same l here (Action i) is = action_same s p go n ws f q st sound l here first i is
-  node_same l here (Question t) is = question_same s p go n ws f q st sound l here first t is
+  node_same l here (Action i) is = action_same s p go n ws f q st sound l here i is
+  node_same l here (Question t) is = question_same s p go n ws f q st sound l here t is
   node_same l here Return is = return_same s p go n f q st l here is ws sound
   node_same l here Stop is = refl
 
@@ -153,4 +152,4 @@ module _ (s : Setting) (p : Program) (frames : Frames) (c : Content) (sound : Is
       at_to (Some q) h =
           let ws = stack_seen p.functions frames.waiting.items in
           let f = function_at p.functions frames.function in
-          point_same s p go n ws f q (state_of c frames.cells.items output ins) (with_ports p ws f (Some q) (state_of c frames.cells.items [] []) output ins h) (seen_first frames.cells.items) (numbered (code_of f) q) refl
+          point_same s p go n ws f q (state_of c frames.cells.items output ins) (with_ports p ws f (Some q) (state_of c frames.cells.items [] []) output ins h) (numbered (code_of f) q) refl

@@ -21,8 +21,7 @@ use Rattle.life_store.specs.declared.object.ObjRef.{ObjRef}
 use Rattle.life_store.proofs.MapLemmas.{one_or_apart}
 use Rattle.life_forest.specs.FrameTypes.{Stands}
 use Rattle.life_forest.specs.Frames.{named_in}
-use Rattle.life_forest.specs.Kinds.{Kinds, rank_if, rank_of}
-use Rattle.life_forest.specs.Kinds.{kinds_of as forest_kinds}
+use Rattle.life_forest.specs.Kinds.{Kinds, rank_if, rank_of, kinds_of as forest_kinds}
 use Rattle.life_forest.specs.Owned.{owned_list, times}
 use Rattle.life_forest.specs.Values.{IsOf, Known}
 use Rattle.life_forest.proofs.Counting.{one_apart, one_same}

@@ -19,7 +19,8 @@ use Rattle.life_store.specs.State as state
 use Rattle.life_store.specs.State.{State}
 use Rattle.life_store.proofs.Handing as handing
 use Rattle.life_store.proofs.Handing.{AreSuited, HandsAll}
-use Rattle.life_interp.specs.Cells.{cells_seen, one_seen, state_of, world_of}
+use Rattle.life_cells.specs.Cells.{cells_seen, state_of}
+use Rattle.life_interp.specs.Cells.{one_seen, world_of}
 use Rattle.life_interp.specs.Frames.{function_at, point_at, stack_seen, waiting_seen, AllBegin}
 use Rattle.life_interp.specs.SoFar as so_far
 use Rattle.life_interp.specs.Sound.{AreSound, IsAt}
@@ -28,9 +29,8 @@ use Rattle.life_interp.specs.Walk.{first_way, second_way}
 use Rattle.life_interp.specs.Walking.{IsOwn, IsSoundWalk, StandsHere}
 use Rattle.life_interp.specs.declared.frames.Frames.{Frames}
 use Rattle.life_interp.specs.declared.frames.Waiting.{Waiting}
-use Rattle.life_interp.specs.declared.value.Cell.{Cell}
+use Rattle.life_cells.specs.declared.cell.Cell.{Cell}
 use Rattle.life_interp.proofs.CodeLists.{there_at}
-use Rattle.life_interp.proofs.FirstWords.{seen_first}
 use Rattle.life_interp.proofs.FrameLemmas.{stack_push}
 use Rattle.life_interp.proofs.Leads.{action_here, return_here}
 use Rattle.life_interp.proofs.SameCalls.{handed_same, parameters_same}
@@ -95,7 +95,7 @@ module _ (p : Program) (frames : Frames) (c : Content) (sound : IsSoundWalk p fr
       let h = is_here place (Action i) (goes to) stands in
       let l : Linked = record { spot = spot_at place (Action i); leads = goes to } in
       let ready = asked p stack function h.point (at ins) (h.known ins) l h.here in
-      let same = does_same s p.types p.functions function (at ins) (h.known ins).stands.sorted (seen_first frames.cells.items) i (own_plain i own) ready in
+      let same = does_same s p.types p.functions function (at ins) (h.known ins).stands.sorted i (own_plain i own) ready in
       let done = same ∙ ap (λ (g : Function). so_far.does s p.types g i (at ins)) is ∙ e in
       with_ports p stack function to (state_of d new text rest) [] [] (step_sound p stack function h.point (at ins) (h.known ins) l h.here i refl own s (state_of d new text rest) done)
 

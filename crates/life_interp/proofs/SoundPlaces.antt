@@ -1,47 +1,45 @@
--- At a point where the frames are sound, what an instruction names has the type that it takes: so the words of a place are there, and a number's word is plain.
-use Rattle.std.proofs.Common.{◌≡◌, ℕ, ◌+◌, ◌<◌, List, length, true, Some, refl, ap, subst, ◌∙◌, arith}
-use Rattle.std.proofs.lemmas.Bool.{and_parts}
+-- At a point where the frames are sound, what an instruction names has the type that it takes.
+use Rattle.std.proofs.Common.{◌≡◌, ℕ, ◌+◌, ◌^◌, ◌≤◌, Bool, true, false, List, length, Some, refl, sym, ap, subst, ◌∙◌, arith}
+use Rattle.std.proofs.lemmas.Bool.{and_parts, false≢true}
 use Rattle.std.specs.Prelude.{◌&&◌, not}
-use Rattle.life_types.specs.TypeTests.{is_value}
+use Rattle.life_types.specs.TypeTests.{is_constant, is_iterator, is_pointer, is_value, is_void}
 use Rattle.life_types.specs.Types.{Types}
+use Rattle.life_types.specs.declared.ty.Ty.{Ty}
+use Rattle.life_types.specs.declared.ty.Ty.TheVariants as ty
 use Rattle.life_types.specs.declared.ty.TyId.{TyId}
 use Rattle.life_core.specs.Function.{Function, Program}
 use Rattle.life_core.specs.Linked.{Linked, code_of, numbered}
-use Rattle.life_core.specs.Operands.{Operand}
-use Rattle.life_core.specs.Step.{Step, Load, Save}
+use Rattle.life_core.specs.Operands.{Base, Location, Operand, Source}
+use Rattle.life_core.specs.Operands as source
+use Rattle.life_core.specs.Step.{Step, Live, End, Eval, Load, Save, Copy, Move, Aim, Repoint, Element, Cursor, Advance, Cut, Size, Same, Changes, Make, Call, Ports}
 use Rattle.life_core.specs.Tree.{Action, Node}
-use Rattle.life_proper.specs.OperandTypes.{same}
-use Rattle.life_proper.specs.Placed.{is_const_place, is_number_of, register_at, type_at, type_of}
+use Rattle.life_proper.specs.OperandTypes.{aims_at, are_alike, are_compared, is_range, keeps_const, owned_element, same, seen_element, takes, walks}
+use Rattle.life_proper.specs.Placed.{element_of, is_const_base, is_const_place, is_number_of, register_at, type_at, type_in, type_of, type_of_element}
 use Rattle.life_proper.specs.WellFormed.{is_well_formed_node, is_well_formed_step}
-use Rattle.life_proper.proofs.Sorted.{IsNodeSorted, IsOperandSorted, IsStepSorted}
 use Rattle.life_proper.proofs.SortedNodes.{formed_parts}
-use Rattle.life_store.specs.Content.{Object, Content}
-use Rattle.life_store.specs.Kinds.{Plain, kind_in}
-use Rattle.life_store.specs.Parts.{Parts, Single, parts_at, width, width_at}
-use Rattle.life_store.specs.References.{HasWord}
-use Rattle.life_store.specs.Places.{Here, locate}
-use Rattle.life_store.specs.State.{State, ready_of}
+use Rattle.life_store.specs.Parts.{parts_at, width_at}
+use Rattle.life_store.specs.State.{State}
 use Rattle.life_forest.specs.Frames.{named_in}
 use Rattle.life_forest.specs.Owned.{times}
 use Rattle.life_forest.specs.Settled.{IsPoised}
-use Rattle.life_forest.specs.Typed.{IsStore}
 use Rattle.life_forest.proofs.HeldPoints.{poised}
 use Rattle.life_forest.proofs.HeldPointers.{pointers_aim}
-use Rattle.life_forest.proofs.Operands.{FoundWell, IsPlace, operand_well}
-use Rattle.life_forest.proofs.SeenTypes.{value_parts}
-use Rattle.life_forest.proofs.Shaped.{locals_shaped}
-use Rattle.life_forest.proofs.StandingSteps.{IsTypedStep}
+use Rattle.life_forest.proofs.OwnedAims.{OwnsType}
+use Rattle.life_forest.proofs.SeenTypes.{text_owns, value_parts, vector_owns}
+use Rattle.life_forest.proofs.SettlingPointers.{alike_points, seen_element_range, seen_range, walks_solid}
+use Rattle.life_forest.proofs.Shaped.{IsShaped, locals_shaped}
+use Rattle.life_forest.proofs.StandingSteps.{IsTypedBase, IsTypedSource, IsTypedStep}
 use Rattle.life_forest.proofs.TypedPoints.{typed_point}
-use Rattle.life_forest.proofs.TypedSteps.{operand_with, value_solid}
-use Rattle.life_seen.specs.Kinds.{kinds_of}
-use Rattle.life_interp.specs.SoFar as so_far
+use Rattle.life_forest.proofs.TypedSteps.{PointersAim, operand_with, pointer_of, value_solid}
+use Rattle.life_cells.specs.Typed.{HoldsPointer, IsBase, IsSource}
+use Rattle.life_interp.specs.Accessed.{HasPlaces, IsNumberPlace}
+use Rattle.life_interp.specs.Layouts.{AreReady}
 use Rattle.life_interp.specs.Sound.{AreSound, IsAt, in_waiting}
-use Rattle.life_interp.specs.Steps.{IsNumberAt}
 use Rattle.life_interp.specs.Walk.{Waiting}
-use Rattle.life_interp.proofs.FirstWords.{AreFirst}
-use Rattle.life_interp.proofs.SameSteps.{locate_same, word_first}
+use Rattle.life_interp.specs.declared.layouts.Layouts.{Layouts}
+use Rattle.life_interp.proofs.HeldPlaces.{IsOwning, number_placed, owner_held, owner_placed, placed, pointer_held}
 use Rattle.life_interp.proofs.SoundPrograms.{goes_well, members}
-use Rattle.life_interp.proofs.SoundSteps.{asked}
+use Rattle.life_interp.proofs.WideTypes.{are_wide}
 
 -- ---- an instruction
 
@@ -58,55 +56,140 @@ module _ (p : Program) (ws : List Waiting) (f : Function) (q : ℕ) (st : State)
       typed_point p.types sound.proper.well_formed.table sound.proper.well_formed.once (length p.names) (length p.texts) p.functions f w.formed w.points w.ready q st l i sound.stands.reached here is
       (pointers_aim p.types sound.proper.well_formed.table f st sound.sound.held sound.sound.stands.frame) sound.sound.sorted
 
--- ---- a place
+-- ---- the places that it names
 
-module _ (types : Types) (hand : ℕ → ℕ) (c : Content) (store : IsStore types hand c) (part : TyId) (n i w : ℕ) (o : Object) (place : IsPlace types c part n i w o) where
-  -- each word of its value
-  pub place_word : (u : ℕ) → u < width_at types part → HasWord i (w + u) o
-  place_word u lt =
-      let fits = place.within.fits in
-      let wide = (store.fit n o place.there).width in
-      record { has_slot = place.slot; has_word = omega (arith, lt, fits, wide) }
+owns_owning : (types : Types) (part id : TyId) → OwnsType (parts_at types part) id → IsOwning (parts_at types part)
+owns_owning types part id owns = let one = owns.one in record { wide = omega (arith, one); owner = owns.owner }
 
-  -- a number is one plain word
-  pub place_number : parts_at types part ≡ Single → HasWord i w o × (kinds_of types o.ty w ≡ Plain)
-  place_number single =
-      let wide : width_at types part ≡ 1 = ap width single in
-      let none : w + 0 ≡ w = omega arith in (
-        subst (λ k. HasWord i k o) none (place_word 0 (omega (arith, wide))),
-        subst (λ k. kind_in (parts_at types o.ty) k ≡ Plain) none (place.within.words 0 (omega (arith, wide)) ∙ ap (λ (q : Parts). kind_in q 0) single),
-      )
+not_false : (b : Bool) → not b ≡ true → b ≡ false
+not_false true e = absurd (false≢true e)
+not_false false e = refl
 
--- ---- what is read or written as one number
+void_void : (t : Ty) → is_void t ≡ false → t ≡ ty.Void → ⊥
+void_void t e is = false≢true (sym e ∙ ap is_void is)
 
-module _ (p : Program) (f : Function) (st : State) (first : AreFirst st.cells) (i : Step) (at : IsAt p f i st) where
-  one_at : (o : Operand) (r : ℕ) → is_number_of p.types f (type_of p.types f o) r ≡ true → IsOperandSorted p.types f (ready_of st) o → IsNumberAt p.types (so_far.locate o st)
-  one_at o r e ready n k object located =
-      let sound = at.sound.sound in
-      let table = at.sound.proper.well_formed.table in
-      let w = goes_well p at.sound.proper at.sound.own f at.sound.there in
-      let is_value_there = (and_parts (is_value (type_of p.types f o)) (same (type_of p.types f o) (type_at p.types f r)) (and_parts (register_at p.types f r) (is_value (type_of p.types f o) && same (type_of p.types f o) (type_at p.types f r)) e).1).0 in
-      let shaped = locals_shaped p.types table (length p.names) f (formed_parts p.types (length p.names) (length p.texts) p.functions f w.formed).locals in
-      let of = operand_with p.types table at.sound.proper.well_formed.once (length p.texts) p.functions f shaped st (pointers_aim p.types table f st sound.held sound.stands.frame) sound.sorted o (type_of p.types f o) refl (value_solid (type_of p.types f o) is_value_there) in
-      let well = operand_well p.types table f st sound.stands.frame o of.whole of.operand.0 of.operand.1 in
-      let here : FoundWell p.types st.world.content of.whole 0 (Here n k object) =
-      subst (FoundWell p.types st.world.content of.whole 0) (locate_same p.types f st at.sound.stands.sorted first o ready ∙ located)
-      (subst (λ (u : ℕ). FoundWell p.types st.world.content of.whole u (locate p.types f o st)) (word_first p.types f st at.sound.stands.sorted first o ready) well) in
-      (place_number p.types (λ j. times (named_in st.cells) j + in_waiting at.behind j) st.world.content sound.stands.store of.whole n k 0 object here (value_parts p.types table of.whole (type_of p.types f o) of.there is_value_there)).1
+compared_points : (types : Types) (t u : Ty) → are_compared types t u ≡ true → (is_pointer t ≡ true) × (is_pointer u ≡ true)
+compared_points types (ty.Iterator t c) (ty.Iterator u d) e = (refl, refl)
+compared_points types ty.View ty.View e = (refl, refl)
+compared_points types _ _ e = absurd (false≢true e)
+
+module _ (p : Program) (f : Function) (st : State) (i : Step) (at : IsAt p f i st) (narrow : (ty : TyId) → width_at p.types ty ≤ 2 ^ 32) where
+  abbrev hand : ℕ → ℕ
+  hand j = times (named_in st.cells) j + in_waiting at.behind j
+
+  shaped : IsShaped p.types f
+  shaped = let w = goes_well p at.sound.proper at.sound.own f at.sound.there in locals_shaped p.types at.sound.proper.well_formed.table (length p.names) f (formed_parts p.types (length p.names) (length p.texts) p.functions f w.formed).locals
+
+  aims : PointersAim p.types f st
+  aims = pointers_aim p.types at.sound.proper.well_formed.table f st at.sound.sound.held at.sound.sound.stands.frame
 
   formed_at : is_well_formed_step p.types (length p.texts) p.functions f i ≡ true
   formed_at =
       let w = goes_well p at.sound.proper at.sound.own f at.sound.there in
       subst (λ (n : Node). is_well_formed_node p.types (length p.texts) p.functions f n ≡ true) at.is (w.points at.point at.linked at.here)
 
-  sorted_at : IsStepSorted p.types f p.functions (ready_of st) i
-  sorted_at = subst (IsNodeSorted p.types f p.functions (ready_of st)) at.is (asked p at.behind f at.point st at.sound at.linked at.here)
+  at_point : IsPoised p.types f st
+  at_point = poised_here p at.behind f at.point st at.sound at.linked at.here
 
--- what is read
-pub load_number : (p : Program) (f : Function) (st : State) → AreFirst st.cells → (r : ℕ) (o : Operand) → IsAt p f (Load r o) st → IsNumberAt p.types (so_far.locate o st)
-load_number p f st first r o at = one_at p f st first (Load r o) at o r (formed_at p f st first (Load r o) at) (sorted_at p f st first (Load r o) at).1
+  typed : IsTypedStep p.types f st i
+  typed = typed_here p at.behind f at.point st at.sound at.linked at.here i at.is
 
--- .. and what is written
-pub save_number : (p : Program) (f : Function) (st : State) → AreFirst st.cells → (o : Operand) (r : ℕ) → IsAt p f (Save o r) st → IsNumberAt p.types (so_far.locate o st)
-save_number p f st first o r at =
-    one_at p f st first (Save o r) at o r (and_parts (is_number_of p.types f (type_of p.types f o) r) (not (is_const_place p.types f o)) (formed_at p f st first (Save o r) at)).0 (sorted_at p f st first (Save o r) at).1
+  wide : (id : TyId) → 1 ≤ width_at p.types id
+  wide id = are_wide p.types at.sound.proper.well_formed.table (members p at.sound.proper) id
+
+  -- a location of a pointer
+  held_pointer : (l : Location) → is_pointer (type_in p.types f l) ≡ true → HoldsPointer p.types f l st
+  held_pointer l is =
+      let q = pointer_of p.types at.sound.proper.well_formed.table at.sound.proper.well_formed.once (length p.texts) p.functions f shaped st aims at.sound.sound.sorted l (type_in p.types f l) refl is in
+      pointer_held p.types at.sound.proper.well_formed.table narrow f hand st at.sound.sound.stands.store at.sound.sound.stands.frame l q.part q.takes.0 q.takes.1
+
+  -- a place of a value
+  number_here : (o : Operand) (r : ℕ) → is_number_of p.types f (type_of p.types f o) r ≡ true → IsNumberPlace p.types f o st
+  number_here o r e =
+      let table = at.sound.proper.well_formed.table in
+      let value = (and_parts (is_value (type_of p.types f o)) (same (type_of p.types f o) (type_at p.types f r)) (and_parts (register_at p.types f r) (is_value (type_of p.types f o) && same (type_of p.types f o) (type_at p.types f r)) e).1).0 in
+      let of = operand_with p.types table at.sound.proper.well_formed.once (length p.texts) p.functions f shaped st aims at.sound.sound.sorted o (type_of p.types f o) refl (value_solid (type_of p.types f o) value) in
+      number_placed p.types table narrow f hand st at.sound.sound.stands.store at.sound.sound.stands.frame o of.whole of.operand.0 of.operand.1 (value_parts p.types table of.whole (type_of p.types f o) of.there value)
+
+  -- what a pointer is aimed at
+  source_here : (part : TyId) (s : Source) → IsTypedSource p.types f st part s → IsSource p.types f s st
+  source_here part source.Null t = tt
+  source_here part (source.Text n) t = tt
+  source_here part source.Empty t = tt
+  source_here part (source.Place o) t = placed p.types at.sound.proper.well_formed.table narrow f hand st at.sound.sound.stands.store at.sound.sound.stands.frame o t.0 t.1.0 t.1.1 (wide t.0)
+  source_here part (source.Whole o) t =
+      owner_placed p.types at.sound.proper.well_formed.table narrow f hand st at.sound.sound.stands.store at.sound.sound.stands.frame o t.0 t.1.0 t.1.1 (owns_owning p.types t.0 t.2.0 t.2.1)
+  source_here part (source.Get l) t =
+      owner_held p.types at.sound.proper.well_formed.table narrow f hand st at.sound.sound.stands.store at.sound.sound.stands.frame l t.0 t.1 (owns_owning p.types t.0 t.2.0 t.2.1)
+
+  -- what has elements
+  base_here : (part : TyId) (b : Base) → IsTypedBase p.types f st part b → ((l : Location) → b ≡ source.Pointer l → is_pointer (type_in p.types f l) ≡ true) → IsBase p.types f b st
+  base_here part (source.Owner o) t points =
+      owner_placed p.types at.sound.proper.well_formed.table narrow f hand st at.sound.sound.stands.store at.sound.sound.stands.frame o t.0 t.1.0 t.1.1 (owns_owning p.types t.0 t.2.0 t.2.1)
+  base_here part (source.Pointer l) t points = held_pointer l (points l refl)
+
+  -- .. and is counted
+  owner_counted : (o : Operand) (t : Ty) → type_of p.types f o ≡ t → is_void (owned_element p.types t) ≡ false → IsBase p.types f (source.Owner o) st
+  owner_counted o ty.Text is some =
+      let table = at.sound.proper.well_formed.table in
+      let of = operand_with p.types table at.sound.proper.well_formed.once (length p.texts) p.functions f shaped st aims at.sound.sound.sorted o ty.Text is refl in
+      owner_placed p.types table narrow f hand st at.sound.sound.stands.store at.sound.sound.stands.frame o of.whole of.operand.0 of.operand.1 (owns_owning p.types of.whole _ (text_owns p.types table of.whole of.there))
+  owner_counted o (ty.Vector element) is some =
+      let table = at.sound.proper.well_formed.table in
+      let of = operand_with p.types table at.sound.proper.well_formed.once (length p.texts) p.functions f shaped st aims at.sound.sound.sorted o (ty.Vector element) is refl in
+      owner_placed p.types table narrow f hand st at.sound.sound.stands.store at.sound.sound.stands.frame o of.whole of.operand.0 of.operand.1 (owns_owning p.types of.whole element (vector_owns p.types table of.whole element of.there))
+  owner_counted o _ is some = absurd (false≢true (sym some))
+
+  counted_here : (b : Base) → is_void (element_of p.types f b) ≡ false → IsBase p.types f b st
+  counted_here (source.Owner o) some = owner_counted o (type_of p.types f o) refl some
+  counted_here (source.Pointer l) some = held_pointer l (seen_range p.types (type_in p.types f l) (void_void (seen_element p.types (type_in p.types f l)) some)).0
+
+-- ---- at each instruction
+
+module _ (p : Program) (f : Function) (st : State) (layouts : Layouts) (ready : AreReady p.types layouts) where
+  both_alike : (i : Step) (at : IsAt p f i st) (l m : Location) → takes p.types (type_in p.types f l) (type_in p.types f m) ≡ true → HoldsPointer p.types f l st × HoldsPointer p.types f m st
+  both_alike i at l m e =
+      let alike = (and_parts (are_alike p.types (type_in p.types f l) (type_in p.types f m)) (keeps_const (is_constant (type_in p.types f l)) (is_constant (type_in p.types f m))) e).0 in
+      let both = alike_points p.types (type_in p.types f l) (type_in p.types f m) alike in
+      (held_pointer p f st i at ready.narrow l both.0, held_pointer p f st i at ready.narrow m both.1)
+
+  pub has_places : (i : Step) → IsAt p f i st → HasPlaces p.types f st i
+  has_places (Load r o) at = number_here p f st (Load r o) at ready.narrow o r (formed_at p f st (Load r o) at ready.narrow)
+  has_places (Save o r) at = number_here p f st (Save o r) at ready.narrow o r (and_parts (is_number_of p.types f (type_of p.types f o) r) (not (is_const_place p.types f o)) (formed_at p f st (Save o r) at ready.narrow)).0
+  has_places (Aim l s) at =
+      let t = typed p f st (Aim l s) at ready.narrow in (
+        pointer_held p.types at.sound.proper.well_formed.table ready.narrow f (hand p f st (Aim l s) at ready.narrow) st at.sound.sound.stands.store at.sound.sound.stands.frame l t.0 t.1.0 t.1.1,
+        source_here p f st (Aim l s) at ready.narrow t.0 s t.2,
+      )
+  has_places (Repoint l m) at = both_alike (Repoint l m) at l m (formed_at p f st (Repoint l m) at ready.narrow)
+  has_places (Element l b which) at =
+      let t = typed p f st (Element l b which) at ready.narrow in
+      let e = formed_at p f st (Element l b which) at ready.narrow in (
+        pointer_held p.types at.sound.proper.well_formed.table ready.narrow f (hand p f st (Element l b which) at ready.narrow) st at.sound.sound.stands.store at.sound.sound.stands.frame l t.0 t.1.0 t.1.1,
+        base_here p f st (Element l b which) at ready.narrow t.0 b t.2
+            (λ m is. (seen_element_range p.types f st (at_point p f st (Element l b which) at ready.narrow) l m which
+            (subst (λ (x : Base). aims_at p.types (type_in p.types f l) (type_of_element p.types f x which) ≡ true) is (and_parts (aims_at p.types (type_in p.types f l) (type_of_element p.types f b which)) (keeps_const (is_constant (type_in p.types f l)) (is_const_base p.types f b)) e).0)).0),
+      )
+  has_places (Cursor l b end) at =
+      let t = typed p f st (Cursor l b end) at ready.narrow in
+      let e = formed_at p f st (Cursor l b end) at ready.narrow in (
+        pointer_held p.types at.sound.proper.well_formed.table ready.narrow f (hand p f st (Cursor l b end) at ready.narrow) st at.sound.sound.stands.store at.sound.sound.stands.frame l t.0 t.1.0 t.1.1,
+        base_here p f st (Cursor l b end) at ready.narrow t.0 b t.2
+            (λ m is. let walked = subst (λ (x : Base). walks p.types (type_in p.types f l) (element_of p.types f x) ≡ true) is (and_parts (walks p.types (type_in p.types f l) (element_of p.types f b)) (keeps_const (is_constant (type_in p.types f l)) (is_const_base p.types f b)) e).0 in
+            (seen_range p.types (type_in p.types f m) (λ void. walks_solid p.types (type_in p.types f l) (subst (λ (u : Ty). walks p.types (type_in p.types f l) u ≡ true) void walked))).0),
+      )
+  has_places (Advance l m r direction) at = both_alike (Advance l m r direction) at l m (and_parts (takes p.types (type_in p.types f l) (type_in p.types f m)) _ (and_parts (is_iterator (type_in p.types f l)) _ (formed_at p f st (Advance l m r direction) at ready.narrow)).1).0
+  has_places (Cut l m r count) at = both_alike (Cut l m r count) at l m (and_parts (takes p.types (type_in p.types f l) (type_in p.types f m)) _ (and_parts (is_range (type_in p.types f l)) _ (formed_at p f st (Cut l m r count) at ready.narrow)).1).0
+  has_places (Size r b) at = counted_here p f st (Size r b) at ready.narrow b (not_false (is_void (element_of p.types f b)) (and_parts (is_number_of p.types f ty.Size r) (not (is_void (element_of p.types f b))) (formed_at p f st (Size r b) at ready.narrow)).1)
+  has_places (Same r l m equal) at =
+      let both = compared_points p.types (type_in p.types f l) (type_in p.types f m) (and_parts (is_number_of p.types f ty.Bool r) (are_compared p.types (type_in p.types f l) (type_in p.types f m)) (formed_at p f st (Same r l m equal) at ready.narrow)).1 in
+      (held_pointer p f st (Same r l m equal) at ready.narrow l both.0, held_pointer p f st (Same r l m equal) at ready.narrow m both.1)
+  has_places (Live x form) at = tt
+  has_places (End xs) at = tt
+  has_places (Eval r operation) at = tt
+  has_places (Copy to from) at = tt
+  has_places (Move to y) at = tt
+  has_places (Changes o change) at = tt
+  has_places (Make u made) at = tt
+  has_places (Call target g xs) at = tt
+  has_places (Ports port) at = tt

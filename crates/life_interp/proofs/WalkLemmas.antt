@@ -11,19 +11,18 @@ use Rattle.life_store.specs.Content.{Content}
 use Rattle.life_store.specs.Doing.{Effect, Next}
 use Rattle.life_store.specs.References.{Rows}
 use Rattle.life_store.specs.State.{State}
-use Rattle.life_seen.specs.Housed.{IsHoused}
-use Rattle.life_seen.specs.Kinds.{kinds_of}
-use Rattle.life_interp.specs.Cells.{state_of}
-use Rattle.life_interp.specs.Fits.{CellsFit, IsFit}
+use Rattle.life_cells.specs.Cells.{state_of}
+use Rattle.life_cells.specs.Fits.{CellsFit, IsFit}
 use Rattle.life_interp.specs.Steps.{LeavesBoth}
 use Rattle.life_interp.specs.Walking.{IsQuiet, LeavesInput, Sunk, Takes, Performs, Writes}
 use Rattle.life_interp.specs.declared.ending.Ending.{Ending}
 use Rattle.life_interp.specs.declared.ending.Ending.TheVariants as ending
-use Rattle.life_interp.specs.declared.value.Cell.{Cell}
+use Rattle.life_cells.specs.declared.cell.Cell.{Cell}
+use Rattle.life_cells.proofs.FitLemmas.{other_cells}
 
-pub fit_where_ok : {A E : Type 0} (types : Types) (c : Content) (rows : Rows) (cells : List Cell) (result : Result A E) → IsHoused (kinds_of types) c rows → OnOk result (CellsFit c rows cells) → OnOk result (IsFit types c rows cells)
-fit_where_ok types c rows cells (Ok a) h held = record { housed = h; held = held }
-fit_where_ok types c rows cells (Err e) h held = tt
+pub fit_where_ok : {A E : Type 0} (types : Types) (c : Content) (rows : Rows) (old cells : List Cell) (result : Result A E) → IsFit types c rows old → OnOk result (CellsFit c rows cells) → OnOk result (IsFit types c rows cells)
+fit_where_ok types c rows old cells (Ok a) h held = other_cells types c rows old cells h held
+fit_where_ok types c rows old cells (Err e) h held = tt
 
 -- a sink that was left alone
 pub untouched : (known : Option (List ℕ)) (n : ℕ) → Takes (record { old = known; new = known; faults = n; later = n }) []

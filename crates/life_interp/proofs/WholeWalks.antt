@@ -12,7 +12,8 @@ use Rattle.life_store.specs.Content.{Content}
 use Rattle.life_store.specs.Doing.{Setting}
 use Rattle.life_store.specs.Meaning.{Called}
 use Rattle.life_store.specs.State.{State}
-use Rattle.life_interp.specs.Cells.{state_of, world_of}
+use Rattle.life_cells.specs.Cells.{state_of}
+use Rattle.life_interp.specs.Cells.{world_of}
 use Rattle.life_interp.specs.Frames.{function_at, stack_seen}
 use Rattle.life_interp.specs.Walk.{Waiting, at_point, walk}
 use Rattle.life_interp.specs.Walking.{from, means, output_of, PointEnds, Takes, TakesPart, WalkEnds}

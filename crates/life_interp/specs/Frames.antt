@@ -4,11 +4,11 @@ use Rattle.life_core.specs.Function.{Function, Default}
 use Rattle.life_core.specs.Linked.{Linked, code_of, enter, no_exits, numbered}
 use Rattle.life_core.specs.Operands.{argument_of, location_of}
 use Rattle.life_core.specs.Tree.{Skip}
-use Rattle.life_interp.specs.Cells.{cells_seen}
+use Rattle.life_cells.specs.Cells.{cells_seen}
 use Rattle.life_interp.specs.Walk as walk
 use Rattle.life_interp.specs.declared.frames.Frames.{Frames}
 use Rattle.life_interp.specs.declared.frames.Waiting.{Waiting}
-use Rattle.life_interp.specs.declared.value.Cell.{Cell}
+use Rattle.life_cells.specs.declared.cell.Cell.{Cell}
 
 -- a function by its number; no frame is of one that isn't there
 abbrev pub no_function : Function

@@ -1,3 +1,5 @@
+pub mod Accessed
+pub mod Births
 pub mod Cells
 pub mod SoFar
 pub mod Fits

@@ -16,7 +16,8 @@ use Rattle.life_store.specs.Content.{Content}
 use Rattle.life_store.specs.Meaning.{Trapped, Faulted, Stray, Exhausted, Verdict, Holds, Fails, Cut, Called, Back, Barred, Quit, value_in}
 use Rattle.life_store.specs.State as state
 use Rattle.life_store.specs.State.{World, State}
-use Rattle.life_interp.specs.Cells.{state_of, world_of}
+use Rattle.life_cells.specs.Cells.{state_of}
+use Rattle.life_interp.specs.Cells.{world_of}
 use Rattle.life_interp.specs.Frames.{function_at, point_at, stack_seen}
 use Rattle.life_interp.specs.Sound.{AreSound}
 use Rattle.life_interp.specs.Steps.{TellsEnd}
@@ -28,7 +29,7 @@ use Rattle.life_interp.specs.declared.ending.Ending.TheVariants as ending
 use Rattle.life_interp.specs.declared.ending.Halt.{Halt}
 use Rattle.life_interp.specs.declared.ending.Halt.TheVariants as halt
 use Rattle.life_interp.specs.declared.frames.Frames.{Frames}
-use Rattle.life_interp.specs.declared.value.Cell.{Cell}
+use Rattle.life_cells.specs.declared.cell.Cell.{Cell}
 
 -- ---- instructions
 

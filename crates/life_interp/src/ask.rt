@@ -2,9 +2,9 @@
 ghost use Rattle.life_core.specs.Step.{asked_of};
 ghost use Rattle.life_interp.specs.Walking.{Asks};
 
-use crate::frame::{number_at, pointer_at};
-use crate::value::{Cell, Pointer};
+use life_cells::{Cell, number_at, own_pointer};
 use life_core::Test;
+use life_pointers::Pointer;
 
 /// Whether the test holds, if its local holds what is tested.
 pub(crate) fn ask(cells: &[Cell], test: &Test) -> Option<bool>
@@ -15,7 +15,7 @@ pub(crate) fn ask(cells: &[Cell], test: &Test) -> Option<bool>
             None => None,
             Some(value) => Some(value != 0),
         },
-        Test::NotNull(pointer) => match pointer_at(cells, pointer.local) {
+        Test::NotNull(pointer) => match own_pointer(cells, pointer.local) {
             None => None,
             Some(Pointer::Null) => Some(false),
             Some(Pointer::Wild) => Some(true),

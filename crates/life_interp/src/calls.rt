@@ -5,13 +5,15 @@ ghost use Rattle.life_core.specs.Linked.{goes};
 ghost use Rattle.life_core.specs.Operands.{argument_of, location_of};
 ghost use Rattle.life_core.specs.Step.{Call};
 ghost use Rattle.life_core.specs.Tree.{Action, Return};
-ghost use Rattle.life_interp.specs.Cells.{cells_seen, one_seen, state_of, world_of};
-ghost use Rattle.life_interp.specs.Fits.{meant, most_births, CanStep, CellFits, CellsFit, Grows, IsFit};
+ghost use Rattle.life_cells.specs.Cells.{cells_seen, state_of};
+ghost use Rattle.life_interp.specs.Cells.{one_seen, world_of};
+ghost use Rattle.life_cells.specs.Fits.{meant, CellFits, CellsFit, IsFit};
+ghost use Rattle.life_interp.specs.Fits.{most_births, CanStep, Grows};
 ghost use Rattle.life_interp.specs.Frames.{all_cells, function_at, stack_seen, waiting_cells, AllBegin, AreFrames, AreThere};
 ghost use Rattle.life_interp.specs.Steps.{Begins, IsSet, LeavesBoth};
 ghost use Rattle.life_interp.specs.Walking.{acts, barred_of, returns, Enters, IsSoundWalk, Moves, StandsHere};
 ghost use Rattle.life_interp.specs.declared.ending.Halt.TheVariants as halts;
-ghost use Rattle.life_interp.specs.declared.value.Cell.TheVariants as held;
+ghost use Rattle.life_cells.specs.declared.cell.Cell.TheVariants as held;
 ghost use Rattle.life_types.specs.declared.place.Place.{Place as AnyPlace};
 ghost use Rattle.life_seen.specs.Housed.{IsHoused, Later};
 ghost use Rattle.life_seen.specs.Kinds.{kinds_of};
@@ -23,7 +25,7 @@ use crate::ending::{Ending, Halt, halt_at};
 use crate::frames::{Frames, Waiting};
 use crate::giving::{give, give_all};
 use crate::handing::{all_handed, result_of, told};
-use crate::value::Cell;
+use life_cells::Cell;
 use life_core::{Argument, CoreFn, CoreProgram, FnId, Location};
 use life_store::{Store, TrapKind};
 use life_types::{NoMemory, Place};
@@ -82,8 +84,7 @@ fn entered<S: Store>(
     values: &[Cell],
     store: &mut S,
 ) -> Result<Vec<Cell>, Halt>
-    requires housed { IsHoused (kinds_of (program_of program.now).types) (S.content store.old) (S.rows store.old) }
-    requires values { CellsFit (S.content store.old) (S.rows store.old) values.now }
+    requires fits { IsFit (program_of program.now).types (S.content store.old) (S.rows store.old) values.now }
     requires countable { CanStep (S.content store.old) }
     requires room { S.limit store.old < most_births }
     ensures step { (s : Setting) → s.given.cells ≡ S.limit store.old → Enters s (program_of program.now) function.0 (cells_seen values.now) place (meant (program_of program.now).types (S.content store.old) (S.rows store.old)) (meant (program_of program.now).types (S.content store.new) (S.rows store.new)) result }
@@ -116,8 +117,7 @@ pub(crate) fn given_cells<S: Store>(
     values: &[Cell],
     store: &mut S,
 ) -> Result<Vec<Cell>, Ending>
-    requires housed { IsHoused (kinds_of (program_of program.now).types) (S.content store.old) (S.rows store.old) }
-    requires values { CellsFit (S.content store.old) (S.rows store.old) values.now }
+    requires fits { IsFit (program_of program.now).types (S.content store.old) (S.rows store.old) values.now }
     requires countable { CanStep (S.content store.old) }
     requires room { S.limit store.old < most_births }
     ensures step { (s : Setting) → s.given.cells ≡ S.limit store.old → Begins s (program_of program.now).types (function_of f.now) (cells_seen values.now) (meant (program_of program.now).types (S.content store.old) (S.rows store.old)) (meant (program_of program.now).types (S.content store.new) (S.rows store.new)) result }

@@ -1,57 +1,37 @@
-// The cells of a frame.
-ghost use Rattle.std.specs.Prelude.{◌≡◌, option_map, slice_get, slice_set, IfSome, Some};
-ghost use Rattle.life_interp.specs.declared.value.Cell.TheVariants as held;
-ghost use Rattle.life_interp.specs.Cells.{cells_seen, number_in, pointer_in, pointer_seen};
+// What a cell holds.
+ghost use Rattle.std.specs.Prelude.{◌≡◌, slice_get, Some};
+ghost use Rattle.life_cells.specs.Cells.{cell_seen, cells_seen, number_in};
+ghost use Rattle.life_interp.specs.Steps.{is_free};
 
-use crate::value::{Cell, Pointer};
+use life_cells::{Cell, cell_at};
 
-/// What the local holds, if the frame has it.
-pub(crate) fn cell_at(cells: &[Cell], local: u32) -> Option<Cell>
-    ensures { result ≡ slice_get cells.now local }
+/// Whether the frame has the local, and nothing of it is alive.
+pub(crate) fn is_free(cells: &[Cell], local: u32) -> bool
+    ensures { result ≡ is_free (slice_get (cells_seen cells.now) local) }
 {
-    cells.get(local as usize).copied()
-}
-
-/// Sets what the local holds, if the frame has it.
-pub(crate) fn put_cell(cells: &mut Vec<Cell>, local: u32, cell: Cell)
-    ensures { cells.new.items ≡ slice_set cells.old.items local cell }
-{
-    put_at(cells, local as usize, cell);
-}
-
-/// .. by an index.
-#[tactic(auto, using(std::proofs::lemmas::List::set_past))]
-pub(crate) fn put_at(cells: &mut Vec<Cell>, local: usize, cell: Cell)
-    ensures { cells.new.items ≡ slice_set cells.old.items local cell }
-{
-    if local < cells.len() {
-        cells[local] = cell;
+    match cell_at(cells, local) {
+        Some(Cell::Empty) => true,
+        Some(Cell::Object(_)) => false,
+        Some(Cell::Number(_)) => false,
+        Some(Cell::Null) => false,
+        Some(Cell::Wild) => false,
+        Some(Cell::To { .. }) => false,
+        Some(Cell::Static(_)) => false,
+        None => false,
     }
 }
 
-/// The value that the local holds, if it holds one.
-pub(crate) fn number_at(cells: &[Cell], local: u32) -> Option<i64>
-    ensures { result ≡ number_in (slice_get (cells_seen cells.now) local) }
+/// The value that the cell holds, if it holds one.
+pub(crate) fn number_of(cell: Cell) -> Option<i64>
+    ensures { result ≡ number_in (Some (cell_seen cell)) }
 {
-    match cell_at(cells, local) {
-        Some(Cell::Number(value)) => Some(value),
-        Some(Cell::Empty) => None,
-        Some(Cell::Object(_)) => None,
-        Some(Cell::Points(_)) => None,
-        None => None,
-    }
-}
-
-/// The pointer that the local holds, if it holds one.
-pub(crate) fn pointer_at(cells: &[Cell], local: u32) -> Option<Pointer>
-    ensures seen { option_map pointer_seen result ≡ pointer_in (slice_get (cells_seen cells.now) local) }
-    ensures held { IfSome result (λ p. slice_get cells.now local ≡ Some (held.Points p)) }
-{
-    match cell_at(cells, local) {
-        Some(Cell::Points(pointer)) => Some(pointer),
-        Some(Cell::Empty) => None,
-        Some(Cell::Object(_)) => None,
-        Some(Cell::Number(_)) => None,
-        None => None,
+    match cell {
+        Cell::Number(value) => Some(value),
+        Cell::Empty => None,
+        Cell::Object(_) => None,
+        Cell::Null => None,
+        Cell::Wild => None,
+        Cell::To { .. } => None,
+        Cell::Static(_) => None,
     }
 }

@@ -1,5 +1,5 @@
 // The frames of calls.
-use crate::value::Cell;
+use life_cells::Cell;
 use life_core::{Argument, Location};
 use life_types::Place;
 

@@ -1,18 +1,19 @@
 // Locals that are given a value or a pointer.
 ghost use Rattle.std.specs.Prelude.{◌≡◌, ◌<◌, OnOk};
 ghost use Rattle.life_core.specs.Function.{function_of};
-ghost use Rattle.life_interp.specs.Cells.{cell_seen, cells_seen};
-ghost use Rattle.life_interp.specs.Fits.{meant, most_births, CanBear, CanStep, CellFits, CellsFit, Gives, Grows, IsFit, IsNumber};
+ghost use Rattle.life_cells.specs.Cells.{cell_seen, cells_seen};
+ghost use Rattle.life_cells.specs.Fits.{meant, CellFits, CellsFit, IsFit};
+ghost use Rattle.life_interp.specs.Fits.{most_births, CanBear, CanStep, Gives, Grows, IsNumber};
 ghost use Rattle.life_interp.specs.Steps.{LeavesBoth};
 ghost use Rattle.life_seen.specs.Housed.{Later};
 ghost use Rattle.life_store.specs.Doing.{Setting};
 ghost use Rattle.life_interp.specs.SoFar.{born_with, given, parameters_given};
 
 use crate::ending::Ending;
-use crate::frame::put_at;
+use crate::frame::number_of;
 use crate::locals::new_object;
 use crate::sort::{Sort, sort_of};
-use crate::value::Cell;
+use life_cells::{Cell, pointer_of, put_at};
 use life_core::CoreFn;
 use life_store::Store;
 use life_types::{TyId, TypeTable};
@@ -67,8 +68,8 @@ pub(crate) fn give<S: Store>(
 {
     if local < f.locals.len() {
         let declared = f.locals[local];
-        match value {
-            Cell::Number(number) => match sort_of(types, declared) {
+        match number_of(value) {
+            Some(number) => match sort_of(types, declared) {
                 Sort::Object => born_with(types, store, cells, declared.ty, number, local),
                 Sort::Number => {
                     put_at(cells, local, Cell::Number(number));
@@ -78,12 +79,13 @@ pub(crate) fn give<S: Store>(
                 Sort::Pointer => Err(Ending::Stray),
                 Sort::View => Err(Ending::Stray),
             },
-            Cell::Points(pointer) => {
-                put_at(cells, local, Cell::Points(pointer));
-                Ok(())
-            }
-            Cell::Empty => Err(Ending::Stray),
-            Cell::Object(_) => Err(Ending::Stray),
+            None => match pointer_of(value) {
+                None => Err(Ending::Stray),
+                Some(_) => {
+                    put_at(cells, local, value);
+                    Ok(())
+                }
+            },
         }
     } else {
         Err(Ending::Stray)

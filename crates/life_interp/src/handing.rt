@@ -1,9 +1,10 @@
 // What calls hand over and give back.
-ghost use Rattle.std.specs.Prelude.{◌≡◌, map, option_map, slice_get, IfOk, IfSome, List, Some, ℕ, ℤ};
+ghost use Rattle.std.specs.Prelude.{◌≡◌, map, option_map, slice_get, IfOk, IfSome, List, ℕ, ℤ};
 ghost use Rattle.life_core.specs.Function.{function_of};
 ghost use Rattle.life_core.specs.Operands.{argument_of};
-ghost use Rattle.life_interp.specs.Cells.{cell_seen, cells_seen, one_seen, state_of};
-ghost use Rattle.life_interp.specs.Fits.{CellFits, CellsFit};
+ghost use Rattle.life_cells.specs.Cells.{cell_seen, cells_seen, state_of};
+ghost use Rattle.life_interp.specs.Cells.{one_seen};
+ghost use Rattle.life_cells.specs.Fits.{CellFits, CellsFit};
 ghost use Rattle.life_interp.specs.Steps.{Hands};
 ghost use Rattle.life_store.specs.Calls.{number_handed, pointer_handed};
 ghost use Rattle.life_interp.specs.SoFar.{all_handed, handed, results};
@@ -12,9 +13,9 @@ ghost use Rattle.life_store.specs.Meaning.{value_in};
 ghost use Rattle.life_store.specs.References.{Rows};
 
 use crate::ending::Ending;
-use crate::frame::{cell_at, number_at};
+use crate::frame::number_of;
 use crate::sort::{Sort, result_sort};
-use crate::value::Cell;
+use life_cells::{Cell, holding, number_at, own_pointer};
 use life_core::{Argument, CoreFn};
 use life_types::TypeTable;
 use std::alloc::Global;
@@ -58,28 +59,22 @@ fn handed(cells: &[Cell], argument: &Argument) -> Option<Cell>
 // The value that the local holds, if it holds one.
 fn number_cell(cells: &[Cell], local: u32) -> Option<Cell>
     ensures seen { option_map cell_seen result ≡ number_handed (slice_get (cells_seen cells.now) local) }
-    ensures held { IfSome result (λ v. slice_get cells.now local ≡ Some v) }
+    ensures fits { (c : Content) (rows : Rows) → IfSome result (CellFits c rows) }
 {
-    match cell_at(cells, local) {
-        Some(Cell::Number(value)) => Some(Cell::Number(value)),
-        Some(Cell::Empty) => None,
-        Some(Cell::Object(_)) => None,
-        Some(Cell::Points(_)) => None,
+    match number_at(cells, local) {
         None => None,
+        Some(value) => Some(Cell::Number(value)),
     }
 }
 
 // The pointer that the local holds, if it holds one.
 fn pointer_cell(cells: &[Cell], local: u32) -> Option<Cell>
     ensures seen { option_map cell_seen result ≡ pointer_handed (slice_get (cells_seen cells.now) local) }
-    ensures held { IfSome result (λ v. slice_get cells.now local ≡ Some v) }
+    ensures fits { (c : Content) (rows : Rows) → CellsFit c rows cells.now → IfSome result (CellFits c rows) }
 {
-    match cell_at(cells, local) {
-        Some(Cell::Points(pointer)) => Some(Cell::Points(pointer)),
-        Some(Cell::Empty) => None,
-        Some(Cell::Object(_)) => None,
-        Some(Cell::Number(_)) => None,
+    match own_pointer(cells, local) {
         None => None,
+        Some(pointer) => Some(holding(pointer)),
     }
 }
 
@@ -105,10 +100,10 @@ pub(crate) fn told(given: Option<Cell>) -> i64
     ensures { result ≡ value_in (one_seen given) }
 {
     match given {
-        Some(Cell::Number(number)) => number,
-        Some(Cell::Empty) => 0,
-        Some(Cell::Object(_)) => 0,
-        Some(Cell::Points(_)) => 0,
         None => 0,
+        Some(cell) => match number_of(cell) {
+            None => 0,
+            Some(number) => number,
+        },
     }
 }

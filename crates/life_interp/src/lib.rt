@@ -3,6 +3,7 @@
 
 mod arithmetic;
 mod ask;
+mod births;
 mod calls;
 mod ending;
 mod entry;
@@ -15,14 +16,12 @@ mod links;
 mod locals;
 mod machine;
 mod outcome;
-mod places;
 mod point;
-mod pointers;
 mod ports;
+mod reaching;
 mod run;
 mod sort;
 mod steps;
-mod value;
 mod values;
 mod walk;
 

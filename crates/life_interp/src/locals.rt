@@ -1,27 +1,31 @@
 // Instructions that bring locals to life and end them.
-ghost use Rattle.std.specs.Prelude.{◌≡◌, ◌≤◌, ◌+◌, IfErr, IfOk, OnOk, slice_get, Some, ℕ};
+ghost use Rattle.std.specs.Prelude.{◌≡◌, ◌≤◌, ◌<◌, ◌+◌, IfErr, IfOk, OnOk, slice_get, Some, ℕ};
 ghost use Rattle.life_core.specs.Function.{function_of, Function};
-ghost use Rattle.life_interp.specs.Cells.{pointer_seen};
-ghost use Rattle.life_interp.specs.Fits.{meant, CanBear, CanStep, Grows, IsFit};
+ghost use Rattle.life_pointers.specs.Pointers.{pointer_seen, PointerFits};
+ghost use Rattle.life_cells.specs.Fits.{meant, IsFit};
+ghost use Rattle.life_interp.specs.Fits.{most_births, CanBear, CanStep, Grows};
 ghost use Rattle.life_interp.specs.Layouts.{AreReady};
 ghost use Rattle.life_interp.specs.Steps.{BirthFails, IsStanding, LeavesBoth, StandsIn};
 ghost use Rattle.life_seen.specs.Housed.{IsHoused, Later, Shows};
 ghost use Rattle.life_seen.specs.Kinds.{Kinds};
+ghost use Rattle.life_seen.specs.Rowed.{AreRowed};
 ghost use Rattle.life_seen.specs.Seen.{seen};
 ghost use Rattle.life_store.specs.Cells.{at};
-ghost use Rattle.life_store.specs.Content.{live_words_of};
-ghost use Rattle.life_store.specs.Doing.{with_value_object, cell, born_object, born_pointer, end_cell, end_locals, Setting};
+ghost use Rattle.life_store.specs.Content.{live_words_of, Content};
+ghost use Rattle.life_store.specs.Doing.{with_value_object, cell, born_object, born_pointer, end_cell, end_locals, live_local, Setting};
 ghost use Rattle.life_store.specs.Parts.{local_parts};
+ghost use Rattle.life_store.specs.References.{Rows};
 ghost use Rattle.life_types.specs.Trees.{IsOrdered};
-ghost use Rattle.life_interp.specs.SoFar.{live_local};
+ghost use Rattle.life_values.specs.Fresh.{AreWide};
 
+use crate::births::live_of;
 use crate::ending::Ending;
-use crate::frame::{cell_at, put_cell};
+use crate::frame::is_free;
 use crate::layouts::Layouts;
-use crate::pointers::empty_view;
 use crate::sort::{Sort, sort_of};
-use crate::value::{Cell, Pointer};
+use life_cells::{Cell, holding, object_at, own_pointer, put_cell};
 use life_core::{CoreFn, Form};
+use life_pointers::{Pointer, empty_view};
 use life_store::{BirthFault, ObjRef, Store, TrapKind};
 use life_types::{TyId, TypeTable};
 use life_values::end_deep;
@@ -30,50 +34,52 @@ use life_words::born_sized;
 /// Brings a local to life.
 pub(crate) fn live<S: Store>(
     types: &TypeTable,
+    layouts: &Layouts,
     f: &CoreFn,
     store: &mut S,
     cells: &mut Vec<Cell>,
     local: u32,
     form: Form,
 ) -> Result<(), Ending>
+    requires layouts { AreReady types.now layouts.now }
+    requires ordered { IsOrdered types.now }
+    requires wide { AreWide types.now }
     requires fits { IsFit types.now (S.content store.old) (S.rows store.old) cells.old.items }
     requires countable { CanStep (S.content store.old) }
+    requires room { S.limit store.old < most_births }
     ensures step { (s : Setting) → s.given.cells ≡ S.limit store.old → LeavesBoth (live_local s types.now (function_of f.now) (slice_get f.now.locals.items local) form local) (meant types.now (S.content store.old) (S.rows store.old)) cells.old.items (meant types.now (S.content store.new) (S.rows store.new)) cells.new.items result }
     ensures fits { OnOk result (IsFit types.now (S.content store.new) (S.rows store.new) cells.new.items) }
     ensures later { OnOk result (Later (S.content store.old) (S.content store.new) (S.rows store.old) (S.rows store.new)) }
-    ensures grows { OnOk result (Grows 1 (S.content store.old) (S.content store.new)) }
+    ensures grows { OnOk result (Grows most_births (S.content store.old) (S.content store.new)) }
     ensures limit { S.limit store.new ≡ S.limit store.old }
 {
     let index = local as usize;
-    if index < f.locals.len() {
-        let declared = f.locals[index];
-        match cell_at(cells, local) {
-            Some(Cell::Empty) => match sort_of(types, declared) {
-                Sort::Object => born(types, store, cells, declared.ty, local),
-                Sort::Pointer => {
-                    put_cell(cells, local, Cell::Points(born_pointer(form)));
-                    Ok(())
-                }
-                Sort::Blank => Err(Ending::Stray),
-                Sort::Number => Err(Ending::Stray),
-                Sort::View => {
-                    put_cell(cells, local, Cell::Points(empty_view()));
-                    Ok(())
-                }
-            },
-            Some(Cell::Object(_)) => Err(Ending::Stray),
-            Some(Cell::Number(_)) => Err(Ending::Stray),
-            Some(Cell::Points(_)) => Err(Ending::Stray),
-            None => Err(Ending::Stray),
+    if index >= f.locals.len() {
+        return Err(Ending::Stray);
+    }
+    if !is_free(cells, local) {
+        return Err(Ending::Stray);
+    }
+    let declared = f.locals[index];
+    match sort_of(types, declared) {
+        Sort::Object => born(types, store, cells, declared.ty, local),
+        Sort::Pointer => {
+            put_cell(cells, local, holding(born_pointer(form)));
+            Ok(())
         }
-    } else {
-        Err(Ending::Stray)
+        Sort::View => {
+            put_cell(cells, local, holding(empty_view()));
+            Ok(())
+        }
+        Sort::Blank => live_of(types, layouts, store, cells, declared.ty, form, local),
+        Sort::Number => Err(Ending::Stray),
     }
 }
 
 // What a pointer leads to where it comes to life.
 fn born_pointer(form: Form) -> Pointer
-    ensures { pointer_seen result ≡ born_pointer form }
+    ensures is { pointer_seen result ≡ born_pointer form }
+    ensures fits { (c : Content) (rows : Rows) → PointerFits c rows result }
 {
     match form {
         Form::Plain => Pointer::Wild,
@@ -94,7 +100,7 @@ fn born<S: Store>(
     ensures step { (s : Setting) → s.given.cells ≡ S.limit store.old → LeavesBoth (born_object s ty local) (meant types.now (S.content store.old) (S.rows store.old)) cells.old.items (meant types.now (S.content store.new) (S.rows store.new)) cells.new.items result }
     ensures fits { OnOk result (IsFit types.now (S.content store.new) (S.rows store.new) cells.new.items) }
     ensures later { OnOk result (Later (S.content store.old) (S.content store.new) (S.rows store.old) (S.rows store.new)) }
-    ensures grows { OnOk result (Grows 1 (S.content store.old) (S.content store.new)) }
+    ensures grows { OnOk result (Grows most_births (S.content store.old) (S.content store.new)) }
     ensures limit { S.limit store.new ≡ S.limit store.old }
 {
     match new_object(store, ty) {
@@ -112,6 +118,7 @@ pub(crate) fn new_object<S: Store>(store: &mut S, ty: TyId) -> Result<ObjRef, En
     ensures number { IfOk result (λ r. r.birth ≡ (S.content store.old).births) }
     ensures shows { (kinds : Kinds) → IsHoused kinds (S.content store.old) (S.rows store.old)
         → OnOk result (Shows kinds (S.content store.new) (S.rows store.new) (with_value_object ty (seen kinds (S.content store.old) (S.rows store.old)))) }
+    ensures rowed { (kinds : Kinds) → AreRowed kinds (S.content store.old) (S.rows store.old) → OnOk result (AreRowed kinds (S.content store.new) (S.rows store.new)) }
     ensures placed { IfOk result (λ r. at (S.rows store.new) r.birth ≡ Some r.row) }
     ensures later { OnOk result (Later (S.content store.old) (S.content store.new) (S.rows store.old) (S.rows store.new)) }
     ensures room { OnOk result (live_words_of (S.content store.old) + 3 ≤ S.limit store.old) }
@@ -174,8 +181,8 @@ fn end_one<S: Store>(
     ensures clock { OnOk result ((S.content store.new).clock ≡ (S.content store.old).clock) }
     ensures limit { S.limit store.new ≡ S.limit store.old }
 {
-    match cell_at(cells, local) {
-        Some(Cell::Object(object)) => match store.shape(object) {
+    match object_at(cells, local) {
+        Some(object) => match store.shape(object) {
             Err(_) => Err(Ending::Stray),
             Ok(_) => {
                 end_deep(types, &layouts.all, store, object, layouts.depth);
@@ -183,12 +190,12 @@ fn end_one<S: Store>(
                 Ok(())
             }
         },
-        Some(Cell::Points(_)) => {
-            put_cell(cells, local, Cell::Empty);
-            Ok(())
-        }
-        Some(Cell::Empty) => Err(Ending::Stray),
-        Some(Cell::Number(_)) => Err(Ending::Stray),
-        None => Err(Ending::Stray),
+        None => match own_pointer(cells, local) {
+            None => Err(Ending::Stray),
+            Some(_) => {
+                put_cell(cells, local, Cell::Empty);
+                Ok(())
+            }
+        },
     }
 }

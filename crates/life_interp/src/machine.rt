@@ -41,7 +41,8 @@ impl<'p> Drop for Machine<'p> {
 }
 
 impl<'p> Machine<'p> {
-    /// A machine for the program. `NoMemory` says that memory was wanted.
+    /// A machine for the program. `NoMemory` says that memory was wanted, or that the values of a type
+    /// have more than 2^32 words, for which no store has room.
     pub fn prepare(
         alloc: Global,
         p: &'p CoreProgram,

@@ -3,8 +3,8 @@ ghost use Rattle.std.specs.Prelude.{◌≡◌, ◌%◌, ◌^◌, drop, map, take
 ghost use Rattle.std.specs.Int.{cast_unsigned, w64};
 ghost use Rattle.life_core.specs.Function.{function_of, name_bytes, program_of};
 ghost use Rattle.life_core.specs.Step.{port_of};
-ghost use Rattle.life_interp.specs.Cells.{characters_seen};
-ghost use Rattle.life_interp.specs.Fits.{CellsFit};
+ghost use Rattle.life_pointers.specs.Pointers.{characters_seen};
+ghost use Rattle.life_cells.specs.Fits.{CellsFit};
 ghost use Rattle.life_interp.specs.Steps.{taken_into, viewed_from};
 ghost use Rattle.life_interp.specs.Walking.{LeavesInput, Performs, Writes};
 ghost use Rattle.life_store.specs.Content.{Content};
@@ -13,11 +13,11 @@ ghost use Rattle.life_store.specs.Doing.{as_long, characters_in, number_text, Se
 ghost use Rattle.life_store.specs.References.{Rows};
 
 use crate::ending::Ending;
-use crate::frame::{number_at, pointer_at, put_cell};
-use crate::value::{Cell, Characters, Pointer};
 use crate::values::type_at;
 use life_base::{Sink, write_whole};
+use life_cells::{Cell, number_at, own_pointer, put_cell};
 use life_core::{CoreFn, CoreProgram, Port};
+use life_pointers::{Characters, Pointer};
 use life_store::TrapKind;
 use life_types::Ty;
 use std::alloc::Global;
@@ -96,7 +96,7 @@ fn write_view<O: Sink>(
     ensures { (s : Setting) (c : Content) (ins : List ℤ) → s.texts ≡ map name_bytes texts.now
         → Performs (viewed_from s view) c cells.now ins c cells.now ins (record { old = O.taken out.old; new = O.taken out.new; faults = O.faults out.old; later = O.faults out.new }) result }
 {
-    match pointer_at(cells, view) {
+    match own_pointer(cells, view) {
         Some(Pointer::Static(characters)) => write_text(characters_in(texts, characters), out),
         Some(Pointer::Null) => Err(Ending::Stray),
         Some(Pointer::Wild) => Err(Ending::Stray),
@@ -113,7 +113,7 @@ fn characters_in(texts: &[Vec<u8>], characters: Characters) -> &[u8]
         None => &[],
         Some(number) => match texts.get(number as usize) {
             None => &[],
-            Some(text) => part(text, characters.index, characters.count),
+            Some(text) => part(text, characters.index as usize, characters.count as usize),
         },
     }
 }

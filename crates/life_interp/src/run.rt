@@ -1,10 +1,11 @@
 // The run of a function from an empty store.
-ghost use Rattle.std.specs.Prelude.{◌≡◌, ◌≤◌, ◌<◌, length, map, slice_get, IfOk, IfSome, OnOk};
+ghost use Rattle.std.specs.Prelude.{◌≡◌, ◌≤◌, ◌<◌, [], length, map, slice_get, IfOk, IfSome, OnOk};
 ghost use Rattle.life_core.specs.Function.{function_of, program_of};
 ghost use Rattle.life_core.specs.Linked.{code_of};
 ghost use Rattle.life_proper.specs.ProperPrograms.{IsProperProgram};
-ghost use Rattle.life_interp.specs.Cells.{cell_seen, cells_seen};
-ghost use Rattle.life_interp.specs.Fits.{meant, most_births, CanStep, CellFits, CellsFit, Grows, IsFit};
+ghost use Rattle.life_cells.specs.Cells.{cell_seen, cells_seen};
+ghost use Rattle.life_cells.specs.Fits.{meant, CellFits, CellsFit, IsFit};
+ghost use Rattle.life_interp.specs.Fits.{most_births, CanStep, Grows};
 ghost use Rattle.life_interp.specs.Layouts.{AreReady};
 ghost use Rattle.life_interp.specs.Runs.{barred_as, links_seen, IsBarred, RunEnds};
 ghost use Rattle.life_interp.specs.Steps.{Begins};
@@ -26,10 +27,10 @@ use crate::frames::Frames;
 use crate::layouts::Layouts;
 use crate::outcome::Outcome;
 use crate::ports::as_long;
-use crate::value::Cell;
 use crate::values::{converted, type_at};
 use crate::walk::walk;
 use life_base::Sink;
+use life_cells::Cell;
 use life_core::{CoreFn, CoreProgram, FnId, LinkRef};
 use life_store::{Limits, Store};
 use life_types::{NoMemory, Place, TypeTable};
@@ -123,7 +124,7 @@ fn first_cells<S: Store>(
     input: &[i64],
     store: &mut S,
 ) -> Result<Vec<Cell>, Ending>
-    requires housed { IsHoused (kinds_of (program_of program.now).types) (S.content store.old) (S.rows store.old) }
+    requires fits { IsFit (program_of program.now).types (S.content store.old) (S.rows store.old) [] }
     requires countable { CanStep (S.content store.old) }
     requires room { S.limit store.old < most_births }
     requires enough { f.now.parameters ≤ length input.now }

@@ -1,9 +1,10 @@
 // One instruction of any kind.
-ghost use Rattle.std.specs.Prelude.{◌≡◌, [], drop, OnOk};
+ghost use Rattle.std.specs.Prelude.{◌≡◌, ◌<◌, [], drop, OnOk};
 ghost use Rattle.life_core.specs.Function.{function_of, program_of};
 ghost use Rattle.life_core.specs.Step.{step_of};
-ghost use Rattle.life_interp.specs.Cells.{state_of};
-ghost use Rattle.life_interp.specs.Fits.{meant, CanStep, Grows, IsFit};
+ghost use Rattle.life_cells.specs.Cells.{state_of};
+ghost use Rattle.life_cells.specs.Fits.{meant, IsFit};
+ghost use Rattle.life_interp.specs.Fits.{most_births, CanStep, Grows};
 ghost use Rattle.life_interp.specs.Layouts.{AreReady};
 ghost use Rattle.life_interp.specs.Sound.{IsAt};
 ghost use Rattle.life_interp.specs.Steps.{IsSet, LeavesBoth};
@@ -15,11 +16,11 @@ ghost use Rattle.life_interp.specs.SoFar.{does};
 use crate::ending::Ending;
 use crate::layouts::Layouts;
 use crate::locals::{end, live};
-use crate::pointers::{aim, repoint};
 use crate::ports::pass;
-use crate::value::Cell;
-use crate::values::{evaluate, load, save};
+use crate::reaching::{reach, settled};
+use crate::values::evaluate;
 use life_base::Sink;
+use life_cells::{Cell, Scope};
 use life_core::{CoreFn, CoreProgram, Instr};
 use life_store::Store;
 use std::alloc::Global;
@@ -42,13 +43,14 @@ pub(crate) fn perform<S: Store, O: Sink>(
     requires fits { IsFit (program_of program.now).types (S.content store.old) (S.rows store.old) cells.old.items }
     requires at { IsAt (program_of program.now) (function_of f.now) (step_of instr.now) (state_of (meant (program_of program.now).types (S.content store.old) (S.rows store.old)) cells.old.items [] []) }
     requires countable { CanStep (S.content store.old) }
+    requires room { S.limit store.old < most_births }
     ensures step { (s : Setting) → IsSet s (S.limit store.old) (program_of program.now).texts
         → Performs (does s (program_of program.now).types (function_of f.now) (step_of instr.now))
         (meant (program_of program.now).types (S.content store.old) (S.rows store.old)) cells.old.items (drop taken.old input.now) (meant (program_of program.now).types (S.content store.new) (S.rows store.new)) cells.new.items (drop taken.new input.now)
         (record { old = O.taken out.old; new = O.taken out.new; faults = O.faults out.old; later = O.faults out.new }) result }
     ensures fits { OnOk result (IsFit (program_of program.now).types (S.content store.new) (S.rows store.new) cells.new.items) }
     ensures later { OnOk result (Later (S.content store.old) (S.content store.new) (S.rows store.old) (S.rows store.new)) }
-    ensures grows { OnOk result (Grows 1 (S.content store.old) (S.content store.new)) }
+    ensures grows { OnOk result (Grows most_births (S.content store.old) (S.content store.new)) }
     ensures limit { S.limit store.new ≡ S.limit store.old }
 {
     match instr {
@@ -72,34 +74,29 @@ fn act<S: Store>(
     requires fits { IsFit (program_of program.now).types (S.content store.old) (S.rows store.old) cells.old.items }
     requires at { IsAt (program_of program.now) (function_of f.now) (step_of instr.now) (state_of (meant (program_of program.now).types (S.content store.old) (S.rows store.old)) cells.old.items [] []) }
     requires countable { CanStep (S.content store.old) }
+    requires room { S.limit store.old < most_births }
     ensures step { (s : Setting) → IsSet s (S.limit store.old) (program_of program.now).texts
         → LeavesBoth (does s (program_of program.now).types (function_of f.now) (step_of instr.now)) (meant (program_of program.now).types (S.content store.old) (S.rows store.old)) cells.old.items (meant (program_of program.now).types (S.content store.new) (S.rows store.new)) cells.new.items result }
     ensures fits { OnOk result (IsFit (program_of program.now).types (S.content store.new) (S.rows store.new) cells.new.items) }
     ensures later { OnOk result (Later (S.content store.old) (S.content store.new) (S.rows store.old) (S.rows store.new)) }
-    ensures grows { OnOk result (Grows 1 (S.content store.old) (S.content store.new)) }
+    ensures grows { OnOk result (Grows most_births (S.content store.old) (S.content store.new)) }
     ensures limit { S.limit store.new ≡ S.limit store.old }
 {
     match instr {
-        Instr::Live { local, form } => live(&program.types, f, store, cells, *local, *form),
+        Instr::Live { local, form } => {
+            live(&program.types, layouts, f, store, cells, *local, *form)
+        }
         Instr::End { locals } => end(&program.types, layouts, store, cells, locals),
         Instr::Eval { into, operation } => evaluate(&program.types, f, *into, *operation, cells),
-        Instr::Load { into, from } => {
-            load(&program.types, &program.texts, store, cells, *into, from)
-        }
-        Instr::Save { to, from } => save(&program.types, store, cells, to, *from),
-        Instr::Aim { pointer, source } => {
-            aim(
-                &program.types,
-                &program.texts,
-                store,
-                cells,
-                pointer.local,
-                source,
-            )
-        }
-        Instr::Repoint { pointer, from } => repoint(cells, pointer.local, from.local),
         Instr::Port(_) => unreachable!(),
-        // No program that is built so far has another.
-        _ => Err(Ending::Stray),
+        _ => {
+            let scope = Scope {
+                types: &program.types,
+                layouts: &layouts.all,
+                texts: &program.texts,
+                function: f,
+            };
+            settled(reach(&scope, store, cells, instr))
+        }
     }
 }

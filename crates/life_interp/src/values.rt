@@ -1,22 +1,22 @@
 // Instructions that compute, read and write values.
-ghost use Rattle.std.specs.Prelude.{◌≡◌, ◌<◌, ◌^◌, map, pos, OnOk};
-ghost use Rattle.life_core.specs.Function.{function_of, name_bytes};
+ghost use Rattle.std.specs.Prelude.{◌≡◌, ◌<◌, ◌^◌, pos, OnOk};
+ghost use Rattle.life_core.specs.Function.{function_of};
 ghost use Rattle.life_core.specs.Operands.{operand_of};
-ghost use Rattle.life_interp.specs.Fits.{meant, CellsFit, IsFit};
-ghost use Rattle.life_interp.specs.Cells.{characters_seen};
-ghost use Rattle.life_interp.specs.SoFar.{loaded};
-ghost use Rattle.life_interp.specs.Steps.{place_in, stored, IsNumberAt, LeavesBoth, LeavesCells, TellsCharacter};
-ghost use Rattle.life_seen.specs.Housed.{Later};
+ghost use Rattle.life_cells.specs.Cells.{state_in};
+ghost use Rattle.life_cells.specs.Fits.{meant, CellsFit, IsFit, Keeps};
+ghost use Rattle.life_cells.specs.Scopes.{function_in, texts_in, types_in};
+ghost use Rattle.life_cells.specs.Steps.{Comes};
+ghost use Rattle.life_interp.specs.Accessed.{IsNumberPlace};
+ghost use Rattle.life_interp.specs.Steps.{stored, LeavesCells, Reads};
 ghost use Rattle.life_store.specs.Content.{Content};
 ghost use Rattle.life_store.specs.References.{Rows};
-ghost use Rattle.life_store.specs.Doing.{as_bool, as_char, as_int, computed_into, converted, evaluated, type_of, Setting};
+ghost use Rattle.life_store.specs.Doing.{as_bool, as_char, as_int, computed_into, converted, evaluated, loaded, type_of, Setting};
 
 use crate::arithmetic::{combined, negated, zero_test};
 use crate::ending::Ending;
-use crate::frame::{number_at, put_cell};
-use crate::places::{Located, locate};
-use crate::value::{Cell, Characters};
+use life_cells::{Cell, Scope, locate, number_at, put_cell};
 use life_core::{CoreFn, Operand, Operation};
+use life_pointers::{Place, Stop, character};
 use life_store::{Store, TrapKind};
 use life_types::{Ty, TypeTable};
 use life_words::{number, put_number};
@@ -133,81 +133,71 @@ fn as_int(value: i64) -> i64
     low.cast_signed() as i64
 }
 
-/// The character with which the characters begin, unless they begin at the end of their text.
-pub(crate) fn character_at(texts: &[Vec<u8>], characters: Characters) -> Option<i64>
-    ensures { TellsCharacter (map name_bytes texts.now) (characters_seen characters) result }
-{
-    match characters.text {
-        None => None,
-        Some(number) => match texts.get(number as usize) {
-            None => None,
-            Some(text) => match text.get(characters.index) {
-                None => None,
-                Some(byte) => Some(as_char(*byte as i64)),
-            },
-        },
-    }
-}
-
 /// Reads a value into a register.
 pub(crate) fn load<S: Store>(
-    types: &TypeTable,
-    texts: &[Vec<u8>],
+    scope: &Scope<'_>,
     store: &S,
     cells: &mut Vec<Cell>,
     into: u32,
     from: &Operand,
-) -> Result<(), Ending>
-    requires fits { IsFit types.now (S.content store.now) (S.rows store.now) cells.old.items }
-    requires number { IsNumberAt types.now (place_in (meant types.now (S.content store.now) (S.rows store.now)) cells.old.items (operand_of from.now)) }
-    ensures step { (s : Setting) → s.texts ≡ map name_bytes texts.now → LeavesCells (loaded s into (operand_of from.now)) (meant types.now (S.content store.now) (S.rows store.now)) cells.old.items cells.new.items result }
-    ensures fits { OnOk result (IsFit types.now (S.content store.now) (S.rows store.now) cells.new.items) }
+) -> Result<(), Stop>
+    requires fits { IsFit (types_in scope.now) (S.content store.now) (S.rows store.now) cells.old.items }
+    requires number { IsNumberPlace (types_in scope.now) (function_in scope.now) (operand_of from.now) (state_in (meant (types_in scope.now) (S.content store.now) (S.rows store.now)) cells.old.items) }
+    ensures step { (s : Setting) → s.texts ≡ texts_in scope.now
+        → Comes (loaded s (types_in scope.now) (function_in scope.now) into (operand_of from.now)) (meant (types_in scope.now) (S.content store.now) (S.rows store.now)) cells.old.items (meant (types_in scope.now) (S.content store.now) (S.rows store.now)) cells.new.items result }
+    ensures fits { OnOk result (IsFit (types_in scope.now) (S.content store.now) (S.rows store.now) cells.new.items) }
 {
-    match locate(types, store, cells, from) {
-        Err(ending) => Err(ending),
-        Ok(Located::Slot(position)) => {
-            let word = number(store, position.object, position.index, 0);
-            put_cell(cells, into, Cell::Number(word.cast_signed()));
-            Ok(())
+    let value = value_at(scope, store, cells, from)?;
+    put_cell(cells, into, Cell::Number(value));
+    Ok(())
+}
+
+// The value at a place, or a character of a text.
+fn value_at<S: Store>(
+    scope: &Scope<'_>,
+    store: &S,
+    cells: &[Cell],
+    from: &Operand,
+) -> Result<i64, Stop>
+    requires fits { IsFit (types_in scope.now) (S.content store.now) (S.rows store.now) cells.now }
+    requires number { IsNumberPlace (types_in scope.now) (function_in scope.now) (operand_of from.now) (state_in (meant (types_in scope.now) (S.content store.now) (S.rows store.now)) cells.now) }
+    ensures { (s : Setting) → s.texts ≡ texts_in scope.now → Reads (λ r. loaded s (types_in scope.now) (function_in scope.now) r (operand_of from.now)) (meant (types_in scope.now) (S.content store.now) (S.rows store.now)) cells.now result }
+{
+    match locate(scope, store, cells, from) {
+        Err(stop) => Err(stop),
+        Ok(Place::Here(spot)) => {
+            let word = number(store, spot.object, spot.index, spot.word as u64);
+            Ok(word.cast_signed())
         }
-        Ok(Located::Text(characters)) => match character_at(texts, characters) {
-            None => Err(Ending::Trap(TrapKind::Bounds)),
-            Some(value) => {
-                put_cell(cells, into, Cell::Number(value));
-                Ok(())
-            }
-        },
+        Ok(Place::Fixed(characters)) => character(scope.texts, characters),
     }
 }
 
-/// Writes a register's value to a place.
+/// Writes a register's value to a place. A character of a text isn't written.
 pub(crate) fn save<S: Store>(
-    types: &TypeTable,
+    scope: &Scope<'_>,
     store: &mut S,
     cells: &[Cell],
     to: &Operand,
     from: u32,
-) -> Result<(), Ending>
-    requires fits { IsFit types.now (S.content store.old) (S.rows store.old) cells.now }
-    requires number { IsNumberAt types.now (place_in (meant types.now (S.content store.old) (S.rows store.old)) cells.now (operand_of to.now)) }
-    ensures step { LeavesBoth (stored (operand_of to.now) from) (meant types.now (S.content store.old) (S.rows store.old)) cells.now (meant types.now (S.content store.new) (S.rows store.new)) cells.now result }
-    ensures fits { OnOk result (IsFit types.now (S.content store.new) (S.rows store.new) cells.now) }
-    ensures later { OnOk result (Later (S.content store.old) (S.content store.new) (S.rows store.old) (S.rows store.new)) }
-    ensures births { OnOk result ((S.content store.new).births ≡ (S.content store.old).births) }
-    ensures clock { OnOk result ((S.content store.new).clock ≡ (S.content store.old).clock) }
+) -> Result<(), Stop>
+    requires fits { IsFit (types_in scope.now) (S.content store.old) (S.rows store.old) cells.now }
+    requires number { IsNumberPlace (types_in scope.now) (function_in scope.now) (operand_of to.now) (state_in (meant (types_in scope.now) (S.content store.old) (S.rows store.old)) cells.now) }
+    ensures step { Comes (stored (types_in scope.now) (function_in scope.now) (operand_of to.now) from) (meant (types_in scope.now) (S.content store.old) (S.rows store.old)) cells.now (meant (types_in scope.now) (S.content store.new) (S.rows store.new)) cells.now result }
+    ensures fits { OnOk result (IsFit (types_in scope.now) (S.content store.new) (S.rows store.new) cells.now) }
+    ensures keeps { Keeps (S.content store.old) (S.content store.new) (S.rows store.old) (S.rows store.new) }
     ensures limit { S.limit store.new ≡ S.limit store.old }
 {
     match number_at(cells, from) {
-        None => Err(Ending::Stray),
-        Some(value) => match locate(types, store, cells, to) {
-            Err(ending) => Err(ending),
-            Ok(Located::Slot(position)) => {
+        None => Err(Stop::Lost),
+        Some(value) => match locate(scope, store, cells, to) {
+            Err(stop) => Err(stop),
+            Ok(Place::Fixed(_)) => Err(Stop::Lost),
+            Ok(Place::Here(spot)) => {
                 let word = value.cast_unsigned();
-                put_number(store, position.object, position.index, 0, word);
+                put_number(store, spot.object, spot.index, spot.word as u64, word);
                 Ok(())
             }
-            // A character of a text isn't written.
-            Ok(Located::Text(_)) => Err(Ending::Stray),
         },
     }
 }

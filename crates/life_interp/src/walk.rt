@@ -2,7 +2,8 @@
 ghost use Rattle.std.specs.Prelude.{◌≡◌, ◌<◌, [], drop, map};
 ghost use Rattle.life_core.specs.Function.{program_of};
 ghost use Rattle.life_core.specs.Linked.{code_of};
-ghost use Rattle.life_interp.specs.Fits.{meant, most_births, CanWalk, IsFit};
+ghost use Rattle.life_cells.specs.Fits.{meant, IsFit};
+ghost use Rattle.life_interp.specs.Fits.{most_births, CanWalk};
 ghost use Rattle.life_interp.specs.Frames.{all_cells, AllBegin, AreFrames};
 ghost use Rattle.life_interp.specs.Layouts.{AreReady};
 ghost use Rattle.life_interp.specs.Runs.{links_seen};

@@ -1,4 +1,4 @@
-use Rattle.std.proofs.Common.{◌≡◌, ℕ, List, [], ap, refl, rules, subst, sym, ◌∙◌, arith}
+use Rattle.std.proofs.Common.{◌≡◌, ◌++◌, ℕ, List, [], ap, refl, rules, subst, sym, ◌∙◌, arith}
 use Rattle.std.proofs.lemmas.Int.{to_z-of_z}
 use Rattle.std.proofs.lemmas.List.{length-map}
 use Rattle.std.proofs.lemmas.Option.{slice_get-map, slice_get_read}
@@ -10,14 +10,16 @@ use Rattle.life_core.specs.Operands.{location_of}
 use Rattle.life_store.specs.Doing.{Setting}
 use Rattle.life_store.specs.declared.run.Growth.TheVariants.{Always}
 use Rattle.life_interp.specs.SoFar.{results, target_given}
-use Rattle.life_interp.specs.Cells.{one_seen, state_of}
-use Rattle.life_interp.specs.Fits.{meant, CellsFit}
-use Rattle.life_interp.specs.Frames.{function_at, waiting_cells, AreThere}
+use Rattle.life_interp.specs.Cells.{one_seen}
+use Rattle.life_cells.specs.Cells.{state_of}
+use Rattle.life_cells.specs.Fits.{meant, CellsFit}
+use Rattle.life_interp.specs.Frames.{all_cells, function_at, waiting_cells, AreThere}
 use Rattle.life_interp.specs.Walking.{returns, Halts}
-use Rattle.life_interp.specs.declared.value.Cell.{Cell}
+use Rattle.life_cells.specs.declared.cell.Cell.{Cell}
 use Rattle.life_interp.proofs.BackLemmas.{back_goes, back_halts, leaves_last}
 use Rattle.life_interp.proofs.CodeLists.{function_there}
-use Rattle.life_interp.proofs.FitLemmas.{cells_later, fit_behind, fit_both, fit_front}
+use Rattle.life_cells.proofs.FitLemmas.{cells_later, other_cells}
+use Rattle.life_interp.proofs.FitLemmas.{fit_behind, fit_both, fit_front}
 use Rattle.life_interp.proofs.FrameLemmas.{there_front, there_last, waiting_push}
 use Rattle.life_interp.proofs.SoundFrames.{returned_sound}
 use Rattle.life_interp.proofs.calls.back.Goals as goal
@@ -44,7 +46,7 @@ give_target-requires-clause-fits g c =
     let ws = c.pop.new.self.items in
     let w = c.in-Some.waiting in
     let waiting = subst (CellsFit content rows) (ap waiting_cells c.in-Some.ensures.items ∙ waiting_push ws w) (fit_front content rows (waiting_cells frames.waiting.items) frames.cells.items c.requires.fits.held) in
-    record { housed = c.requires.fits.housed; held = fit_behind content rows (waiting_cells ws) w.cells.items waiting }
+    other_cells p.types content rows (all_cells frames) w.cells.items c.requires.fits (fit_behind content rows (waiting_cells ws) w.cells.items waiting)
 
 pub give_target-requires-clause-value : goal.give_target-requires-clause-value
 give_target-requires-clause-value g c =
@@ -135,10 +137,8 @@ returns-in-Ok-clause-fits g c =
     let waiting = subst (CellsFit content rows) (ap waiting_cells c.in-Some.ensures.items ∙ waiting_push ws w) (fit_front content rows (waiting_cells frames.waiting.items) frames.cells.items c.requires.fits.held) in
     let d = g.S.Store.content c.give_target.new.store in
     let new = g.S.Store.rows c.give_target.new.store in
-    record {
-      housed = c.in-Ok.ensures.fits.housed;
-      held = fit_both d new (waiting_cells ws) c.give_target.new.cells.items (cells_later content d rows new c.in-Ok.ensures.later (waiting_cells ws) (fit_front content rows (waiting_cells ws) w.cells.items waiting)) c.in-Ok.ensures.fits.held;
-    }
+    other_cells p.types d new c.give_target.new.cells.items (waiting_cells ws ++ c.give_target.new.cells.items) c.in-Ok.ensures.fits
+    (fit_both d new (waiting_cells ws) c.give_target.new.cells.items (cells_later content d rows new c.in-Ok.ensures.later (waiting_cells ws) (fit_front content rows (waiting_cells ws) w.cells.items waiting)) c.in-Ok.ensures.fits.held)
 
 pub returns-in-Ok-clause-sound : goal.returns-in-Ok-clause-sound
 returns-in-Ok-clause-sound g c =

@@ -6,15 +6,16 @@ use Rattle.life_core.specs.Step.{Call}
 use Rattle.life_store.specs.Doing.{Setting}
 use Rattle.life_store.specs.declared.run.Growth.TheVariants.{Always}
 use Rattle.life_interp.specs.SoFar.{all_handed}
-use Rattle.life_interp.specs.Cells.{cells_seen, state_of}
-use Rattle.life_interp.specs.Fits.{meant, CellsFit}
+use Rattle.life_cells.specs.Cells.{cells_seen, state_of}
+use Rattle.life_cells.specs.Fits.{meant, CellsFit}
 use Rattle.life_interp.specs.Frames.{all_cells, function_at, waiting_cells}
 use Rattle.life_interp.specs.Steps.{TellsNone}
 use Rattle.life_interp.specs.Walking.{acts, Halts}
-use Rattle.life_interp.specs.declared.value.Cell.{Cell}
+use Rattle.life_cells.specs.declared.cell.Cell.{Cell}
 use Rattle.life_interp.proofs.CallLemmas.{enters, unentered, unhanded}
 use Rattle.life_interp.proofs.CodeLists.{there_at}
-use Rattle.life_interp.proofs.FitLemmas.{cells_later, fit_behind}
+use Rattle.life_cells.proofs.FitLemmas.{cells_later, other_cells}
+use Rattle.life_interp.proofs.FitLemmas.{fit_behind}
 use Rattle.life_interp.proofs.FrameLemmas.{wait_fits}
 use Rattle.life_interp.proofs.SoundFrames.{called_sound}
 use Rattle.life_interp.proofs.calls.call.Goals as goal
@@ -30,13 +31,14 @@ returns-in-Err-clause-step g c = λ s ins set depth.
     (unhanded s p frames content ins target c.args.function arguments c.args.place c.args.to c.in-Err.ending
     (λ output. subst (λ (cells : List Cell). TellsNone (all_handed (state_of content cells output ins) arguments) c.in-Err.ending) c.deref.ensures.value (c.in-Err.ensures.step content output ins)))
 
-pub entered-requires-clause-values : goal.entered-requires-clause-values
-entered-requires-clause-values g c =
+pub entered-requires-clause-fits : goal.entered-requires-clause-fits
+entered-requires-clause-fits g c =
     let content = g.S.Store.content c.args.store.now in
     let rows = g.S.Store.rows c.args.store.now in
     let frames = c.args.frames.now in
-    subst (CellsFit content rows) (sym c.deref-in-Ok.ensures.value)
-    (c.in-Ok.ensures.fits content rows (subst (CellsFit content rows) (sym c.deref.ensures.value) (fit_behind content rows (waiting_cells frames.waiting.items) frames.cells.items c.requires.fits.held)))
+    other_cells (program_of c.args.program.now).types content rows (all_cells frames) c.deref-in-Ok.result.now c.requires.fits
+    (subst (CellsFit content rows) (sym c.deref-in-Ok.ensures.value)
+    (c.in-Ok.ensures.fits content rows (subst (CellsFit content rows) (sym c.deref.ensures.value) (fit_behind content rows (waiting_cells frames.waiting.items) frames.cells.items c.requires.fits.held))))
 
 pub returns-in-Err-entered-clause-step : goal.returns-in-Err-entered-clause-step
 returns-in-Err-entered-clause-step g c = λ s ins set depth.

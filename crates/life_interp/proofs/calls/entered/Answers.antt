@@ -3,11 +3,12 @@ use Rattle.std.proofs.lemmas.Option.{slice_get-map, slice_get_past, slice_get_re
 use Rattle.std.specs.Prelude.{option_map, slice_get}
 use Rattle.life_core.specs.Function.{Function, function_of, program_of}
 use Rattle.life_store.specs.Meaning.{frame}
-use Rattle.life_interp.specs.Cells.{cells_seen, world_of}
+use Rattle.life_cells.specs.Cells.{cells_seen}
+use Rattle.life_interp.specs.Cells.{world_of}
 use Rattle.life_interp.specs.SoFar.{parameters_given}
 use Rattle.life_interp.specs.PointsSoFar.{entered_in}
 use Rattle.life_interp.specs.Walking.{Halts}
-use Rattle.life_interp.specs.Fits.{meant}
+use Rattle.life_cells.specs.Fits.{meant}
 use Rattle.life_interp.proofs.CodeLists.{function_there}
 use Rattle.life_interp.proofs.FrameLemmas.{enter_goes, enter_halts}
 use Rattle.life_interp.proofs.calls.entered.Goals as goal

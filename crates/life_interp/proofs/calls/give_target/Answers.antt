@@ -6,8 +6,8 @@ use Rattle.life_core.specs.declared.operand.Location.{Location}
 use Rattle.life_interp.specs.SoFar.{target_given}
 use Rattle.life_interp.specs.Cells.{one_seen}
 use Rattle.life_interp.specs.Steps.{LeavesBoth}
-use Rattle.life_interp.specs.declared.value.Cell.{Cell}
-use Rattle.life_interp.specs.Fits.{meant}
+use Rattle.life_cells.specs.declared.cell.Cell.{Cell}
+use Rattle.life_cells.specs.Fits.{meant}
 use Rattle.life_interp.proofs.calls.give_target.Goals as goal
 
 pub returns-in-Some-given-clause-step : goal.returns-in-Some-given-clause-step

@@ -2,15 +2,19 @@ use Rattle.std.proofs.Common.{ap, subst, sym, ◌∙◌, arith}
 use Rattle.life_core.specs.Function.{function_of, program_of}
 use Rattle.life_interp.specs.SoFar.{parameters_given}
 use Rattle.life_store.specs.State.{State}
-use Rattle.life_interp.specs.Cells.{cells_seen}
+use Rattle.life_cells.specs.Cells.{cells_seen}
 use Rattle.life_interp.specs.Steps.{TellsEnd}
-use Rattle.life_interp.specs.Fits.{meant}
+use Rattle.life_cells.specs.Fits.{meant}
+use Rattle.life_cells.proofs.FitLemmas.{other_cells}
 use Rattle.life_interp.proofs.FitLemmas.{blank_fits}
 use Rattle.life_interp.proofs.FrameLemmas.{frame_is}
 use Rattle.life_interp.proofs.calls.given_cells.Goals as goal
 
 pub give_all-requires-clause-fits : goal.give_all-requires-clause-fits
-give_all-requires-clause-fits g c = rw c.in-Ok.ensures (record { housed = c.requires.housed; held = blank_fits _ _ _ })
+give_all-requires-clause-fits g c = rw c.in-Ok.ensures (other_cells _ _ _ c.args.values.now _ c.requires.fits (blank_fits _ _ _))
+
+pub give_all-requires-clause-values : goal.give_all-requires-clause-values
+give_all-requires-clause-values g c = c.requires.fits.held
 
 pub returns-in-Err-give_all-clause-step : goal.returns-in-Err-give_all-clause-step
 returns-in-Err-give_all-clause-step g c = λ s e output input.

@@ -6,21 +6,23 @@ use Rattle.life_store.specs.Content.{Content, Object}
 use Rattle.life_store.specs.Doing.{Next, put_cell}
 use Rattle.life_store.specs.Cells.{at}
 use Rattle.life_store.specs.Kinds.{kind_in}
-use Rattle.life_store.specs.Parts.{Parts}
+use Rattle.life_store.specs.Parts.{Parts, parts_at}
 use Rattle.life_store.specs.References.{Rows, HasWord}
 use Rattle.life_store.specs.State as state
 use Rattle.life_seen.specs.Kinds.{kinds_of}
 use Rattle.life_seen.specs.Named.{names_of}
 use Rattle.life_seen.proofs.LiveWords.{live_words_seen}
 use Rattle.life_seen.proofs.References.{later_then}
-use Rattle.life_interp.specs.Cells.{state_of}
-use Rattle.life_interp.specs.Fits.{meant}
-use Rattle.life_interp.specs.declared.value.Cell.TheVariants as held
-use Rattle.life_interp.proofs.FitLemmas.{cells_later, later_rows, set_fits}
+use Rattle.life_seen.proofs.WholePointers.{whole_pointers}
+use Rattle.life_cells.specs.Cells.{state_of}
+use Rattle.life_cells.specs.Fits.{meant}
+use Rattle.life_cells.specs.declared.cell.Cell.TheVariants as held
+use Rattle.life_cells.proofs.FitLemmas.{cells_later, set_fits}
+use Rattle.life_interp.proofs.FitLemmas.{later_rows}
 use Rattle.life_interp.proofs.GiveLemmas.{born_with_is, given_gives, shows_given}
 use Rattle.life_interp.proofs.LocalLemmas.{birth_fails, on_next_ends}
 use Rattle.life_interp.proofs.NumberLemmas.{new_has_word, new_value, ref_placed}
-use Rattle.life_interp.proofs.StepLemmas.{put_now}
+use Rattle.life_cells.proofs.LocationLemmas.{put_now}
 use Rattle.life_interp.proofs.giving.born_with.Goals as goal
 
 pub returns-in-Err-clause-step : goal.returns-in-Err-clause-step
@@ -59,6 +61,7 @@ returns-in-Ok g c =
     let word : c.cast_unsigned.result ≡ cast_unsigned w64 c.args.number = c.cast_unsigned.ensures ∙ ap (cast_unsigned w64) (to_z-of_z w64 c.args.number fits) in
     let shows = shows_given kinds m d e new after r c.args.ty c.args.number c.cast_unsigned.result q.number born.is word v (c.put_number.ensures.shows kinds v.object (record { housed = born.housed; there = v.there; plain = plain })) in
     let births : e.births ≡ content.births + 1 = ap (λ (x : Content). x.births) shows.is in
+    let clock : e.clock ≡ content.clock + 1 = ap (λ (x : Content). x.clock) shows.is in
     let were : d.births ≡ content.births + 1 = ap (λ (x : Content). x.births) born.is in
     let later = later_then content d e rows new after q.later (later_rows d e new after (omega (arith, births, were)) c.put_number.ensures.rows) in
     record {
@@ -72,6 +75,8 @@ returns-in-Ok g c =
           rw c.put_at.ensures
           (record {
             housed = shows.housed;
+            rowed = c.put_number.ensures.rowed kinds v.object (record { housed = born.housed; there = v.there; plain = plain }) (whole_pointers (parts_at types v.object.ty)) (q.rowed kinds c.requires.fits.rowed);
+            countable = record { births = omega (arith, births, c.requires.countable.births); clock = omega (arith, clock, c.requires.countable.clock) };
             held = set_fits e after c.args.cells.now.items c.args.local (held.Object r) (cells_later content e rows after later c.args.cells.now.items c.requires.fits.held)
                 (ref_placed e after r (omega (arith, births, q.number)) (ap (λ (x : Rows). at x r.birth) c.put_number.ensures.rows ∙ q.placed));
           });

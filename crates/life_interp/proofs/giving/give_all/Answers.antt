@@ -4,12 +4,12 @@ use Rattle.life_core.specs.Function.{function_of}
 use Rattle.life_store.specs.Doing.{on_next}
 use Rattle.life_interp.specs.SoFar.{given, parameters_given}
 use Rattle.life_store.specs.State as state
-use Rattle.life_interp.specs.Cells.{cell_seen, cells_seen, state_of}
+use Rattle.life_cells.specs.Cells.{cell_seen, cells_seen, state_of}
 use Rattle.life_interp.specs.Steps.{TellsEnd}
-use Rattle.life_interp.specs.declared.value.Cell.TheVariants as held
-use Rattle.life_interp.specs.Fits.{meant}
+use Rattle.life_cells.specs.declared.cell.Cell.TheVariants as held
+use Rattle.life_cells.specs.Fits.{meant}
 use Rattle.life_seen.proofs.References.{later_then}
-use Rattle.life_interp.proofs.FitLemmas.{one_later}
+use Rattle.life_cells.proofs.FitLemmas.{cell_later}
 use Rattle.life_interp.proofs.FrameLemmas.{index_fits, more_seen, none_seen}
 use Rattle.life_interp.proofs.GiveLemmas.{gives_on}
 use Rattle.life_interp.proofs.LocalLemmas.{on_next_ends}
@@ -17,7 +17,7 @@ use Rattle.life_interp.proofs.giving.give_all.Goals as goal
 
 pub give-requires-clause-value : goal.give-requires-clause-value
 give-requires-clause-value g c =
-    one_later _ _ _ _ c.loop-local.invariant.later _ (index_fits (g.S.Store.content c.args.store.now) (g.S.Store.rows c.args.store.now) c.args.values.now c.loop-local.local c.requires.values)
+    cell_later _ _ _ _ c.loop-local.invariant.later _ (index_fits (g.S.Store.content c.args.store.now) (g.S.Store.rows c.args.store.now) c.args.values.now c.loop-local.local c.requires.values)
 
 pub returns-in-Err-clause-step : goal.returns-in-Err-clause-step
 returns-in-Err-clause-step g c = λ s e output input.

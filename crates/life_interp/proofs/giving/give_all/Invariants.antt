@@ -3,9 +3,10 @@ use Rattle.std.specs.Prelude.{ℤ}
 use Rattle.life_core.specs.Function.{function_of}
 use Rattle.life_store.specs.Doing.{Setting}
 use Rattle.life_interp.specs.SoFar.{parameters_given}
-use Rattle.life_interp.specs.Cells.{cells_seen, state_of}
+use Rattle.life_cells.specs.Cells.{cells_seen, state_of}
 use Rattle.life_seen.specs.Housed.{Later}
-use Rattle.life_interp.specs.Fits.{meant, Gives, IsFit}
+use Rattle.life_cells.specs.Fits.{meant, IsFit}
+use Rattle.life_interp.specs.Fits.{Gives}
 use Rattle.life_interp.proofs.giving.give_all.Given as goal
 
 -- the values that are left are given as all are

@@ -5,9 +5,9 @@ use Rattle.life_core.specs.declared.operand.Argument.{Argument}
 use Rattle.life_store.specs.Calls.{with_handed}
 use Rattle.life_interp.specs.SoFar.{all_handed}
 use Rattle.life_store.specs.State as state
-use Rattle.life_interp.specs.Cells.{cells_seen, state_of}
-use Rattle.life_interp.specs.Fits.{CellsFit}
-use Rattle.life_interp.specs.declared.value.Cell.{Cell}
+use Rattle.life_cells.specs.Cells.{cells_seen, state_of}
+use Rattle.life_cells.specs.Fits.{CellsFit}
+use Rattle.life_cells.specs.declared.cell.Cell.{Cell}
 use Rattle.life_interp.proofs.FitLemmas.{fit_both}
 use Rattle.life_interp.proofs.FrameLemmas.{drop_there, joined, joined_more, seen_push}
 use Rattle.life_interp.proofs.handing.all_handed.Goals as goal

@@ -1,8 +1,8 @@
 use Rattle.std.proofs.Common.{◌≡◌, map, List, ℕ, drop}
 use Rattle.std.specs.Prelude.{ℤ}
 use Rattle.life_core.specs.Operands.{argument_of}
-use Rattle.life_interp.specs.Cells.{cells_seen, state_of}
-use Rattle.life_interp.specs.Fits.{CellsFit}
+use Rattle.life_cells.specs.Cells.{cells_seen, state_of}
+use Rattle.life_cells.specs.Fits.{CellsFit}
 use Rattle.life_interp.specs.SoFar.{all_handed}
 use Rattle.life_store.specs.Content.{Content}
 use Rattle.life_store.specs.References.{Rows}

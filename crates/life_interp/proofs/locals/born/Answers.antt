@@ -3,9 +3,9 @@ use Rattle.life_store.specs.Content.{Content}
 use Rattle.life_seen.specs.Kinds.{kinds_of}
 use Rattle.life_seen.specs.Named.{names_of}
 use Rattle.life_seen.proofs.LiveWords.{live_words_seen}
-use Rattle.life_interp.specs.Fits.{meant}
-use Rattle.life_interp.specs.declared.value.Cell.TheVariants as held
-use Rattle.life_interp.proofs.FitLemmas.{cells_later, set_fits}
+use Rattle.life_cells.specs.Fits.{meant}
+use Rattle.life_cells.specs.declared.cell.Cell.TheVariants as held
+use Rattle.life_cells.proofs.FitLemmas.{cells_later, set_fits}
 use Rattle.life_interp.proofs.LocalLemmas.{birth_fails, born_step}
 use Rattle.life_interp.proofs.NumberLemmas.{ref_placed}
 use Rattle.life_interp.proofs.locals.born.Goals as goal
@@ -35,9 +35,12 @@ returns-in-Ok-clause-fits g c =
     let new = g.S.Store.rows c.new_object.new.store in
     let shows = q.shows (kinds_of types) c.requires.fits.housed in
     let births : d.births ≡ content.births + 1 = ap (λ (x : Content). x.births) shows.is in
+    let clock : d.clock ≡ content.clock + 1 = ap (λ (x : Content). x.clock) shows.is in
     rw c.put_cell.ensures
     (record {
       housed = shows.housed;
+      rowed = q.rowed (kinds_of types) c.requires.fits.rowed;
+      countable = record { births = omega (arith, births, c.requires.countable.births); clock = omega (arith, clock, c.requires.countable.clock) };
       held = set_fits d new c.args.cells.now.items c.args.local (held.Object c.in-Ok.object)
           (cells_later content d rows new q.later c.args.cells.now.items c.requires.fits.held)
           (ref_placed d new c.in-Ok.object (omega (arith, births, q.number)) q.placed);

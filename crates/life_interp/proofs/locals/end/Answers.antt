@@ -6,9 +6,9 @@ use Rattle.life_store.specs.Parts.{local_parts}
 use Rattle.life_forest.specs.FrameTypes.{Stands}
 use Rattle.life_forest.specs.Frames.{OnNext}
 use Rattle.life_forest.proofs.StandingLives.{end_stands}
-use Rattle.life_interp.specs.Cells.{state_of}
+use Rattle.life_cells.specs.Cells.{state_of}
 use Rattle.life_interp.specs.Steps.{TellsEnd}
-use Rattle.life_interp.specs.Fits.{meant}
+use Rattle.life_cells.specs.Fits.{meant}
 use Rattle.life_seen.proofs.References.{later_then}
 use Rattle.life_interp.proofs.LocalLemmas.{on_next_ends}
 use Rattle.life_interp.proofs.locals.end.Goals as goal

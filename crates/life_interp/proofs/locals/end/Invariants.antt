@@ -2,9 +2,9 @@ use Rattle.std.proofs.Common.{◌≡◌, List, ℕ, drop}
 use Rattle.std.specs.Prelude.{ℤ}
 use Rattle.life_core.specs.Function.{Function}
 use Rattle.life_store.specs.Doing.{end_locals}
-use Rattle.life_interp.specs.Cells.{state_of}
+use Rattle.life_cells.specs.Cells.{state_of}
 use Rattle.life_seen.specs.Housed.{Later}
-use Rattle.life_interp.specs.Fits.{meant, IsFit}
+use Rattle.life_cells.specs.Fits.{meant, IsFit}
 use Rattle.life_interp.specs.Steps.{StandsIn}
 use Rattle.life_interp.proofs.locals.end.Given as goal
 

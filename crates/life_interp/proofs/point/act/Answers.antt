@@ -1,4 +1,4 @@
-use Rattle.std.proofs.Common.{List, [], drop, map, ap, refl, subst, sym, ◌∙◌, arith}
+use Rattle.std.proofs.Common.{◌++◌, List, [], drop, map, ap, refl, subst, sym, ◌∙◌, arith}
 use Rattle.std.proofs.lemmas.List.{length-map}
 use Rattle.std.proofs.lemmas.Option.{slice_get-map, slice_get_read}
 use Rattle.std.specs.Prelude.{option_map}
@@ -11,12 +11,13 @@ use Rattle.life_core.specs.declared.instr.Instr.{Instr}
 use Rattle.life_core.specs.declared.operand.Argument.{Argument}
 use Rattle.life_store.specs.Doing.{Setting}
 use Rattle.life_store.specs.declared.run.Growth.TheVariants.{Always}
-use Rattle.life_interp.specs.Frames.{waiting_cells}
+use Rattle.life_interp.specs.Frames.{all_cells, waiting_cells}
 use Rattle.life_interp.specs.Walking.{acts, Moves, PointEnds, PointLeads, StandsHere, Sunk}
-use Rattle.life_interp.specs.Fits.{meant}
+use Rattle.life_cells.specs.Fits.{meant}
 use Rattle.life_interp.proofs.CodeLists.{function_there}
-use Rattle.life_interp.proofs.FitLemmas.{cells_later, fit_behind, fit_both, fit_front}
-use Rattle.life_interp.proofs.PointLemmas.{act_ends, act_goes, grows_more, leads_quiet, own_else}
+use Rattle.life_cells.proofs.FitLemmas.{cells_later, other_cells}
+use Rattle.life_interp.proofs.FitLemmas.{fit_behind, fit_both, fit_front}
+use Rattle.life_interp.proofs.PointLemmas.{act_ends, act_goes, leads_quiet, own_else}
 use Rattle.life_interp.proofs.SoundFrames.{own_at, own_sound}
 use Rattle.life_interp.proofs.WalkLemmas.{untouched}
 use Rattle.life_interp.proofs.point.act.Goals as goal
@@ -32,9 +33,10 @@ perform-requires g c =
     record {
       own = own_else c.args.instr.now (λ target f xs e. c.in_default.not-Call target f xs e);
       layouts = c.requires.layouts;
-      fits = record { housed = c.requires.fits.housed; held = fit_behind _ _ (waiting_cells frames.waiting.items) frames.cells.items c.requires.fits.held };
+      fits = other_cells p.types (g.S.Store.content c.args.store.now) (g.S.Store.rows c.args.store.now) (all_cells frames) frames.cells.items c.requires.fits (fit_behind _ _ (waiting_cells frames.waiting.items) frames.cells.items c.requires.fits.held);
       at = own_at p frames content c.requires.sound c.args.place (step_of c.args.instr.now) c.args.to c.requires.here (function_of c.index-f.result.now) f_is;
       countable = c.requires.countable;
+      room = c.requires.room;
     }
 
 pub call-requires-clause-here : goal.call-requires-clause-here
@@ -96,7 +98,7 @@ returns-in-Ok g c = record {
       let content = g.S.Store.content c.args.store.now in
       let rows = g.S.Store.rows c.args.store.now in
       let waiting = cells_later content _ rows _ c.in-Ok.ensures.later (waiting_cells frames.waiting.items) (fit_front content rows (waiting_cells frames.waiting.items) frames.cells.items c.requires.fits.held) in
-      record { housed = c.in-Ok.ensures.fits.housed; held = fit_both _ _ (waiting_cells frames.waiting.items) c.perform.new.cells.items waiting c.in-Ok.ensures.fits.held };
+      other_cells _ _ _ c.perform.new.cells.items (waiting_cells frames.waiting.items ++ c.perform.new.cells.items) c.in-Ok.ensures.fits (fit_both _ _ (waiting_cells frames.waiting.items) c.perform.new.cells.items waiting c.in-Ok.ensures.fits.held);
   sound =
       let p = program_of c.args.program.now in
       let frames = c.args.frames.now in
@@ -110,6 +112,6 @@ returns-in-Ok g c = record {
       let went = c.in-Ok.ensures.step s (record { cells = refl; texts = refl }) in
       own_sound p frames content c.requires.sound c.args.place (step_of c.args.instr.now) c.args.to c.requires.here own (function_of c.index-f.result.now) f_is s ins (drop c.perform.new.taken c.args.input.now) went.0
       (meant p.types (g.S.Store.content c.perform.new.store) (g.S.Store.rows c.perform.new.store)) c.perform.new.cells.items (went.2 []);
-  grows = grows_more _ _ c.in-Ok.ensures.grows;
+  grows = c.in-Ok.ensures.grows;
   limit = c.perform.ensures.limit;
 }

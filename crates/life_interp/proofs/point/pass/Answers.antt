@@ -9,7 +9,7 @@ use Rattle.life_core.specs.Linked.{goes, spot_at}
 use Rattle.life_core.specs.Step.{asked_of, step_of}
 use Rattle.life_core.specs.Tree.{Node, Action, Question, Return, Stop}
 use Rattle.life_interp.specs.Walking.{acts, asks, returns, StandsHere, Sunk}
-use Rattle.life_interp.specs.Fits.{meant}
+use Rattle.life_cells.specs.Fits.{meant}
 use Rattle.life_interp.proofs.CodeLists.{codes_length}
 use Rattle.life_interp.proofs.PointLemmas.{leads_as, leads_quiet, passes_at, passes_node, point_seen}
 use Rattle.life_interp.proofs.SoundFrames.{action_there, chosen_sound, return_there}

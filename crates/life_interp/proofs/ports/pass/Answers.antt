@@ -7,7 +7,7 @@ use Rattle.life_core.specs.Step.{port_of}
 use Rattle.life_interp.specs.SoFar.{port}
 use Rattle.life_interp.specs.Steps.{taken_into, viewed_from}
 use Rattle.life_interp.specs.Walking.{Performs, Sunk}
-use Rattle.life_interp.specs.declared.value.Cell.{Cell}
+use Rattle.life_cells.specs.declared.cell.Cell.{Cell}
 use Rattle.life_interp.proofs.WalkLemmas.{performs_taking, untouched}
 use Rattle.life_interp.proofs.ports.pass.Goals as goal
 

@@ -6,11 +6,11 @@ use Rattle.std.specs.Int.{w64}
 use Rattle.std.specs.Prelude.{ℤ, get_or, pos}
 use Rattle.life_store.specs.Doing.{Next, input_taken, put_cell}
 use Rattle.life_store.specs.State as state
-use Rattle.life_interp.specs.Cells.{state_of}
-use Rattle.life_interp.specs.Fits.{CellsFit}
-use Rattle.life_interp.specs.declared.value.Cell.TheVariants as held
-use Rattle.life_interp.proofs.FitLemmas.{set_fits}
-use Rattle.life_interp.proofs.StepLemmas.{put_now}
+use Rattle.life_cells.specs.Cells.{state_of}
+use Rattle.life_cells.specs.Fits.{CellsFit}
+use Rattle.life_cells.specs.declared.cell.Cell.TheVariants as held
+use Rattle.life_cells.proofs.FitLemmas.{set_fits}
+use Rattle.life_cells.proofs.LocationLemmas.{put_now}
 use Rattle.life_interp.proofs.ports.take.Goals as goal
 
 pub returns-then-taken-input-clause-step : goal.returns-then-taken-input-clause-step

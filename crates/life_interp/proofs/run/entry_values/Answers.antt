@@ -7,9 +7,9 @@ use Rattle.life_core.specs.Function.{function_of, program_of}
 use Rattle.life_store.specs.Calls.{entry_arguments}
 use Rattle.life_store.specs.Doing.{converted, type_of}
 use Rattle.life_store.specs.State as state
-use Rattle.life_interp.specs.Cells.{cell_seen, cells_seen}
-use Rattle.life_interp.specs.Fits.{CellsFit}
-use Rattle.life_interp.specs.declared.value.Cell.{Cell}
+use Rattle.life_cells.specs.Cells.{cell_seen, cells_seen}
+use Rattle.life_cells.specs.Fits.{CellsFit}
+use Rattle.life_cells.specs.declared.cell.Cell.{Cell}
 use Rattle.life_interp.proofs.FitLemmas.{fit_both}
 use Rattle.life_interp.proofs.FrameLemmas.{seen_push}
 use Rattle.life_interp.proofs.RunLemmas.{one_argument}

@@ -3,8 +3,8 @@ use Rattle.life_core.specs.Function.{function_of, program_of}
 use Rattle.life_store.specs.Calls.{entry_arguments}
 use Rattle.life_store.specs.Content.{Content}
 use Rattle.life_store.specs.References.{Rows}
-use Rattle.life_interp.specs.Cells.{cells_seen}
-use Rattle.life_interp.specs.Fits.{CellsFit}
+use Rattle.life_cells.specs.Cells.{cells_seen}
+use Rattle.life_cells.specs.Fits.{CellsFit}
 use Rattle.life_interp.proofs.run.entry_values.Given as goal
 
 -- the values so far, and then those of the parameters that are left

@@ -1,16 +1,17 @@
-use Rattle.std.proofs.Common.{List, ap, subst, sym, ◌∙◌}
+use Rattle.std.proofs.Common.{List, [], ap, subst, sym, ◌∙◌}
 use Rattle.life_core.specs.Function.{function_of, program_of}
 use Rattle.life_store.specs.State as state
-use Rattle.life_interp.specs.Cells.{cells_seen}
-use Rattle.life_interp.specs.Fits.{meant, CellsFit}
+use Rattle.life_cells.specs.Cells.{cells_seen}
+use Rattle.life_cells.specs.Fits.{meant, CellsFit}
+use Rattle.life_cells.proofs.FitLemmas.{other_cells}
 use Rattle.life_interp.specs.Steps.{Begins}
 use Rattle.life_interp.proofs.run.first_cells.Goals as goal
 
-pub given_cells-requires-clause-values : goal.given_cells-requires-clause-values
-given_cells-requires-clause-values g c =
+pub given_cells-requires-clause-fits : goal.given_cells-requires-clause-fits
+given_cells-requires-clause-fits g c =
     let content = g.S.Store.content c.args.store.now in
     let rows = g.S.Store.rows c.args.store.now in
-    subst (CellsFit content rows) (sym c.deref.ensures.value) (c.in-Ok.ensures.fits content rows)
+    other_cells (program_of c.args.program.now).types content rows [] c.deref.result.now c.requires.fits (subst (CellsFit content rows) (sym c.deref.ensures.value) (c.in-Ok.ensures.fits content rows))
 
 pub returns-in-Ok-clause-step : goal.returns-in-Ok-clause-step
 returns-in-Ok-clause-step g c = λ s e.

@@ -6,12 +6,13 @@ use mir.Val.{SFits, of_z, to_z}
 use Rattle.std.specs.Int.{w64}
 use Rattle.std.specs.Prelude.{option_map}
 use Rattle.life_core.specs.Function.{function_of, program_of}
-use Rattle.life_store.specs.Content.{Content}
+use Rattle.life_store.specs.Content.{CanCount, Content}
 use Rattle.life_store.specs.Doing.{Given}
 use Rattle.life_store.specs.Meaning.{first_world, run_of, setting_of, IsAdmitted}
 use Rattle.life_store.specs.declared.run.Growth.TheVariants.{Always}
 use Rattle.life_store.proofs.NeverLost.{never_lost}
-use Rattle.life_interp.specs.Fits.{meant, CanStep, IsFit}
+use Rattle.life_cells.specs.Fits.{meant, IsFit}
+use Rattle.life_interp.specs.Fits.{CanStep}
 use Rattle.life_interp.specs.Frames.{waiting_cells, AreThere}
 use Rattle.life_interp.specs.Runs.{RunEnds}
 use Rattle.life_interp.specs.Steps.{IsSet}
@@ -20,7 +21,7 @@ use Rattle.life_interp.specs.Walking.{from, Sunk}
 use Rattle.life_interp.specs.declared.frames.Frames.{Frames}
 use Rattle.life_interp.specs.declared.frames.Waiting.{Waiting}
 use Rattle.life_interp.specs.declared.outcome.Outcome.TheVariants as outcome
-use Rattle.life_interp.proofs.EmptyStore.{housed_nothing, meant_empty}
+use Rattle.life_interp.proofs.EmptyStore.{housed_nothing, meant_empty, rowed_nothing}
 use Rattle.life_interp.proofs.RunLemmas.{all_begin, barred_ends, begins_sound, can_be_barred, fault_ends, front_ends, if_there, not_lost, of_there, part_ends, run_from_frames, steps_end, trap_ends, value_ends}
 use Rattle.life_interp.proofs.WalkLemmas.{untouched}
 use Rattle.life_interp.proofs.run.run_on.Goals as goal
@@ -36,7 +37,12 @@ first_cells-requires g c =
     let input = c.args.input.now in
     let admitted = of_there p.functions entry f (λ k. IsAdmitted p k input) there c.requires.admitted in
     record {
-      housed = housed_nothing p.types (g.S.Store.content c.args.store.now) (g.S.Store.rows c.args.store.now) c.requires.empty c.requires.rows;
+      fits = record {
+        housed = housed_nothing p.types (g.S.Store.content c.args.store.now) (g.S.Store.rows c.args.store.now) c.requires.empty c.requires.rows;
+        rowed = rowed_nothing p.types (g.S.Store.content c.args.store.now) (g.S.Store.rows c.args.store.now) c.requires.empty c.requires.rows;
+        countable = subst CanCount (sym c.requires.empty) (record { births = omega arith; clock = omega arith });
+        held = tt;
+      };
       countable = subst CanStep (sym c.requires.empty) (record { births = omega arith; clock = omega arith });
       room = omega (arith, c.requires.limit);
       enough = admitted.enough;

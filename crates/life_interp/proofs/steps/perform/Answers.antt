@@ -4,7 +4,7 @@ use Rattle.life_core.specs.Function.{function_of, program_of}
 use Rattle.life_core.specs.Step.{step_of}
 use Rattle.life_interp.specs.SoFar.{does}
 use Rattle.life_interp.specs.Walking.{Performs, Sunk}
-use Rattle.life_interp.specs.Fits.{meant}
+use Rattle.life_cells.specs.Fits.{meant}
 use Rattle.life_interp.proofs.WalkLemmas.{fit_where_ok, performs_quiet, untouched}
 use Rattle.life_interp.proofs.steps.perform.Goals as goal
 
@@ -19,7 +19,7 @@ pub returns-in-Port-clause-fits : goal.returns-in-Port-clause-fits
 returns-in-Port-clause-fits g c =
     let content = g.S.Store.content c.args.store.now in
     let rows = g.S.Store.rows c.args.store.now in
-    fit_where_ok (program_of c.args.program.now).types content rows c.pass.new.cells.items c.pass.result c.requires.fits.housed (c.pass.ensures.fits content rows c.requires.fits.held)
+    fit_where_ok (program_of c.args.program.now).types content rows c.args.cells.now.items c.pass.new.cells.items c.pass.result c.requires.fits (c.pass.ensures.fits content rows c.requires.fits.held)
 
 pub returns-in_default : goal.returns-in_default
 returns-in_default g c = record {

@@ -8,12 +8,13 @@ use Rattle.life_core.specs.Function.{function_of}
 use Rattle.life_store.specs.Doing.{Next, computed_into, evaluated, put_cell, converted}
 use Rattle.life_store.specs.Numbers.{combined, is_zero, negated, truth}
 use Rattle.life_store.specs.State as state
-use Rattle.life_interp.specs.Cells.{cells_seen, number_in, state_of}
-use Rattle.life_interp.specs.Fits.{CellsFit}
-use Rattle.life_interp.specs.declared.value.Cell.{Cell}
-use Rattle.life_interp.specs.declared.value.Cell.TheVariants as held
-use Rattle.life_interp.proofs.FitLemmas.{set_fits}
-use Rattle.life_interp.proofs.StepLemmas.{leaves_as, put_now, a_number}
+use Rattle.life_cells.specs.Cells.{cells_seen, number_in, state_of}
+use Rattle.life_cells.specs.Fits.{CellsFit}
+use Rattle.life_cells.specs.declared.cell.Cell.{Cell}
+use Rattle.life_cells.specs.declared.cell.Cell.TheVariants as held
+use Rattle.life_cells.proofs.FitLemmas.{set_fits}
+use Rattle.life_interp.proofs.StepLemmas.{leaves_as, a_number}
+use Rattle.life_cells.proofs.LocationLemmas.{put_now}
 use Rattle.life_interp.proofs.values.evaluate.Goals as goal
 
 pub returns-in-Number-clause-step : goal.returns-in-Number-clause-step

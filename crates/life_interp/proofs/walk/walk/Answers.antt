@@ -1,7 +1,8 @@
 use Rattle.std.proofs.Common.{◌≡◌, ℕ, Result, Err, ◌-◌, ◌<◌, [], ◌++◌, drop, ap, refl, subst, sym, ◌∙◌, arith}
 use Rattle.life_core.specs.Function.{program_of}
 use Rattle.life_interp.specs.Cells.{world_of}
-use Rattle.life_interp.specs.Fits.{meant, most_births}
+use Rattle.life_cells.specs.Fits.{meant}
+use Rattle.life_interp.specs.Fits.{most_births}
 use Rattle.life_interp.specs.Walk.{walk}
 use Rattle.life_interp.specs.Walking.{from, means, passes}
 use Rattle.life_interp.specs.declared.ending.Halt.{Halt}

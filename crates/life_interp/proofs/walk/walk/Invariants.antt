@@ -1,7 +1,8 @@
 use Rattle.std.proofs.Common.{◌≡◌, ℕ, List, [], drop}
 use Rattle.life_core.specs.Function.{program_of}
 use Rattle.life_store.specs.Doing.{Setting}
-use Rattle.life_interp.specs.Fits.{meant, CanWalk, IsFit}
+use Rattle.life_cells.specs.Fits.{meant, IsFit}
+use Rattle.life_interp.specs.Fits.{CanWalk}
 use Rattle.life_interp.specs.Frames.{all_cells, AreFrames}
 use Rattle.life_interp.specs.Steps.{IsSet}
 use Rattle.life_interp.specs.Walk.{walk}

@@ -1,0 +1,39 @@
+-- What is asked of the places that an instruction names. At each point of a walk it is had of the frame at hand.
+use Rattle.std.specs.Prelude.{◌≡◌, ℕ}
+use Rattle.life_types.specs.Types.{Types}
+use Rattle.life_core.specs.Function.{Function}
+use Rattle.life_core.specs.Operands.{Operand}
+use Rattle.life_core.specs.Step.{Step, Live, End, Eval, Load, Save, Aim, Repoint, Element, Cursor, Advance, Cut, Size, Same, Ports}
+use Rattle.life_seen.specs.Kinds.{kinds_of}
+use Rattle.life_store.specs.Content.{Object}
+use Rattle.life_store.specs.Kinds.{Plain}
+use Rattle.life_store.specs.Places.{Here, locate, operand_word}
+use Rattle.life_store.specs.State.{State}
+use Rattle.life_cells.specs.Typed.{HoldsPointer, IsBase, IsPlaced, IsSource}
+
+-- what a place names is a number
+pub record IsNumberPlace (types : Types) (f : Function) (o : Operand) (st : State) : Type 0 where
+  pub placed : IsPlaced types f o st
+  pub plain : (n i : ℕ) (object : Object) → locate types f o st ≡ Here n i object → kinds_of types object.ty (operand_word types f o st) ≡ Plain
+
+-- the places that the instruction names are there, and of the types that it takes
+abbrev pub HasPlaces : Types → Function → State → Step → Type 0
+HasPlaces types f st (Load r o) = IsNumberPlace types f o st
+HasPlaces types f st (Save o r) = IsNumberPlace types f o st
+HasPlaces types f st (Aim p s) = HoldsPointer types f p st × IsSource types f s st
+HasPlaces types f st (Repoint p q) = HoldsPointer types f p st × HoldsPointer types f q st
+HasPlaces types f st (Element p b which) = HoldsPointer types f p st × IsBase types f b st
+HasPlaces types f st (Cursor p b end) = HoldsPointer types f p st × IsBase types f b st
+HasPlaces types f st (Advance p q r direction) = HoldsPointer types f p st × HoldsPointer types f q st
+HasPlaces types f st (Cut p q r count) = HoldsPointer types f p st × HoldsPointer types f q st
+HasPlaces types f st (Size r b) = IsBase types f b st
+HasPlaces types f st (Same r a b equal) = HoldsPointer types f a st × HoldsPointer types f b st
+HasPlaces types f st _ = Unit {0}
+
+-- it names places, and nothing comes to life or ends: what the machine does by the cells' own steps
+abbrev pub IsAccess : Step → Type 0
+IsAccess (Live x form) = ⊥
+IsAccess (End xs) = ⊥
+IsAccess (Eval r operation) = ⊥
+IsAccess (Ports p) = ⊥
+IsAccess _ = Unit {0}
