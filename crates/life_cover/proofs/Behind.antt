@@ -1,13 +1,14 @@
--- What holds behind an instruction of a frame: each vector and each string has its buffer, what is touched lies beneath what the frame named, and
--- what it names it named before, or it is new.
-use Rattle.std.proofs.Common.{◌≡◌, ◌⊎◌, inl, inr, ⊎_elim, ℕ, ◌≤◌, ◌<◌, List, Some, refl, sym, subst}
+-- What holds behind an instruction of a frame: each vector and each string has its buffer, what is touched lies beneath what the frame named or is an
+-- owner behind a mutating input, and what it names it named before, or it is new.
+use Rattle.std.proofs.Common.{◌≡◌, ◌⊎◌, inl, inr, ⊎_elim, ℕ, ◌≤◌, ◌<◌, List, Some, refl, sym, subst, Option}
 use Rattle.std.specs.Prelude.{ℤ, slice_get}
 use Rattle.life_types.specs.Types.{Types}
+use Rattle.life_core.specs.Function.{Function}
 use Rattle.life_store.specs.Content.{Content}
 use Rattle.life_store.specs.Effects.{Effect, Next, Traps, Faults, Strays, Attempt, Got, GotTrap, GotFault, GotLost, put_cell, put_content}
 use Rattle.life_store.specs.State.{Cell, Empty, Named, Number, Pointer, Points, State}
 use Rattle.life_store.proofs.CellLemmas.{cell_cases}
-use Rattle.life_forest.specs.Forest.{Touches, all_of}
+use Rattle.life_forest.specs.Forest.{Touches}
 use Rattle.life_forest.specs.Frames.{OnNext, named_in}
 use Rattle.life_forest.specs.Kinds.{kinds_of}
 use Rattle.life_forest.specs.Owned.{times}
@@ -16,6 +17,9 @@ use Rattle.life_forest.proofs.Following.{in_hand}
 use Rattle.life_forest.proofs.Steps.{touches_self}
 use Rattle.life_cover.specs.Buffered.{AreBuffered}
 use Rattle.life_cover.proofs.Pointers.{OnRight}
+use Rattle.life_cover.specs.Inputs.{frame_foot}
+use Rattle.life_cover.specs.Regions.{Region}
+use Rattle.life_pset.specs.declared.element.Root.{Root}
 
 -- two things hold of what is got
 pub both_got : {A : Type 0} (x : Attempt A) (P Q : A → Type 0) → IfGot x P → IfGot x Q → IfGot x (λ a. P a × Q a)
@@ -37,21 +41,21 @@ right_next (Traps kind) P h = tt
 right_next (Faults kind) P h = tt
 right_next Strays P h = tt
 
-module _ (types : Types) (st : State) where
+module _ (types : Types) (f : Function) (inputs : Root → Option Region) (st : State) where
   pub record IsBehind (st' : State) : Type 0 where
     pub buffered : AreBuffered types st'.world.content
-    pub touch : Touches (kinds_of types) (all_of (named_in st.cells)) st.world.content st'.world.content
+    pub touch : Touches (kinds_of types) (frame_foot types f inputs st.cells) st.world.content st'.world.content
     pub named : (x n : ℕ) → slice_get st'.cells x ≡ Some (Named n) → (0 < times (named_in st.cells) n) ⊎ (st.world.content.births ≤ n)
 
   -- the cells are as they were
-  pub behind_same : (st' : State) → st'.cells ≡ st.cells → AreBuffered types st'.world.content → Touches (kinds_of types) (all_of (named_in st.cells)) st.world.content st'.world.content → IsBehind st'
+  pub behind_same : (st' : State) → st'.cells ≡ st.cells → AreBuffered types st'.world.content → Touches (kinds_of types) (frame_foot types f inputs st.cells) st.world.content st'.world.content → IsBehind st'
   behind_same st' cells buffered touch = record { buffered = buffered; touch = touch; named = λ x n e. inl (in_hand st.cells x n (subst (λ (vs : List Cell). slice_get vs x ≡ Some (Named n)) cells e)) }
 
-  pub behind_content : (d : Content) → AreBuffered types d → Touches (kinds_of types) (all_of (named_in st.cells)) st.world.content d → IsBehind (put_content d st)
+  pub behind_content : (d : Content) → AreBuffered types d → Touches (kinds_of types) (frame_foot types f inputs st.cells) st.world.content d → IsBehind (put_content d st)
   behind_content d = behind_same (put_content d st) refl
 
   -- .. and a cell, which may name what is new
-  pub behind_cell : (x : ℕ) (v : Cell) (d : Content) → ((n : ℕ) → v ≡ Named n → st.world.content.births ≤ n) → AreBuffered types d → Touches (kinds_of types) (all_of (named_in st.cells)) st.world.content d → IsBehind (put_cell x v (put_content d st))
+  pub behind_cell : (x : ℕ) (v : Cell) (d : Content) → ((n : ℕ) → v ≡ Named n → st.world.content.births ≤ n) → AreBuffered types d → Touches (kinds_of types) (frame_foot types f inputs st.cells) st.world.content d → IsBehind (put_cell x v (put_content d st))
   behind_cell x v d new buffered touch = record {
     buffered = buffered;
     touch = touch;
@@ -59,13 +63,13 @@ module _ (types : Types) (st : State) where
   }
 
   -- .. that is empty now, or points
-  pub behind_empty : (x : ℕ) (d : Content) → AreBuffered types d → Touches (kinds_of types) (all_of (named_in st.cells)) st.world.content d → IsBehind (put_cell x Empty (put_content d st))
+  pub behind_empty : (x : ℕ) (d : Content) → AreBuffered types d → Touches (kinds_of types) (frame_foot types f inputs st.cells) st.world.content d → IsBehind (put_cell x Empty (put_content d st))
   behind_empty x d = behind_cell x Empty d (λ n e. absurd (unlike n e))
     where
       unlike : (n : ℕ) → Empty ≡ Named n → ⊥
       unlike n e = cc
 
-  pub behind_points : (x : ℕ) (v : Pointer) (d : Content) → AreBuffered types d → Touches (kinds_of types) (all_of (named_in st.cells)) st.world.content d → IsBehind (put_cell x (Points v) (put_content d st))
+  pub behind_points : (x : ℕ) (v : Pointer) (d : Content) → AreBuffered types d → Touches (kinds_of types) (frame_foot types f inputs st.cells) st.world.content d → IsBehind (put_cell x (Points v) (put_content d st))
   behind_points x v d = behind_cell x (Points v) d (λ n e. absurd (unlike n e))
     where
       unlike : (n : ℕ) → Points v ≡ Named n → ⊥
@@ -76,13 +80,13 @@ module _ (types : Types) (st : State) where
     pub behind_self : (st' : State) → st'.world.content ≡ st.world.content → st'.cells ≡ st.cells → IsBehind st'
     behind_self st' content cells =
         behind_same st' cells (subst (AreBuffered types) (sym content) buffered)
-        (subst (Touches (kinds_of types) (all_of (named_in st.cells)) st.world.content) (sym content) (touches_self (kinds_of types) (all_of (named_in st.cells)) st.world.content))
+        (subst (Touches (kinds_of types) (frame_foot types f inputs st.cells) st.world.content) (sym content) (touches_self (kinds_of types) (frame_foot types f inputs st.cells) st.world.content))
 
     pub behind_pointer : (x : ℕ) (v : Pointer) → IsBehind (put_cell x (Points v) st)
-    behind_pointer x v = behind_points x v st.world.content buffered (touches_self (kinds_of types) (all_of (named_in st.cells)) st.world.content)
+    behind_pointer x v = behind_points x v st.world.content buffered (touches_self (kinds_of types) (frame_foot types f inputs st.cells) st.world.content)
 
     pub behind_number : (x : ℕ) (z : ℤ) → IsBehind (put_cell x (Number z) st)
-    behind_number x z = behind_cell x (Number z) st.world.content (λ n e. absurd (unlike n e)) buffered (touches_self (kinds_of types) (all_of (named_in st.cells)) st.world.content)
+    behind_number x z = behind_cell x (Number z) st.world.content (λ n e. absurd (unlike n e)) buffered (touches_self (kinds_of types) (frame_foot types f inputs st.cells) st.world.content)
       where
         unlike : (n : ℕ) → Number z ≡ Named n → ⊥
         unlike n e = cc

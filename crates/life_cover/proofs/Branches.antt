@@ -14,6 +14,7 @@ use Rattle.life_pset.specs.Elements.{local_place}
 use Rattle.life_pset.specs.declared.element.Element.{Element}
 use Rattle.life_pset.specs.declared.element.Element.TheVariants as element
 use Rattle.life_pset.specs.declared.element.Fact.{Fact}
+use Rattle.life_pset.specs.declared.element.Root.{Root}
 use Rattle.life_contract.specs.Located.{is_location}
 use Rattle.life_proper.specs.Placed.{type_in}
 use Rattle.life_proper.specs.WellFormed.{is_well_formed_test}
@@ -26,27 +27,29 @@ use Rattle.life_store.specs.State.{Pointer, Null, Wild, To, Static, Cell, Empty,
 use Rattle.life_store.proofs.CellLemmas.{some_same}
 use Rattle.life_store.proofs.MapLemmas.{one_or_apart}
 use Rattle.life_cover.specs.Covers.{Covers, IsCovered}
-use Rattle.life_cover.specs.Frames.{FrameCovered, NoInput, RootStands, any_root, look_at}
+use Rattle.life_cover.specs.Frames.{FrameCovered, RootStands, look_at}
 use Rattle.life_cover.proofs.Edges.{Passes}
 use Rattle.life_cover.proofs.KnownFrames.{whole_location}
 use Rattle.life_cover.proofs.Putting.{other_local}
+use Rattle.life_cover.specs.Inputs.{StandsAt, may_change}
+use Rattle.life_cover.specs.Regions.{Region}
 
 -- the pointers of the state are covered by the facts of the branch
-abbrev pub IsCoveredBy : Types → Function → (held failed : Fact → Type 0) → Verdict → Type 0
-IsCoveredBy types f H F (Holds n st) = FrameCovered types f H st
-IsCoveredBy types f H F (Fails n st) = FrameCovered types f F st
-IsCoveredBy types f H F (Cut stop w) = Unit {0}
+abbrev pub IsCoveredBy : Types → Function → (inputs : Root → Option Region) → (held failed : Fact → Type 0) → Verdict → Type 0
+IsCoveredBy types f inputs H F (Holds n st) = FrameCovered types f inputs H st
+IsCoveredBy types f inputs H F (Fails n st) = FrameCovered types f inputs F st
+IsCoveredBy types f inputs H F (Cut stop w) = Unit {0}
 
-module _ (types : Types) (f : Function) (S : Fact → Type 0) (st : State) where
+module _ (types : Types) (f : Function) (inputs : Root → Option Region) (S : Fact → Type 0) (st : State) where
   abbrev May : ℕ → Element → Pointer → Type 0
-  May x e v = Covers types st.world.content (RootStands types f NoInput st.cells) any_root (look_at types f x) e v
+  May x e v = Covers types st.world.content (RootStands types f (StandsAt inputs) st.cells) (may_change types f) (look_at types f x) e v
 
   -- where each fact stays that covers a pointer's value
-  covered_on : (S' : Fact → Type 0) → ((x : ℕ) (v : Pointer) (e : Element) → slice_get st.cells x ≡ Some (Points v) → May x e v → S (fact_at (local_place x) e) → S' (fact_at (local_place x) e)) → FrameCovered types f S st → FrameCovered types f S' st
+  covered_on : (S' : Fact → Type 0) → ((x : ℕ) (v : Pointer) (e : Element) → slice_get st.cells x ≡ Some (Points v) → May x e v → S (fact_at (local_place x) e) → S' (fact_at (local_place x) e)) → FrameCovered types f inputs S st → FrameCovered types f inputs S' st
   covered_on S' on old x v e = go v e (old x v e)
     where
-      go : (u : Pointer) → slice_get st.cells x ≡ Some (Points u) → IsCovered types st.world.content (RootStands types f NoInput st.cells) any_root S (local_place x) (look_at types f x) u
-          → IsCovered types st.world.content (RootStands types f NoInput st.cells) any_root S' (local_place x) (look_at types f x) u
+      go : (u : Pointer) → slice_get st.cells x ≡ Some (Points u) → IsCovered types st.world.content (RootStands types f (StandsAt inputs) st.cells) (may_change types f) S (local_place x) (look_at types f x) u
+          → IsCovered types st.world.content (RootStands types f (StandsAt inputs) st.cells) (may_change types f) S' (local_place x) (look_at types f x) u
       go (Static s) e h = tt
       go Null e h = record { known = h.known; holds = on x Null h.known e h.covers h.holds; covers = h.covers }
       go Wild e h = record { known = h.known; holds = on x Wild h.known e h.covers h.holds; covers = h.covers }
@@ -77,7 +80,7 @@ module _ (types : Types) (f : Function) (S : Fact → Type 0) (st : State) where
   and_false false = refl
 
   -- a test of a local for null: what it doesn't pass on covers no value that may be there
-  passed_on : (p : ℕ) (branch : Bool) (S' : Fact → Type 0) → ((v : Pointer) (e : Element) → slice_get st.cells p ≡ Some (Points v) → May p e v → cond branch (is_null e) (is_held e) ≡ false) → Passes (NotNull (whole p)) branch S S' → FrameCovered types f S st → FrameCovered types f S' st
+  passed_on : (p : ℕ) (branch : Bool) (S' : Fact → Type 0) → ((v : Pointer) (e : Element) → slice_get st.cells p ≡ Some (Points v) → May p e v → cond branch (is_null e) (is_held e) ≡ false) → Passes (NotNull (whole p)) branch S S' → FrameCovered types f inputs S st → FrameCovered types f inputs S' st
   passed_on p branch S' left passes = covered_on S' (λ x v e there may s. passes (fact_at (local_place x) e) s (stays x v e there may))
     where
       stays : (x : ℕ) (v : Pointer) (e : Element) → slice_get st.cells x ≡ Some (Points v) → May x e v → (is_location (whole p) (local_place x) && cond branch (is_null e) (is_held e)) ≡ false
@@ -86,22 +89,22 @@ module _ (types : Types) (f : Function) (S : Fact → Type 0) (st : State) where
           (λ same. ap (λ b. is_location (whole p) (local_place x) && b) (left v e (subst (λ y. slice_get st.cells y ≡ Some (Points v)) (sym same) there) (subst (λ y. May y e v) (sym same) may)) ∙ and_false (is_location (whole p) (local_place x)))
           (λ ne. ap (λ b. b && cond branch (is_null e) (is_held e)) (other_local p x ne))
 
-  module _ (H F : Fact → Type 0) (old : FrameCovered types f S st) where
-    number_covered : (r : ℕ) → Passes (NonZero r) true S H → Passes (NonZero r) false S F → (n : ℕ) (v : Option Cell) → IsCoveredBy types f H F (number_test v n st)
+  module _ (H F : Fact → Type 0) (old : FrameCovered types f inputs S st) where
+    number_covered : (r : ℕ) → Passes (NonZero r) true S H → Passes (NonZero r) false S F → (n : ℕ) (v : Option Cell) → IsCoveredBy types f inputs H F (number_test v n st)
     number_covered r held failed n None = tt
     number_covered r held failed n (Some Empty) = tt
     number_covered r held failed n (Some (Named m)) = tt
     number_covered r held failed n (Some (Points p)) = tt
     number_covered r held failed n (Some (Number z)) = go z
       where
-        go : (i : ℤ) → IsCoveredBy types f H F (by_number i n st)
+        go : (i : ℤ) → IsCoveredBy types f inputs H F (by_number i n st)
         go (pos zero) = covered_on F (λ x v e there may s. failed (fact_at (local_place x) e) s refl) old
         go (pos (suc k)) = covered_on H (λ x v e there may s. held (fact_at (local_place x) e) s refl) old
         go (negsuc k) = covered_on H (λ x v e there may s. held (fact_at (local_place x) e) s refl) old
 
     module _ (p : ℕ) (held : Passes (NotNull (whole p)) true S H) (failed : Passes (NotNull (whole p)) false S F) where
       -- what is tested, if the local is a pointer, is its value
-      tested_covered : (n : ℕ) (w : Pointer) → ((v : Pointer) → slice_get st.cells p ≡ Some (Points v) → v ≡ w) → IsCoveredBy types f H F (by_pointer w n st)
+      tested_covered : (n : ℕ) (w : Pointer) → ((v : Pointer) → slice_get st.cells p ≡ Some (Points v) → v ≡ w) → IsCoveredBy types f inputs H F (by_pointer w n st)
       tested_covered n Null is = passed_on p false F (λ v e there may. held_left p e (subst (May p e) (is v there) may)) failed old
       tested_covered n Wild is = passed_on p true H (λ v e there may. null_left p Wild e unlike (subst (May p e) (is v there) may)) held old
         where
@@ -116,7 +119,7 @@ module _ (types : Types) (f : Function) (S : Fact → Type 0) (st : State) where
           unlike : Static k ≡ Null → ⊥
           unlike h = cc
 
-      null_covered : (n : ℕ) (v : Option Cell) → cell st p ≡ v → IsCoveredBy types f H F (pointer_test (whole_tested v st.world.content) n st)
+      null_covered : (n : ℕ) (v : Option Cell) → cell st p ≡ v → IsCoveredBy types f inputs H F (pointer_test (whole_tested v st.world.content) n st)
       null_covered n None e = tt
       null_covered n (Some Empty) e = tt
       null_covered n (Some (Number z)) e = tt
@@ -133,8 +136,8 @@ module _ (types : Types) (f : Function) (S : Fact → Type 0) (st : State) where
     nullable_solid ty.Void e = absurd (false≢true e)
     nullable_solid _ e = refl
 
-    pub test_covered : types.structs ≡ [] → (texts : ℕ) (fs : List Function) (t : Test) (n : ℕ) → is_well_formed_test types texts fs f t ≡ true → Passes t true S H → Passes t false S F → IsCoveredBy types f H F (test_at types f t n st)
+    pub test_covered : types.structs ≡ [] → (texts : ℕ) (fs : List Function) (t : Test) (n : ℕ) → is_well_formed_test types texts fs f t ≡ true → Passes t true S H → Passes t false S F → IsCoveredBy types f inputs H F (test_at types f t n st)
     test_covered plain texts fs (NonZero r) n e held failed = number_covered r held failed n (cell st r)
     test_covered plain texts fs (NotNull l) n e held failed =
-        subst (λ (q : Location). Passes (NotNull q) true S H → Passes (NotNull q) false S F → IsCoveredBy types f H F (test_at types f (NotNull q) n st)) (whole_location types plain f l (nullable_solid (type_in types f l) e))
+        subst (λ (q : Location). Passes (NotNull q) true S H → Passes (NotNull q) false S F → IsCoveredBy types f inputs H F (test_at types f (NotNull q) n st)) (whole_location types plain f l (nullable_solid (type_in types f l) e))
         (λ h g. null_covered l.local h g n (cell st l.local) refl) held failed

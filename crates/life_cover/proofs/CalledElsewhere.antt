@@ -32,7 +32,7 @@ step_same a s = go (nat_eq s owned_step)
     go true = stepped_same a owned_step
     go false = member_same a s
 
-steps_same : (a : AbsPlace) (ss : List ℕ) → (steps_place a ss).root ≡ a.root
+pub steps_same : (a : AbsPlace) (ss : List ℕ) → (steps_place a ss).root ≡ a.root
 steps_same a [] = refl
 steps_same a (s ∷ ss) = steps_same (step_place a s) ss ∙ step_same a s
 

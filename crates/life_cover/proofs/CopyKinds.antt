@@ -1,10 +1,10 @@
 -- A value, a vector or a string is copied, by names or through pointers, in a frame without structs: there is no fault, and the facts behind
 -- it cover all pointers of the frame.
-use Rattle.std.proofs.Common.{◌≡◌, ℕ, ◌<◌, Bool, true, false, ◌&&◌, List, [], ◌∷◌, length, Option, Some, None, refl, sym, ap, subst, ◌∙◌}
-use Rattle.std.specs.Prelude.{if◌then◌else◌, slice_get, slice_index, take, drop}
+use Rattle.std.proofs.Common.{◌≡◌, inl, inr, ℕ, ◌<◌, Bool, true, false, ◌&&◌, List, [], ◌∷◌, length, Option, Some, None, refl, sym, ap, subst, ◌∙◌}
+use Rattle.std.specs.Prelude.{if◌then◌else◌, unwrap_or, slice_get, slice_index, take, drop}
 use Rattle.std.proofs.lemmas.Bool.{false≢true, ne_eqb}
 use Rattle.std.proofs.lemmas.List.Elements.{Contains-append_left, Contains-append_right}
-use Rattle.life_types.specs.Trees.{IsOrdered, holds_owner, tree_at, tree_of}
+use Rattle.life_types.specs.Trees.{IsOrdered, holds_owner, members_at, tree_at, tree_of}
 use Rattle.life_types.specs.TypeTests.{is_pointer, is_value, is_void}
 use Rattle.life_types.specs.Types.{Types}
 use Rattle.life_types.specs.declared.place.Place.{Place}
@@ -27,15 +27,17 @@ use Rattle.life_pset.specs.declared.element.Root.{Root}
 use Rattle.life_pset.specs.declared.element.Root.TheVariants as root
 use Rattle.life_contract.specs.Located.{located}
 use Rattle.life_contract.specs.Signatures.{Signature}
-use Rattle.life_proper.specs.Placed.{type_in, type_of}
+use Rattle.life_proper.specs.Placed.{is_const_place, type_in, type_of}
 use Rattle.life_rules.specs.Carrying.{is_gone, is_killed, named_kill, one_kill, writes}
 use Rattle.life_rules.specs.Diagnosing.{used_in}
+use Rattle.life_rules.specs.Keeping.{kept_through}
 use Rattle.life_store.specs.Content.{Slot, Object, Content}
 use Rattle.life_store.specs.Doing.{copied_to, does, on_character, replaced}
 use Rattle.life_store.specs.Effects.{Attempt, Got, GotTrap, GotFault, GotLost, Effect, Next, Setting, cell, put_content, word_of_number}
 use Rattle.life_store.specs.Held.{slots_if, words_at, words_if}
 use Rattle.life_store.specs.Owners.{copied}
 use Rattle.life_store.specs.Parts.{Parts, Single, characters_type, operand_parts, operand_type, parts_at, parts_if, parts_of, width}
+use Rattle.life_store.specs.Parts as parts
 use Rattle.life_store.specs.Places.{Spot, locate, on_place, operand_word, spot_words, wrote_spot}
 use Rattle.life_store.specs.State.{Named, Pointer, Points, State}
 use Rattle.life_store.proofs.CellLemmas.{some_same}
@@ -45,12 +47,15 @@ use Rattle.life_forest.specs.Owned.{alive, times}
 use Rattle.life_forest.specs.Typed.{IsStore}
 use Rattle.life_forest.specs.Values.{Known, owned_of}
 use Rattle.life_forest.proofs.Coming.{IfGot}
+use Rattle.life_forest.proofs.Laying.{parts_made}
 use Rattle.life_forest.proofs.OneNumber.{IsOfType}
 use Rattle.life_forest.proofs.Placed.{AreCopied, place_copied}
 use Rattle.life_forest.proofs.SeenTypes.{parts_typed}
 use Rattle.life_forest.proofs.TypedSteps.{operand_of, operand_same}
-use Rattle.life_cover.specs.Covers.{IsCovered, Look}
-use Rattle.life_cover.specs.Frames.{FrameCovered, NoInput, RootStands, any_root, look_at}
+use Rattle.life_cover.proofs.Unkept.{reached_owning}
+use Rattle.life_cover.specs.Covers.{IsCovered, IsSeenAs, Look}
+use Rattle.life_cover.specs.Frames.{FrameCovered, RootStands, look_at}
+use Rattle.life_cover.specs.Inputs.{IsAllOf, StandsAt, may_change, owning}
 use Rattle.life_cover.specs.Kills.{Closed}
 use Rattle.life_cover.specs.Regions.{IsAt, Region, foot_of, owned_in_type}
 use Rattle.life_cover.specs.Roots.{AreRooted}
@@ -58,7 +63,7 @@ use Rattle.life_cover.proofs.Copied.{copy_named, copy_through, copy_touches}
 use Rattle.life_cover.proofs.Copies.{IsWhole, copied_right, now, whole_parts}
 use Rattle.life_cover.proofs.KnownFrames.{IsKnownFrame, IsRight, hand_of, reach_at, rooted_of, store_of, typed, used_right, whole_location}
 use Rattle.life_cover.proofs.NumberKinds.{character_right}
-use Rattle.life_cover.proofs.Opening.{IsAllOf, IsOpened, opened, region_all, slot_there}
+use Rattle.life_cover.proofs.Opening.{IsOpened, opened, region_all, slot_there}
 use Rattle.life_cover.proofs.OwnerElements.{first_of}
 use Rattle.life_cover.proofs.OwnerKinds.{right_got}
 use Rattle.life_cover.proofs.Pointers.{IfRight, OnRight, right_then}
@@ -72,6 +77,30 @@ abbrev pub IsCopyable : Ty → Type 0
 IsCopyable (ty.Unique target) = ⊥
 IsCopyable (ty.Struct number) = ⊥
 IsCopyable _ = Unit {0}
+
+-- what a single word is holds no owner
+single_holds : (types : Types) (plain : types.structs ≡ []) (o : Option Ty) → parts_of types (parts_at types) o ≡ Single → holds_owner (tree_of types (tree_at types) o) ≡ true → ⊥
+single_holds types plain o single holds = go o single holds
+  where
+    memberless : (n : ℕ) → members_at types n ≡ []
+    memberless n = ap (λ (ss : List (List TyId)). unwrap_or (slice_get ss n) []) plain
+
+    go : (o : Option Ty) → parts_of types (parts_at types) o ≡ Single → holds_owner (tree_of types (tree_at types) o) ≡ true → ⊥
+    go None p h = false≢true h
+    go (Some ty.Text) p h = cc
+    go (Some (ty.Vector element)) p h = cc
+    go (Some (ty.Unique target)) p h = cc
+    go (Some (ty.Struct number)) p h = unlike (sym (ap (parts.struct_of (parts_at types)) (memberless number)) ∙ p)
+      where
+        unlike : parts.NoMember ≡ Single → ⊥
+        unlike e = cc
+    go (Some _) p h = false≢true h
+
+-- what is seen holds an owner where the type that sees it does
+pub seen_holds : (types : Types) (ordered : IsOrdered types) (plain : types.structs ≡ []) (t : Option TyId) (id : TyId) → IsSeenAs types t id → holds_owner (tree_if types t) ≡ true → holds_owner (tree_at types id) ≡ true
+seen_holds types ordered plain None id seen holds = absurd seen
+seen_holds types ordered plain (Some t) id (inl same) holds = subst (λ (x : TyId). holds_owner (tree_at types x) ≡ true) same holds
+seen_holds types ordered plain (Some t) id (inr one) holds = absurd (single_holds types plain (slice_get types.types t.0) (sym (parts_made types ordered t) ∙ one.0) (ap holds_owner (sym (tree_made types ordered t)) ∙ holds))
 
 faultless_of : {A : Type 0} (x : Attempt A) (P : A → Type 0) → IfRight x P → Faultless x
 faultless_of (Got a) P h = tt
@@ -91,16 +120,16 @@ operand_copied types ordered f hand st store Input may_change owning rooted sigs
     copy_through types ordered hand st.world.content d store (RootStands types f Input st.cells) may_change owning rooted sigs f place from S S' p members r.by.0 r.region closed holds r.by.1
     (subst (λ (a : AbsPlace). owning a.root ≡ true) r.by.2 own) (subst (λ (a : AbsPlace). IsAt types st.world.content (RootStands types f Input st.cells) a r.region) r.by.2 r.lies) touch
 
-module _ (types : Types) (f : Function) (rest : ℕ → ℕ) (S : Fact → Type 0) (st : State) (k : IsKnownFrame types f rest S st) (sigs : List Signature) (n : ℕ) (place : Place) (S' : Fact → Type 0) (s : Setting) (to from : Operand)
+module _ (types : Types) (f : Function) (rest : ℕ → ℕ) (inputs : Root → Option Region) (S : Fact → Type 0) (st : State) (k : IsKnownFrame types f rest inputs S st) (sigs : List Signature) (n : ℕ) (place : Place) (S' : Fact → Type 0) (s : Setting) (to from : Operand) (free : is_const_place types f to ≡ false)
     (right : IsRight sigs types n f place (Copy to from) S S') (solid_to : is_void (type_of types f to) ≡ false) (solid_from : is_void (type_of types f from) ≡ false) (alike : type_of types f to ≡ type_of types f from) where
-  reach_to : Reach types f st NoInput any_root S to
-  reach_to = reach_at types f rest S st k to solid_to (λ p h. used_right sigs types n f place (Copy to from) S right.clean p (Contains-append_left (used_in to) (used_in from) p h))
+  reach_to : Reach types f st (StandsAt inputs) (may_change types f) S to
+  reach_to = reach_at types f rest inputs S st k to solid_to (λ p h. used_right sigs types n f place (Copy to from) S right.clean p (Contains-append_left (used_in to) (used_in from) p h))
 
-  reach_from : Reach types f st NoInput any_root S from
-  reach_from = reach_at types f rest S st k from solid_from (λ p h. used_right sigs types n f place (Copy to from) S right.clean p (Contains-append_right (used_in to) (used_in from) p h))
+  reach_from : Reach types f st (StandsAt inputs) (may_change types f) S from
+  reach_from = reach_at types f rest inputs S st k from solid_from (λ p h. used_right sigs types n f place (Copy to from) S right.clean p (Contains-append_right (used_in to) (used_in from) p h))
 
   -- no pointer is written
-  not_written : (o : Operand) → ((l : Location) → o ≡ named.Name l → whole l.local ≡ l) → IsReached types f st NoInput any_root S o → (x : ℕ) (v : Pointer) → cell st x ≡ Some (Points v) → writes (Copy o from) (local_place x) ≡ false
+  not_written : (o : Operand) → ((l : Location) → o ≡ named.Name l → whole l.local ≡ l) → IsReached types f st (StandsAt inputs) (may_change types f) S o → (x : ℕ) (v : Pointer) → cell st x ≡ Some (Points v) → writes (Copy o from) (local_place x) ≡ false
   not_written (named.Through p members) is r x v e = refl
   not_written (named.Name l) is r x v e =
       subst (λ (q : Location). is_within (located q) (local_place x) ≡ false) (is l refl) (ap (λ b. b && true) (ne_eqb l.local x (λ h. unlike (some_same (sym (ap (slice_get st.cells) h ∙ e) ∙ named_at)))))
@@ -109,7 +138,7 @@ module _ (types : Types) (f : Function) (rest : ℕ → ℕ) (S : Fact → Type 
       at_root = ap (λ (a : AbsPlace). a.root) (r.by ∙ ap located (sym (is l refl)))
 
       named_at : slice_get st.cells l.local ≡ Some (Named r.lies.start.object)
-      named_at = (subst (λ (ro : Root). RootStands types f NoInput st.cells ro r.lies.start) at_root r.lies.stands).0
+      named_at = (subst (λ (ro : Root). RootStands types f (StandsAt inputs) st.cells ro r.lies.start) at_root r.lies.stands).0
 
       unlike : {m : ℕ} → Points v ≡ Named m → ⊥
       unlike h = cc
@@ -118,14 +147,18 @@ module _ (types : Types) (f : Function) (rest : ℕ → ℕ) (S : Fact → Type 
   to_whole l e = whole_location types k.plain f l (ap is_void (ty_same l e) ∙ solid_to)
     where
       ty_same : (q : Location) → to ≡ named.Name q → type_in types f q ≡ type_of types f to
-      ty_same q h = subst (λ (o : Operand). ty_if types (shapes.operand_type types f o) ≡ type_of types f to) h (typed types f rest S st k to solid_to)
+      ty_same q h = subst (λ (o : Operand). ty_if types (shapes.operand_type types f o) ≡ type_of types f to) h (typed types f rest inputs S st k to solid_to)
+
+  -- what holds an owner is no character of a string
+  pub reached_holds : (r : IsReached types f st (StandsAt inputs) (may_change types f) S to) → holds_owner (tree_if types (shapes.operand_type types f to)) ≡ true → holds_owner (tree_at types r.region.ty) ≡ true
+  reached_holds r holds = seen_holds types k.ordered k.plain (operand_type types f to) r.region.ty r.seen (ap (λ (id : Option TyId). holds_owner (tree_if types id)) (sym (operand_same types k.ordered k.once 0 [] f k.shaped to)) ∙ holds)
 
   -- ---- whatever holds where a value is written, or what is owned there is touched
 
   module _ (Q : State → Type 0)
-      (written : (r : IsReached types f st NoInput any_root S to) → is_value (type_of types f to) ≡ true → holds_owner (tree_if types (shapes.operand_type types f to)) ≡ false → (ws : List ℕ) → length ws ≡ 1
+      (written : (r : IsReached types f st (StandsAt inputs) (may_change types f) S to) → is_value (type_of types f to) ≡ true → holds_owner (tree_if types (shapes.operand_type types f to)) ≡ false → (ws : List ℕ) → length ws ≡ 1
       → Q (put_content (wrote_spot (record { object = r.region.object; index = r.index; word = r.region.word }) ws st.world.content) st))
-      (changed : (r : IsReached types f st NoInput any_root S to) → holds_owner (tree_if types (shapes.operand_type types f to)) ≡ true → (d : Content) → Touches (kinds_of types) (foot_of types r.region) st.world.content d → Q (put_content d st)) where
+      (changed : (r : IsReached types f st (StandsAt inputs) (may_change types f) S to) → holds_owner (tree_if types (shapes.operand_type types f to)) ≡ true → (d : Content) → Touches (kinds_of types) (foot_of types r.region) st.world.content d → Q (put_content d st)) where
     -- ---- its type
 
     module _ (u : Ty) (is : type_of types f to ≡ u) where
@@ -145,7 +178,7 @@ module _ (types : Types) (f : Function) (rest : ℕ → ℕ) (S : Fact → Type 
 
       -- ---- a value
 
-      module _ (value : is_value u ≡ true) (single : parts_of types (parts_at types) (Some u) ≡ Single) (holds : holds_owner (tree_of types (tree_at types) (Some u)) ≡ false) (r : IsReached types f st NoInput any_root S to) where
+      module _ (value : is_value u ≡ true) (single : parts_of types (parts_at types) (Some u) ≡ Single) (holds : holds_owner (tree_of types (tree_at types) (Some u)) ≡ false) (r : IsReached types f st (StandsAt inputs) (may_change types f) S to) where
         value_copied : (ws : List ℕ) → length ws ≡ 1 → OnRight (copied_to s Single (record { object = r.region.object; index = r.index; word = r.region.word }) ws st) Q
         value_copied ws one = written r (subst (λ (t : Ty). is_value t ≡ true) (sym is) value) (holds_is ∙ holds) ws one
 
@@ -154,38 +187,38 @@ module _ (types : Types) (f : Function) (rest : ℕ → ℕ) (S : Fact → Type 
         value_from =
             subst (λ (p : Parts). OnRight (on_place (locate types f from st) (λ m i object. copied_to s p (record { object = r.region.object; index = r.index; word = r.region.word }) (words_at st.world.content m i (operand_word types f from st) (width p)) st)
             (λ c. on_character s.texts c (λ z. copied_to s p (record { object = r.region.object; index = r.index; word = r.region.word }) (word_of_number z ∷ []) st))) Q) (sym (parts_are ∙ single))
-            (on_place_right types f st NoInput any_root S from reach_from
+            (on_place_right types f st (StandsAt inputs) (may_change types f) S from reach_from
             (λ m i object. copied_to s Single (record { object = r.region.object; index = r.index; word = r.region.word }) (words_at st.world.content m i (operand_word types f from st) 1) st)
             (λ c. on_character s.texts c (λ z. copied_to s Single (record { object = r.region.object; index = r.index; word = r.region.word }) (word_of_number z ∷ []) st)) Q
             (λ h. value_copied (words_at st.world.content h.region.object h.index (operand_word types f from st) 1)
             (subst (λ w. length (words_at st.world.content h.region.object h.index w 1) ≡ 1) (sym h.word)
-            (place_copied types k.ordered (hand_of rest st) st.world.content (store_of types f rest S st k) h.region.ty h.region.object h.index h.region.word h.holder (record { there = h.there; slot = h.small; within = region_within types f rest S st k from h }) Single
-            (value_there types f rest S st k from h (subst (λ (t : Ty). is_value t ≡ true) (sym is ∙ alike) value))).wide))
+            (place_copied types k.ordered (hand_of rest st) st.world.content (store_of types f rest inputs S st k) h.region.ty h.region.object h.index h.region.word h.holder (record { there = h.there; slot = h.small; within = region_within types f rest inputs S st k from h }) Single
+            (value_there types f rest inputs S st k from h (subst (λ (t : Ty). is_value t ≡ true) (sym is ∙ alike) value))).wide))
             (λ c one. character_right s.texts c (λ z. copied_to s Single (record { object = r.region.object; index = r.index; word = r.region.word }) (word_of_number z ∷ []) st) Q (λ z. value_copied (word_of_number z ∷ []) refl)))
 
       -- ---- a vector or a string
 
       module _ (item : TyId) (owned : owned_in_type types (Some u) ≡ Some item) (buffer : has_buffer u ≡ true) (one : width (parts_of types (parts_at types) (Some u)) ≡ 1) (no_value : parts_of types (parts_at types) (Some u) ≡ Single → ⊥) (holds : holds_owner (tree_of types (tree_at types) (Some u)) ≡ true)
-          (r : IsReached types f st NoInput any_root S to) where
-        into : IsOpened types f rest S st k to r u item
-        into = opened types f rest S st k to r u is item owned buffer
+          (r : IsReached types f st (StandsAt inputs) (may_change types f) S to) where
+        into : IsOpened types f rest inputs S st k to r u item
+        into = opened types f rest inputs S st k to r u is item owned buffer
 
         into_parts : parts_at types r.region.ty ≡ parts_of types (parts_at types) (Some u)
         into_parts = parts_typed types k.ordered r.region.ty u into.there
 
-        owner_copied : (h : IsReached types f st NoInput any_root S from)
+        owner_copied : (h : IsReached types f st (StandsAt inputs) (may_change types f) S from)
             → OnRight (copied_to s (parts_of types (parts_at types) (Some u)) (record { object = r.region.object; index = r.index; word = r.region.word }) (spot_words st.world.content (record { object = h.region.object; index = h.index; word = h.region.word }) (width (parts_of types (parts_at types) (Some u)))) st) Q
         owner_copied h =
             right_then (copied s (parts_of types (parts_at types) (Some u)) ws st.world.content) (λ v. Next (put_content (replaced (parts_of types (parts_at types) (Some u)) spot v) st))
             (λ v. Touches (kinds_of types) (foot_of types r.region) st.world.content (replaced (parts_of types (parts_at types) (Some u)) spot v)) Q
             (right_got (copied s (parts_of types (parts_at types) (Some u)) ws st.world.content) (λ v. Touches (kinds_of types) (foot_of types r.region) st.world.content (replaced (parts_of types (parts_at types) (Some u)) spot v))
             (subst (λ (q : Parts). IfGot (copied s q ws st.world.content) (λ v. Touches (kinds_of types) (foot_of types r.region) st.world.content (replaced q spot v))) into_parts
-            (copy_touches types k.ordered (hand_of rest st) st.world.content (store_of types f rest S st k) r.region.object r.index r.region.word r.region.ty r.holder r.there (region_within types f rest S st k to r) r.small s ws
+            (copy_touches types k.ordered (hand_of rest st) st.world.content (store_of types f rest inputs S st k) r.region.object r.index r.region.word r.region.ty r.holder r.there (region_within types f rest inputs S st k to r) r.small s ws
             (subst (λ (q : Parts). length ws ≡ width q) (sym into_parts) are.wide) (subst (λ (q : Parts). Known (kinds_of types) st.world.content q ws) (sym into_parts) are.known)
             (subst (λ (q : Parts). (j : ℕ) → 0 < times (owned_of q ws) j → 0 < alive st.world.content j) (sym into_parts) are.living)))
             (faultless_of (copied s (parts_of types (parts_at types) (Some u)) ws st.world.content) _
-            (copied_right types k.ordered (hand_of rest st) st.world.content (store_of types f rest S st k) k.buffered s (parts_of types (parts_at types) (Some u)) (subst IsWhole into_parts (whole_parts types k.plain r.region.ty))
-            h.region.object h.index h.holder t.0 (ap (parts_at types) (all.type h.holder h.there) ∙ from_parts) h.there t.1 ws first st.world.content (now types k.ordered (hand_of rest st) st.world.content (store_of types f rest S st k) k.buffered s))))
+            (copied_right types k.ordered (hand_of rest st) st.world.content (store_of types f rest inputs S st k) k.buffered s (parts_of types (parts_at types) (Some u)) (subst IsWhole into_parts (whole_parts types k.plain r.region.ty))
+            h.region.object h.index h.holder t.0 (ap (parts_at types) (all.type h.holder h.there) ∙ from_parts) h.there t.1 ws first st.world.content (now types k.ordered (hand_of rest st) st.world.content (store_of types f rest inputs S st k) k.buffered s))))
             (λ v touch. changed r (holds_is ∙ holds) (replaced (parts_of types (parts_at types) (Some u)) spot v) touch)
           where
             spot : Spot
@@ -194,19 +227,19 @@ module _ (types : Types) (f : Function) (rest : ℕ → ℕ) (S : Fact → Type 
             ws : List ℕ
             ws = spot_words st.world.content (record { object = h.region.object; index = h.index; word = h.region.word }) (width (parts_of types (parts_at types) (Some u)))
 
-            out : IsOpened types f rest S st k from h u item
-            out = opened types f rest S st k from h u (sym alike ∙ is) item owned buffer
+            out : IsOpened types f rest inputs S st k from h u item
+            out = opened types f rest inputs S st k from h u (sym alike ∙ is) item owned buffer
 
             from_parts : parts_at types h.region.ty ≡ parts_of types (parts_at types) (Some u)
             from_parts = parts_typed types k.ordered h.region.ty u out.there
 
             are : AreCopied types st.world.content (parts_of types (parts_at types) (Some u)) (spot_words st.world.content (record { object = h.region.object; index = h.index; word = h.region.word }) (width (parts_of types (parts_at types) (Some u))))
             are =
-                place_copied types k.ordered (hand_of rest st) st.world.content (store_of types f rest S st k) h.region.ty h.region.object h.index h.region.word h.holder (record { there = h.there; slot = h.small; within = region_within types f rest S st k from h })
+                place_copied types k.ordered (hand_of rest st) st.world.content (store_of types f rest inputs S st k) h.region.ty h.region.object h.index h.region.word h.holder (record { there = h.there; slot = h.small; within = region_within types f rest inputs S st k from h })
                 (parts_of types (parts_at types) (Some u)) from_parts
 
-            all : IsAllOf types f rest S st k h.region
-            all = region_all types f rest S st k from h
+            all : IsAllOf st.world.content h.region
+            all = region_all types f rest inputs S st k from h
 
             t : (x : Slot) × (slice_get h.holder.slots h.index ≡ Some x)
             t = slot_there h.holder.slots h.index h.small
@@ -224,7 +257,7 @@ module _ (types : Types) (f : Function) (rest : ℕ → ℕ) (S : Fact → Type 
         owner_from =
             subst (λ (q : Parts). OnRight (on_place (locate types f from st) (λ m i object. copied_to s q (record { object = r.region.object; index = r.index; word = r.region.word }) (words_at st.world.content m i (operand_word types f from st) (width q)) st)
             (λ c. on_character s.texts c (λ z. copied_to s q (record { object = r.region.object; index = r.index; word = r.region.word }) (word_of_number z ∷ []) st))) Q) (sym parts_are)
-            (on_place_right types f st NoInput any_root S from reach_from
+            (on_place_right types f st (StandsAt inputs) (may_change types f) S from reach_from
             (λ m i object. copied_to s (parts_of types (parts_at types) (Some u)) (record { object = r.region.object; index = r.index; word = r.region.word }) (words_at st.world.content m i (operand_word types f from st) (width (parts_of types (parts_at types) (Some u)))) st)
             (λ c. on_character s.texts c (λ z. copied_to s (parts_of types (parts_at types) (Some u)) (record { object = r.region.object; index = r.index; word = r.region.word }) (word_of_number z ∷ []) st)) Q
             (λ h. subst (λ w. OnRight (copied_to s (parts_of types (parts_at types) (Some u)) (record { object = r.region.object; index = r.index; word = r.region.word }) (words_at st.world.content h.region.object h.index w (width (parts_of types (parts_at types) (Some u)))) st) Q) (sym h.word) (owner_copied h))
@@ -237,7 +270,7 @@ module _ (types : Types) (f : Function) (rest : ℕ → ℕ) (S : Fact → Type 
 
     -- ---- the kind
 
-    copies_from : (r : IsReached types f st NoInput any_root S to) (u : Ty) → type_of types f to ≡ u → is_pointer u ≡ false → IsCopyable u
+    copies_from : (r : IsReached types f st (StandsAt inputs) (may_change types f) S to) (u : Ty) → type_of types f to ≡ u → is_pointer u ≡ false → IsCopyable u
         → OnRight (on_place (locate types f from st) (λ m i object. copied_to s (operand_parts types f to) (record { object = r.region.object; index = r.index; word = r.region.word }) (words_at st.world.content m i (operand_word types f from st) (width (operand_parts types f to))) st)
         (λ c. on_character s.texts c (λ z. copied_to s (operand_parts types f to) (record { object = r.region.object; index = r.index; word = r.region.word }) (word_of_number z ∷ []) st))) Q
     copies_from r ty.Bool is pointer can = value_from ty.Bool is refl refl refl r
@@ -256,7 +289,7 @@ module _ (types : Types) (f : Function) (rest : ℕ → ℕ) (S : Fact → Type 
     copies_from r _ is pointer can = absurd (false≢true (sym pointer))
 
     pub copy_right : is_pointer (type_of types f to) ≡ false → IsCopyable (type_of types f to) → OnRight (does s types f (Copy to from) st) Q
-    copy_right pointer can = by_reach types f st NoInput any_root S to reach_to go Q (λ r. subst (λ e. OnRight e Q) (sym (spot_is types f st NoInput any_root S to r go)) (copies_from r (type_of types f to) refl pointer can))
+    copy_right pointer can = by_reach types f st (StandsAt inputs) (may_change types f) S to reach_to go Q (λ r. subst (λ e. OnRight e Q) (sym (spot_is types f st (StandsAt inputs) (may_change types f) S to r go)) (copies_from r (type_of types f to) refl pointer can))
       where
         go : Spot → Effect
         go spot =
@@ -264,20 +297,20 @@ module _ (types : Types) (f : Function) (rest : ℕ → ℕ) (S : Fact → Type 
             (λ c. on_character s.texts c (λ z. copied_to s (operand_parts types f to) spot (word_of_number z ∷ []) st))
 
   -- .. as that the facts cover all pointers
-  pub copy_kind : is_pointer (type_of types f to) ≡ false → IsCopyable (type_of types f to) → OnRight (does s types f (Copy to from) st) (FrameCovered types f S')
-  copy_kind = copy_right (FrameCovered types f S') value_written owner_written
+  pub copy_kind : is_pointer (type_of types f to) ≡ false → IsCopyable (type_of types f to) → OnRight (does s types f (Copy to from) st) (FrameCovered types f inputs S')
+  copy_kind = copy_right (FrameCovered types f inputs S') value_written owner_written
     where
-      value_written : (r : IsReached types f st NoInput any_root S to) → is_value (type_of types f to) ≡ true → holds_owner (tree_if types (shapes.operand_type types f to)) ≡ false → (ws : List ℕ) → length ws ≡ 1
-          → FrameCovered types f S' (put_content (wrote_spot (record { object = r.region.object; index = r.index; word = r.region.word }) ws st.world.content) st)
+      value_written : (r : IsReached types f st (StandsAt inputs) (may_change types f) S to) → is_value (type_of types f to) ≡ true → holds_owner (tree_if types (shapes.operand_type types f to)) ≡ false → (ws : List ℕ) → length ws ≡ 1
+          → FrameCovered types f inputs S' (put_content (wrote_spot (record { object = r.region.object; index = r.index; word = r.region.word }) ws st.world.content) st)
       value_written r value holds ws one x v e =
-          unkilled_cover types k.ordered (hand_of rest st) st.world.content (wrote_spot (record { object = r.region.object; index = r.index; word = r.region.word }) ws st.world.content) (store_of types f rest S st k)
-          (words_touches types f rest S st k to r value ws one) (RootStands types f NoInput st.cells) (RootStands types f NoInput st.cells) any_root (rooted_of types f rest S st k).fits sigs f place (Copy to from) S S' right.closed gone
+          unkilled_cover types k.ordered (hand_of rest st) st.world.content (wrote_spot (record { object = r.region.object; index = r.index; word = r.region.word }) ws st.world.content) (store_of types f rest inputs S st k)
+          (words_touches types f rest inputs S st k to r value ws one) (RootStands types f (StandsAt inputs) st.cells) (RootStands types f (StandsAt inputs) st.cells) (may_change types f) (rooted_of types f rest inputs S st k).fits sigs f place (Copy to from) S S' right.closed gone
           (λ a h names free stands. stands) (local_place x) (look_at types f x) v (not_written to to_whole r x v e) (k.covered x v e)
         where
           gone : (e : Element) → is_gone types f place (Copy to from) e ≡ false
           gone e = ap (λ b. is_killed (if b then one_kill (named_kill place to) else one_kill None) e) holds
 
-      owner_written : (r : IsReached types f st NoInput any_root S to) → holds_owner (tree_if types (shapes.operand_type types f to)) ≡ true → (d : Content) → Touches (kinds_of types) (foot_of types r.region) st.world.content d → FrameCovered types f S' (put_content d st)
+      owner_written : (r : IsReached types f st (StandsAt inputs) (may_change types f) S to) → holds_owner (tree_if types (shapes.operand_type types f to)) ≡ true → (d : Content) → Touches (kinds_of types) (foot_of types r.region) st.world.content d → FrameCovered types f inputs S' (put_content d st)
       owner_written r holds d touch x w e =
-          operand_copied types k.ordered f (hand_of rest st) st (store_of types f rest S st k) NoInput any_root any_root (rooted_of types f rest S st k) sigs place from S S' to r refl right.closed holds d touch
+          operand_copied types k.ordered f (hand_of rest st) st (store_of types f rest inputs S st k) (StandsAt inputs) (may_change types f) (owning types f) (rooted_of types f rest inputs S st k) sigs place from S S' to r (reached_owning sigs types n f place (Copy to from) S right.clean to (λ x. ap (λ b. if b then kept_through types n f place x to else []) holds) k.ordered k.plain inputs st k.given.each r (r.change free) (reached_holds r holds)) right.closed holds d touch
           (local_place x) (look_at types f x) w (not_written to to_whole r x w e) (k.covered x w e)

@@ -14,6 +14,7 @@ use Rattle.life_core.specs.Operands.{Operand}
 use Rattle.life_pset.specs.Shapes.{tree_if}
 use Rattle.life_pset.specs.Shapes as shapes
 use Rattle.life_pset.specs.declared.element.Fact.{Fact}
+use Rattle.life_pset.specs.declared.element.Root.{Root}
 use Rattle.life_proper.specs.Placed.{type_of}
 use Rattle.life_store.specs.Parts.{operand_type}
 use Rattle.life_store.specs.State.{State}
@@ -22,8 +23,9 @@ use Rattle.life_forest.proofs.OneNumber.{IsOfType}
 use Rattle.life_forest.proofs.TypedSteps.{operand_of, operand_same}
 use Rattle.life_cover.proofs.CopyKinds.{IsCopyable}
 use Rattle.life_cover.proofs.KnownFrames.{IsKnownFrame}
+use Rattle.life_cover.specs.Regions.{Region}
 
-module _ (types : Types) (f : Function) (rest : ℕ → ℕ) (S : Fact → Type 0) (st : State) (k : IsKnownFrame types f rest S st) (o : Operand) where
+module _ (types : Types) (f : Function) (rest : ℕ → ℕ) (inputs : Root → Option Region) (S : Fact → Type 0) (st : State) (k : IsKnownFrame types f rest inputs S st) (o : Operand) where
   pub copied_type : is_void (type_of types f o) ≡ false → not (holds_unique (tree_if types (shapes.operand_type types f o))) ≡ true → IsCopyable (type_of types f o)
   copied_type solid single = go (type_of types f o) refl solid
     where

@@ -6,7 +6,7 @@ use Rattle.life_types.specs.Types.{Types}
 use Rattle.life_types.specs.declared.place.Place.{Place}
 use Rattle.life_core.specs.Function.{Function}
 use Rattle.life_core.specs.Linked.{Lead, Linked, spot_at, goes, parts, edge_to, edges_out, edges_from, code_of, edges_of, numbered, spot_of_linked, spot_of}
-use Rattle.life_core.specs.Tree.{Action, Question}
+use Rattle.life_core.specs.Tree.{Action, Question, Return}
 use Rattle.life_core.specs.Step.{Step, Test}
 use Rattle.life_core.specs.declared.stmt.Edge.{Edge}
 use Rattle.life_core.specs.declared.stmt.Point.{Point}
@@ -18,12 +18,12 @@ use Rattle.life_pset.proofs.Numbering.{numbered_contains}
 use Rattle.life_contract.specs.Signatures.{Signature}
 use Rattle.life_rules.specs.Carrying.{stops_at, unless, none_at, one_at, two_at}
 use Rattle.life_rules.specs.Deriving.{Derives, entry, along}
-use Rattle.life_rules.specs.Diagnosing.{diags_at, IsDiagnosed}
+use Rattle.life_rules.specs.Diagnosing.{IsDiagnosed, diags_at, diags_of_two, return_diags}
 use Rattle.life_rules.specs.declared.diag.Diag.{Diag}
 use Rattle.life_rules.proofs.Giving.{none_in_empty, at_head, cons_cases, flat_map_into}
 use Rattle.life_store.proofs.CellLemmas.{none_some, some_same}
 use Rattle.life_cover.specs.Kills.{Closed}
-use Rattle.life_cover.proofs.PointerKinds.{IsClean}
+use Rattle.life_cover.proofs.PointerKinds.{IsClean, IsCleanOfTwo}
 
 -- ---- the edges out of a point are the function's
 
@@ -110,4 +110,16 @@ module _ (sigs : List Signature) (types : Types) (f : Function) where
   pub clean_at : (n : ℕ) → ((d : Diag) → IsDiagnosed sigs types n f d → ⊥) → (i : Step) (b : ℕ) (place : Place) (leads : List Lead) → numbered (code_of f) b ≡ Some (record { spot = spot_at place (Action i); leads = leads }) → IsClean sigs types n f place i (FactsAt sigs types f b)
   clean_at n none i b place leads here x s d h =
       let l : Linked = record { spot = spot_at place (Action i); leads = leads } in
+      none d (record { 0 = b }, (x ∷ [], (one_held (FactsAt sigs types f b) x s, subst (λ o. Contains (diags_at sigs types n f o x) d) (sym (spot_is b l here)) h)))
+
+  -- .. with two facts
+  pub clean_of_two_at : (n : ℕ) → ((d : Diag) → IsDiagnosed sigs types n f d → ⊥) → (i : Step) (b : ℕ) (place : Place) (leads : List Lead) → numbered (code_of f) b ≡ Some (record { spot = spot_at place (Action i); leads = leads }) → IsCleanOfTwo sigs types n f place i (FactsAt sigs types f b)
+  clean_of_two_at n none i b place leads here x y s t d h =
+      let l : Linked = record { spot = spot_at place (Action i); leads = leads } in
+      none d (record { 0 = b }, (x ∷ y ∷ [], (two_held (FactsAt sigs types f b) x y s t, subst (λ o. Contains (diags_of_two sigs types n f o x y) d) (sym (spot_is b l here)) h)))
+
+  -- .. and with a result
+  pub clean_return : (n : ℕ) → ((d : Diag) → IsDiagnosed sigs types n f d → ⊥) → (b : ℕ) (place : Place) (leads : List Lead) → numbered (code_of f) b ≡ Some (record { spot = spot_at place Return; leads = leads }) → (x : Fact) → FactsAt sigs types f b x → (d : Diag) → Contains (return_diags types n f place x) d → ⊥
+  clean_return n none b place leads here x s d h =
+      let l : Linked = record { spot = spot_at place Return; leads = leads } in
       none d (record { 0 = b }, (x ∷ [], (one_held (FactsAt sigs types f b) x s, subst (λ o. Contains (diags_at sigs types n f o x) d) (sym (spot_is b l here)) h)))

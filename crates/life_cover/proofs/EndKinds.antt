@@ -52,8 +52,10 @@ use Rattle.life_forest.proofs.Frames.{less_in_hand, named_put}
 use Rattle.life_forest.proofs.FromTypes.{object_is_known}
 use Rattle.life_forest.proofs.Objects.{object_ended_touches}
 use Rattle.life_forest.proofs.StandingLives.{end_stands}
-use Rattle.life_forest.proofs.Steps.{alive_le, own_all, touches_self, touches_then}
-use Rattle.life_cover.specs.Frames.{FrameCovered, NoInput, RootStands, any_root, look_at}
+use Rattle.life_forest.proofs.Steps.{alive_le, beneath_more, own_all, touches_self, touches_then}
+use Rattle.life_cover.proofs.Sparing.{local_low}
+use Rattle.life_cover.specs.Frames.{FrameCovered, RootStands, look_at}
+use Rattle.life_cover.specs.Inputs.{frame_foot, may_change, StandsAt}
 use Rattle.life_cover.specs.Kills.{Closed, Guards, LeftBy, is_hit}
 use Rattle.life_cover.specs.Regions.{Region, foot_of}
 use Rattle.life_cover.proofs.Inside.{Inside, lies_inside, region_owner}
@@ -103,8 +105,7 @@ apart_of x y e h = false≢true (sym e ∙ subst (λ z. nat_eq x z ≡ true) h (
 
 -- ---- what the rules leave
 
-module _ (sigs : List Signature) (types : Types) (f : Function) (place : Place) (xs : List ℕ) (S S' : Fact → Type 0) (closed : Closed sigs types f place (End xs) S S') (Stands : Root → Region → Type 0) (objects : (x : ℕ) (r : Region) → Stands (root.Local x) r → object_at types f x ≡ true)
-    (none : (q : ℕ) (m : Option ℕ) (r : Region) → Stands (root.Input q m) r → ⊥) where
+module _ (sigs : List Signature) (types : Types) (f : Function) (place : Place) (xs : List ℕ) (S S' : Fact → Type 0) (closed : Closed sigs types f place (End xs) S S') (Stands : Root → Region → Type 0) (objects : (x : ℕ) (r : Region) → Stands (root.Local x) r → object_at types f x ≡ true) where
   hit_among : (e : Element) → is_hit (is_rooted_among xs) e ≡ points_among xs e
   hit_among element.Null = refl
   hit_among (element.Invalid c) = refl
@@ -140,6 +141,11 @@ module _ (sigs : List Signature) (types : Types) (f : Function) (place : Place) 
             (subst (λ (cs : List Cause). Contains (invalid_facts l cs) (fact_at l (element.Invalid c.0))) (sym c.1) (at_head (fact_at l (element.Invalid c.0)) []))))),
       )
 
+  -- no input ends
+  never : (ys : List ℕ) → list_any (λ (y : ℕ). false) ys ≡ false
+  never [] = refl
+  never (y ∷ ys) = never ys
+
   pub left_by_end : LeftBy Stands (is_rooted_among xs) (writes (End xs)) S S'
   left_by_end = record {
     kept = λ l e s free not_hit. kept_by sigs types f place (End xs) S S' closed Stands l e s (both_false (points_among xs e) (is_rooted_among xs l) (sym (hit_among e) ∙ not_hit) free);
@@ -148,7 +154,7 @@ module _ (sigs : List Signature) (types : Types) (f : Function) (place : Place) 
     where
       by_root : (ro : Root) (l a : AbsPlace) → a.root ≡ ro → (r : Region) → S (fact_at l (element.At a)) → Stands a.root r → is_rooted_among xs l ≡ false → is_rooted_among xs a ≡ true → (cause : Cause) × S' (fact_at l (element.Invalid cause))
       by_root (root.Local x) l a e r s stands free gone = hit_by_end l a x e (objects x r (subst (λ (z : Root). Stands z r) e stands)) s free gone
-      by_root (root.Input q m) l a e r s stands free gone = absurd (none q m r (subst (λ (z : Root). Stands z r) e stands))
+      by_root (root.Input q m) l a e r s stands free gone = absurd (false≢true (sym (ap (λ (ro : Root). list_any (λ y. is_root y ro) xs) e ∙ never xs) ∙ gone))
 
 -- ---- what ends
 
@@ -278,7 +284,7 @@ module _ (types : Types) where
 
 -- ---- the kind
 
-module _ (types : Types) (f : Function) (rest : ℕ → ℕ) (S : Fact → Type 0) (st : State) (k : IsKnownFrame types f rest S st) (sigs : List Signature) (n : ℕ) (place : Place) (S' : Fact → Type 0) (xs : List ℕ) where
+module _ (types : Types) (f : Function) (rest : ℕ → ℕ) (inputs : Root → Option Region) (S : Fact → Type 0) (st : State) (k : IsKnownFrame types f rest inputs S st) (sigs : List Signature) (n : ℕ) (place : Place) (S' : Fact → Type 0) (xs : List ℕ) where
   abbrev c : Content
   c = st.world.content
 
@@ -293,6 +299,24 @@ module _ (types : Types) (f : Function) (rest : ℕ → ℕ) (S : Fact → Type 
       let least = owned_at_held (kinds_of types) st.world.content j m in
       let one = alive_le (kinds_of types) st.world.content m in
       omega (arith, a, h, least, one, own)
+
+  -- an input isn't among what ends, nor beneath it
+  input_feet : (ro : Root) (a : Region) → StandsAt inputs ro a → Apart (kinds_of types) st.world.content (foot_among st.cells xs) (all_of (a.object ∷ []))
+  input_feet ro a stands = record { wholes = λ j t low. one j t low; others = λ j t low. other j t low; parts = λ j w t u. false≢true t; holder = λ j w t low. false≢true t; other_holder = λ j w t low. false≢true t }
+    where
+      ended_low : (j : ℕ) → list_any (λ z. cell_names (slice_get st.cells z) j) xs ≡ true → Beneath (kinds_of types) st.world.content (frame_foot types f inputs st.cells) j
+      ended_low j t = let z = among_named st.cells xs j t in local_low types f rest inputs S st k z.0 j z.2
+
+      one : (j : ℕ) → list_any (λ z. cell_names (slice_get st.cells z) j) xs ≡ true → Beneath (kinds_of types) st.world.content (all_of (a.object ∷ [])) j → ⊥
+      one j t (whole _ w) = k.given.free ro a stands (subst (Beneath (kinds_of types) st.world.content (frame_foot types f inputs st.cells)) (sym (one_there a.object j (let p = positive_is (times (a.object ∷ []) j) w in omega (arith, p)))) (ended_low j t))
+      one j t (part i _ own) = let z = among_named st.cells xs j t in unowned z.0 j i z.2 (own_all (kinds_of types) st.world.content (λ u. false) i j own)
+      one j t (under i _ low own) = let z = among_named st.cells xs j t in unowned z.0 j i z.2 own
+
+      other : (j : ℕ) → (all_of (a.object ∷ [])).whole j ≡ true → Beneath (kinds_of types) st.world.content (foot_among st.cells xs) j → ⊥
+      other j w low =
+          k.given.free ro a stands (beneath_more (kinds_of types) hand st.world.content k.stands.store.forest (foot_among st.cells xs) (frame_foot types f inputs st.cells) a.object
+          (record { whole = λ n lt e. ended_low n e; part = λ n lt. inr (λ u e. absurd (false≢true e)) }) (k.given.born ro a stands)
+          (subst (Beneath (kinds_of types) st.world.content (foot_among st.cells xs)) (sym (one_there a.object j (let p = positive_is (times (a.object ∷ []) j) w in omega (arith, p)))) low))
 
   apart_feet : (y m : ℕ) → slice_get st.cells y ≡ Some (Named m) → list_any (λ z. nat_eq z y) xs ≡ false → Apart (kinds_of types) st.world.content (foot_among st.cells xs) (all_of (m ∷ []))
   apart_feet y m e free = record { wholes = λ j t low. one j t low; others = λ j t low. other j t low; parts = λ j w t u. false≢true t; holder = λ j w t low. false≢true t; other_holder = λ j w t low. false≢true t }
@@ -328,41 +352,43 @@ module _ (types : Types) (f : Function) (rest : ℕ → ℕ) (S : Fact → Type 
   inside_all a b (inl s) = whole b.object (is_positive (times (a.object ∷ []) b.object) (let e = one_same a.object b.object (sym s.object) in omega (arith, e)))
   inside_all a b (inr low) = beneath_all a b.object low
 
-  end_guards : Guards types st.world.content (RootStands types f NoInput st.cells) S (is_rooted_among xs) (foot_among st.cells xs)
+  end_guards : Guards types st.world.content (RootStands types f (StandsAt inputs) st.cells) S (is_rooted_among xs) (foot_among st.cells xs)
   end_guards a r names at_r low = go (is_rooted_among xs a) refl
     where
-      by_root : (ro : Root) → a.root ≡ ro → RootStands types f NoInput st.cells ro at_r.start → is_rooted_among xs a ≡ false → is_rooted_among xs a ≡ true
-      by_root (root.Input q member) e stands free = absurd stands
+      by_root : (ro : Root) → a.root ≡ ro → RootStands types f (StandsAt inputs) st.cells ro at_r.start → is_rooted_among xs a ≡ false → is_rooted_among xs a ≡ true
+      by_root (root.Input q member) e stands free =
+          absurd (apart (kinds_of types) hand st.world.content k.stands.store.forest (foot_among st.cells xs) (all_of (at_r.start.object ∷ [])) (input_feet (root.Input q member) at_r.start stands) r.object low
+          (inside_all at_r.start r (lies_inside types k.ordered hand st.world.content k.stands.store (path a) at_r.start r ((rooted_of types f rest inputs S st k).fits a.root at_r.start at_r.stands) at_r.lies)))
       by_root (root.Local y) e stands free =
           let out : list_any (λ z. nat_eq z y) xs ≡ false = ap (λ (ro : Root). list_any (λ z. is_root z ro) xs) (sym e) ∙ free in
           absurd (apart (kinds_of types) hand st.world.content k.stands.store.forest (foot_among st.cells xs) (all_of (at_r.start.object ∷ [])) (apart_feet y at_r.start.object stands.0 out) r.object low
-          (inside_all at_r.start r (lies_inside types k.ordered hand st.world.content k.stands.store (path a) at_r.start r ((rooted_of types f rest S st k).fits a.root at_r.start at_r.stands) at_r.lies)))
+          (inside_all at_r.start r (lies_inside types k.ordered hand st.world.content k.stands.store (path a) at_r.start r ((rooted_of types f rest inputs S st k).fits a.root at_r.start at_r.stands) at_r.lies)))
 
       go : (b : Bool) → is_rooted_among xs a ≡ b → is_rooted_among xs a ≡ true
       go true e = e
       go false e = by_root a.root refl at_r.stands e
 
-  pub end_kind : (s : Setting) → IsRight sigs types n f place (End xs) S S' → OnRight (does s types f (End xs) st) (FrameCovered types f S')
+  pub end_kind : (s : Setting) → IsRight sigs types n f place (End xs) S S' → OnRight (does s types f (End xs) st) (FrameCovered types f inputs S')
   end_kind s right = covered (end_locals types f xs st) (all_end types k.ordered f rest xs st k.stands)
     where
-      objects : (x : ℕ) (r : Region) → RootStands types f NoInput st.cells (root.Local x) r → object_at types f x ≡ true
-      objects x r stands = object_named types f rest S st k x r.object stands.0
+      objects : (x : ℕ) (r : Region) → RootStands types f (StandsAt inputs) st.cells (root.Local x) r → object_at types f x ≡ true
+      objects x r stands = object_named types f rest inputs S st k x r.object stands.0
 
       unlike : (v : Pointer) → Points v ≡ Empty → ⊥
       unlike v e = cc
 
-      behind : (st' : State) → AreEnded types xs st st' → FrameCovered types f S' st'
+      behind : (st' : State) → AreEnded types xs st st' → FrameCovered types f inputs S' st'
       behind st' over x v e =
           let was = over.was x (Points v) e (unlike v) in
-          cover_on types k.ordered hand st.world.content st'.world.content k.stands.store (foot_among st.cells xs) over.touch (RootStands types f NoInput st.cells) (RootStands types f NoInput st'.cells) any_root (rooted_of types f rest S st k).fits
-          (is_rooted_among xs) (writes (End xs)) S S' (left_by_end sigs types f place xs S S' right.closed (RootStands types f NoInput st.cells) objects (λ q m r h. h)) end_guards (λ a r names free stands. stay a.root r free stands)
+          cover_on types k.ordered hand st.world.content st'.world.content k.stands.store (foot_among st.cells xs) over.touch (RootStands types f (StandsAt inputs) st.cells) (RootStands types f (StandsAt inputs) st'.cells) (may_change types f) (rooted_of types f rest inputs S st k).fits
+          (is_rooted_among xs) (writes (End xs)) S S' (left_by_end sigs types f place xs S S' right.closed (RootStands types f (StandsAt inputs) st.cells) objects) end_guards (λ a r names free stands. stay a.root r free stands)
           (local_place x) (look_at types f x) v was.1 (k.covered x v was.0)
         where
-          stay : (ro : Root) (r : Region) → list_any (λ z. is_root z ro) xs ≡ false → RootStands types f NoInput st.cells ro r → RootStands types f NoInput st'.cells ro r
+          stay : (ro : Root) (r : Region) → list_any (λ z. is_root z ro) xs ≡ false → RootStands types f (StandsAt inputs) st.cells ro r → RootStands types f (StandsAt inputs) st'.cells ro r
           stay (root.Local y) r free stands = (over.stays y r.object stands.0 free, stands.1, stands.2)
           stay (root.Input q member) r free stands = stands
 
-      covered : (e : Effect) → OnRight e (AreEnded types xs st) → OnRight e (FrameCovered types f S')
+      covered : (e : Effect) → OnRight e (AreEnded types xs st) → OnRight e (FrameCovered types f inputs S')
       covered (Next st') h = behind st' h
       covered (Traps kind) h = tt
       covered (Faults kind) h = h

@@ -18,10 +18,11 @@ use Rattle.life_pset.specs.declared.element.AbsPlace.{AbsPlace}
 use Rattle.life_pset.specs.declared.element.Element.TheVariants as element
 use Rattle.life_pset.specs.declared.element.Fact.{Fact}
 use Rattle.life_pset.proofs.Numbers.{is_of_iff, place_laws}
+use Rattle.life_pset.specs.declared.element.Root.{Root}
 use Rattle.life_contract.specs.Located.{located}
 use Rattle.life_contract.specs.Signatures.{Signature}
 use Rattle.life_proper.specs.OperandTypes.{is_range}
-use Rattle.life_proper.specs.Placed.{type_at, type_of}
+use Rattle.life_proper.specs.Placed.{is_const_place, type_at, type_of}
 use Rattle.life_rules.specs.Matching.{fact_at, facts_at, facts_if, position_in}
 use Rattle.life_rules.proofs.Giving.{at_head}
 use Rattle.life_store.specs.Cells.{at}
@@ -48,8 +49,10 @@ use Rattle.life_forest.proofs.Counting.{one_same, one_there}
 use Rattle.life_forest.proofs.FrameChanges.{erasable_below}
 use Rattle.life_forest.proofs.Steps.{size_on}
 use Rattle.life_forest.proofs.Vectors.{erase_store}
+use Rattle.life_cover.proofs.Writing.{change_owning}
 use Rattle.life_cover.specs.Covers.{IsCovered, IsSeenAs}
-use Rattle.life_cover.specs.Frames.{FrameCovered, NoInput, RootStands, any_root, look_at}
+use Rattle.life_cover.specs.Frames.{FrameCovered, RootStands, look_at}
+use Rattle.life_cover.specs.Inputs.{may_change, owning, StandsAt}
 use Rattle.life_cover.specs.Kills.{Closed}
 use Rattle.life_cover.specs.Regions.{Region, foot_of}
 use Rattle.life_cover.proofs.Beside.{Keeps, at_on, kept_object}
@@ -138,14 +141,14 @@ module _ (types : Types) (ordered : IsOrdered types) (hand : ℕ → ℕ) (c : C
 
 -- ---- in a frame
 
-module _ (types : Types) (f : Function) (rest : ℕ → ℕ) (S : Fact → Type 0) (st : State) (k : IsKnownFrame types f rest S st) (sigs : List Signature) (number : ℕ) (place : Place) (S' : Fact → Type 0) (s : Setting) (o : Operand)
+module _ (types : Types) (f : Function) (rest : ℕ → ℕ) (inputs : Root → Option Region) (S : Fact → Type 0) (st : State) (k : IsKnownFrame types f rest inputs S st) (sigs : List Signature) (number : ℕ) (place : Place) (S' : Fact → Type 0) (s : Setting) (o : Operand) (free : is_const_place types f o ≡ false)
     (item : TyId) (is_vector : type_of types f o ≡ ty.Vector item) (x y : ℕ) (single_x : is_range (type_at types f x) ≡ false) (pointer : is_pointer (type_at types f y) ≡ true) (single : is_range (type_at types f y) ≡ false)
     (seen : IsSeenAs types (look_at types f y).target item) (right : IsRight sigs types number f place (Changes o (Erase (whole x) (whole y))) S S') where
   solid : is_void (type_of types f o) ≡ false
   solid = ap is_void is_vector
 
   -- the fact on the position
-  given_position : (p : Operand) (r : IsReached types f st NoInput any_root S p) → Closed sigs types f place (Changes p (Erase (whole x) (whole y))) S S' → Contains (elements_of types f) (element.At (owned_place r.place)) → S' (fact_at (local_place y) (element.At (owned_place r.place)))
+  given_position : (p : Operand) (r : IsReached types f st (StandsAt inputs) (may_change types f) S p) → Closed sigs types f place (Changes p (Erase (whole x) (whole y))) S S' → Contains (elements_of types f) (element.At (owned_place r.place)) → S' (fact_at (local_place y) (element.At (owned_place r.place)))
   given_position (named.Name l) r closed known =
       named_fact sigs types f place (Changes (named.Name l) (Erase (whole x) (whole y))) S S' closed (whole y) (element.At (owned_place r.place))
       (subst (λ (a : AbsPlace). Contains (fact_at (local_place y) (element.At (owned_place a)) ∷ []) (fact_at (local_place y) (element.At (owned_place r.place)))) r.by (at_head (fact_at (local_place y) (element.At (owned_place r.place))) []))
@@ -156,67 +159,67 @@ module _ (types : Types) (f : Function) (rest : ℕ → ℕ) (S : Fact → Type 
       (subst (λ b. Contains (facts_if b (local_place y) (position_in members (element.At r.by.0))) (fact_at (local_place y) (element.At (owned_place r.place)))) (sym (place_laws.refl (located q)))
       (subst (λ (a : AbsPlace). Contains (facts_at (local_place y) (Some (element.At (owned_place a)))) (fact_at (local_place y) (element.At (owned_place r.place)))) r.by.2 (at_head (fact_at (local_place y) (element.At (owned_place r.place))) [])))
 
-  module _ (r : IsReached types f st NoInput any_root S o) where
-    abbrev h : IsOpened types f rest S st k o r (ty.Vector item) item
-    h = vector_opened types f rest S st k o r item is_vector
+  module _ (r : IsReached types f st (StandsAt inputs) (may_change types f) S o) where
+    abbrev h : IsOpened types f rest inputs S st k o r (ty.Vector item) item
+    h = vector_opened types f rest inputs S st k o r item is_vector
 
     -- where an element was erased, its position is the pointer's
     abbrev behind : ℕ → Content
-    behind index = erased (parts_at types item) (vector_opened types f rest S st k o r item is_vector).buffer index st.world.content
+    behind index = erased (parts_at types item) (vector_opened types f rest inputs S st k o r item is_vector).buffer index st.world.content
 
-    erased_covered : (index : ℕ) → index < size_of st.world.content h.buffer → FrameCovered types f S' (put_cell y (Points (pointer_to (behind index) h.buffer index 0)) (put_content (behind index) st))
+    erased_covered : (index : ℕ) → index < size_of st.world.content h.buffer → FrameCovered types f inputs S' (put_cell y (Points (pointer_to (behind index) h.buffer index 0)) (put_content (behind index) st))
     erased_covered index small =
-        put_over types f (put_content (behind index) st) NoInput any_root S' y (Points (pointer_to (behind index) h.buffer index 0)) (pointer_free types f rest S st k y pointer)
-        (λ v e. subst (IsCovered types (behind index) (RootStands types f NoInput st.cells) any_root S' (local_place y) (look_at types f y)) (same_pointer e)
+        put_over types f (put_content (behind index) st) (StandsAt inputs) (may_change types f) S' y (Points (pointer_to (behind index) h.buffer index 0)) (pointer_free types f rest inputs S st k y pointer)
+        (λ v e. subst (IsCovered types (behind index) (RootStands types f (StandsAt inputs) st.cells) (may_change types f) S' (local_place y) (look_at types f y)) (same_pointer e)
         (record {
           known = element.At (owned_place r.place);
-          holds = given_position o r right.closed (opens_place types f rest S st k o r solid right.closed.of item h.type).known;
-          covers = element_pointed types (behind index) (RootStands types f NoInput st.cells) any_root r.place r.region r.index h.buffer holder.object item (opens_place types f rest S st k o r solid right.closed.of item h.type).room
-              (at_on types k.ordered (hand_of rest st) st.world.content (behind index) (store_of types f rest S st k) (all_of (h.buffer ∷ [])) touch (RootStands types f NoInput st.cells) (RootStands types f NoInput st.cells) r.place r.region
-              ((rooted_of types f rest S st k).fits r.place.root) (λ a stands. stands) r.lies not_beneath)
-              h.type holder.there owned (look_at types f y) seen (λ e. refl) (kinds_of types) (hand_of rest st) store.forest last.0 last.1 single index
-              (let count = (elements_shut types f rest S st k o r item is_vector index small).count last.0 last.1 in
-              let size = ap (λ (q : Option Object). length (slots_if q)) (held types f rest S st k o r item is_vector).1 in
+          holds = given_position o r right.closed (opens_place types f rest inputs S st k o r solid right.closed.of item h.type).known;
+          covers = element_pointed types (behind index) (RootStands types f (StandsAt inputs) st.cells) (may_change types f) r.place r.region r.index h.buffer holder.object item (opens_place types f rest inputs S st k o r solid right.closed.of item h.type).room
+              (at_on types k.ordered (hand_of rest st) st.world.content (behind index) (store_of types f rest inputs S st k) (all_of (h.buffer ∷ [])) touch (RootStands types f (StandsAt inputs) st.cells) (RootStands types f (StandsAt inputs) st.cells) r.place r.region
+              ((rooted_of types f rest inputs S st k).fits r.place.root) (λ a stands. stands) r.lies not_beneath)
+              h.type holder.there owned (look_at types f y) seen (λ e. r.change free) (kinds_of types) (hand_of rest st) store.forest last.0 last.1 single index
+              (let count = (elements_shut types f rest inputs S st k o r item is_vector index small).count last.0 last.1 in
+              let size = ap (λ (q : Option Object). length (slots_if q)) (held types f rest inputs S st k o r item is_vector).1 in
               omega (arith, count, size, small));
         }))
         (λ z v ne e.
-        operand_changed types k.ordered f (hand_of rest st) st (store_of types f rest S st k) NoInput any_root any_root (rooted_of types f rest S st k) sigs place (Erase (whole x) (whole y)) S S' o r refl right.closed (behind index)
-        (erased_within types k.ordered (hand_of rest st) st.world.content (store_of types f rest S st k) r.region.object r.index r.region.word r.region.ty r.holder r.there within r.small item parts_are h.buffer h.owned index small)
+        operand_changed types k.ordered f (hand_of rest st) st (store_of types f rest inputs S st k) (StandsAt inputs) (may_change types f) (owning types f) (rooted_of types f rest inputs S st k) sigs place (Erase (whole x) (whole y)) S S' o r (change_owning types f rest inputs S st k sigs number place S' o free right r h.type) right.closed (behind index)
+        (erased_within types k.ordered (hand_of rest st) st.world.content (store_of types f rest inputs S st k) r.region.object r.index r.region.word r.region.ty r.holder r.there within r.small item parts_are h.buffer h.owned index small)
         (local_place z) (look_at types f z) v (other_local y z ne) (k.covered z v e))
       where
         same_pointer : {u w : Pointer} → Points u ≡ Points w → u ≡ w
         same_pointer e = cc
 
         within : LiesWithin types r.holder.ty r.region.word r.region.ty
-        within = region_within types f rest S st k o r
+        within = region_within types f rest inputs S st k o r
 
         parts_are : parts_at types r.region.ty ≡ Vector item (parts_at types item)
-        parts_are = vector_parts types f rest S st k o r item is_vector
+        parts_are = vector_parts types f rest inputs S st k o r item is_vector
 
         touch : Touches (kinds_of types) (all_of (h.buffer ∷ [])) st.world.content (behind index)
-        touch = erased_beneath types k.ordered (hand_of rest st) st.world.content (store_of types f rest S st k) r.region.object r.index r.region.word r.region.ty r.holder r.there within r.small item parts_are h.buffer h.owned index small
+        touch = erased_beneath types k.ordered (hand_of rest st) st.world.content (store_of types f rest inputs S st k) r.region.object r.index r.region.word r.region.ty r.holder r.there within r.small item parts_are h.buffer h.owned index small
 
         not_beneath : Beneath (kinds_of types) st.world.content (all_of (h.buffer ∷ [])) r.region.object → ⊥
-        not_beneath = apart types k.ordered (hand_of rest st) st.world.content (store_of types f rest S st k) r.region.object r.index r.region.word r.region.ty r.holder r.there within r.small item parts_are h.buffer h.owned index small
+        not_beneath = apart types k.ordered (hand_of rest st) st.world.content (store_of types f rest inputs S st k) r.region.object r.index r.region.word r.region.ty r.holder r.there within r.small item parts_are h.buffer h.owned index small
 
         holder : Keeps (kinds_of types) (λ u. false) (behind index) r.region.object r.holder
-        holder = kept types k.ordered (hand_of rest st) st.world.content (store_of types f rest S st k) r.region.object r.index r.region.word r.region.ty r.holder r.there within r.small item parts_are h.buffer h.owned index small
+        holder = kept types k.ordered (hand_of rest st) st.world.content (store_of types f rest inputs S st k) r.region.object r.index r.region.word r.region.ty r.holder r.there within r.small item parts_are h.buffer h.owned index small
 
         owned : owned_at (behind index) (record { object = r.region.object; index = r.index; word = r.region.word }) ≡ Some h.buffer
-        owned = still_owned types k.ordered (hand_of rest st) st.world.content (store_of types f rest S st k) r.region.object r.index r.region.word r.region.ty r.holder r.there within r.small item parts_are h.buffer h.owned index small
+        owned = still_owned types k.ordered (hand_of rest st) st.world.content (store_of types f rest inputs S st k) r.region.object r.index r.region.word r.region.ty r.holder r.there within r.small item parts_are h.buffer h.owned index small
 
         store : IsStore types (hand_of rest st) (behind index)
-        store = store_behind types k.ordered (hand_of rest st) st.world.content (store_of types f rest S st k) r.region.object r.index r.region.word r.region.ty r.holder r.there within r.small item parts_are h.buffer h.owned index small
+        store = store_behind types k.ordered (hand_of rest st) st.world.content (store_of types f rest inputs S st k) r.region.object r.index r.region.word r.region.ty r.holder r.there within r.small item parts_are h.buffer h.owned index small
 
         last : (q : Object) × (at (behind index).objects h.buffer ≡ Some q)
-        last = buffer_behind types k.ordered (hand_of rest st) st.world.content (store_of types f rest S st k) r.region.object r.index r.region.word r.region.ty r.holder r.there within r.small item parts_are h.buffer h.owned index small
+        last = buffer_behind types k.ordered (hand_of rest st) st.world.content (store_of types f rest inputs S st k) r.region.object r.index r.region.word r.region.ty r.holder r.there within r.small item parts_are h.buffer h.owned index small
 
     -- what is done with the buffer
-    with_buffer : (v : Pointer) → OnRight (erases types f (operand_parts types f o) (record { object = r.region.object; index = r.index; word = r.region.word }) v (whole y) st) (FrameCovered types f S')
+    with_buffer : (v : Pointer) → OnRight (erases types f (operand_parts types f o) (record { object = r.region.object; index = r.index; word = r.region.word }) v (whole y) st) (FrameCovered types f inputs S')
     with_buffer v =
-        subst (λ (p : Parts). OnRight (erases types f p (record { object = r.region.object; index = r.index; word = r.region.word }) v (whole y) st) (FrameCovered types f S')) (sym (vector_operand types f rest S st k o r item is_vector))
-        (subst (λ w. OnRight (on_got (got_or w (GotFault fault.Moved)) go) (FrameCovered types f S')) (sym h.owned)
-        (right_then (erasable st.world.content h.buffer v) (at_element h.buffer) (λ index. index < size_of st.world.content h.buffer) (FrameCovered types f S')
+        subst (λ (p : Parts). OnRight (erases types f p (record { object = r.region.object; index = r.index; word = r.region.word }) v (whole y) st) (FrameCovered types f inputs S')) (sym (vector_operand types f rest inputs S st k o r item is_vector))
+        (subst (λ w. OnRight (on_got (got_or w (GotFault fault.Moved)) go) (FrameCovered types f inputs S')) (sym h.owned)
+        (right_then (erasable st.world.content h.buffer v) (at_element h.buffer) (λ index. index < size_of st.world.content h.buffer) (FrameCovered types f inputs S')
         (right_got (erasable st.world.content h.buffer v) (λ index. index < size_of st.world.content h.buffer) (erasable_below st.world.content h.buffer v) (erasable_faultless st.world.content h.buffer v))
         erased_covered))
       where
@@ -226,11 +229,11 @@ module _ (types : Types) (f : Function) (rest : ℕ → ℕ) (S : Fact → Type 
         go : ℕ → Effect
         go b = on_got (erasable st.world.content b v) (at_element b)
 
-  pub vector_erase : OnRight (does s types f (Changes o (Erase (whole x) (whole y))) st) (FrameCovered types f S')
+  pub vector_erase : OnRight (does s types f (Changes o (Erase (whole x) (whole y))) st) (FrameCovered types f inputs S')
   vector_erase =
-      by_reach types f st NoInput any_root S o (reach_at types f rest S st k o solid (λ q h. used_right sigs types number f place (Changes o (Erase (whole x) (whole y))) S right.clean q h)) (λ spot. changed s types f (operand_parts types f o) spot (Erase (whole x) (whole y)) st)
-      (FrameCovered types f S')
-      (λ r. subst (λ e. OnRight e (FrameCovered types f S')) (sym (spot_is types f st NoInput any_root S o r (λ spot. changed s types f (operand_parts types f o) spot (Erase (whole x) (whole y)) st)))
-      (right_then (iterator st.world.content (cell st x)) (λ v. erases types f (operand_parts types f o) (record { object = r.region.object; index = r.index; word = r.region.word }) v (whole y) st) (λ v. Unit {0}) (FrameCovered types f S')
-      (place_fit types f rest S st k x (read_right sigs types number f place (Changes o (Erase (whole x) (whole y))) S right.clean (whole x) (at_head (whole x) [])) single_x (cell st x) refl)
+      by_reach types f st (StandsAt inputs) (may_change types f) S o (reach_at types f rest inputs S st k o solid (λ q h. used_right sigs types number f place (Changes o (Erase (whole x) (whole y))) S right.clean q h)) (λ spot. changed s types f (operand_parts types f o) spot (Erase (whole x) (whole y)) st)
+      (FrameCovered types f inputs S')
+      (λ r. subst (λ e. OnRight e (FrameCovered types f inputs S')) (sym (spot_is types f st (StandsAt inputs) (may_change types f) S o r (λ spot. changed s types f (operand_parts types f o) spot (Erase (whole x) (whole y)) st)))
+      (right_then (iterator st.world.content (cell st x)) (λ v. erases types f (operand_parts types f o) (record { object = r.region.object; index = r.index; word = r.region.word }) v (whole y) st) (λ v. Unit {0}) (FrameCovered types f inputs S')
+      (place_fit types f rest inputs S st k x (read_right sigs types number f place (Changes o (Erase (whole x) (whole y))) S right.clean (whole x) (at_head (whole x) [])) single_x (cell st x) refl)
       (λ v h. with_buffer r v)))

@@ -1,6 +1,6 @@
--- An instruction of a frame without structs and inputs at which nothing is wrong makes no fault, and the facts behind it cover all pointers of
+-- An instruction of a frame without structs at which nothing is wrong makes no fault, and the facts behind it cover all pointers of
 -- the frame: of values, pointers, vectors, strings, iterators, spans and views, by their types alone.
-use Rattle.std.proofs.Common.{◌≡◌, ◌≢◌, ℕ, Bool, true, false, ◌&&◌, not, List, Some, refl, sym, ap, subst, ◌∙◌}
+use Rattle.std.proofs.Common.{◌≡◌, ◌≢◌, ℕ, Bool, true, false, ◌&&◌, not, List, Some, refl, sym, ap, subst, ◌∙◌, Option}
 use Rattle.std.specs.Prelude.{pos}
 use Rattle.std.proofs.lemmas.Bool.{and_parts, false≢true}
 use Rattle.life_types.specs.Pointees.{ty_of}
@@ -24,6 +24,7 @@ use Rattle.life_core.specs.Step as step
 use Rattle.life_core.specs.Touched.{touched_by}
 use Rattle.life_pset.specs.Shapes.{has_buffer, operand_type, tree_if}
 use Rattle.life_pset.specs.declared.element.Fact.{Fact}
+use Rattle.life_pset.specs.declared.element.Root.{Root}
 use Rattle.life_contract.specs.Signatures.{Signature}
 use Rattle.life_proper.specs.OperandTypes.{aims_at, are_alike, are_compared, is_range, keeps_const, owned_element, same, seen_element, spans, takes, walks}
 use Rattle.life_proper.specs.Placed.{element_of, is_const_base, is_const_place, is_number, is_number_of, register_at, type_at, type_in, type_of, type_of_element}
@@ -41,8 +42,9 @@ use Rattle.life_forest.proofs.OneNumber.{also_solid, same_solid}
 use Rattle.life_forest.proofs.ReadyCells.{number_any, pointer_cell}
 use Rattle.life_forest.proofs.SeenTypes.{aims_seen, iterator_points, pointer_solid, range_points, raw_points, same_if, walks_seen}
 use Rattle.life_forest.proofs.TypedSteps.{IsSlotFree, value_solid}
-use Rattle.life_cover.specs.Frames.{FrameCovered, NoInput, any_root, look_at}
-use Rattle.life_cover.specs.Regions.{owned_in_type}
+use Rattle.life_cover.specs.Frames.{FrameCovered, look_at}
+use Rattle.life_cover.specs.Inputs.{may_change, StandsAt}
+use Rattle.life_cover.specs.Regions.{owned_in_type, Region}
 use Rattle.life_cover.proofs.AimKinds.{advances_kind, cuts_kind, empty_kind, null_kind, owner_cursor_kind, owner_item_kind, place_kind, repoint_kind, seen_cursor_kind, seen_item_kind, text_kind, whole_aim_kind}
 use Rattle.life_cover.proofs.ChangeSteps.{change_step}
 use Rattle.life_cover.proofs.CopyKinds.{copy_kind}
@@ -111,16 +113,16 @@ IsSpoken types f (Aim p s) = IsSpokenSource s
 IsSpoken types f (step.Element p b w) = IsElement w
 IsSpoken types f _ = Unit {0}
 
-module _ (types : Types) (f : Function) (rest : ℕ → ℕ) (S : Fact → Type 0) (st : State) (k : IsKnownFrame types f rest S st) (sigs : List Signature) (n : ℕ) (place : Place) (S' : Fact → Type 0) (texts : ℕ) (fs : List Function) (s : Setting) where
+module _ (types : Types) (f : Function) (rest : ℕ → ℕ) (inputs : Root → Option Region) (S : Fact → Type 0) (st : State) (k : IsKnownFrame types f rest inputs S st) (sigs : List Signature) (n : ℕ) (place : Place) (S' : Fact → Type 0) (texts : ℕ) (fs : List Function) (s : Setting) where
   abbrev Right : Step → Type 0
   Right i = IsRight sigs types n f place i S S'
 
   abbrev Covers : Step → Type 0
-  Covers i = OnRight (does s types f i st) (FrameCovered types f S')
+  Covers i = OnRight (does s types f i st) (FrameCovered types f inputs S')
 
   -- a location of a pointer is a local
   to_pointer : (p : Location) → is_pointer (type_in types f p) ≡ true → (P : Location → Type 0) → ((x : ℕ) → P (whole x)) → P p
-  to_pointer = at_pointer types f rest S st k
+  to_pointer = at_pointer types f rest inputs S st k
 
   held_pointer : (q : ℕ) → is_pointer (type_at types f q) ≡ true → IsThere (ready_of st) q → (v : Pointer) × (cell st q ≡ Some (Points v))
   held_pointer q pointer there = pointer_cell types f st k.poised q pointer there
@@ -131,20 +133,22 @@ module _ (types : Types) (f : Function) (rest : ℕ → ℕ) (S : Fact → Type 
   item_for p u target pointer sees item = subst (HasItem types k.ordered k.once u) (sym (seen_at types k.ordered k.once f k.shaped p (type_at types f p) refl (pointer_solid (type_at types f p) pointer) ∙ sees)) item
 
   aim_step : (p : ℕ) (sr : Source) → IsSpokenSource sr → Right (Aim (whole p) sr) → is_source_of types texts fs f (type_at types f p) sr ≡ true → Covers (Aim (whole p) sr)
-  aim_step p named.Null spoken right e = null_kind types f rest S st k sigs n place S' p (raw_points (type_at types f p) e) s right
+  aim_step p named.Null spoken right e = null_kind types f rest inputs S st k sigs n place S' p (raw_points (type_at types f p) e) s right
   aim_step p (named.Text number) spoken right e =
-      text_kind types f rest S st k sigs n place S' p (range_points (type_at types f p) (view_range (type_at types f p) (and_parts (is_view (type_at types f p)) _ e).0)) s number right
-  aim_step p named.Empty spoken right e = empty_kind types f rest S st k sigs n place S' p (range_points (type_at types f p) e) s right
+      text_kind types f rest inputs S st k sigs n place S' p (range_points (type_at types f p) (view_range (type_at types f p) (and_parts (is_view (type_at types f p)) _ e).0)) s number right
+  aim_step p named.Empty spoken right e = empty_kind types f rest inputs S st k sigs n place S' p (range_points (type_at types f p) e) s right
   aim_step p (named.Place o) spoken right e =
-      let aims = (and_parts (aims_at types (type_at types f p) (type_of types f o)) (keeps_const (is_constant (type_at types f p)) (is_const_place types f o)) e).0 in
+      let both = and_parts (aims_at types (type_at types f p) (type_of types f o)) (keeps_const (is_constant (type_at types f p)) (is_const_place types f o)) e in
+      let aims = both.0 in
       let seen = aims_seen types k.ordered k.once (type_at types f p) (type_of types f o) aims in
-      place_kind types f rest S st k sigs n place S' p seen.pointer o s right (also_solid (ty_of types seen.target) (type_of types f o) seen.is) aims
+      place_kind types f rest inputs S st k sigs n place S' p seen.pointer o s right (also_solid (ty_of types seen.target) (type_of types f o) seen.is) aims (const_kept (is_constant (type_at types f p)) (is_const_place types f o) both.1)
   aim_step p (named.Whole o) spoken right e =
-      let all = (and_parts (spans types (type_at types f p) (type_of types f o)) (keeps_const (is_constant (type_at types f p)) (is_const_place types f o)) e).0 in
+      let both = and_parts (spans types (type_at types f p) (type_of types f o)) (keeps_const (is_constant (type_at types f p)) (is_const_place types f o)) e in
+      let all = both.0 in
       let pointer = spans_points types (type_at types f p) (type_of types f o) all in
-      whole_aim_kind types f rest S st k sigs n place S' p pointer o (type_of types f o) refl
+      whole_aim_kind types f rest inputs S st k sigs n place S' p pointer o (type_of types f o) refl
       (subst (HasItem types k.ordered k.once (type_of types f o)) (sym (seen_at types k.ordered k.once f k.shaped p (type_at types f p) refl (pointer_solid (type_at types f p) pointer))) (whole_item types k.ordered k.once (type_at types f p) (type_of types f o) all))
-      s right (spans_range types (type_at types f p) (type_of types f o) all)
+      s right (spans_range types (type_at types f p) (type_of types f o) all) (const_kept (is_constant (type_at types f p)) (is_const_place types f o) both.1)
   aim_step p (named.Get u) spoken right e = absurd spoken
 
   pub source_points : (t : Ty) (sr : Source) → IsSpokenSource sr → is_source_of types texts fs f t sr ≡ true → is_pointer t ≡ true
@@ -182,16 +186,16 @@ module _ (types : Types) (f : Function) (rest : ℕ → ℕ) (S : Fact → Type 
       → AreReady (ready_of st) (touched_by f (step.Element (whole p) b w)) → Covers (step.Element (whole p) b w)
   element_step p (named.Owner o) w is right aims const ready =
       let seen = aims_seen types k.ordered k.once (type_at types f p) (type_of_element types f (named.Owner o) w) aims in
-      owner_item_kind types f rest S st k sigs n place S' p seen.pointer o (type_of types f o) refl
+      owner_item_kind types f rest inputs S st k sigs n place S' p seen.pointer o (type_of types f o) refl
       (item_for p (type_of types f o) seen.target seen.pointer seen.seen (element_item types k.ordered k.once (type_of types f o) seen.target (element_type (named.Owner o) w (ty_of types seen.target) is seen.is)))
-      s w (no_target w is) right (aims_single types (type_at types f p) (type_of_element types f (named.Owner o) w) aims)
+      s w (no_target w is) right (aims_single types (type_at types f p) (type_of_element types f (named.Owner o) w) aims) (const_kept (is_constant (type_at types f p)) (is_const_place types f o) const)
   element_step p (named.Pointer l) w is right aims const ready =
       let seen = aims_seen types k.ordered k.once (type_at types f p) (type_of_element types f (named.Pointer l) w) aims in
       let is_element = element_type (named.Pointer l) w (ty_of types seen.target) is seen.is in
       to_pointer l (range_points (type_in types f l) (element_ranged types (type_in types f l) seen.target is_element))
       (λ q. Right (step.Element (whole p) (named.Pointer q) w) → same (ty_of types seen.target) (seen_element types (type_in types f q)) ≡ true → keeps_const (is_constant (type_at types f p)) (is_constant (type_in types f q)) ≡ true → IsThere (ready_of st) q.local → Covers (step.Element (whole p) (named.Pointer q) w))
       (λ q now here const there.
-      seen_item_kind types f rest S st k sigs n place S' p seen.pointer q (held_pointer q (range_points (type_at types f q) (element_ranged types (type_at types f q) seen.target here)) there) seen.target seen.seen here
+      seen_item_kind types f rest inputs S st k sigs n place S' p seen.pointer q (held_pointer q (range_points (type_at types f q) (element_ranged types (type_at types f q) seen.target here)) there) seen.target seen.seen here
       (const_kept (is_constant (type_at types f p)) (is_constant (type_at types f q)) const) (aims_single types (type_at types f p) (type_of_element types f (named.Pointer l) w) aims) s w now)
       right is_element const ready.uses.0
 
@@ -199,14 +203,14 @@ module _ (types : Types) (f : Function) (rest : ℕ → ℕ) (S : Fact → Type 
       → AreReady (ready_of st) (touched_by f (Cursor (whole p) b end)) → Covers (Cursor (whole p) b end)
   cursor_step p (named.Owner o) end right walk const ready =
       let seen = walks_seen types k.ordered k.once (type_at types f p) (element_of types f (named.Owner o)) walk in
-      owner_cursor_kind types f rest S st k sigs n place S' p seen.pointer o (type_of types f o) refl
-      (item_for p (type_of types f o) seen.target seen.pointer seen.seen (element_item types k.ordered k.once (type_of types f o) seen.target seen.is)) s end right (walks_single types (type_at types f p) (element_of types f (named.Owner o)) walk)
+      owner_cursor_kind types f rest inputs S st k sigs n place S' p seen.pointer o (type_of types f o) refl
+      (item_for p (type_of types f o) seen.target seen.pointer seen.seen (element_item types k.ordered k.once (type_of types f o) seen.target seen.is)) s end right (walks_single types (type_at types f p) (element_of types f (named.Owner o)) walk) (const_kept (is_constant (type_at types f p)) (is_const_place types f o) const)
   cursor_step p (named.Pointer l) end right walk const ready =
       let seen = walks_seen types k.ordered k.once (type_at types f p) (element_of types f (named.Pointer l)) walk in
       to_pointer l (range_points (type_in types f l) (element_ranged types (type_in types f l) seen.target seen.is))
       (λ q. Right (Cursor (whole p) (named.Pointer q) end) → same (ty_of types seen.target) (seen_element types (type_in types f q)) ≡ true → keeps_const (is_constant (type_at types f p)) (is_constant (type_in types f q)) ≡ true → IsThere (ready_of st) q.local → Covers (Cursor (whole p) (named.Pointer q) end))
       (λ q now here const there.
-      seen_cursor_kind types f rest S st k sigs n place S' p seen.pointer q (held_pointer q (range_points (type_at types f q) (element_ranged types (type_at types f q) seen.target here)) there) seen.target seen.seen here
+      seen_cursor_kind types f rest inputs S st k sigs n place S' p seen.pointer q (held_pointer q (range_points (type_at types f q) (element_ranged types (type_at types f q) seen.target here)) there) seen.target seen.seen here
       (const_kept (is_constant (type_at types f p)) (is_constant (type_at types f q)) const) (walks_single types (type_at types f p) (element_of types f (named.Pointer l)) walk) s end now)
       right seen.is const ready.uses.0
 
@@ -220,11 +224,11 @@ module _ (types : Types) (f : Function) (rest : ℕ → ℕ) (S : Fact → Type 
 
       with_item : (u : Ty) (item : TyId) → type_of types f o ≡ u → owned_in_type types (Some u) ≡ Some item → has_buffer u ≡ true → is_void u ≡ false → Covers (Size r (named.Owner o))
       with_item u item is owned buffer solid =
-          by_reach types f st NoInput any_root S o (reach_at types f rest S st k o (ap is_void is ∙ solid) (λ q used. used_right sigs types n f place (Size r (named.Owner o)) S right.clean q used)) go (FrameCovered types f S')
-          (λ h. let have = opened types f rest S st k o h u is item owned buffer in
-          subst (λ z. OnRight z (FrameCovered types f S')) (sym (spot_is types f st NoInput any_root S o h go))
-          (subst (λ w. OnRight (on_got (got_or w (GotFault fault.Moved)) (λ b. Next (put_cell r (Number (pos (size_of st.world.content b))) st))) (FrameCovered types f S')) (sym have.owned)
-          (register_covered types f rest S st k sigs n place S' (Size r (named.Owner o)) right (λ e. refl) (λ l. refl) r number (pos (size_of st.world.content have.buffer)))))
+          by_reach types f st (StandsAt inputs) (may_change types f) S o (reach_at types f rest inputs S st k o (ap is_void is ∙ solid) (λ q used. used_right sigs types n f place (Size r (named.Owner o)) S right.clean q used)) go (FrameCovered types f inputs S')
+          (λ h. let have = opened types f rest inputs S st k o h u is item owned buffer in
+          subst (λ z. OnRight z (FrameCovered types f inputs S')) (sym (spot_is types f st (StandsAt inputs) (may_change types f) S o h go))
+          (subst (λ w. OnRight (on_got (got_or w (GotFault fault.Moved)) (λ b. Next (put_cell r (Number (pos (size_of st.world.content b))) st))) (FrameCovered types f inputs S')) (sym have.owned)
+          (register_covered types f rest inputs S st k sigs n place S' (Size r (named.Owner o)) right (λ e. refl) (λ l. refl) r number (pos (size_of st.world.content have.buffer)))))
 
       by_type : (u : Ty) → type_of types f o ≡ u → is_void (owned_element types u) ≡ false → Covers (Size r (named.Owner o))
       by_type ty.Text is h = with_item ty.Text (characters_type types) is refl refl refl
@@ -233,11 +237,11 @@ module _ (types : Types) (f : Function) (rest : ℕ → ℕ) (S : Fact → Type 
   size_step r (named.Pointer l) right number some =
       to_pointer l (range_points (type_in types f l) (seen_range types (type_in types f l) some))
       (λ q. Right (Size r (named.Pointer q)) → is_void (seen_element types (type_in types f q)) ≡ false → Covers (Size r (named.Pointer q)))
-      (λ q now here. seen_size_kind types f rest S st k sigs n place S' s r q now number (seen_range types (type_at types f q) here)) right some
+      (λ q now here. seen_size_kind types f rest inputs S st k sigs n place S' s r q now number (seen_range types (type_at types f q) here)) right some
 
   -- ---- what goes out
 
-  port_whole : (p : Port) → is_port types texts fs f p ≡ true → IsPort types f rest S st k p
+  port_whole : (p : Port) → is_port types texts fs f p ≡ true → IsPort types f rest inputs S st k p
   port_whole (Writes r) e = tt
   port_whole (Takes r) e = number_any types f ty.Long r e
   port_whole (WritesView l) e =
@@ -246,24 +250,24 @@ module _ (types : Types) (f : Function) (rest : ℕ → ℕ) (S : Fact → Type 
 
   -- ---- each instruction
 
-  pub step_covered : (i : Step) → IsSpoken types f i → IsRight sigs types n f place i S S' → is_well_formed_step types texts fs f i ≡ true → IsSlotFree types f i → AreReady (ready_of st) (touched_by f i) → OnRight (does s types f i st) (FrameCovered types f S')
-  step_covered (Live x form) spoken right e free ready = live_kind types f rest S st k sigs n place S' s x form right free
-  step_covered (End xs) spoken right e free ready = end_kind types f rest S st k sigs n place S' xs s right
-  step_covered (Eval r o) spoken right e free ready = eval_kind types f rest S st k sigs n place S' s r o right (and_parts (is_number types f r) _ e).0
+  pub step_covered : (i : Step) → IsSpoken types f i → IsRight sigs types n f place i S S' → is_well_formed_step types texts fs f i ≡ true → IsSlotFree types f i → AreReady (ready_of st) (touched_by f i) → OnRight (does s types f i st) (FrameCovered types f inputs S')
+  step_covered (Live x form) spoken right e free ready = live_kind types f rest inputs S st k sigs n place S' s x form right free
+  step_covered (End xs) spoken right e free ready = end_kind types f rest inputs S st k sigs n place S' xs s right
+  step_covered (Eval r o) spoken right e free ready = eval_kind types f rest inputs S st k sigs n place S' s r o right (and_parts (is_number types f r) _ e).0
   step_covered (Load r o) spoken right e free ready =
       let value = (and_parts (is_value (type_of types f o)) (same (type_of types f o) (type_at types f r)) (and_parts (register_at types f r) (is_value (type_of types f o) && same (type_of types f o) (type_at types f r)) e).1).0 in
-      load_kind types f rest S st k sigs n place S' s r o right (number_any types f (type_of types f o) r e) (value_solid (type_of types f o) value)
+      load_kind types f rest inputs S st k sigs n place S' s r o right (number_any types f (type_of types f o) r e) (value_solid (type_of types f o) value)
   step_covered (Save o r) spoken right e free ready =
       let number = (and_parts (is_number_of types f (type_of types f o) r) (not (is_const_place types f o)) e).0 in
       let value = (and_parts (is_value (type_of types f o)) (same (type_of types f o) (type_at types f r)) (and_parts (register_at types f r) (is_value (type_of types f o) && same (type_of types f o) (type_at types f r)) number).1).0 in
-      save_kind types f rest S st k sigs n place S' s o r right value
+      save_kind types f rest inputs S st k sigs n place S' s o r right value
   step_covered (Copy to from) spoken right e free ready =
       let first = and_parts (same (type_of types f to) (type_of types f from)) _ e in
       let pointer = (and_parts (not (is_pointer (type_of types f to))) _ first.1).0 in
       let unique = (and_parts (not (holds_unique (tree_if types (operand_type types f to)))) _ (and_parts (not (is_pointer (type_of types f to))) _ first.1).1).0 in
-      copy_kind types f rest S st k sigs n place S' s to from right (same_solid (type_of types f to) (type_of types f from) first.0) (also_solid (type_of types f to) (type_of types f from) first.0) (same_is (type_of types f to) (type_of types f from) first.0)
-      (not_false (is_pointer (type_of types f to)) pointer) (copied_type types f rest S st k to (same_solid (type_of types f to) (type_of types f from) first.0) unique)
-  step_covered (Move to y) spoken right e free ready = right_weaker (does s types f (Move to y) st) (IsMade types f S' st) (FrameCovered types f S') (move_right types f rest S st k sigs n place S' texts fs s y to spoken right e) (λ after h. h.0)
+      copy_kind types f rest inputs S st k sigs n place S' s to from (not_false (is_const_place types f to) (and_parts (not (holds_unique (tree_if types (operand_type types f to)))) (not (is_const_place types f to)) (and_parts (not (is_pointer (type_of types f to))) _ first.1).1).1) right (same_solid (type_of types f to) (type_of types f from) first.0) (also_solid (type_of types f to) (type_of types f from) first.0) (same_is (type_of types f to) (type_of types f from) first.0)
+      (not_false (is_pointer (type_of types f to)) pointer) (copied_type types f rest inputs S st k to (same_solid (type_of types f to) (type_of types f from) first.0) unique)
+  step_covered (Move to y) spoken right e free ready = right_weaker (does s types f (Move to y) st) (IsMade types f inputs S' st) (FrameCovered types f inputs S') (move_right types f rest inputs S st k sigs n place S' texts fs s y to spoken right e) (λ after h. h.0)
   step_covered (Aim p sr) spoken right e free ready =
       to_pointer p (source_points (type_in types f p) sr spoken e) (λ q. Right (Aim q sr) → is_source_of types texts fs f (type_in types f q) sr ≡ true → Covers (Aim q sr)) (λ q now here. aim_step q sr spoken now here) right e
   step_covered (Repoint p q) spoken right e free ready =
@@ -272,7 +276,7 @@ module _ (types : Types) (f : Function) (rest : ℕ → ℕ) (S : Fact → Type 
       (λ a now here.
       to_pointer q alike.1 (λ b. Right (Repoint (whole a) b) → takes types (type_at types f a) (type_in types f b) ≡ true → IsThere (ready_of st) b.local → Covers (Repoint (whole a) b))
       (λ b next takes_b there. let points = alike_points types (type_at types f a) (type_at types f b) (and_parts (are_alike types (type_at types f a) (type_at types f b)) _ takes_b).0 in
-      repoint_kind types f rest S st k sigs n place S' a points.0 b (held_pointer b points.1 there) s next takes_b) now here ready.uses.0) right e
+      repoint_kind types f rest inputs S st k sigs n place S' a points.0 b (held_pointer b points.1 there) s next takes_b) now here ready.uses.0) right e
   step_covered (step.Element p b w) spoken right e free ready =
       let both = and_parts (aims_at types (type_in types f p) (type_of_element types f b w)) (keeps_const (is_constant (type_in types f p)) (is_const_base types f b)) e in
       to_pointer p (aims_seen types k.ordered k.once (type_in types f p) (type_of_element types f b w) both.0).pointer
@@ -290,7 +294,7 @@ module _ (types : Types) (f : Function) (rest : ℕ → ℕ) (S : Fact → Type 
       (λ a now iterates here. let points = alike_points types (type_at types f a) (type_in types f q) (and_parts (are_alike types (type_at types f a) (type_in types f q)) _ here).0 in
       to_pointer q points.1 (λ b. Right (Advance (whole a) b r way) → takes types (type_at types f a) (type_in types f b) ≡ true → IsThere (ready_of st) b.local → Covers (Advance (whole a) b r way))
       (λ b next takes_b there. let both = alike_points types (type_at types f a) (type_at types f b) (and_parts (are_alike types (type_at types f a) (type_at types f b)) _ takes_b).0 in
-      advances_kind types f rest S st k sigs n place S' a both.0 b (held_pointer b both.1 there) s r way next takes_b (iterator_single (type_at types f a) iterates)) now here ready.uses.0) right outer.0 taken
+      advances_kind types f rest inputs S st k sigs n place S' a both.0 b (held_pointer b both.1 there) s r way next takes_b (iterator_single (type_at types f a) iterates)) now here ready.uses.0) right outer.0 taken
   step_covered (Cut p q r count) spoken right e free ready =
       let outer = and_parts (is_range (type_in types f p)) _ e in
       let taken = (and_parts (takes types (type_in types f p) (type_in types f q)) _ outer.1).0 in
@@ -298,7 +302,7 @@ module _ (types : Types) (f : Function) (rest : ℕ → ℕ) (S : Fact → Type 
       (λ a now ranges here. let points = alike_points types (type_at types f a) (type_in types f q) (and_parts (are_alike types (type_at types f a) (type_in types f q)) _ here).0 in
       to_pointer q points.1 (λ b. Right (Cut (whole a) b r count) → takes types (type_at types f a) (type_in types f b) ≡ true → IsThere (ready_of st) b.local → Covers (Cut (whole a) b r count))
       (λ b next takes_b there. let both = alike_points types (type_at types f a) (type_at types f b) (and_parts (are_alike types (type_at types f a) (type_at types f b)) _ takes_b).0 in
-      cuts_kind types f rest S st k sigs n place S' a both.0 b (held_pointer b both.1 there) s r count next takes_b ranges) now here ready.uses.0) right outer.0 taken
+      cuts_kind types f rest inputs S st k sigs n place S' a both.0 b (held_pointer b both.1 there) s r count next takes_b ranges) now here ready.uses.0) right outer.0 taken
   step_covered (Size r b) spoken right e free ready =
       let both = and_parts (is_number_of types f ty.Size r) (not (is_void (element_of types f b))) e in
       size_step r b right (number_any types f ty.Size r both.0) (not_false (is_void (element_of types f b)) both.1)
@@ -307,8 +311,10 @@ module _ (types : Types) (f : Function) (rest : ℕ → ℕ) (S : Fact → Type 
       let points = compared_points types (type_in types f a) (type_in types f b) both.1 in
       to_pointer a points.0 (λ x. Right (Same r x b equal) → are_compared types (type_in types f x) (type_in types f b) ≡ true → Covers (Same r x b equal))
       (λ x now here. to_pointer b points.1 (λ y. Right (Same r (whole x) y equal) → are_compared types (type_at types f x) (type_in types f y) ≡ true → Covers (Same r (whole x) y equal))
-      (λ y next alike. same_kind types f rest S st k sigs n place S' s r x y equal next (number_any types f ty.Bool r both.0) alike) now here) right both.1
-  step_covered (Changes o c) spoken right e free ready = change_step types f rest S st k sigs n place S' texts fs s o c (type_of types f o) refl right (and_parts (is_change_of types texts fs f (type_of types f o) c) (not (is_const_place types f o)) e).0
-  step_covered (Make u m) spoken right e free ready = right_weaker (does s types f (Make u m) st) (IsMade types f S' st) (FrameCovered types f S') (make_right types f rest S st k sigs n place S' texts fs s u m spoken right e) (λ after h. h.0)
+      (λ y next alike. same_kind types f rest inputs S st k sigs n place S' s r x y equal next (number_any types f ty.Bool r both.0) alike) now here) right both.1
+  step_covered (Changes o c) spoken right e free ready =
+      let both = and_parts (is_change_of types texts fs f (type_of types f o) c) (not (is_const_place types f o)) e in
+      change_step types f rest inputs S st k sigs n place S' texts fs s o (not_false (is_const_place types f o) both.1) c (type_of types f o) refl right both.0
+  step_covered (Make u m) spoken right e free ready = right_weaker (does s types f (Make u m) st) (IsMade types f inputs S' st) (FrameCovered types f inputs S') (make_right types f rest inputs S st k sigs n place S' texts fs s u m spoken right e) (λ after h. h.0)
   step_covered (Call target g xs) spoken right e free ready = absurd spoken
-  step_covered (Ports p) spoken right e free ready = port_kind types f rest S st k sigs n place S' s p right (port_whole p e)
+  step_covered (Ports p) spoken right e free ready = port_kind types f rest inputs S st k sigs n place S' s p right (port_whole p e)

@@ -30,12 +30,10 @@ use Rattle.life_cover.proofs.KeptCopies.{object_parts}
 use Rattle.life_cover.proofs.Putting.{set_other}
 use Rattle.life_cover.proofs.Unkilled.{no_foot}
 
--- a number or an object, and no pointer
-abbrev pub IsValue : Cell → Type 0
-IsValue Empty = ⊥
-IsValue (Named n) = Unit {0}
-IsValue (Number z) = Unit {0}
-IsValue (Points p) = ⊥
+-- a number, an object or a pointer
+abbrev pub IsFilled : Cell → Type 0
+IsFilled Empty = ⊥
+IsFilled _ = Unit {0}
 
 -- ---- an object of a value alone is new
 
@@ -61,33 +59,39 @@ module _ (types : Types) (c d : Content) (word : ℕ) (ty : TyId) (single : part
 
 -- ---- behind a local that is given a value
 
--- what is named was named, is what was given, or is new; and pointers and all other cells are as they were
+-- what is named was named, is what was given, or is new; a pointer is what was given, and all other cells are as they were
 pub record IsGiven (types : Types) (x : ℕ) (v : Cell) (st st' : State) : Type 0 where
   pub touch : Touches (kinds_of types) no_foot st.world.content st'.world.content
   pub buffered : AreBuffered types st'.world.content
   pub named : (y n : ℕ) → slice_get st'.cells y ≡ Some (Named n) → (slice_get st.cells y ≡ Some (Named n)) ⊎ ((v ≡ Named n) ⊎ (st.world.content.births ≤ n))
-  pub points : (y : ℕ) (p : Pointer) → slice_get st'.cells y ≡ Some (Points p) → (x ≢ y) × (slice_get st.cells y ≡ Some (Points p))
+  pub points : (y : ℕ) (p : Pointer) → slice_get st'.cells y ≡ Some (Points p) → ((x ≡ y) × (v ≡ Points p)) ⊎ ((x ≢ y) × (slice_get st.cells y ≡ Some (Points p)))
   pub stays : (y : ℕ) → x ≢ y → slice_get st'.cells y ≡ slice_get st.cells y
 
 module _ (types : Types) (ordered : IsOrdered types) (s : Setting) (x : ℕ) (v : Cell) (st : State) (buffered : AreBuffered types st.world.content) where
-  given_cell : (new : Cell) (d : Content) → ((p : Pointer) → new ≡ Points p → ⊥) → ((n : ℕ) → new ≡ Named n → (v ≡ Named n) ⊎ (st.world.content.births ≤ n)) → Touches (kinds_of types) no_foot st.world.content d → AreBuffered types d
+  given_cell : (new : Cell) (d : Content) → ((p : Pointer) → new ≡ Points p → v ≡ Points p) → ((n : ℕ) → new ≡ Named n → (v ≡ Named n) ⊎ (st.world.content.births ≤ n)) → Touches (kinds_of types) no_foot st.world.content d → AreBuffered types d
       → IsGiven types x v st (put_cell x new (put_content d st))
-  given_cell new d other name touch kept = record {
+  given_cell new d point name touch kept = record {
     touch = touch;
     buffered = kept;
     named = λ y n e. ⊎_elim (λ h. inr (name n h.1)) (λ h. inl h.1) (cell_cases st.cells x y new (Named n) e);
-    points = λ y p e. ⊎_elim (λ h. absurd (other p h.1)) (λ h. (h.0, h.1)) (cell_cases st.cells x y new (Points p) e);
+    points = λ y p e. ⊎_elim (λ h. inl (h.0, point p h.1)) (λ h. inr (h.0, h.1)) (cell_cases st.cells x y new (Points p) e);
     stays = λ y ne. set_other st.cells x y new ne;
   }
 
   nothing_touched : Touches (kinds_of types) no_foot st.world.content st.world.content
   nothing_touched = record { births = omega arith; clock = omega arith; kept = λ n lt apart. refl; back = λ g m k lt own. inr own }
 
-  named_other : (n : ℕ) (p : Pointer) → Named n ≡ Points p → ⊥
-  named_other n p e = cc
+  named_other : (n : ℕ) (p : Pointer) → Named n ≡ Points p → v ≡ Points p
+  named_other n p e = absurd (unlike e)
+    where
+      unlike : Named n ≡ Points p → ⊥
+      unlike h = cc
 
-  number_other : (z : ℤ) (p : Pointer) → Number z ≡ Points p → ⊥
-  number_other z p e = cc
+  number_other : (z : ℤ) (p : Pointer) → Number z ≡ Points p → v ≡ Points p
+  number_other z p e = absurd (unlike e)
+    where
+      unlike : Number z ≡ Points p → ⊥
+      unlike h = cc
 
   number_nameless : (z : ℤ) (n : ℕ) → Number z ≡ Named n → ⊥
   number_nameless z n e = cc
@@ -139,12 +143,15 @@ module _ (types : Types) (ordered : IsOrdered types) (s : Setting) (x : ℕ) (v 
 abbrev pub TakesNoSlot : Types → Function → ℕ → Cell → Type 0
 TakesNoSlot types f x v = (l : Local) (n : ℕ) → slice_get f.locals x ≡ Some l → v ≡ Named n → is_slot_at types l.ty ≡ false
 
-pub value_given : (types : Types) (ordered : IsOrdered types) (s : Setting) (f : Function) (x : ℕ) (v : Cell) (st : State) → AreBuffered types st.world.content → IsValue v → TakesNoSlot types f x v → OnNext (given s types f v x st) (IsGiven types x v st)
+pub value_given : (types : Types) (ordered : IsOrdered types) (s : Setting) (f : Function) (x : ℕ) (v : Cell) (st : State) → AreBuffered types st.world.content → IsFilled v → TakesNoSlot types f x v → OnNext (given s types f v x st) (IsGiven types x v st)
 value_given types ordered s f x v st buffered is free = by_local (slice_get f.locals x) refl
   where
-    by_cell : (l : Local) → slice_get f.locals x ≡ Some l → (u : Cell) → v ≡ u → IsValue u → OnNext (given_to s types (sort_of types f x) l.ty u x st) (IsGiven types x v st)
+    by_cell : (l : Local) → slice_get f.locals x ≡ Some l → (u : Cell) → v ≡ u → IsFilled u → OnNext (given_to s types (sort_of types f x) l.ty u x st) (IsGiven types x v st)
     by_cell l there Empty e h = absurd h
-    by_cell l there (Points p) e h = absurd h
+    by_cell l there (Points p) e h = given_cell types ordered s x v st buffered (Points p) st.world.content (λ q k. e ∙ k) (λ n k. absurd (unlike n k)) (nothing_touched types ordered s x v st buffered) buffered
+      where
+        unlike : (n : ℕ) → Points p ≡ Named n → ⊥
+        unlike n k = cc
     by_cell l there (Number z) e h = number_given_to types ordered s x v st buffered f l (sort_of types f x) z (object_parts types ordered f x l there)
     by_cell l there (Named n) e h =
         subst (λ (b : Bool). OnNext (cond b (slot_born s types l.ty (Some n) x st) (Next (put_cell x (Named n) st))) (IsGiven types x v st)) (sym (free l n there e))

@@ -47,7 +47,7 @@ same_region a b object word ty =
     ∙ ap (λ w. record { object = b.object; word = w; ty = a.ty }) word
     ∙ ap (λ id. record { object = b.object; word = b.word; ty = id }) ty
 
-eq_same : (a b : ℕ) → a ≡ b → nat_eq a b ≡ true
+pub eq_same : (a b : ℕ) → a ≡ b → nat_eq a b ≡ true
 eq_same a b h = grind (arith, nat_tests)
 
 -- both go on alike

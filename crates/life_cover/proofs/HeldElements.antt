@@ -7,6 +7,7 @@ use Rattle.life_types.specs.declared.ty.TyId.{TyId}
 use Rattle.life_core.specs.Function.{Function}
 use Rattle.life_core.specs.Operands.{Operand}
 use Rattle.life_pset.specs.declared.element.Fact.{Fact}
+use Rattle.life_pset.specs.declared.element.Root.{Root}
 use Rattle.life_proper.specs.Placed.{type_of}
 use Rattle.life_store.specs.Cells.{at}
 use Rattle.life_store.specs.Content.{Slot, Object, word_in}
@@ -20,7 +21,7 @@ use Rattle.life_forest.specs.Values.{listed}
 use Rattle.life_forest.proofs.Members.{within_self}
 use Rattle.life_forest.proofs.SeenTypes.{parts_typed}
 use Rattle.life_cover.specs.Buffered.{HasBuffers}
-use Rattle.life_cover.specs.Frames.{NoInput, any_root}
+use Rattle.life_cover.specs.Inputs.{may_change, StandsAt}
 use Rattle.life_cover.specs.Regions.{Region, foot_of}
 use Rattle.life_cover.proofs.Buffers.{buffer, buffer_lives, buffer_low, buffer_type}
 use Rattle.life_cover.proofs.Copies.{slot_within, whole_parts}
@@ -33,9 +34,9 @@ use Rattle.life_cover.proofs.Reaching.{IsReached}
 use Rattle.life_cover.proofs.Rebuffering.{AreFree, IsFree}
 use Rattle.life_cover.proofs.SaveKinds.{region_within}
 
-module _ (types : Types) (f : Function) (rest : ℕ → ℕ) (S : Fact → Type 0) (st : State) (k : IsKnownFrame types f rest S st) (o : Operand) (r : IsReached types f st NoInput any_root S o) (element : TyId) (is_vector : type_of types f o ≡ ty.Vector element) where
-  abbrev vector_at : IsOpened types f rest S st k o r (ty.Vector element) element
-  vector_at = vector_opened types f rest S st k o r element is_vector
+module _ (types : Types) (f : Function) (rest : ℕ → ℕ) (inputs : Root → Option Region) (S : Fact → Type 0) (st : State) (k : IsKnownFrame types f rest inputs S st) (o : Operand) (r : IsReached types f st (StandsAt inputs) (may_change types f) S o) (element : TyId) (is_vector : type_of types f o ≡ ty.Vector element) where
+  abbrev vector_at : IsOpened types f rest inputs S st k o r (ty.Vector element) element
+  vector_at = vector_opened types f rest inputs S st k o r element is_vector
 
   pub vector_parts : parts_at types r.region.ty ≡ Vector element (parts_at types element)
   vector_parts = parts_typed types k.ordered r.region.ty (ty.Vector element) vector_at.there
@@ -43,26 +44,26 @@ module _ (types : Types) (f : Function) (rest : ℕ → ℕ) (S : Fact → Type 
   pub vector_operand : operand_parts types f o ≡ Vector element (parts_at types element)
   vector_operand = ap (parts_if types) vector_at.typed ∙ vector_parts
 
-  pub held : (x : Object) × (at st.world.content.objects (vector_opened types f rest S st k o r element is_vector).buffer ≡ Some x)
+  pub held : (x : Object) × (at st.world.content.objects (vector_opened types f rest inputs S st k o r element is_vector).buffer ≡ Some x)
   held =
-      buffer types k.ordered (hand_of rest st) st.world.content (store_of types f rest S st k) r.region.object r.index r.region.word r.region.ty r.holder r.there (region_within types f rest S st k o r) r.small element (parts_at types element) vector_parts vector_at.buffer vector_at.owned
+      buffer types k.ordered (hand_of rest st) st.world.content (store_of types f rest inputs S st k) r.region.object r.index r.region.word r.region.ty r.holder r.there (region_within types f rest inputs S st k o r) r.small element (parts_at types element) vector_parts vector_at.buffer vector_at.owned
 
   pub held_type : held.0.ty ≡ element
   unfolding held
   held_type =
-      buffer_type types k.ordered (hand_of rest st) st.world.content (store_of types f rest S st k) r.region.object r.index r.region.word r.region.ty r.holder r.there (region_within types f rest S st k o r) r.small element (parts_at types element) vector_parts vector_at.buffer vector_at.owned
+      buffer_type types k.ordered (hand_of rest st) st.world.content (store_of types f rest inputs S st k) r.region.object r.index r.region.word r.region.ty r.holder r.there (region_within types f rest inputs S st k o r) r.small element (parts_at types element) vector_parts vector_at.buffer vector_at.owned
 
   -- all of the buffer
   abbrev pub elements_region : Region
-  elements_region = record { object = (vector_opened types f rest S st k o r element is_vector).buffer; word = 0; ty = held.0.ty }
+  elements_region = record { object = (vector_opened types f rest inputs S st k o r element is_vector).buffer; word = 0; ty = held.0.ty }
 
   -- what its elements have, as long as nothing that lives beneath it is left out
   module _ (out : ℕ → Type 0) (never : (m : ℕ) (q : Object) → at st.world.content.objects m ≡ Some q → Beneath (kinds_of types) st.world.content (foot_of types elements_region) m → out m → ⊥) where
     free_of : (p : Parts) → parts_at types held.0.ty ≡ p → (j : ℕ) (t : Slot) → slice_get held.0.slots j ≡ Some t → IsFree types p out t.words
     free_of (Text id) typed j t slot = λ m e.
         let old = ap listed (owned_is st.world.content vector_at.buffer j 0 held.0 held.1 ∙ ap (λ (x : Option Slot). owned_in (word_in x 0)) slot ∙ e) in
-        let l = buffer_lives types k.ordered (hand_of rest st) st.world.content (store_of types f rest S st k) vector_at.buffer j 0 held.0.ty held.0 held.1 (within_self types held.0.ty) (slot_within held.0.slots j t slot) (Text id) typed m old in
-        never m l.0 l.1 (buffer_low types k.ordered (hand_of rest st) st.world.content (store_of types f rest S st k) vector_at.buffer j 0 held.0.ty held.0 held.1 (within_self types held.0.ty) (slot_within held.0.slots j t slot) (Text id) typed m old)
+        let l = buffer_lives types k.ordered (hand_of rest st) st.world.content (store_of types f rest inputs S st k) vector_at.buffer j 0 held.0.ty held.0 held.1 (within_self types held.0.ty) (slot_within held.0.slots j t slot) (Text id) typed m old in
+        never m l.0 l.1 (buffer_low types k.ordered (hand_of rest st) st.world.content (store_of types f rest inputs S st k) vector_at.buffer j 0 held.0.ty held.0 held.1 (within_self types held.0.ty) (slot_within held.0.slots j t slot) (Text id) typed m old)
     free_of Single typed j t slot = tt
     free_of Raw typed j t slot = tt
     free_of Iterates typed j t slot = tt
@@ -86,6 +87,6 @@ module _ (types : Types) (f : Function) (rest : ℕ → ℕ) (S : Fact → Type 
   elements_shut index small =
       erased_shut types (parts_at types element) (whole_parts types k.plain element) vector_at.buffer index st.world.content k.buffered held.0 held.1 (ap (parts_at types) held_type)
       (held_free (λ m. ⊥ ⊎ (m ≡ vector_at.buffer))
-      (λ m q there low out. ⊎_elim (λ none. none) (λ same. not_itself types k.ordered (hand_of rest st) st.world.content (store_of types f rest S st k) elements_region (subst (Beneath (kinds_of types) st.world.content (foot_of types elements_region)) same low)) out))
+      (λ m q there low out. ⊎_elim (λ none. none) (λ same. not_itself types k.ordered (hand_of rest st) st.world.content (store_of types f rest inputs S st k) elements_region (subst (Beneath (kinds_of types) st.world.content (foot_of types elements_region)) same low)) out))
       (k.stands.store.forest.births vector_at.buffer held.0 held.1)
       (let e = ap (λ (x : Option Object). length (slots_if x)) held.1 in omega (arith, e, small))

@@ -1,8 +1,9 @@
 -- Behind an end and a change in a frame without structs each vector and each string has its buffer; and what a change touches lies beneath what the
 -- frame names.
-use Rattle.std.proofs.Common.{◌≡◌, ◌≢◌, ⊎_elim, ℕ, zero, suc, ◌<◌, List, [], ◌∷◌, ◌++◌, length, Option, Some, None, refl, sym, ap, subst, ◌∙◌, arith, ◌⊎◌, inl}
+use Rattle.std.proofs.Common.{◌≡◌, ◌≢◌, ⊎_elim, ℕ, zero, suc, ◌<◌, true, List, [], ◌∷◌, ◌++◌, length, Option, Some, None, refl, sym, ap, subst, ◌∙◌, arith, ◌⊎◌, inl}
 use Rattle.std.specs.Prelude.{ℤ, slice_get}
 use Rattle.std.specs.Int.{cast_unsigned, w64}
+use Rattle.std.proofs.lemmas.Bool.{false≢true}
 use Rattle.life_types.specs.Types.{Types}
 use Rattle.life_types.specs.declared.ty.Ty.TheVariants as ty
 use Rattle.life_types.specs.declared.ty.TyId.{TyId}
@@ -11,6 +12,7 @@ use Rattle.life_core.specs.Operands.{Characters, Location, Operand, whole}
 use Rattle.life_core.specs.Operands as named
 use Rattle.life_core.specs.Step.{Append, Change, Changes, Clear, Erase, PopBack, PushBack, Reserve, Set, End}
 use Rattle.life_pset.specs.declared.element.Fact.{Fact}
+use Rattle.life_pset.specs.declared.element.Root.{Root}
 use Rattle.life_proper.specs.Placed.{type_of}
 use Rattle.life_store.specs.Births.{end_cell, end_locals, end_object}
 use Rattle.life_store.specs.Cells.{at}
@@ -39,8 +41,8 @@ use Rattle.life_forest.proofs.SeenTypes.{character_parts, parts_typed}
 use Rattle.life_forest.proofs.StandingChanges.{on_got_each, on_number_next}
 use Rattle.life_forest.proofs.Following.{in_hand}
 use Rattle.life_cover.specs.Buffered.{AreBuffered}
-use Rattle.life_cover.specs.Frames.{NoInput, any_root}
-use Rattle.life_cover.specs.Regions.{foot_of}
+use Rattle.life_cover.specs.Inputs.{IsAllOf, StandsAt, may_change, owning}
+use Rattle.life_cover.specs.Regions.{foot_of, Region}
 use Rattle.life_cover.proofs.Behind.{IsBehind, behind_content, behind_points, both_got, both_next, right_next}
 use Rattle.life_cover.proofs.Buffering.{AllSome, IsBufferOwner, IsOwnerAt, all_in, cleared_buffered, ended_but, none_out, popped_buffered, without_but}
 use Rattle.life_cover.proofs.Buffers.{clear_touches, pop_touches, push_touches, reserve_touches, rewrite_touches}
@@ -48,14 +50,13 @@ use Rattle.life_cover.proofs.Copies.{whole_parts}
 use Rattle.life_cover.proofs.EraseKinds.{erased_within}
 use Rattle.life_cover.proofs.HeldElements.{all_free, elements_shut, held, held_type, vector_operand, vector_parts}
 use Rattle.life_cover.proofs.KnownFrames.{IsKnownFrame, hand_of, store_of}
-use Rattle.life_cover.proofs.Opening.{IsAllOf, IsOpened, region_all, text_opened, vector_opened}
+use Rattle.life_cover.proofs.Opening.{IsOpened, region_all, text_opened, vector_opened}
 use Rattle.life_cover.proofs.Reaching.{IsReached, Reach, reached, fixed, outside, astray, spot_is}
 use Rattle.life_cover.proofs.Rebuffering.{AreFree, rewritten_buffered}
 use Rattle.life_cover.proofs.Regrown.{pushed_buffered, reserved_buffered}
 use Rattle.life_cover.proofs.SaveKinds.{region_within}
 use Rattle.life_cover.proofs.Sparing.{change_spares, named_spares}
 use Rattle.life_cover.proofs.EndKinds.{AreEnded, all_end, among_named, foot_among}
-use Rattle.std.proofs.lemmas.Bool.{false≢true}
 
 -- each vector and each string of the state has its buffer
 abbrev pub IsBuffered : Types → State → Type 0
@@ -89,15 +90,15 @@ module _ (types : Types) (f : Function) where
       go Strays h each = tt
 
 -- .. and what ends is named
-module _ (types : Types) (f : Function) (rest : ℕ → ℕ) (S : Fact → Type 0) (st : State) (k : IsKnownFrame types f rest S st) (s : Setting) (xs : List ℕ) where
-  pub ends_behind : OnNext (does s types f (End xs) st) (IsBehind types st)
+module _ (types : Types) (f : Function) (rest : ℕ → ℕ) (inputs : Root → Option Region) (S : Fact → Type 0) (st : State) (k : IsKnownFrame types f rest inputs S st) (s : Setting) (xs : List ℕ) where
+  pub ends_behind : OnNext (does s types f (End xs) st) (IsBehind types f inputs st)
   ends_behind =
-      both_next (end_locals types f xs st) (IsBuffered types) (AreEnded types xs st) (IsBehind types st) (ends_buffered types f xs st k.buffered)
+      both_next (end_locals types f xs st) (IsBuffered types) (AreEnded types xs st) (IsBehind types f inputs st) (ends_buffered types f xs st k.buffered)
       (right_next (end_locals types f xs st) (AreEnded types xs st) (all_end types k.ordered f rest xs st k.stands))
       (λ after buffered over.
       record {
         buffered = buffered;
-        touch = named_spares types f rest S st k (foot_among st.cells xs) after.world.content (λ n e. let z = among_named st.cells xs n e in in_hand st.cells z.0 n z.2) (λ m w e. false≢true e) over.touch;
+        touch = named_spares types f rest inputs S st k (foot_among st.cells xs) after.world.content (λ n e. let z = among_named st.cells xs n e in in_hand st.cells z.0 n z.2) (λ m w e. false≢true e) over.touch;
         named = λ x n e. inl (in_hand st.cells x n (over.was x (Named n) e (unlike n)).0);
       })
     where
@@ -106,9 +107,9 @@ module _ (types : Types) (f : Function) (rest : ℕ → ℕ) (S : Fact → Type 
 
 -- ---- what is reached
 
-module _ (types : Types) (f : Function) (S : Fact → Type 0) (st : State) where
+module _ (types : Types) (f : Function) (inputs : Root → Option Region) (S : Fact → Type 0) (st : State) where
   -- elsewhere there is no next state
-  pub by_next : (o : Operand) → Reach types f st NoInput any_root S o → (go : Spot → Effect) (Q : State → Type 0) → (IsReached types f st NoInput any_root S o → OnNext (on_spot types f o st go) Q) → OnNext (on_spot types f o st go) Q
+  pub by_next : (o : Operand) → Reach types f st (StandsAt inputs) (may_change types f) S o → (go : Spot → Effect) (Q : State → Type 0) → (IsReached types f st (StandsAt inputs) (may_change types f) S o → OnNext (on_spot types f o st go) Q) → OnNext (on_spot types f o st go) Q
   by_next o (reached r) go Q each = each r
   by_next o (fixed k e single) go Q each = subst (λ found. OnNext (on_found found (λ n i object. go (record { object = n; index = i; word = operand_word types f o st }))) Q) (sym e) tt
   by_next o (outside e) go Q each = subst (λ found. OnNext (on_found found (λ n i object. go (record { object = n; index = i; word = operand_word types f o st }))) Q) (sym e) tt
@@ -122,22 +123,19 @@ all_some types w lt (x ∷ ss) h (suc i) t e = all_some types w lt ss h.1 i t e
 
 -- ---- changes of an owner that is reached
 
-module _ (types : Types) (f : Function) (rest : ℕ → ℕ) (S : Fact → Type 0) (st : State) (k : IsKnownFrame types f rest S st) (o : Operand) (r : IsReached types f st NoInput any_root S o) (s : Setting) where
+module _ (types : Types) (f : Function) (rest : ℕ → ℕ) (inputs : Root → Option Region) (S : Fact → Type 0) (st : State) (k : IsKnownFrame types f rest inputs S st) (o : Operand) (r : IsReached types f st (StandsAt inputs) (may_change types f) S o) (s : Setting) where
   -- the buffers are there, and what is touched is what is owned there
   abbrev pub IsEdited : Content → Type 0
   IsEdited d = AreBuffered types d × Touches (kinds_of types) (foot_of types r.region) st.world.content d
 
-  edited_behind : (d : Content) → IsEdited d → IsBehind types st (put_content d st)
-  edited_behind d h = behind_content types st d h.0 (change_spares types f rest S st k o r d h.1)
-
   within : LiesWithin types r.holder.ty r.region.word r.region.ty
-  within = region_within types f rest S st k o r
+  within = region_within types f rest inputs S st k o r
 
   pub holder_born : r.region.object < st.world.content.births
   holder_born = k.stands.store.forest.births r.region.object r.holder r.there
 
-  all_of : IsAllOf types f rest S st k r.region
-  all_of = region_all types f rest S st k o r
+  all_of : IsAllOf st.world.content r.region
+  all_of = region_all types f rest inputs S st k o r
 
   pub holder_parts : (p : Parts) → parts_at types r.region.ty ≡ p → parts_at types r.holder.ty ≡ p
   holder_parts p typed = ap (parts_at types) (all_of.type r.holder r.there) ∙ typed
@@ -153,32 +151,22 @@ module _ (types : Types) (f : Function) (rest : ℕ → ℕ) (S : Fact → Type 
   pub at_start : (P : Spot → Type 0) → P (record { object = r.region.object; index = r.index; word = 0 }) → P (record { object = r.region.object; index = r.index; word = r.region.word })
   at_start P h = subst (λ w. P (record { object = r.region.object; index = r.index; word = w })) (sym all_of.word) h
 
-  module _ (b : ℕ) (owned : owned_at st.world.content (record { object = r.region.object; index = r.index; word = r.region.word }) ≡ Some b) where
-    edit_next : (p : Parts) (edit : Edit) → IfGot (edited s p (record { object = r.region.object; index = r.index; word = r.region.word }) b edit st.world.content) IsEdited
-        → OnNext (edits s p (record { object = r.region.object; index = r.index; word = r.region.word }) edit st) (IsBehind types st)
-    edit_next p edit h =
-        subst (λ w. OnNext (on_got (got_or w (GotFault fault.Moved)) go) (IsBehind types st)) (sym owned)
-        (on_got_next (edited s p (record { object = r.region.object; index = r.index; word = r.region.word }) b edit st.world.content) (λ d. Next (put_content d st)) IsEdited (IsBehind types st) h edited_behind)
-      where
-        go : ℕ → Effect
-        go m = on_got (edited s p (record { object = r.region.object; index = r.index; word = r.region.word }) m edit st.world.content) (λ d. Next (put_content d st))
-
-  no_edit : (p : Parts) (edit : Edit) → ((b : ℕ) → edited s p (record { object = r.region.object; index = r.index; word = r.region.word }) b edit st.world.content ≡ GotLost) → OnNext (edits s p (record { object = r.region.object; index = r.index; word = r.region.word }) edit st) (IsBehind types st)
+  no_edit : (p : Parts) (edit : Edit) → ((b : ℕ) → edited s p (record { object = r.region.object; index = r.index; word = r.region.word }) b edit st.world.content ≡ GotLost) → OnNext (edits s p (record { object = r.region.object; index = r.index; word = r.region.word }) edit st) (IsBehind types f inputs st)
   no_edit p edit lost =
-      on_got_each (buffer_of st.world.content (record { object = r.region.object; index = r.index; word = r.region.word })) (λ b. on_got (edited s p (record { object = r.region.object; index = r.index; word = r.region.word }) b edit st.world.content) (λ d. Next (put_content d st))) (IsBehind types st)
-      (λ b. subst (λ (x : Attempt Content). OnNext (on_got x (λ d. Next (put_content d st))) (IsBehind types st)) (sym (lost b)) tt)
+      on_got_each (buffer_of st.world.content (record { object = r.region.object; index = r.index; word = r.region.word })) (λ b. on_got (edited s p (record { object = r.region.object; index = r.index; word = r.region.word }) b edit st.world.content) (λ d. Next (put_content d st))) (IsBehind types f inputs st)
+      (λ b. subst (λ (x : Attempt Content). OnNext (on_got x (λ d. Next (put_content d st))) (IsBehind types f inputs st)) (sym (lost b)) tt)
 
-  pub by_change : (p : Parts) → operand_parts types f o ≡ p → (change : Change) → OnNext (changed s types f p (record { object = r.region.object; index = r.index; word = r.region.word }) change st) (IsBehind types st) → OnNext (does s types f (Changes o change) st) (IsBehind types st)
+  pub by_change : (p : Parts) → operand_parts types f o ≡ p → (change : Change) → OnNext (changed s types f p (record { object = r.region.object; index = r.index; word = r.region.word }) change st) (IsBehind types f inputs st) → OnNext (does s types f (Changes o change) st) (IsBehind types f inputs st)
   by_change p is change h =
-      subst (λ e. OnNext e (IsBehind types st)) (sym (spot_is types f st NoInput any_root S o r (λ sp. changed s types f (operand_parts types f o) sp change st)))
-      (subst (λ q. OnNext (changed s types f q (record { object = r.region.object; index = r.index; word = r.region.word }) change st) (IsBehind types st)) (sym is) h)
+      subst (λ e. OnNext e (IsBehind types f inputs st)) (sym (spot_is types f st (StandsAt inputs) (may_change types f) S o r (λ sp. changed s types f (operand_parts types f o) sp change st)))
+      (subst (λ q. OnNext (changed s types f q (record { object = r.region.object; index = r.index; word = r.region.word }) change st) (IsBehind types f inputs st)) (sym is) h)
 
   -- a number, or no value, is added
-  by_number : (p : Parts) (x : ℕ) → ((m : ℕ) → cell st x ≡ Some (Named m) → ⊥) → ((z : ℤ) → OnNext (edits s p (record { object = r.region.object; index = r.index; word = r.region.word }) (Push (λ c. (word_of_number z ∷ [], c))) st) (IsBehind types st))
-      → OnNext (pushes s types f p (record { object = r.region.object; index = r.index; word = r.region.word }) x (cell st x) st) (IsBehind types st)
+  by_number : (p : Parts) (x : ℕ) → ((m : ℕ) → cell st x ≡ Some (Named m) → ⊥) → ((z : ℤ) → OnNext (edits s p (record { object = r.region.object; index = r.index; word = r.region.word }) (Push (λ c. (word_of_number z ∷ [], c))) st) (IsBehind types f inputs st))
+      → OnNext (pushes s types f p (record { object = r.region.object; index = r.index; word = r.region.word }) x (cell st x) st) (IsBehind types f inputs st)
   by_number p x free each = go (cell st x) refl
     where
-      go : (v : Option Cell) → cell st x ≡ v → OnNext (pushes s types f p (record { object = r.region.object; index = r.index; word = r.region.word }) x v st) (IsBehind types st)
+      go : (v : Option Cell) → cell st x ≡ v → OnNext (pushes s types f p (record { object = r.region.object; index = r.index; word = r.region.word }) x v st) (IsBehind types f inputs st)
       go None e = tt
       go (Some Empty) e = tt
       go (Some (Points q)) e = tt
@@ -192,8 +180,8 @@ module _ (types : Types) (f : Function) (rest : ℕ → ℕ) (S : Fact → Type 
   -- ---- a string
 
   module _ (is_text : type_of types f o ≡ ty.Text) where
-    text_at : IsOpened types f rest S st k o r ty.Text (characters_type types)
-    text_at = text_opened types f rest S st k o r is_text
+    text_at : IsOpened types f rest inputs S st k o r ty.Text (characters_type types)
+    text_at = text_opened types f rest inputs S st k o r is_text
 
     pub text_parts : parts_at types r.region.ty ≡ Text (characters_type types)
     text_parts = parts_typed types k.ordered r.region.ty ty.Text text_at.there
@@ -201,128 +189,145 @@ module _ (types : Types) (f : Function) (rest : ℕ → ℕ) (S : Fact → Type 
     pub text_operand : operand_parts types f o ≡ Text (characters_type types)
     text_operand = ap (parts_if types) text_at.typed ∙ text_parts
 
-    text_rewritten : (words : List ℕ) → IfGot (rewritten s (characters_type types) (record { object = r.region.object; index = r.index; word = r.region.word }) text_at.buffer words st.world.content) IsEdited
-    text_rewritten words =
-        both_got (rewritten s (characters_type types) (record { object = r.region.object; index = r.index; word = r.region.word }) text_at.buffer words st.world.content) (AreBuffered types) (Touches (kinds_of types) (foot_of types r.region) st.world.content)
-        (at_start (λ spot. IfGot (rewritten s (characters_type types) spot text_at.buffer words st.world.content) (AreBuffered types))
-        (rewritten_buffered types s (characters_type types) r.region.object r.index text_at.buffer words st.world.content (character_parts types k.ordered) holder_born (is_owner (Text (characters_type types)) text_parts refl (λ ws m e. (m, e))) k.buffered))
-        (rewrite_touches types k.ordered (hand_of rest st) st.world.content (store_of types f rest S st k) r.region.object r.index r.region.word r.region.ty r.holder r.there within r.small (characters_type types) text_parts text_at.buffer text_at.owned s words)
+  module _ (own : owning types f r.place.root ≡ true) where
+    edited_behind : (d : Content) → IsEdited d → IsBehind types f inputs st (put_content d st)
+    edited_behind d h = behind_content types f inputs st d h.0 (change_spares types f rest inputs S st k o r own d h.1)
 
-    text_edit : (edit : Edit) (words : List ℕ) → edited s (Text (characters_type types)) (record { object = r.region.object; index = r.index; word = r.region.word }) text_at.buffer edit st.world.content
-        ≡ rewritten s (characters_type types) (record { object = r.region.object; index = r.index; word = r.region.word }) text_at.buffer words st.world.content
-        → OnNext (edits s (Text (characters_type types)) (record { object = r.region.object; index = r.index; word = r.region.word }) edit st) (IsBehind types st)
-    text_edit edit words is = edit_next text_at.buffer text_at.owned (Text (characters_type types)) edit (subst (λ (x : Attempt Content). IfGot x IsEdited) (sym is) (text_rewritten words))
-
-    text_changed : (change : Change) → ((x : ℕ) → change ≡ PushBack x → (m : ℕ) → cell st x ≡ Some (Named m) → ⊥) → OnNext (changed s types f (Text (characters_type types)) (record { object = r.region.object; index = r.index; word = r.region.word }) change st) (IsBehind types st)
-    text_changed (PushBack x) free = by_number (Text (characters_type types)) x (free x refl) (λ z. text_edit (Push (λ c. (word_of_number z ∷ [], c))) (characters_of st.world.content text_at.buffer ++ (word_of_number z ∷ [])) refl)
-    text_changed PopBack free = no_edit (Text (characters_type types)) Pop (λ b. refl)
-    text_changed Clear free = text_edit ClearAll [] refl
-    text_changed (Reserve n) free = on_number_next (cell st n) (λ z. edits s (Text (characters_type types)) (record { object = r.region.object; index = r.index; word = r.region.word }) (Room (cast_unsigned w64 z)) st) (IsBehind types st) (λ z. no_edit (Text (characters_type types)) (Room (cast_unsigned w64 z)) (λ b. refl))
-    text_changed (Erase from into) free = on_got_each (iterator st.world.content (location_cell types f from st)) (λ v. erases types f (Text (characters_type types)) (record { object = r.region.object; index = r.index; word = r.region.word }) v into st) (IsBehind types st) (λ v. tt)
-    text_changed (Set given) free = given_next given (λ ws. edits s (Text (characters_type types)) (record { object = r.region.object; index = r.index; word = r.region.word }) (Put ws) st) (IsBehind types st) (λ ws. text_edit (Put ws) ws refl)
-    text_changed (Append given) free =
-        given_next given (λ ws. edits s (Text (characters_type types)) (record { object = r.region.object; index = r.index; word = r.region.word }) (Add ws) st) (IsBehind types st) (λ ws. text_edit (Add ws) (characters_of st.world.content text_at.buffer ++ ws) refl)
-
-    pub text_behind : (change : Change) → ((x : ℕ) → change ≡ PushBack x → (m : ℕ) → cell st x ≡ Some (Named m) → ⊥) → OnNext (does s types f (Changes o change) st) (IsBehind types st)
-    text_behind change free = by_change (Text (characters_type types)) text_operand change (text_changed change free)
-
-  -- ---- a vector
-
-  module _ (element : TyId) (is_vector : type_of types f o ≡ ty.Vector element) where
-    abbrev vector_at : IsOpened types f rest S st k o r (ty.Vector element) element
-    vector_at = vector_opened types f rest S st k o r element is_vector
-
-    abbrev parts_are : parts_at types r.region.ty ≡ Vector element (parts_at types element)
-    parts_are = vector_parts types f rest S st k o r element is_vector
-
-    abbrev elements : (x : Object) × (at st.world.content.objects (vector_opened types f rest S st k o r element is_vector).buffer ≡ Some x)
-    elements = held types f rest S st k o r element is_vector
-
-    abbrev elements_type : (held types f rest S st k o r element is_vector).0.ty ≡ element
-    elements_type = held_type types f rest S st k o r element is_vector
-
-    -- what its elements have was born
-    old_ones : AreFree types (parts_at types element) (λ m. ⊥ ⊎ (m ≡ st.world.content.births)) (slots_at st.world.content vector_at.buffer)
-    old_ones = all_free types f rest S st k o r element is_vector (λ m. ⊥ ⊎ (m ≡ st.world.content.births)) (λ m q there low out. ⊎_elim (λ none. none) (λ new. let born = k.stands.store.forest.births m q there in absurd (omega (arith, born, new))) out)
-
-    vector_reserved : (count : ℕ) → IfGot (reserved s element (parts_at types element) (record { object = r.region.object; index = r.index; word = r.region.word }) vector_at.buffer count st.world.content) IsEdited
-    vector_reserved count =
-        both_got (reserved s element (parts_at types element) (record { object = r.region.object; index = r.index; word = r.region.word }) vector_at.buffer count st.world.content) (AreBuffered types) (Touches (kinds_of types) (foot_of types r.region) st.world.content)
-        (at_start (λ spot. IfGot (reserved s element (parts_at types element) spot vector_at.buffer count st.world.content) (AreBuffered types))
-        (reserved_buffered types s element (parts_at types element) (whole_parts types k.plain element) refl r.region.object r.index vector_at.buffer count st.world.content old_ones holder_born
-        (is_owner (Vector element (parts_at types element)) parts_are refl (λ ws m e. (m, e))) k.buffered))
-        (reserve_touches types k.ordered (hand_of rest st) st.world.content (store_of types f rest S st k) r.region.object r.index r.region.word r.region.ty r.holder r.there within r.small element (parts_at types element) parts_are vector_at.buffer vector_at.owned s count)
-
-    module _ (single : parts_at types element ≡ Single) where
-      -- it has another object than itself
-      apart : vector_at.buffer ≢ r.region.object
-      apart e = unlike (sym single ∙ ap (parts_at types) (sym elements_type) ∙ ap (λ (x : Object). parts_at types x.ty) (some_same (sym elements.1 ∙ ap (at st.world.content.objects) e ∙ r.there)) ∙ holder_parts (Vector element (parts_at types element)) parts_are)
+    module _ (b : ℕ) (owned : owned_at st.world.content (record { object = r.region.object; index = r.index; word = r.region.word }) ≡ Some b) where
+      edit_next : (p : Parts) (edit : Edit) → IfGot (edited s p (record { object = r.region.object; index = r.index; word = r.region.word }) b edit st.world.content) IsEdited
+          → OnNext (edits s p (record { object = r.region.object; index = r.index; word = r.region.word }) edit st) (IsBehind types f inputs st)
+      edit_next p edit h =
+          subst (λ w. OnNext (on_got (got_or w (GotFault fault.Moved)) go) (IsBehind types f inputs st)) (sym owned)
+          (on_got_next (edited s p (record { object = r.region.object; index = r.index; word = r.region.word }) b edit st.world.content) (λ d. Next (put_content d st)) IsEdited (IsBehind types f inputs st) h edited_behind)
         where
-          unlike : Single ≡ Vector element (parts_at types element) → ⊥
-          unlike h = cc
+          go : ℕ → Effect
+          go m = on_got (edited s p (record { object = r.region.object; index = r.index; word = r.region.word }) m edit st.world.content) (λ d. Next (put_content d st))
 
-      vector_pushed : (z : ℤ) → OnNext (edits s (Vector element Single) (record { object = r.region.object; index = r.index; word = r.region.word }) (Push (λ c. (word_of_number z ∷ [], c))) st) (IsBehind types st)
-      vector_pushed z =
-          edit_next vector_at.buffer vector_at.owned (Vector element Single) (Push (λ c. (word_of_number z ∷ [], c)))
-          (both_got (pushed s element Single (record { object = r.region.object; index = r.index; word = r.region.word }) vector_at.buffer (λ c. (word_of_number z ∷ [], c)) st.world.content) (AreBuffered types) (Touches (kinds_of types) (foot_of types r.region) st.world.content)
-          (at_start (λ spot. IfGot (pushed s element Single spot vector_at.buffer (λ c. (word_of_number z ∷ [], c)) st.world.content) (AreBuffered types))
-          (pushed_buffered types s element single vector_at.buffer st.world.content k.buffered (λ x there. ap (λ (y : Object). y.ty) (some_same (sym there ∙ elements.1)) ∙ elements_type) (λ j t e. (tt, tt)) r.region.object r.index (word_of_number z ∷ []) holder_born apart
-          (is_owner (Vector element (parts_at types element)) parts_are refl (λ ws m e. (m, e)))))
-          (push_touches types k.ordered (hand_of rest st) st.world.content (store_of types f rest S st k) r.region.object r.index r.region.word r.region.ty r.holder r.there within r.small element Single
-          (parts_are ∙ ap (Vector element) single) vector_at.buffer vector_at.owned s (word_of_number z ∷ []) refl (λ j. refl)))
+    -- ---- a string
 
-    -- what is given the position of an erased element is a local, and to a vector of objects none is added
-    abbrev pub IsKept : Change → Type 0
-    IsKept (Erase from into) = whole into.local ≡ into
-    IsKept (PushBack x) = (parts_at types element ≡ Single) × ((m : ℕ) → cell st x ≡ Some (Named m) → ⊥)
-    IsKept _ = Unit {0}
+    module _ (is_text : type_of types f o ≡ ty.Text) where
+      text_rewritten : (words : List ℕ) → IfGot (rewritten s (characters_type types) (record { object = r.region.object; index = r.index; word = r.region.word }) (text_at is_text).buffer words st.world.content) IsEdited
+      text_rewritten words =
+          both_got (rewritten s (characters_type types) (record { object = r.region.object; index = r.index; word = r.region.word }) (text_at is_text).buffer words st.world.content) (AreBuffered types) (Touches (kinds_of types) (foot_of types r.region) st.world.content)
+          (at_start (λ spot. IfGot (rewritten s (characters_type types) spot (text_at is_text).buffer words st.world.content) (AreBuffered types))
+          (rewritten_buffered types s (characters_type types) r.region.object r.index (text_at is_text).buffer words st.world.content (character_parts types k.ordered) holder_born (is_owner (Text (characters_type types)) (text_parts is_text) refl (λ ws m e. (m, e))) k.buffered))
+          (rewrite_touches types k.ordered (hand_of rest st) st.world.content (store_of types f rest inputs S st k) r.region.object r.index r.region.word r.region.ty r.holder r.there within r.small (characters_type types) (text_parts is_text) (text_at is_text).buffer (text_at is_text).owned s words)
 
-    vector_erased : (v : Pointer) (into : Location) → whole into.local ≡ into → OnNext (erases types f (Vector element (parts_at types element)) (record { object = r.region.object; index = r.index; word = r.region.word }) v into st) (IsBehind types st)
-    vector_erased v into is =
-        subst (λ (l : Location). OnNext (erases types f (Vector element (parts_at types element)) (record { object = r.region.object; index = r.index; word = r.region.word }) v l st) (IsBehind types st)) is
-        (subst (λ w. OnNext (on_got (got_or w (GotFault fault.Moved)) at_buffer) (IsBehind types st)) (sym vector_at.owned)
-        (on_got_next (erasable st.world.content vector_at.buffer v) (λ i. at_element vector_at.buffer i) (λ i. i < size_of st.world.content vector_at.buffer) (IsBehind types st) (erasable_below st.world.content vector_at.buffer v)
-        (λ i small.
-        behind_points types st into.local (pointer_to (erased (parts_at types element) vector_at.buffer i st.world.content) vector_at.buffer i 0) (erased (parts_at types element) vector_at.buffer i st.world.content)
-        (elements_shut types f rest S st k o r element is_vector i small).buffers
-        (change_spares types f rest S st k o r (erased (parts_at types element) vector_at.buffer i st.world.content)
-        (erased_within types k.ordered (hand_of rest st) st.world.content (store_of types f rest S st k) r.region.object r.index r.region.word r.region.ty r.holder r.there within r.small element parts_are vector_at.buffer vector_at.owned i small)))))
-      where
-        at_element : (b i : ℕ) → Effect
-        at_element b i = pointed types f (whole into.local) (pointer_to (erased (parts_at types element) b i st.world.content) b i 0) (put_content (erased (parts_at types element) b i st.world.content) st)
+      text_edit : (edit : Edit) (words : List ℕ) → edited s (Text (characters_type types)) (record { object = r.region.object; index = r.index; word = r.region.word }) (text_at is_text).buffer edit st.world.content
+          ≡ rewritten s (characters_type types) (record { object = r.region.object; index = r.index; word = r.region.word }) (text_at is_text).buffer words st.world.content
+          → OnNext (edits s (Text (characters_type types)) (record { object = r.region.object; index = r.index; word = r.region.word }) edit st) (IsBehind types f inputs st)
+      text_edit edit words is = edit_next (text_at is_text).buffer (text_at is_text).owned (Text (characters_type types)) edit (subst (λ (x : Attempt Content). IfGot x IsEdited) (sym is) (text_rewritten words))
 
-        at_buffer : ℕ → Effect
-        at_buffer b = on_got (erasable st.world.content b v) (λ i. at_element b i)
+      text_changed : (change : Change) → ((x : ℕ) → change ≡ PushBack x → (m : ℕ) → cell st x ≡ Some (Named m) → ⊥) → OnNext (changed s types f (Text (characters_type types)) (record { object = r.region.object; index = r.index; word = r.region.word }) change st) (IsBehind types f inputs st)
+      text_changed (PushBack x) free = by_number (Text (characters_type types)) x (free x refl) (λ z. text_edit (Push (λ c. (word_of_number z ∷ [], c))) (characters_of st.world.content (text_at is_text).buffer ++ (word_of_number z ∷ [])) refl)
+      text_changed PopBack free = no_edit (Text (characters_type types)) Pop (λ b. refl)
+      text_changed Clear free = text_edit ClearAll [] refl
+      text_changed (Reserve n) free = on_number_next (cell st n) (λ z. edits s (Text (characters_type types)) (record { object = r.region.object; index = r.index; word = r.region.word }) (Room (cast_unsigned w64 z)) st) (IsBehind types f inputs st) (λ z. no_edit (Text (characters_type types)) (Room (cast_unsigned w64 z)) (λ b. refl))
+      text_changed (Erase from into) free = on_got_each (iterator st.world.content (location_cell types f from st)) (λ v. erases types f (Text (characters_type types)) (record { object = r.region.object; index = r.index; word = r.region.word }) v into st) (IsBehind types f inputs st) (λ v. tt)
+      text_changed (Set given) free = given_next given (λ ws. edits s (Text (characters_type types)) (record { object = r.region.object; index = r.index; word = r.region.word }) (Put ws) st) (IsBehind types f inputs st) (λ ws. text_edit (Put ws) ws refl)
+      text_changed (Append given) free =
+          given_next given (λ ws. edits s (Text (characters_type types)) (record { object = r.region.object; index = r.index; word = r.region.word }) (Add ws) st) (IsBehind types f inputs st) (λ ws. text_edit (Add ws) (characters_of st.world.content (text_at is_text).buffer ++ ws) refl)
 
-    vector_popped : IfGot (popped (parts_at types element) vector_at.buffer (size_of st.world.content vector_at.buffer) st.world.content) IsEdited
-    vector_popped =
-        both_got (popped (parts_at types element) vector_at.buffer (size_of st.world.content vector_at.buffer) st.world.content) (AreBuffered types) (Touches (kinds_of types) (foot_of types r.region) st.world.content)
-        (popped_buffered types (parts_at types element) vector_at.buffer (size_of st.world.content vector_at.buffer) st.world.content refl k.buffered) (sizes (size_of st.world.content vector_at.buffer))
-      where
-        sizes : (size : ℕ) → IfGot (popped (parts_at types element) vector_at.buffer size st.world.content) (Touches (kinds_of types) (foot_of types r.region) st.world.content)
-        sizes zero = tt
-        sizes (suc size) =
-            pop_touches types k.ordered (hand_of rest st) st.world.content (store_of types f rest S st k) r.region.object r.index r.region.word r.region.ty r.holder r.there within r.small element (parts_at types element) parts_are vector_at.buffer vector_at.owned size
+      pub text_behind : (change : Change) → ((x : ℕ) → change ≡ PushBack x → (m : ℕ) → cell st x ≡ Some (Named m) → ⊥) → OnNext (does s types f (Changes o change) st) (IsBehind types f inputs st)
+      text_behind change free = by_change (Text (characters_type types)) (text_operand is_text) change (text_changed change free)
 
-    vector_cleared : IsEdited (cleared (parts_at types element) vector_at.buffer st.world.content)
-    vector_cleared = (
-      cleared_buffered types (parts_at types element) vector_at.buffer st.world.content k.buffered,
-      clear_touches types k.ordered (hand_of rest st) st.world.content (store_of types f rest S st k) r.region.object r.index r.region.word r.region.ty r.holder r.there within r.small element (parts_at types element) parts_are vector_at.buffer vector_at.owned,
-    )
+    -- ---- a vector
 
-    vector_changed : (change : Change) → IsKept change → OnNext (changed s types f (Vector element (parts_at types element)) (record { object = r.region.object; index = r.index; word = r.region.word }) change st) (IsBehind types st)
-    vector_changed (PushBack x) kept =
-        subst (λ (p : Parts). OnNext (pushes s types f (Vector element p) (record { object = r.region.object; index = r.index; word = r.region.word }) x (cell st x) st) (IsBehind types st)) (sym kept.0) (by_number (Vector element Single) x kept.1 (vector_pushed kept.0))
-    vector_changed PopBack kept = edit_next vector_at.buffer vector_at.owned (Vector element (parts_at types element)) Pop vector_popped
-    vector_changed Clear kept = edit_next vector_at.buffer vector_at.owned (Vector element (parts_at types element)) ClearAll vector_cleared
-    vector_changed (Reserve n) kept =
-        on_number_next (cell st n) (λ z. edits s (Vector element (parts_at types element)) (record { object = r.region.object; index = r.index; word = r.region.word }) (Room (cast_unsigned w64 z)) st) (IsBehind types st)
-        (λ z. edit_next vector_at.buffer vector_at.owned (Vector element (parts_at types element)) (Room (cast_unsigned w64 z)) (vector_reserved (cast_unsigned w64 z)))
-    vector_changed (Erase from into) kept = on_got_each (iterator st.world.content (location_cell types f from st)) (λ v. erases types f (Vector element (parts_at types element)) (record { object = r.region.object; index = r.index; word = r.region.word }) v into st) (IsBehind types st) (λ v. vector_erased v into kept)
-    vector_changed (Set given) kept =
-        given_next given (λ ws. edits s (Vector element (parts_at types element)) (record { object = r.region.object; index = r.index; word = r.region.word }) (Put ws) st) (IsBehind types st) (λ ws. no_edit (Vector element (parts_at types element)) (Put ws) (λ b. refl))
-    vector_changed (Append given) kept =
-        given_next given (λ ws. edits s (Vector element (parts_at types element)) (record { object = r.region.object; index = r.index; word = r.region.word }) (Add ws) st) (IsBehind types st) (λ ws. no_edit (Vector element (parts_at types element)) (Add ws) (λ b. refl))
+    module _ (element : TyId) (is_vector : type_of types f o ≡ ty.Vector element) where
+      abbrev vector_at : IsOpened types f rest inputs S st k o r (ty.Vector element) element
+      vector_at = vector_opened types f rest inputs S st k o r element is_vector
 
-    pub vector_behind : (change : Change) → IsKept change → OnNext (does s types f (Changes o change) st) (IsBehind types st)
-    vector_behind change kept = by_change (Vector element (parts_at types element)) (vector_operand types f rest S st k o r element is_vector) change (vector_changed change kept)
+      abbrev parts_are : parts_at types r.region.ty ≡ Vector element (parts_at types element)
+      parts_are = vector_parts types f rest inputs S st k o r element is_vector
+
+      abbrev elements : (x : Object) × (at st.world.content.objects (vector_opened types f rest inputs S st k o r element is_vector).buffer ≡ Some x)
+      elements = held types f rest inputs S st k o r element is_vector
+
+      abbrev elements_type : (held types f rest inputs S st k o r element is_vector).0.ty ≡ element
+      elements_type = held_type types f rest inputs S st k o r element is_vector
+
+      -- what its elements have was born
+      old_ones : AreFree types (parts_at types element) (λ m. ⊥ ⊎ (m ≡ st.world.content.births)) (slots_at st.world.content vector_at.buffer)
+      old_ones = all_free types f rest inputs S st k o r element is_vector (λ m. ⊥ ⊎ (m ≡ st.world.content.births)) (λ m q there low out. ⊎_elim (λ none. none) (λ new. let born = k.stands.store.forest.births m q there in absurd (omega (arith, born, new))) out)
+
+      vector_reserved : (count : ℕ) → IfGot (reserved s element (parts_at types element) (record { object = r.region.object; index = r.index; word = r.region.word }) vector_at.buffer count st.world.content) IsEdited
+      vector_reserved count =
+          both_got (reserved s element (parts_at types element) (record { object = r.region.object; index = r.index; word = r.region.word }) vector_at.buffer count st.world.content) (AreBuffered types) (Touches (kinds_of types) (foot_of types r.region) st.world.content)
+          (at_start (λ spot. IfGot (reserved s element (parts_at types element) spot vector_at.buffer count st.world.content) (AreBuffered types))
+          (reserved_buffered types s element (parts_at types element) (whole_parts types k.plain element) refl r.region.object r.index vector_at.buffer count st.world.content old_ones holder_born
+          (is_owner (Vector element (parts_at types element)) parts_are refl (λ ws m e. (m, e))) k.buffered))
+          (reserve_touches types k.ordered (hand_of rest st) st.world.content (store_of types f rest inputs S st k) r.region.object r.index r.region.word r.region.ty r.holder r.there within r.small element (parts_at types element) parts_are vector_at.buffer vector_at.owned s count)
+
+      module _ (single : parts_at types element ≡ Single) where
+        -- it has another object than itself
+        apart : vector_at.buffer ≢ r.region.object
+        apart e = unlike (sym single ∙ ap (parts_at types) (sym elements_type) ∙ ap (λ (x : Object). parts_at types x.ty) (some_same (sym elements.1 ∙ ap (at st.world.content.objects) e ∙ r.there)) ∙ holder_parts (Vector element (parts_at types element)) parts_are)
+          where
+            unlike : Single ≡ Vector element (parts_at types element) → ⊥
+            unlike h = cc
+
+        vector_pushed : (z : ℤ) → OnNext (edits s (Vector element Single) (record { object = r.region.object; index = r.index; word = r.region.word }) (Push (λ c. (word_of_number z ∷ [], c))) st) (IsBehind types f inputs st)
+        vector_pushed z =
+            edit_next vector_at.buffer vector_at.owned (Vector element Single) (Push (λ c. (word_of_number z ∷ [], c)))
+            (both_got (pushed s element Single (record { object = r.region.object; index = r.index; word = r.region.word }) vector_at.buffer (λ c. (word_of_number z ∷ [], c)) st.world.content) (AreBuffered types) (Touches (kinds_of types) (foot_of types r.region) st.world.content)
+            (at_start (λ spot. IfGot (pushed s element Single spot vector_at.buffer (λ c. (word_of_number z ∷ [], c)) st.world.content) (AreBuffered types))
+            (pushed_buffered types s element single vector_at.buffer st.world.content k.buffered (λ x there. ap (λ (y : Object). y.ty) (some_same (sym there ∙ elements.1)) ∙ elements_type) (λ j t e. (tt, tt)) r.region.object r.index (word_of_number z ∷ []) holder_born apart
+            (is_owner (Vector element (parts_at types element)) parts_are refl (λ ws m e. (m, e)))))
+            (push_touches types k.ordered (hand_of rest st) st.world.content (store_of types f rest inputs S st k) r.region.object r.index r.region.word r.region.ty r.holder r.there within r.small element Single
+            (parts_are ∙ ap (Vector element) single) vector_at.buffer vector_at.owned s (word_of_number z ∷ []) refl (λ j. refl)))
+
+      -- what is given the position of an erased element is a local, and to a vector of objects none is added
+      abbrev pub IsKept : Change → Type 0
+      IsKept (Erase from into) = whole into.local ≡ into
+      IsKept (PushBack x) = (parts_at types element ≡ Single) × ((m : ℕ) → cell st x ≡ Some (Named m) → ⊥)
+      IsKept _ = Unit {0}
+
+      vector_erased : (v : Pointer) (into : Location) → whole into.local ≡ into → OnNext (erases types f (Vector element (parts_at types element)) (record { object = r.region.object; index = r.index; word = r.region.word }) v into st) (IsBehind types f inputs st)
+      vector_erased v into is =
+          subst (λ (l : Location). OnNext (erases types f (Vector element (parts_at types element)) (record { object = r.region.object; index = r.index; word = r.region.word }) v l st) (IsBehind types f inputs st)) is
+          (subst (λ w. OnNext (on_got (got_or w (GotFault fault.Moved)) at_buffer) (IsBehind types f inputs st)) (sym vector_at.owned)
+          (on_got_next (erasable st.world.content vector_at.buffer v) (λ i. at_element vector_at.buffer i) (λ i. i < size_of st.world.content vector_at.buffer) (IsBehind types f inputs st) (erasable_below st.world.content vector_at.buffer v)
+          (λ i small.
+          behind_points types f inputs st into.local (pointer_to (erased (parts_at types element) vector_at.buffer i st.world.content) vector_at.buffer i 0) (erased (parts_at types element) vector_at.buffer i st.world.content)
+          (elements_shut types f rest inputs S st k o r element is_vector i small).buffers
+          (change_spares types f rest inputs S st k o r own (erased (parts_at types element) vector_at.buffer i st.world.content)
+          (erased_within types k.ordered (hand_of rest st) st.world.content (store_of types f rest inputs S st k) r.region.object r.index r.region.word r.region.ty r.holder r.there within r.small element parts_are vector_at.buffer vector_at.owned i small)))))
+        where
+          at_element : (b i : ℕ) → Effect
+          at_element b i = pointed types f (whole into.local) (pointer_to (erased (parts_at types element) b i st.world.content) b i 0) (put_content (erased (parts_at types element) b i st.world.content) st)
+
+          at_buffer : ℕ → Effect
+          at_buffer b = on_got (erasable st.world.content b v) (λ i. at_element b i)
+
+      vector_popped : IfGot (popped (parts_at types element) vector_at.buffer (size_of st.world.content vector_at.buffer) st.world.content) IsEdited
+      vector_popped =
+          both_got (popped (parts_at types element) vector_at.buffer (size_of st.world.content vector_at.buffer) st.world.content) (AreBuffered types) (Touches (kinds_of types) (foot_of types r.region) st.world.content)
+          (popped_buffered types (parts_at types element) vector_at.buffer (size_of st.world.content vector_at.buffer) st.world.content refl k.buffered) (sizes (size_of st.world.content vector_at.buffer))
+        where
+          sizes : (size : ℕ) → IfGot (popped (parts_at types element) vector_at.buffer size st.world.content) (Touches (kinds_of types) (foot_of types r.region) st.world.content)
+          sizes zero = tt
+          sizes (suc size) =
+              pop_touches types k.ordered (hand_of rest st) st.world.content (store_of types f rest inputs S st k) r.region.object r.index r.region.word r.region.ty r.holder r.there within r.small element (parts_at types element) parts_are vector_at.buffer vector_at.owned size
+
+      vector_cleared : IsEdited (cleared (parts_at types element) vector_at.buffer st.world.content)
+      vector_cleared = (
+        cleared_buffered types (parts_at types element) vector_at.buffer st.world.content k.buffered,
+        clear_touches types k.ordered (hand_of rest st) st.world.content (store_of types f rest inputs S st k) r.region.object r.index r.region.word r.region.ty r.holder r.there within r.small element (parts_at types element) parts_are vector_at.buffer vector_at.owned,
+      )
+
+      vector_changed : (change : Change) → IsKept change → OnNext (changed s types f (Vector element (parts_at types element)) (record { object = r.region.object; index = r.index; word = r.region.word }) change st) (IsBehind types f inputs st)
+      vector_changed (PushBack x) kept =
+          subst (λ (p : Parts). OnNext (pushes s types f (Vector element p) (record { object = r.region.object; index = r.index; word = r.region.word }) x (cell st x) st) (IsBehind types f inputs st)) (sym kept.0) (by_number (Vector element Single) x kept.1 (vector_pushed kept.0))
+      vector_changed PopBack kept = edit_next vector_at.buffer vector_at.owned (Vector element (parts_at types element)) Pop vector_popped
+      vector_changed Clear kept = edit_next vector_at.buffer vector_at.owned (Vector element (parts_at types element)) ClearAll vector_cleared
+      vector_changed (Reserve n) kept =
+          on_number_next (cell st n) (λ z. edits s (Vector element (parts_at types element)) (record { object = r.region.object; index = r.index; word = r.region.word }) (Room (cast_unsigned w64 z)) st) (IsBehind types f inputs st)
+          (λ z. edit_next vector_at.buffer vector_at.owned (Vector element (parts_at types element)) (Room (cast_unsigned w64 z)) (vector_reserved (cast_unsigned w64 z)))
+      vector_changed (Erase from into) kept = on_got_each (iterator st.world.content (location_cell types f from st)) (λ v. erases types f (Vector element (parts_at types element)) (record { object = r.region.object; index = r.index; word = r.region.word }) v into st) (IsBehind types f inputs st) (λ v. vector_erased v into kept)
+      vector_changed (Set given) kept =
+          given_next given (λ ws. edits s (Vector element (parts_at types element)) (record { object = r.region.object; index = r.index; word = r.region.word }) (Put ws) st) (IsBehind types f inputs st) (λ ws. no_edit (Vector element (parts_at types element)) (Put ws) (λ b. refl))
+      vector_changed (Append given) kept =
+          given_next given (λ ws. edits s (Vector element (parts_at types element)) (record { object = r.region.object; index = r.index; word = r.region.word }) (Add ws) st) (IsBehind types f inputs st) (λ ws. no_edit (Vector element (parts_at types element)) (Add ws) (λ b. refl))
+
+      pub vector_behind : (change : Change) → IsKept change → OnNext (does s types f (Changes o change) st) (IsBehind types f inputs st)
+      vector_behind change kept = by_change (Vector element (parts_at types element)) (vector_operand types f rest inputs S st k o r element is_vector) change (vector_changed change kept)

@@ -1,4 +1,4 @@
--- What is known of a frame of a function without structs and inputs before an instruction, and of the instruction; and what its operands are.
+-- What is known of a frame of a function without structs before an instruction, and of the instruction; and what its operands are.
 use Rattle.std.proofs.Common.{◌≡◌, ℕ, ◌+◌, Bool, true, false, List, [], ◌∷◌, ◌++◌, Option, Some, None, refl, sym, ap, subst, ◌∙◌}
 use Rattle.std.specs.Prelude.{ℤ, Contains, cond, not, slice_get, unwrap_or}
 use Rattle.std.specs.List.{flat_map}
@@ -23,6 +23,7 @@ use Rattle.life_pset.specs.declared.element.Element.{Element}
 use Rattle.life_pset.specs.declared.element.Element.TheVariants as element
 use Rattle.life_pset.specs.declared.element.Fact.{Fact}
 use Rattle.life_pset.proofs.Numbers.{place_laws}
+use Rattle.life_pset.specs.declared.element.Root.{Root}
 use Rattle.life_contract.specs.Located.{located}
 use Rattle.life_contract.specs.Signatures.{Signature}
 use Rattle.life_proper.specs.GivenOver.{given_step}
@@ -53,16 +54,18 @@ use Rattle.life_forest.proofs.Shaped.{IsShaped}
 use Rattle.life_forest.proofs.Slots.{register_only}
 use Rattle.life_forest.proofs.TypedSteps.{if_there}
 use Rattle.life_cover.specs.Buffered.{AreBuffered}
-use Rattle.life_cover.specs.Frames.{FrameCovered, NoInput, RootStands, any_root}
+use Rattle.life_cover.specs.Frames.{FrameCovered, RootStands}
+use Rattle.life_cover.specs.Inputs.{AreGiven, StandsAt, frame_foot, may_change, owning}
 use Rattle.life_cover.specs.Kills.{Closed, IsUnnamed}
+use Rattle.life_cover.specs.Regions.{Region}
 use Rattle.life_cover.specs.Roots.{AreRooted}
-use Rattle.life_cover.proofs.Locals.{locals_rooted}
-use Rattle.life_cover.proofs.PointerKinds.{IsClean}
+use Rattle.life_cover.proofs.Inputs.{frame_rooted}
+use Rattle.life_cover.proofs.PointerKinds.{IsClean, IsCleanOfTwo}
 use Rattle.life_cover.proofs.Reaching.{Reach, named_reach, through_reach, unranged_target}
 use Rattle.life_cover.proofs.Using.{NotInvalid}
 
--- the frame stands, each cell is of its local's sort, the facts cover its pointers, and each vector and each string has its buffer
-pub record IsKnownFrame (types : Types) (f : Function) (rest : ℕ → ℕ) (S : Fact → Type 0) (st : State) : Type 0 where
+-- the frame stands, each cell is of its local's sort, its inputs stand apart, the facts cover its pointers, and each vector and each string has its buffer
+pub record IsKnownFrame (types : Types) (f : Function) (rest : ℕ → ℕ) (inputs : Root → Option Region) (S : Fact → Type 0) (st : State) : Type 0 where
   pub ordered : IsOrdered types
   pub once : HasEachOnce types
   pub plain : types.structs ≡ []
@@ -70,12 +73,14 @@ pub record IsKnownFrame (types : Types) (f : Function) (rest : ℕ → ℕ) (S :
   pub short : AreShort (elements_of types f)
   pub stands : Stands types f rest st
   pub poised : IsPoised types f st
-  pub covered : FrameCovered types f S st
+  pub given : AreGiven types f inputs (frame_foot types f inputs st.cells) st.world.content
+  pub covered : FrameCovered types f inputs S st
   pub buffered : AreBuffered types st.world.content
 
 -- nothing is wrong at the instruction, no fact points into an object that it gives over, and the facts behind it are what the rules give
 pub record IsRight (sigs : List Signature) (types : Types) (n : ℕ) (f : Function) (place : Place) (i : Step) (S S' : Fact → Type 0) : Type 0 where
   pub clean : IsClean sigs types n f place i S
+  pub clean_of_two : IsCleanOfTwo sigs types n f place i S
   pub given : (x : ℕ) → object_at types f x ≡ true → Contains (given_step i) x → IsUnnamed S x
   pub closed : Closed sigs types f place i S S'
 
@@ -133,12 +138,12 @@ module _ (types : Types) (plain : types.structs ≡ []) where
 abbrev pub hand_of : (rest : ℕ → ℕ) → State → ℕ → ℕ
 hand_of rest st m = times (named_in st.cells) m + rest m
 
-module _ (types : Types) (f : Function) (rest : ℕ → ℕ) (S : Fact → Type 0) (st : State) (k : IsKnownFrame types f rest S st) where
+module _ (types : Types) (f : Function) (rest : ℕ → ℕ) (inputs : Root → Option Region) (S : Fact → Type 0) (st : State) (k : IsKnownFrame types f rest inputs S st) where
   pub store_of : IsStore types (hand_of rest st) st.world.content
   store_of = k.stands.store
 
-  pub rooted_of : AreRooted types st.world.content (RootStands types f NoInput st.cells) any_root
-  rooted_of = locals_rooted types f rest st k.stands.store k.stands.frame
+  pub rooted_of : AreRooted types st.world.content (RootStands types f (StandsAt inputs) st.cells) (owning types f)
+  rooted_of = frame_rooted types f rest inputs st k.stands.store k.stands.frame k.given
 
   -- ---- what names an object
 
@@ -194,24 +199,24 @@ module _ (types : Types) (f : Function) (rest : ℕ → ℕ) (S : Fact → Type 
   pub at_pointer : (p : Location) → is_pointer (type_in types f p) ≡ true → (P : Location → Type 0) → ((x : ℕ) → P (whole x)) → P p
   at_pointer p pointer P each = subst P (whole_location types k.plain f p (pointer_solid (type_in types f p) pointer)) (each p.local)
 
-  pub reach_at : (o : Operand) → is_void (type_of types f o) ≡ false → ((p : Location) → Contains (used_in o) p → IsUsable S p) → Reach types f st NoInput any_root S o
+  pub reach_at : (o : Operand) → is_void (type_of types f o) ≡ false → ((p : Location) → Contains (used_in o) p → IsUsable S p) → Reach types f st (StandsAt inputs) (may_change types f) S o
   reach_at (named.Name l) solid usable =
-      subst (λ (q : Location). Reach types f st NoInput any_root S (named.Name q)) (whole_location types k.plain f l (solid_type (named.Name l) solid))
-      (named_reach types f st NoInput any_root S k.stands.frame l.local (cell st l.local) refl)
+      subst (λ (q : Location). Reach types f st (StandsAt inputs) (may_change types f) S (named.Name q)) (whole_location types k.plain f l (solid_type (named.Name l) solid))
+      (named_reach types f st (StandsAt inputs) (may_change types f) S k.stands.frame l.local refl (cell st l.local) refl)
   reach_at (named.Through p ms) solid usable =
-      subst (λ (xs : List ℕ). Reach types f st NoInput any_root S (named.Through p xs)) (sym (whole_type types k.plain (target_type types (location_type types f p)) ms (solid_type (named.Through p ms) solid)))
+      subst (λ (xs : List ℕ). Reach types f st (StandsAt inputs) (may_change types f) S (named.Through p xs)) (sym (whole_type types k.plain (target_type types (location_type types f p)) ms (solid_type (named.Through p ms) solid)))
       (go p (whole_location types k.plain f p (pointer_solid (type_in types f p) pointer)) (usable p (at_head p [])) (placed (named.Through p ms) solid))
     where
       pointer : is_pointer (type_in types f p) ≡ true
       pointer = pointee_points types (type_in types f p) (placed (named.Through p ms) solid)
 
-      go : (q : Location) → whole q.local ≡ q → IsUsable S q → is_place types f (named.Through q []) ≡ true → Reach types f st NoInput any_root S (named.Through q [])
+      go : (q : Location) → whole q.local ≡ q → IsUsable S q → is_place types f (named.Through q []) ≡ true → Reach types f st (StandsAt inputs) (may_change types f) S (named.Through q [])
       go q e usable_q there =
-          subst (λ (z : Location). Reach types f st NoInput any_root S (named.Through z [])) e
+          subst (λ (z : Location). Reach types f st (StandsAt inputs) (may_change types f) S (named.Through z [])) e
           (at_local q.local (subst (IsUsable S) (sym e) usable_q) (subst (λ (z : Location). is_place types f (named.Through z []) ≡ true) (sym e) there))
         where
-          at_local : (x : ℕ) → IsUsable S (whole x) → is_place types f (named.Through (whole x) []) ≡ true → Reach types f st NoInput any_root S (named.Through (whole x) [])
+          at_local : (x : ℕ) → IsUsable S (whole x) → is_place types f (named.Through (whole x) []) ≡ true → Reach types f st (StandsAt inputs) (may_change types f) S (named.Through (whole x) [])
           at_local x u is =
               let single = single_pointee (type_at types f x) (not_false (is_void (pointee types (type_at types f x))) is) in
-              through_reach types f st NoInput any_root S k.stands.frame k.covered x u.valid u.some single
+              through_reach types f st (StandsAt inputs) (may_change types f) S k.stands.frame k.covered x u.valid u.some single
               (unranged_target types (local_type types f x) (subst (λ (id : Option TyId). is_range (ty_if types id) ≡ false) (k.shaped x) single)) (cell st x) refl

@@ -1,12 +1,18 @@
+mod Worked
 pub mod AimKinds
+pub mod ApartPlaces
+pub mod Arguments
+pub mod Begun
 pub mod Behind
 pub mod Beside
 pub mod Births
 pub mod Branches
 pub mod Buffering
 pub mod Buffers
+pub mod CallCovers
 pub mod CallKinds
 pub mod CalledElsewhere
+pub mod CalledRight
 pub mod ChangeKinds
 pub mod ChangeSteps
 pub mod Changes
@@ -17,14 +23,20 @@ pub mod Copyable
 pub mod Edges
 pub mod Elsewhere
 pub mod EndKinds
+pub mod Entered
 pub mod EraseKinds
 pub mod ErasedBuffers
+pub mod FootParts
 pub mod FramePoints
 pub mod FrameSteps
 pub mod Fresh
+pub mod GivenInputs
+pub mod GivenOn
 pub mod GivenValues
 pub mod Guarding
 pub mod HeldElements
+pub mod InputPlaces
+pub mod Inputs
 pub mod Inside
 pub mod KeptBuffers
 pub mod KeptCopies
@@ -42,6 +54,8 @@ pub mod Making
 pub mod MoveKinds
 pub mod MoveSteps
 pub mod Moved
+pub mod Mutated
+pub mod NamedResults
 pub mod NumberKinds
 pub mod Opening
 pub mod Owned
@@ -50,8 +64,11 @@ pub mod OwnerKinds
 pub mod OwnerPointers
 pub mod OwnersStay
 pub mod Owning
+pub mod PointerInputs
 pub mod PointerKinds
 pub mod Pointers
+pub mod PromisedPlaces
+pub mod PromisedResults
 pub mod PushKinds
 pub mod PushedBuffers
 pub mod PushedObjects
@@ -62,6 +79,8 @@ pub mod Rebuffering
 pub mod Recopying
 pub mod Regrown
 pub mod Remade
+pub mod ResultTypes
+pub mod Returned
 pub mod SafeBodies
 pub mod SafeCalls
 pub mod SafeRuns
@@ -73,9 +92,10 @@ pub mod TargetKinds
 pub mod Unaimed
 pub mod UniqueFacts
 pub mod UniqueLocals
+pub mod Unkept
 pub mod Unkilled
 pub mod Unnamed
 pub mod Using
 pub mod Walks
 pub mod WholeSteps
-mod Worked
+pub mod Writing

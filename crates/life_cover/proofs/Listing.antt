@@ -33,7 +33,7 @@ use Rattle.life_cover.specs.Regions.{Goes, Lies, Region, owned_in_type}
 
 -- ---- locations
 
-one_pointer : (a : AbsPlace) (types : Types) (part : TyId → TypeTree) (t : Ty) → is_pointer t ≡ true → pointers_in a (tree_of types part (Some t)) ≡ a ∷ []
+pub one_pointer : (a : AbsPlace) (types : Types) (part : TyId → TypeTree) (t : Ty) → is_pointer t ≡ true → pointers_in a (tree_of types part (Some t)) ≡ a ∷ []
 one_pointer a types part variant.View h = refl
 one_pointer a types part (variant.Raw target constant) h = refl
 one_pointer a types part (variant.Reference target constant) h = refl

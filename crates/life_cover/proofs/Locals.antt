@@ -72,6 +72,14 @@ module _ (types : Types) (f : Function) (rest : ℕ → ℕ) (st : State) (store
   pub named_free : (x n : ℕ) (a : Region) → slice_get st.cells x ≡ Some (Named n) → Beneath (kinds_of types) st.world.content (foot_of types a) n → ⊥
   named_free x n a named low = let own = beneath_owned types st.world.content a n low in named_unowned x n own.0 named own.1
 
+  -- two locals name two objects
+  pub locals_other : (x y n : ℕ) → x ≢ y → slice_get st.cells x ≡ Some (Named n) → slice_get st.cells y ≡ Some (Named n) → ⊥
+  locals_other x y n ne a b =
+      let two = two_named st.cells x y n ne a b in
+      let held = store.forest.held n in
+      let one = alive_le (kinds_of types) st.world.content n in
+      omega (arith, two, held, one)
+
   pub locals_rooted : AreRooted types st.world.content (RootStands types f NoInput st.cells) (λ r. true)
   locals_rooted = record { fits = fits; one = one; apart = apart }
     where
@@ -89,10 +97,7 @@ module _ (types : Types) (f : Function) (rest : ℕ → ℕ) (st : State) (store
 
       apart : (r s : Root) (a b : Region) → ◌≡◌ {A = Bool} true true → r ≢ s → RootStands types f NoInput st.cells r a → RootStands types f NoInput st.cells s b → IsApart types st.world.content a b
       apart (root.Local x) (root.Local y) a b e ne s t = record {
-        beside = λ same. let two = two_named st.cells x y b.object (λ k. ne (ap (λ z. root.Local z) k)) (subst (λ n. slice_get st.cells x ≡ Some (Named n)) same s.0) t.0 in
-            let held = store.forest.held b.object in
-            let one_ = alive_le (kinds_of types) st.world.content b.object in
-            absurd (omega (arith, two, held, one_));
+        beside = λ same. absurd (locals_other x y b.object (λ k. ne (ap (λ z. root.Local z) k)) (subst (λ n. slice_get st.cells x ≡ Some (Named n)) same s.0) t.0);
         over = λ low. named_free y b.object a t.0 low;
         under = λ low. named_free x a.object b s.0 low;
       }

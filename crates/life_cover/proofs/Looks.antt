@@ -20,7 +20,7 @@ use Rattle.life_forest.specs.FrameTypes.{seen_in, seen_type}
 use Rattle.life_forest.proofs.OneNumber.{also_solid, number_of_type, one_number, type_there, typed_at}
 use Rattle.life_forest.proofs.SeenTypes.{alike_seen, parts_typed, pointer_solid, value_parts}
 use Rattle.life_forest.proofs.Shaped.{IsShaped}
-use Rattle.life_cover.specs.Covers.{IsSeenAs, Reseen}
+use Rattle.life_cover.specs.Covers.{IsSeenAs, Look, Reseen}
 use Rattle.life_cover.specs.Frames.{look_at}
 use Rattle.life_cover.specs.Regions.{owned_in_type}
 
@@ -147,3 +147,21 @@ module _ (types : Types) (ordered : IsOrdered types) (once : HasEachOnce types) 
     given_type x id e =
         let of = typed_at types (local_type types f x) (type_at types f x) (sym (ap (ty_if types) (shaped x))) (also_solid (ty_of types id) (type_at types f x) e) in
         of.is ∙ ap Some (sym (number_of_type types once id of.number (type_at types f x) e of.there))
+
+-- ---- the pointers of two functions
+
+-- whatever the one pointer is, the other may be
+pub record TakesAll (types : Types) (to from : Look) : Type 0 where
+  pub target : Reseen types from.target to.target
+  pub constant : to.constant ≡ false → from.constant ≡ false
+  pub ranged : from.ranged ≡ to.ranged
+
+pub takes_across : (types : Types) (ordered : IsOrdered types) (once : HasEachOnce types) (f : Function) (shaped_f : IsShaped types f) (g : Function) (shaped_g : IsShaped types g) (p q : ℕ) → takes types (type_at types g p) (type_at types f q) ≡ true → TakesAll types (look_at types g p) (look_at types f q)
+takes_across types ordered once f shaped_f g shaped_g p q e =
+    let both = and_parts (are_alike types (type_at types g p) (type_at types f q)) (keeps_const (is_constant (type_at types g p)) (is_constant (type_at types f q))) e in
+    let alike = alike_seen types ordered once (type_at types g p) (type_at types f q) both.0 in record {
+      target = same_reseen types (look_at types f q).target (look_at types g p).target
+          (seen_at types ordered once f shaped_f q (type_at types f q) refl (pointer_solid (type_at types f q) alike.from) ∙ alike.seen ∙ sym (seen_at types ordered once g shaped_g p (type_at types g p) refl (pointer_solid (type_at types g p) alike.to)));
+      constant = const_kept (is_constant (type_at types g p)) (is_constant (type_at types f q)) both.1;
+      ranged = alike_ranged types (type_at types g p) (type_at types f q) both.0;
+    }

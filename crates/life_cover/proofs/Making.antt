@@ -1,5 +1,5 @@
 -- Each place that facts name is made of its root, step by step; so what the owner there has is in the table as well.
-use Rattle.std.proofs.Common.{◌≡◌, inl, inr, ℕ, ◌+◌, ◌≤◌, Bool, true, false, List, [], ◌∷◌, ◌++◌, map, length, Some, refl, sym, ap, subst, ◌∙◌, arith}
+use Rattle.std.proofs.Common.{◌≡◌, inl, inr, ℕ, ◌+◌, ◌≤◌, Bool, true, false, List, [], ◌∷◌, ◌++◌, map, length, Some, refl, sym, ap, subst, ◌∙◌, arith, Option}
 use Rattle.std.specs.Prelude.{Contains, if◌then◌else◌, nat_lt, slice_get}
 use Rattle.std.specs.List.{flat_map}
 use Rattle.std.proofs.lemmas.Bool.Decides.{nat_tests}
@@ -33,8 +33,10 @@ use Rattle.life_rules.proofs.Giving.{at_head, cons_cases, flat_map_from, in_tail
 use Rattle.life_store.specs.Content.{Content}
 use Rattle.life_store.specs.State.{Cell, Named}
 use Rattle.life_forest.proofs.Shaped.{IsShaped}
-use Rattle.life_cover.specs.Frames.{NoInput, RootStands}
+use Rattle.life_cover.specs.Frames.{RootStands}
+use Rattle.life_cover.specs.Inputs.{IsInput, StandsAt}
 use Rattle.life_cover.specs.Regions.{IsAt, Region, owned_in_type}
+use Rattle.life_cover.proofs.InputPlaces.{place_behind}
 use Rattle.life_cover.proofs.Listing.{inner_among, object_known, owned_itself, place_itself, steps_from}
 use Rattle.life_cover.proofs.Stepping.{HasRoom, stepped_path, stepped_room}
 
@@ -97,7 +99,7 @@ member_made r a m h = go (nat_lt m owned_step)
 abbrev AreMade : Root → List AbsPlace → Type 0
 AreMade r xs = (y : AbsPlace) → Contains xs y → IsMadeOf r y
 
-tree_made_of : (r : Root) (t : TypeTree) → ((a : AbsPlace) → IsMadeOf r a → AreMade r (places_in a t)) × ((a : AbsPlace) (m : ℕ) → IsMadeOf r a → AreMade r (places_from a m t))
+pub tree_made_of : (r : Root) (t : TypeTree) → ((a : AbsPlace) → IsMadeOf r a → AreMade r (places_in a t)) × ((a : AbsPlace) (m : ℕ) → IsMadeOf r a → AreMade r (places_from a m t))
 tree_made_of r Text = (λ a h. each_cons (IsMadeOf r) a (owned_place a ∷ []) h (each_cons (IsMadeOf r) (owned_place a) [] (stepped_made r a owned_step h) (each_none (IsMadeOf r))), λ a m h. each_none (IsMadeOf r))
 tree_made_of r (Vector item) = (λ a h. each_cons (IsMadeOf r) a (places_in (owned_place a) item) h ((tree_made_of r item).0 (owned_place a) (stepped_made r a owned_step h)), λ a m h. each_none (IsMadeOf r))
 tree_made_of r (Unique item) = (λ a h. each_cons (IsMadeOf r) a (places_in (owned_place a) item) h ((tree_made_of r item).0 (owned_place a) (stepped_made r a owned_step h)), λ a m h. each_none (IsMadeOf r))
@@ -227,8 +229,8 @@ short_of [] all = each_none IsShort
 short_of (x ∷ xs) all = each_cons IsShort x xs all.0 (short_of xs all.1)
 
 module _ (types : Types) (ordered : IsOrdered types) (plain : types.structs ≡ []) (f : Function) (shaped : IsShaped types f) (short : AreShort (elements_of types f)) (c : Content) (cells : List Cell)
-    (objects : (x n : ℕ) → slice_get cells x ≡ Some (Named n) → object_at types f x ≡ true) where
-  place_short : (a : AbsPlace) → Contains (elements_of types f) (element.At a) → a.length ≤ 8
+    (objects : (x n : ℕ) → slice_get cells x ≡ Some (Named n) → object_at types f x ≡ true) (inputs : Root → Option Region) (each : (r : Root) (a : Region) → StandsAt inputs r a → IsInput types f r a) where
+  pub place_short : (a : AbsPlace) → Contains (elements_of types f) (element.At a) → a.length ≤ 8
   place_short a h = short_of (elements_of types f) short (element.At a) h
 
   -- the place of an operand is known, and there is an owner
@@ -236,22 +238,28 @@ module _ (types : Types) (ordered : IsOrdered types) (plain : types.structs ≡ 
     pub known : Contains (elements_of types f) (element.At (owned_place a))
     pub room : HasRoom 1 a
 
-  open_at : (a : AbsPlace) (r : Region) (item : TyId) → IsItsPath a → IsAt types c (RootStands types f NoInput cells) a r → owned_in_type types (slice_get types.types r.ty.0) ≡ Some item → Contains (elements_of types f) (element.At (owned_place a))
+  open_at : (a : AbsPlace) (r : Region) (item : TyId) → IsItsPath a → IsAt types c (RootStands types f (StandsAt inputs) cells) a r → owned_in_type types (slice_get types.types r.ty.0) ≡ Some item → Contains (elements_of types f) (element.At (owned_place a))
   open_at a r item is at_r type = go a.root refl at_r.stands
     where
-      go : (ro : Root) → a.root ≡ ro → RootStands types f NoInput cells ro at_r.start → Contains (elements_of types f) (element.At (owned_place a))
-      go (root.Input q member) e stands = absurd stands
+      go : (ro : Root) → a.root ≡ ro → RootStands types f (StandsAt inputs) cells ro at_r.start → Contains (elements_of types f) (element.At (owned_place a))
+      go (root.Input q member) e stands =
+          place_behind types ordered f (root.Input q member) at_r.start (each (root.Input q member) at_r.start stands) (owned_place a)
+          (inner_among types ordered plain c (path a) (root_place (root.Input q member)) at_r.start r at_r.lies (owned_place a)
+          (subst (λ (b : AbsPlace). Contains (places_in b (tree_at types r.ty)) (owned_place a)) (is.made ∙ ap (λ (ro : Root). steps_from (root_place ro) (path a)) e) (owned_itself types ordered a r.ty item type)))
       go (root.Local x) e stands =
           object_known types ordered f x at_r.start.ty (owned_place a) (objects x at_r.start.object stands.0) (shaped x ∙ stands.2)
           (inner_among types ordered plain c (path a) (local_place x) at_r.start r at_r.lies (owned_place a)
           (subst (λ (b : AbsPlace). Contains (places_in b (tree_at types r.ty)) (owned_place a)) (is.made ∙ ap (λ (ro : Root). steps_from (root_place ro) (path a)) e) (owned_itself types ordered a r.ty item type)))
 
   -- the place itself
-  pub known_at : (a : AbsPlace) (r : Region) → IsItsPath a → IsAt types c (RootStands types f NoInput cells) a r → Contains (elements_of types f) (element.At a)
+  pub known_at : (a : AbsPlace) (r : Region) → IsItsPath a → IsAt types c (RootStands types f (StandsAt inputs) cells) a r → Contains (elements_of types f) (element.At a)
   known_at a r is at_r = go a.root refl at_r.stands
     where
-      go : (ro : Root) → a.root ≡ ro → RootStands types f NoInput cells ro at_r.start → Contains (elements_of types f) (element.At a)
-      go (root.Input q member) e stands = absurd stands
+      go : (ro : Root) → a.root ≡ ro → RootStands types f (StandsAt inputs) cells ro at_r.start → Contains (elements_of types f) (element.At a)
+      go (root.Input q member) e stands =
+          place_behind types ordered f (root.Input q member) at_r.start (each (root.Input q member) at_r.start stands) a
+          (inner_among types ordered plain c (path a) (root_place (root.Input q member)) at_r.start r at_r.lies a
+          (subst (λ (b : AbsPlace). Contains (places_in b (tree_at types r.ty)) a) (is.made ∙ ap (λ (ro : Root). steps_from (root_place ro) (path a)) e) (place_itself a (tree_at types r.ty))))
       go (root.Local x) e stands =
           object_known types ordered f x at_r.start.ty a (objects x at_r.start.object stands.0) (shaped x ∙ stands.2)
           (inner_among types ordered plain c (path a) (local_place x) at_r.start r at_r.lies a
@@ -267,7 +275,7 @@ module _ (types : Types) (ordered : IsOrdered types) (plain : types.structs ≡ 
       go true e le = record { steps = is.eight; fits = lt_of a.length 8 e }
       go false e le = let is_long = ap (λ b. (if b then longer a owned_step else too_long a).length) e in absurd (omega (arith, is_long, le))
 
-  pub can_open : (a : AbsPlace) (r : Region) (item : TyId) → IsItsPath a → IsAt types c (RootStands types f NoInput cells) a r → owned_in_type types (slice_get types.types r.ty.0) ≡ Some item → CanOpen a
+  pub can_open : (a : AbsPlace) (r : Region) (item : TyId) → IsItsPath a → IsAt types c (RootStands types f (StandsAt inputs) cells) a r → owned_in_type types (slice_get types.types r.ty.0) ≡ Some item → CanOpen a
   can_open a r item is at_r type = let known = open_at a r item is at_r type in record { known = known; room = room_at a is known }
 
   -- a fact's place, and a local's

@@ -36,8 +36,7 @@ use Rattle.life_store.specs.Parts.{Parts, Single, Unique, local_parts, parts_at,
 use Rattle.life_store.specs.State.{Cell, Empty, Named, Number, Points, State}
 use Rattle.life_store.proofs.CellLemmas.{some_same}
 use Rattle.life_store.proofs.MapLemmas.{one_or_apart}
-use Rattle.life_forest.specs.Forest.{Beneath, Touches, all_of, part, under as further, whole as one}
-use Rattle.life_forest.specs.Frames.{named_in}
+use Rattle.life_forest.specs.Forest.{Beneath, Touches, part, under as further, whole as one}
 use Rattle.life_forest.specs.Kinds.{kinds_of}
 use Rattle.life_forest.specs.Within.{LiesWithin}
 use Rattle.life_forest.proofs.FrameMoves.{words_are}
@@ -47,7 +46,8 @@ use Rattle.life_forest.proofs.Sparing.{owns_le}
 use Rattle.life_forest.proofs.Steps.{alive_le, touches_more}
 use Rattle.life_forest.proofs.Puts.{puts_in, wrote_is}
 use Rattle.life_cover.specs.Buffered.{AreBuffered, HasBuffers}
-use Rattle.life_cover.specs.Frames.{FrameCovered, NoInput, RootStands, any_root, look_at}
+use Rattle.life_cover.specs.Frames.{FrameCovered, RootStands, look_at}
+use Rattle.life_cover.specs.Inputs.{frame_foot, may_change, owning, StandsAt}
 use Rattle.life_cover.specs.Kills.{Closed, Guards, LeftBy, is_hit}
 use Rattle.life_cover.specs.Regions.{IsAt, Region, foot_of, is_in_region}
 use Rattle.life_cover.proofs.Behind.{behind_content}
@@ -156,14 +156,14 @@ split types c a b ne n (further m _ low own) = ⊎_elim (λ l. inl (further m n 
 
 -- ---- the kind
 
-module _ (types : Types) (f : Function) (rest : ℕ → ℕ) (S : Fact → Type 0) (st : State) (k : IsKnownFrame types f rest S st) (sigs : List Signature) (number : ℕ) (place : Place) (S' : Fact → Type 0) (s : Setting) (x y : ℕ)
+module _ (types : Types) (f : Function) (rest : ℕ → ℕ) (inputs : Root → Option Region) (S : Fact → Type 0) (st : State) (k : IsKnownFrame types f rest inputs S st) (sigs : List Signature) (number : ℕ) (place : Place) (S' : Fact → Type 0) (s : Setting) (x y : ℕ)
     (right : IsRight sigs types number f place (Move (named.Name (whole x)) y) S S') (unique : is_unique (type_at types f x) ≡ true) (same_type : type_at types f x ≡ type_at types f y) (other : x ≢ y) where
   module _ (n m : ℕ) (named_x : cell st x ≡ Some (Named n)) (named_y : cell st y ≡ Some (Named m)) where
-    abbrev u : IsUniqueLocal types f rest S st k x n
-    u = unique_local types f rest S st k x n named_x unique
+    abbrev u : IsUniqueLocal types f rest inputs S st k x n
+    u = unique_local types f rest inputs S st k x n named_x unique
 
-    abbrev w : IsUniqueLocal types f rest S st k y m
-    w = unique_local types f rest S st k y m named_y (ap is_unique (sym same_type) ∙ unique)
+    abbrev w : IsUniqueLocal types f rest inputs S st k y m
+    w = unique_local types f rest inputs S st k y m named_y (ap is_unique (sym same_type) ∙ unique)
 
     -- both are of one type
     numbers : w.number ≡ u.number
@@ -175,29 +175,29 @@ module _ (types : Types) (f : Function) (rest : ℕ → ℕ) (S : Fact → Type 
     abbrev from : Region
     from = record { object = m; word = 0; ty = u.number }
 
-    at_x : IsAt types st.world.content (RootStands types f NoInput st.cells) (local_place x) into
+    at_x : IsAt types st.world.content (RootStands types f (StandsAt inputs) st.cells) (local_place x) into
     at_x = record { start = into; stands = (named_x, refl, u.typed); lies = refl }
 
-    at_y : IsAt types st.world.content (RootStands types f NoInput st.cells) (local_place y) from
+    at_y : IsAt types st.world.content (RootStands types f (StandsAt inputs) st.cells) (local_place y) from
     at_y = record { start = from; stands = (named_y, refl, w.typed ∙ ap Some numbers); lies = refl }
 
     apart : m ≢ n
     apart same =
         let two = two_named st.cells x y n other named_x (named_y ∙ ap (λ (j : ℕ). Some (Named j)) same) in
-        let held = (store_of types f rest S st k).forest.held n in
+        let held = (store_of types f rest inputs S st k).forest.held n in
         let alive = alive_le (kinds_of types) st.world.content n in
         omega (arith, two, held, alive)
 
-    guards : Guards types st.world.content (RootStands types f NoInput st.cells) S (λ a. under (local_place y) a || under (local_place x) a) (both_feet types into from)
+    guards : Guards types st.world.content (RootStands types f (StandsAt inputs) st.cells) S (λ a. under (local_place y) a || under (local_place x) a) (both_feet types into from)
     guards a r names at_r low = ⊎_elim
-        (λ h. or_behind (under (local_place y) a) (under (local_place x) a) (place_guards types k.ordered (hand_of rest st) st.world.content st.world.content (store_of types f rest S st k) (RootStands types f NoInput st.cells) any_root any_root (rooted_of types f rest S st k) S (local_place x) into refl at_x a r names at_r h))
-        (λ h. or_before (under (local_place y) a) (under (local_place x) a) (place_guards types k.ordered (hand_of rest st) st.world.content st.world.content (store_of types f rest S st k) (RootStands types f NoInput st.cells) any_root any_root (rooted_of types f rest S st k) S (local_place y) from refl at_y a r names at_r h))
+        (λ h. or_behind (under (local_place y) a) (under (local_place x) a) (place_guards types k.ordered (hand_of rest st) st.world.content st.world.content (store_of types f rest inputs S st k) (RootStands types f (StandsAt inputs) st.cells) (may_change types f) (owning types f) (rooted_of types f rest inputs S st k) S (local_place x) into refl at_x a r names at_r h))
+        (λ h. or_before (under (local_place y) a) (under (local_place x) a) (place_guards types k.ordered (hand_of rest st) st.world.content st.world.content (store_of types f rest inputs S st k) (RootStands types f (StandsAt inputs) st.cells) (may_change types f) (owning types f) (rooted_of types f rest inputs S st k) S (local_place y) from refl at_y a r names at_r h))
         (split types st.world.content into from (λ e. apart (sym e)) r.object low)
 
-    covered : (d : Content) → Touches (kinds_of types) (both_feet types into from) st.world.content d → FrameCovered types f S' (put_content d st)
+    covered : (d : Content) → Touches (kinds_of types) (both_feet types into from) st.world.content d → FrameCovered types f inputs S' (put_content d st)
     covered d touch z v e =
-        cover_on types k.ordered (hand_of rest st) st.world.content d (store_of types f rest S st k) (both_feet types into from) touch (RootStands types f NoInput st.cells) (RootStands types f NoInput st.cells) any_root (rooted_of types f rest S st k).fits
-        (λ a. under (local_place y) a || under (local_place x) a) (writes (Move (named.Name (whole x)) y)) S S' (left_by_move sigs types f place x y S S' right.closed (RootStands types f NoInput st.cells)) guards (λ a r names free stands. stands)
+        cover_on types k.ordered (hand_of rest st) st.world.content d (store_of types f rest inputs S st k) (both_feet types into from) touch (RootStands types f (StandsAt inputs) st.cells) (RootStands types f (StandsAt inputs) st.cells) (may_change types f) (rooted_of types f rest inputs S st k).fits
+        (λ a. under (local_place y) a || under (local_place x) a) (writes (Move (named.Name (whole x)) y)) S S' (left_by_move sigs types f place x y S S' right.closed (RootStands types f (StandsAt inputs) st.cells)) guards (λ a r names free stands. stands)
         (local_place z) (look_at types f z) v (both_false (is_location (whole y) (local_place z)) (is_location (whole x) (local_place z)) (other_local y z (not_z y m named_y)) (other_local x z (not_z x n named_x))) (k.covered z v e)
       where
         unlike : (j : ℕ) → Named j ≡ Points v → ⊥
@@ -207,15 +207,15 @@ module _ (types : Types) (f : Function) (rest : ℕ → ℕ) (S : Fact → Type 
         not_z q j named same = unlike j (some_same (sym named ∙ ap (cell st) same ∙ e))
 
     -- what both had lies beneath what is named
-    spares : (d : Content) → Touches (kinds_of types) (both_feet types into from) st.world.content d → Touches (kinds_of types) (all_of (named_in st.cells)) st.world.content d
+    spares : (d : Content) → Touches (kinds_of types) (both_feet types into from) st.world.content d → Touches (kinds_of types) (frame_foot types f inputs st.cells) st.world.content d
     spares d touch =
-        touches_more (kinds_of types) (hand_of rest st) st.world.content (store_of types f rest S st k).forest (both_feet types into from) (all_of (named_in st.cells)) d touch
+        touches_more (kinds_of types) (hand_of rest st) st.world.content (store_of types f rest inputs S st k).forest (both_feet types into from) (frame_foot types f inputs st.cells) d touch
         (record {
           whole = λ j born e. absurd (false≢true e);
           part = λ j born. one_or_apart j n
-              (λ is. inl (subst (Beneath (kinds_of types) st.world.content (all_of (named_in st.cells))) (sym is) (local_low types f rest S st k x n named_x)))
+              (λ is. inl (subst (Beneath (kinds_of types) st.world.content (frame_foot types f inputs st.cells)) (sym is) (local_low types f rest inputs S st k x n named_x)))
               (λ not_n. one_or_apart j m
-              (λ is. inl (subst (Beneath (kinds_of types) st.world.content (all_of (named_in st.cells))) (sym is) (local_low types f rest S st k y m named_y)))
+              (λ is. inl (subst (Beneath (kinds_of types) st.world.content (frame_foot types f inputs st.cells)) (sym is) (local_low types f rest inputs S st k y m named_y)))
               (λ not_m. inr (λ v e. absurd (⊎_elim (λ h. not_n (region_within types into j v h).object) (λ h. not_m (region_within types from j v h).object) (either_true (is_in_region types into j v) (is_in_region types from j v) e)))));
         })
 
@@ -248,12 +248,12 @@ module _ (types : Types) (f : Function) (rest : ℕ → ℕ) (S : Fact → Type 
         ap (λ (d : Content). at d.objects n) (wrote_is st.world.content m 0 0 (owner_word None ∷ []) w.variable.object w.variable.there)
         ∙ at-set_other st.world.content.objects m n (record (w.variable.object) { slots = puts_in 0 0 (owner_word None ∷ []) w.variable.object.slots }) apart ∙ u.variable.there
 
-    moved_safe : IsMade types f S' st (put_content (replaced (parts_at types u.number) (record { object = n; index = 0; word = 0 }) (owner_word owned ∷ [], emptied)) st)
+    moved_safe : IsMade types f inputs S' st (put_content (replaced (parts_at types u.number) (record { object = n; index = 0; word = 0 }) (owner_word owned ∷ [], emptied)) st)
     moved_safe =
-        let touch = moved_touches types k.ordered (hand_of rest st) st.world.content (store_of types f rest S st k) u.number u.target u.parts n u.variable.object u.variable.there within slot m w.variable.object w.variable.there m_within m_slot apart owned
+        let touch = moved_touches types k.ordered (hand_of rest st) st.world.content (store_of types f rest inputs S st k) u.number u.target u.parts n u.variable.object u.variable.there within slot m w.variable.object w.variable.there m_within m_slot apart owned
         (words_are types k.ordered rest st k.stands.store m u.number w.variable.object w.variable.there m_within m_slot (ap width u.parts)) in (
           covered (replaced (parts_at types u.number) (record { object = n; index = 0; word = 0 }) (owner_word owned ∷ [], emptied)) touch,
-          behind_content types st (replaced (parts_at types u.number) (record { object = n; index = 0; word = 0 }) (owner_word owned ∷ [], emptied))
+          behind_content types f inputs st (replaced (parts_at types u.number) (record { object = n; index = 0; word = 0 }) (owner_word owned ∷ [], emptied))
               (replaced_buffered types emptied n (parts_at types u.number) (owner_word owned) (plain emptied n u.variable.object u.type kept) emptied_buffered)
               (spares (replaced (parts_at types u.number) (record { object = n; index = 0; word = 0 }) (owner_word owned ∷ [], emptied)) touch),
         )
@@ -261,15 +261,15 @@ module _ (types : Types) (f : Function) (rest : ℕ → ℕ) (S : Fact → Type 
     parts_here : local_parts types f y ≡ Unique u.target (parts_at types u.target)
     parts_here = ap (parts_if types) w.typed ∙ ap (parts_at types) numbers ∙ u.parts
 
-    moves_here : OnRight (moves_from (local_parts types f y) (record { object = n; index = 0; word = 0 }) (Some (Named m)) st) (IsMade types f S' st)
+    moves_here : OnRight (moves_from (local_parts types f y) (record { object = n; index = 0; word = 0 }) (Some (Named m)) st) (IsMade types f inputs S' st)
     moves_here =
-        subst (λ (p : Parts). OnRight (moves_from p (record { object = n; index = 0; word = 0 }) (Some (Named m)) st) (IsMade types f S' st)) (sym parts_here)
-        (subst (λ (p : Parts). IsMade types f S' st (put_content (replaced p (record { object = n; index = 0; word = 0 }) (owner_word owned ∷ [], emptied)) st)) u.parts moved_safe)
+        subst (λ (p : Parts). OnRight (moves_from p (record { object = n; index = 0; word = 0 }) (Some (Named m)) st) (IsMade types f inputs S' st)) (sym parts_here)
+        (subst (λ (p : Parts). IsMade types f inputs S' st (put_content (replaced p (record { object = n; index = 0; word = 0 }) (owner_word owned ∷ [], emptied)) st)) u.parts moved_safe)
 
-  pub move_kind : OnRight (does s types f (Move (named.Name (whole x)) y) st) (IsMade types f S' st)
-  move_kind = on_spot_local types f rest S st k x (λ spot. moves_from (local_parts types f y) spot (cell st y) st) (IsMade types f S' st) (λ n named. by_cell n named (cell st y) refl)
+  pub move_kind : OnRight (does s types f (Move (named.Name (whole x)) y) st) (IsMade types f inputs S' st)
+  move_kind = on_spot_local types f rest inputs S st k x (λ spot. moves_from (local_parts types f y) spot (cell st y) st) (IsMade types f inputs S' st) (λ n named. by_cell n named (cell st y) refl)
     where
-      by_cell : (n : ℕ) → cell st x ≡ Some (Named n) → (v : Option Cell) → cell st y ≡ v → OnRight (moves_from (local_parts types f y) (record { object = n; index = 0; word = 0 }) v st) (IsMade types f S' st)
+      by_cell : (n : ℕ) → cell st x ≡ Some (Named n) → (v : Option Cell) → cell st y ≡ v → OnRight (moves_from (local_parts types f y) (record { object = n; index = 0; word = 0 }) v st) (IsMade types f inputs S' st)
       by_cell n named (Some (Named m)) e = moves_here n m named e
       by_cell n named None e = tt
       by_cell n named (Some Empty) e = tt

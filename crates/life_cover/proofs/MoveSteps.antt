@@ -1,5 +1,5 @@
 -- A unique_ptr is moved to another one that is a local, as it is asked of well-formed instructions.
-use Rattle.std.proofs.Common.{◌≡◌, ℕ, Bool, true, false, List, refl, sym, subst, ◌∙◌, arith}
+use Rattle.std.proofs.Common.{◌≡◌, ℕ, Bool, true, false, List, refl, sym, subst, ◌∙◌, arith, Option}
 use Rattle.std.specs.Prelude.{nat_eq, not}
 use Rattle.std.proofs.lemmas.Bool.{and_parts, false≢true}
 use Rattle.std.proofs.lemmas.Bool.Decides.{nat_tests}
@@ -13,6 +13,7 @@ use Rattle.life_core.specs.Operands.{Location, Operand, whole}
 use Rattle.life_core.specs.Operands as named
 use Rattle.life_core.specs.Step.{Move}
 use Rattle.life_pset.specs.declared.element.Fact.{Fact}
+use Rattle.life_pset.specs.declared.element.Root.{Root}
 use Rattle.life_contract.specs.Signatures.{Signature}
 use Rattle.life_proper.specs.OperandTypes.{is_owner, same}
 use Rattle.life_proper.specs.Placed.{is_const_place, object_at, result_at, type_at, type_in, type_of}
@@ -26,6 +27,7 @@ use Rattle.life_cover.proofs.KnownFrames.{IsKnownFrame, IsRight, typed, whole_lo
 use Rattle.life_cover.proofs.MakeKinds.{IsMade}
 use Rattle.life_cover.proofs.MoveKinds.{move_kind}
 use Rattle.life_cover.proofs.Pointers.{OnRight}
+use Rattle.life_cover.specs.Regions.{Region}
 
 -- a vector or a string, and a place behind a pointer, aren't spoken of
 abbrev pub IsSpokenMove : Types → Function → Operand → Type 0
@@ -43,15 +45,15 @@ not_true : (b : Bool) → not b ≡ true → b ≡ false
 not_true true e = absurd (false≢true e)
 not_true false e = refl
 
-module _ (types : Types) (f : Function) (rest : ℕ → ℕ) (S : Fact → Type 0) (st : State) (k : IsKnownFrame types f rest S st) (sigs : List Signature) (number : ℕ) (place : Place) (S' : Fact → Type 0) (texts : ℕ) (fs : List Function) (s : Setting) (y : ℕ) where
+module _ (types : Types) (f : Function) (rest : ℕ → ℕ) (inputs : Root → Option Region) (S : Fact → Type 0) (st : State) (k : IsKnownFrame types f rest inputs S st) (sigs : List Signature) (number : ℕ) (place : Place) (S' : Fact → Type 0) (texts : ℕ) (fs : List Function) (s : Setting) (y : ℕ) where
   at_whole : (x : ℕ) → IsRight sigs types number f place (Move (named.Name (whole x)) y) S S' → is_unique (type_at types f x) ≡ true → same (type_of types f (named.Name (whole x))) (type_at types f y) ≡ true → is_itself types texts fs f y (named.Name (whole x)) ≡ false
-      → OnRight (does s types f (Move (named.Name (whole x)) y) st) (IsMade types f S' st)
+      → OnRight (does s types f (Move (named.Name (whole x)) y) st) (IsMade types f inputs S' st)
   at_whole x right unique alike other =
-      move_kind types f rest S st k sigs number place S' s x y right unique
-      (typed types f rest S st k (named.Name (whole x)) (same_solid (type_of types f (named.Name (whole x))) (type_at types f y) alike) ∙ same_is (type_of types f (named.Name (whole x))) (type_at types f y) alike)
+      move_kind types f rest inputs S st k sigs number place S' s x y right unique
+      (typed types f rest inputs S st k (named.Name (whole x)) (same_solid (type_of types f (named.Name (whole x))) (type_at types f y) alike) ∙ same_is (type_of types f (named.Name (whole x))) (type_at types f y) alike)
       (λ h. false≢true (sym other ∙ subst (λ z. nat_eq x z ≡ true) h (eq_same x)))
 
-  pub move_right : (to : Operand) → IsSpokenMove types f to → IsRight sigs types number f place (Move to y) S S' → is_well_formed_step types texts fs f (Move to y) ≡ true → OnRight (does s types f (Move to y) st) (IsMade types f S' st)
+  pub move_right : (to : Operand) → IsSpokenMove types f to → IsRight sigs types number f place (Move to y) S S' → is_well_formed_step types texts fs f (Move to y) ≡ true → OnRight (does s types f (Move to y) st) (IsMade types f inputs S' st)
   move_right (named.Through p members) spoken right e = absurd spoken
   move_right (named.Name l) spoken right e =
       let outer = and_parts (is_owner (type_of types f (named.Name l))) _ e in
@@ -60,5 +62,5 @@ module _ (types : Types) (f : Function) (rest : ℕ → ℕ) (S : Fact → Type 
       let result = and_parts (not (result_at types f y)) _ alike.1 in
       let itself = and_parts (not (is_itself types texts fs f y (named.Name l))) (not (is_const_place types f (named.Name l))) result.1 in
       subst (λ (q : Location). IsRight sigs types number f place (Move (named.Name q) y) S S' → is_unique (type_in types f q) ≡ true → same (type_of types f (named.Name q)) (type_at types f y) ≡ true → is_itself types texts fs f y (named.Name q) ≡ false
-      → OnRight (does s types f (Move (named.Name q) y) st) (IsMade types f S' st))
+      → OnRight (does s types f (Move (named.Name q) y) st) (IsMade types f inputs S' st))
       (whole_location types k.plain f l (unique_solid (type_in types f l) spoken)) (at_whole l.local) right spoken alike.0 (not_true (is_itself types texts fs f y (named.Name l)) itself.0)

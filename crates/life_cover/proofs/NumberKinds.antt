@@ -20,6 +20,7 @@ use Rattle.life_pset.specs.Shapes.{ty_if}
 use Rattle.life_pset.specs.declared.element.AbsPlace.{AbsPlace}
 use Rattle.life_pset.specs.declared.element.Element.{Element}
 use Rattle.life_pset.specs.declared.element.Fact.{Fact}
+use Rattle.life_pset.specs.declared.element.Root.{Root}
 use Rattle.life_contract.specs.Signatures.{Signature}
 use Rattle.life_proper.specs.OperandTypes.{are_compared, is_range}
 use Rattle.life_proper.specs.Placed.{is_number, type_at, type_of}
@@ -39,7 +40,7 @@ use Rattle.life_forest.specs.Kinds.{kinds_of}
 use Rattle.life_forest.proofs.OneNumber.{typed_at}
 use Rattle.life_forest.proofs.SeenTypes.{parts_typed}
 use Rattle.life_forest.proofs.Steps.{touches_self}
-use Rattle.life_cover.specs.Frames.{FrameCovered, NoInput, RootStands, any_root, look_at}
+use Rattle.life_cover.specs.Frames.{FrameCovered, RootStands, look_at}
 use Rattle.life_cover.proofs.KnownFrames.{IsKnownFrame, IsRight, hand_of, number_free, reach_at, rooted_of, store_of, used_right}
 use Rattle.life_cover.proofs.Looks.{compared_ranged}
 use Rattle.life_cover.proofs.OwnerKinds.{number_right}
@@ -50,6 +51,8 @@ use Rattle.life_cover.proofs.Reaching.{on_place_right}
 use Rattle.life_cover.proofs.Unkilled.{no_foot, unkilled_cover}
 use Rattle.life_cover.proofs.Using.{Faultless, NotInvalid, standing_right, usable_right}
 use Rattle.life_cover.proofs.Walks.{then_right}
+use Rattle.life_cover.specs.Inputs.{may_change, StandsAt}
+use Rattle.life_cover.specs.Regions.{Region}
 
 pub if_right : (b : Bool) (x y : Effect) (Q : State → Type 0) → OnRight x Q → OnRight y Q → OnRight (cond b x y) Q
 if_right true x y Q h k = h
@@ -64,7 +67,7 @@ right_of (GotTrap kind) h = tt
 right_of (GotFault kind) h = h
 right_of GotLost h = tt
 
-module _ (types : Types) (f : Function) (rest : ℕ → ℕ) (S : Fact → Type 0) (st : State) (k : IsKnownFrame types f rest S st) where
+module _ (types : Types) (f : Function) (rest : ℕ → ℕ) (inputs : Root → Option Region) (S : Fact → Type 0) (st : State) (k : IsKnownFrame types f rest inputs S st) where
   -- ---- pointers that are read
 
   -- a view or a span
@@ -74,7 +77,7 @@ module _ (types : Types) (f : Function) (rest : ℕ → ℕ) (S : Fact → Type 
   range_fit q valid is (Some (Named n)) e = tt
   range_fit q valid is (Some (Number z)) e = tt
   range_fit q valid is (Some (Points v)) e =
-      right_of (usable st.world.content v) (usable_right types st.world.content (RootStands types f NoInput st.cells) any_root S (local_place q) (look_at types f q) valid v is (k.covered q v e))
+      right_of (usable st.world.content v) (usable_right types st.world.content (RootStands types f (StandsAt inputs) st.cells) (may_change types f) S (local_place q) (look_at types f q) valid v is (k.covered q v e))
 
   -- an iterator
   pub place_fit : (q : ℕ) → NotInvalid S (local_place q) → is_range (type_at types f q) ≡ false → (v : Option Cell) → cell st q ≡ v → IfRight (iterator st.world.content v) (λ u. Unit {0})
@@ -83,7 +86,7 @@ module _ (types : Types) (f : Function) (rest : ℕ → ℕ) (S : Fact → Type 
   place_fit q valid is (Some (Named n)) e = tt
   place_fit q valid is (Some (Number z)) e = tt
   place_fit q valid is (Some (Points v)) e =
-      right_of (standing st.world.content v) (standing_right types st.world.content (RootStands types f NoInput st.cells) any_root S (local_place q) (look_at types f q) valid v is (k.covered q v e))
+      right_of (standing st.world.content v) (standing_right types st.world.content (RootStands types f (StandsAt inputs) st.cells) (may_change types f) S (local_place q) (look_at types f q) valid v is (k.covered q v e))
 
   -- a view that is written is a local
   abbrev pub IsPort : Port → Type 0
@@ -95,75 +98,75 @@ module _ (types : Types) (f : Function) (rest : ℕ → ℕ) (S : Fact → Type 
     -- ---- nothing is killed, and no pointer is written
 
     module _ (i : Step) (right : IsRight sigs types n f place i S S') (gone : (e : Element) → is_gone types f place i e ≡ false) (none : (l : AbsPlace) → writes i l ≡ false) where
-      pub register_covered : (r : ℕ) → is_number types f r ≡ true → (z : ℤ) → FrameCovered types f S' (put_cell r (Number z) st)
+      pub register_covered : (r : ℕ) → is_number types f r ≡ true → (z : ℤ) → FrameCovered types f inputs S' (put_cell r (Number z) st)
       register_covered r is z =
-          put_covered types k.ordered f (hand_of rest st) st (store_of types f rest S st k) NoInput any_root (rooted_of types f rest S st k).fits sigs place i S S' right.closed gone r (Number z)
-          (λ x ne. none (local_place x)) (number_free types f rest S st k r is) (λ v e. absurd (unlike v e)) k.covered
+          put_covered types k.ordered f (hand_of rest st) st (store_of types f rest inputs S st k) (StandsAt inputs) (may_change types f) (rooted_of types f rest inputs S st k).fits sigs place i S S' right.closed gone r (Number z)
+          (λ x ne. none (local_place x)) (number_free types f rest inputs S st k r is) (λ v e. absurd (unlike v e)) k.covered
         where
           unlike : (v : Pointer) → Number z ≡ Points v → ⊥
           unlike v e = cc
 
       -- where content and cells are as they were
-      pub still_covered : FrameCovered types f S' st
+      pub still_covered : FrameCovered types f inputs S' st
       still_covered x v e =
-          unkilled_cover types k.ordered (hand_of rest st) st.world.content st.world.content (store_of types f rest S st k) (touches_self (kinds_of types) no_foot st.world.content) (RootStands types f NoInput st.cells) (RootStands types f NoInput st.cells) any_root
-          (rooted_of types f rest S st k).fits sigs f place i S S' right.closed gone (λ a r names free s. s) (local_place x) (look_at types f x) v (none (local_place x)) (k.covered x v e)
+          unkilled_cover types k.ordered (hand_of rest st) st.world.content st.world.content (store_of types f rest inputs S st k) (touches_self (kinds_of types) no_foot st.world.content) (RootStands types f (StandsAt inputs) st.cells) (RootStands types f (StandsAt inputs) st.cells) (may_change types f)
+          (rooted_of types f rest inputs S st k).fits sigs f place i S S' right.closed gone (λ a r names free s. s) (local_place x) (look_at types f x) v (none (local_place x)) (k.covered x v e)
 
     -- ---- values
 
-    pub eval_kind : (s : Setting) (r : ℕ) (op : Operation) → IsRight sigs types n f place (Eval r op) S S' → is_number types f r ≡ true → OnRight (does s types f (Eval r op) st) (FrameCovered types f S')
+    pub eval_kind : (s : Setting) (r : ℕ) (op : Operation) → IsRight sigs types n f place (Eval r op) S S' → is_number types f r ≡ true → OnRight (does s types f (Eval r op) st) (FrameCovered types f inputs S')
     eval_kind s r op right is = go op (register_covered (Eval r op) right (λ e. refl) (λ l. refl) r is)
       where
-        computed : (c : Computed) → ((z : ℤ) → FrameCovered types f S' (put_cell r (Number z) st)) → OnRight (computed_into r c st) (FrameCovered types f S')
+        computed : (c : Computed) → ((z : ℤ) → FrameCovered types f inputs S' (put_cell r (Number z) st)) → OnRight (computed_into r c st) (FrameCovered types f inputs S')
         computed (Ok z) each = each z
         computed (Err kind) each = tt
 
-        go : (o : Operation) → ((z : ℤ) → FrameCovered types f S' (put_cell r (Number z) st)) → OnRight (evaluated types f r o st) (FrameCovered types f S')
+        go : (o : Operation) → ((z : ℤ) → FrameCovered types f inputs S' (put_cell r (Number z) st)) → OnRight (evaluated types f r o st) (FrameCovered types f inputs S')
         go (operation.Number z) each = each z
-        go (operation.Convert q) each = number_right (cell st q) (λ z. Next (put_cell r (Number (converted (number_type types f r) z)) st)) (FrameCovered types f S') (λ z. each (converted (number_type types f r) z))
-        go (operation.Negate q) each = number_right (cell st q) (λ z. computed_into r (negated (number_type types f r) z) st) (FrameCovered types f S') (λ z. computed (negated (number_type types f r) z) each)
-        go (operation.IsZero q) each = number_right (cell st q) (λ z. computed_into r (truth (is_zero z)) st) (FrameCovered types f S') (λ z. computed (truth (is_zero z)) each)
+        go (operation.Convert q) each = number_right (cell st q) (λ z. Next (put_cell r (Number (converted (number_type types f r) z)) st)) (FrameCovered types f inputs S') (λ z. each (converted (number_type types f r) z))
+        go (operation.Negate q) each = number_right (cell st q) (λ z. computed_into r (negated (number_type types f r) z) st) (FrameCovered types f inputs S') (λ z. computed (negated (number_type types f r) z) each)
+        go (operation.IsZero q) each = number_right (cell st q) (λ z. computed_into r (truth (is_zero z)) st) (FrameCovered types f inputs S') (λ z. computed (truth (is_zero z)) each)
         go (operation.Binary operator a b) each =
-            number_right (cell st a) (λ x. on_number (cell st b) (λ y. computed_into r (combined (number_type types f a) operator x y) st)) (FrameCovered types f S')
-            (λ x. number_right (cell st b) (λ y. computed_into r (combined (number_type types f a) operator x y) st) (FrameCovered types f S') (λ y. computed (combined (number_type types f a) operator x y) each))
+            number_right (cell st a) (λ x. on_number (cell st b) (λ y. computed_into r (combined (number_type types f a) operator x y) st)) (FrameCovered types f inputs S')
+            (λ x. number_right (cell st b) (λ y. computed_into r (combined (number_type types f a) operator x y) st) (FrameCovered types f inputs S') (λ y. computed (combined (number_type types f a) operator x y) each))
 
-    pub load_kind : (s : Setting) (r : ℕ) (o : Operand) → IsRight sigs types n f place (Load r o) S S' → is_number types f r ≡ true → is_void (type_of types f o) ≡ false → OnRight (does s types f (Load r o) st) (FrameCovered types f S')
+    pub load_kind : (s : Setting) (r : ℕ) (o : Operand) → IsRight sigs types n f place (Load r o) S S' → is_number types f r ≡ true → is_void (type_of types f o) ≡ false → OnRight (does s types f (Load r o) st) (FrameCovered types f inputs S')
     load_kind s r o right is solid =
-        on_place_right types f st NoInput any_root S o (reach_at types f rest S st k o solid (λ p used. used_right sigs types n f place (Load r o) S right.clean p used))
-        (λ m j object. Next (put_cell r (Number (number_in_word (word_at object j (operand_word types f o st)))) st)) (λ c. on_character s.texts c (λ z. Next (put_cell r (Number z) st))) (FrameCovered types f S')
+        on_place_right types f st (StandsAt inputs) (may_change types f) S o (reach_at types f rest inputs S st k o solid (λ p used. used_right sigs types n f place (Load r o) S right.clean p used))
+        (λ m j object. Next (put_cell r (Number (number_in_word (word_at object j (operand_word types f o st)))) st)) (λ c. on_character s.texts c (λ z. Next (put_cell r (Number z) st))) (FrameCovered types f inputs S')
         (λ h. put (number_in_word (word_at h.holder h.index (operand_word types f o st))))
-        (λ c single. character_right s.texts c (λ z. Next (put_cell r (Number z) st)) (FrameCovered types f S') put)
+        (λ c single. character_right s.texts c (λ z. Next (put_cell r (Number z) st)) (FrameCovered types f inputs S') put)
       where
-        put : (z : ℤ) → FrameCovered types f S' (put_cell r (Number z) st)
+        put : (z : ℤ) → FrameCovered types f inputs S' (put_cell r (Number z) st)
         put = register_covered (Load r o) right (λ e. refl) (λ l. refl) r is
 
-    pub port_kind : (s : Setting) (p : Port) → IsRight sigs types n f place (Ports p) S S' → IsPort p → OnRight (does s types f (Ports p) st) (FrameCovered types f S')
+    pub port_kind : (s : Setting) (p : Port) → IsRight sigs types n f place (Ports p) S S' → IsPort p → OnRight (does s types f (Ports p) st) (FrameCovered types f inputs S')
     port_kind s (Writes r) right is =
-        number_right (cell st r) (λ z. Next (with_output (number_text (number_type types f r) z) st)) (FrameCovered types f S') (λ z. still_covered (Ports (Writes r)) right (λ e. refl) (λ l. refl))
+        number_right (cell st r) (λ z. Next (with_output (number_text (number_type types f r) z) st)) (FrameCovered types f inputs S') (λ z. still_covered (Ports (Writes r)) right (λ e. refl) (λ l. refl))
     port_kind s (Takes r) right is = taken st.world.input
       where
-        taken : (zs : List ℤ) → OnRight (input_taken r zs st) (FrameCovered types f S')
+        taken : (zs : List ℤ) → OnRight (input_taken r zs st) (FrameCovered types f inputs S')
         taken [] = tt
         taken (z ∷ zs) = register_covered (Ports (Takes r)) right (λ e. refl) (λ l. refl) r is _
     port_kind s (WritesView l) right is =
-        subst (λ (q : Location). IsRight sigs types n f place (Ports (WritesView q)) S S' → OnRight (does s types f (Ports (WritesView q)) st) (FrameCovered types f S')) is.0
-        (λ now. right_then (used st.world.content (cell st l.local)) (λ v. Next (with_output (seen_bytes s.texts st.world.content v) st)) (λ u. Unit {0}) (FrameCovered types f S')
+        subst (λ (q : Location). IsRight sigs types n f place (Ports (WritesView q)) S S' → OnRight (does s types f (Ports (WritesView q)) st) (FrameCovered types f inputs S')) is.0
+        (λ now. right_then (used st.world.content (cell st l.local)) (λ v. Next (with_output (seen_bytes s.texts st.world.content v) st)) (λ u. Unit {0}) (FrameCovered types f inputs S')
         (range_fit l.local (read_right sigs types n f place (Ports (WritesView (whole l.local))) S now.clean (whole l.local) (at_head (whole l.local) [])) is.1 (cell st l.local) refl)
         (λ v h. still_covered (Ports (WritesView (whole l.local))) now (λ e. refl) (λ a. refl)))
         right
 
     -- ---- sizes and comparisons of pointers
 
-    pub seen_size_kind : (s : Setting) (r q : ℕ) → IsRight sigs types n f place (Size r (named.Pointer (whole q))) S S' → is_number types f r ≡ true → is_range (type_at types f q) ≡ true → OnRight (does s types f (Size r (named.Pointer (whole q))) st) (FrameCovered types f S')
+    pub seen_size_kind : (s : Setting) (r q : ℕ) → IsRight sigs types n f place (Size r (named.Pointer (whole q))) S S' → is_number types f r ≡ true → is_range (type_at types f q) ≡ true → OnRight (does s types f (Size r (named.Pointer (whole q))) st) (FrameCovered types f inputs S')
     seen_size_kind s r q right is ranged =
-        right_then (used st.world.content (cell st q)) (λ v. Next (put_cell r (Number (pos (seen_count v))) st)) (λ u. Unit {0}) (FrameCovered types f S')
+        right_then (used st.world.content (cell st q)) (λ v. Next (put_cell r (Number (pos (seen_count v))) st)) (λ u. Unit {0}) (FrameCovered types f inputs S')
         (range_fit q (read_right sigs types n f place (Size r (named.Pointer (whole q))) S right.clean (whole q) (at_head (whole q) [])) ranged (cell st q) refl)
         (λ v h. register_covered (Size r (named.Pointer (whole q))) right (λ e. refl) (λ l. refl) r is (pos (seen_count v)))
 
     pub same_kind : (s : Setting) (r a b : ℕ) (equal : Bool) → IsRight sigs types n f place (Same r (whole a) (whole b) equal) S S' → is_number types f r ≡ true → are_compared types (type_at types f a) (type_at types f b) ≡ true
-        → OnRight (does s types f (Same r (whole a) (whole b) equal) st) (FrameCovered types f S')
+        → OnRight (does s types f (Same r (whole a) (whole b) equal) st) (FrameCovered types f inputs S')
     same_kind s r a b equal right is alike =
-        right_then (compared s types f (location_parts types f (whole a)) (whole a) (whole b) st) (λ same. Next (put_cell r (Number (told same equal)) st)) (λ same. Unit {0}) (FrameCovered types f S')
+        right_then (compared s types f (location_parts types f (whole a)) (whole a) (whole b) st) (λ same. Next (put_cell r (Number (told same equal)) st)) (λ same. Unit {0}) (FrameCovered types f inputs S')
         (by_type (type_at types f a) refl alike)
         (λ same h. register_covered i right (λ e. refl) (λ l. refl) r is (told same equal))
       where

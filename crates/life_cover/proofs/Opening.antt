@@ -15,6 +15,7 @@ use Rattle.life_pset.specs.Places.{members_place, path}
 use Rattle.life_pset.specs.Shapes.{has_buffer, location_type, target_type}
 use Rattle.life_pset.specs.Shapes as shapes
 use Rattle.life_pset.specs.Table.{IsOf, table_of}
+use Rattle.life_pset.specs.declared.element.AbsPlace.{AbsPlace}
 use Rattle.life_pset.specs.declared.element.Element.TheVariants as element
 use Rattle.life_pset.specs.declared.element.Fact.{Fact}
 use Rattle.life_pset.specs.declared.element.Root.{Root}
@@ -36,8 +37,9 @@ use Rattle.life_forest.proofs.SeenTypes.{parts_typed}
 use Rattle.life_forest.proofs.TypedSteps.{operand_of}
 use Rattle.life_cover.specs.Buffered.{HasBuffers}
 use Rattle.life_cover.specs.Covers.{IsSeenAs}
-use Rattle.life_cover.specs.Frames.{NoInput, RootStands, any_root}
-use Rattle.life_cover.specs.Regions.{Goes, IsTrue, Lies, Region, owned_in_type}
+use Rattle.life_cover.specs.Frames.{RootStands}
+use Rattle.life_cover.specs.Inputs.{IsAllOf, may_change, StandsAt}
+use Rattle.life_cover.specs.Regions.{Goes, IsAt, IsTrue, Lies, Region, owned_in_type}
 use Rattle.life_cover.proofs.Buffers.{buffer_lives}
 use Rattle.life_cover.proofs.Inside.{goes_true, lies_true, owned_typed}
 use Rattle.life_cover.proofs.KnownFrames.{IsKnownFrame, hand_of, object_named, rooted_of, solid_type, store_of, whole_type}
@@ -52,49 +54,48 @@ slot_there [] i lt = absurd (omega (arith, lt))
 slot_there (s ∷ ss) zero lt = (s, refl)
 slot_there (s ∷ ss) (suc i) lt = slot_there ss i (omega (arith, lt))
 
-module _ (types : Types) (f : Function) (rest : ℕ → ℕ) (S : Fact → Type 0) (st : State) (k : IsKnownFrame types f rest S st) where
+module _ (types : Types) (f : Function) (rest : ℕ → ℕ) (inputs : Root → Option Region) (S : Fact → Type 0) (st : State) (k : IsKnownFrame types f rest inputs S st) where
   -- ---- all of an object
 
-  pub record IsAllOf (a : Region) : Type 0 where
-    pub word : a.word ≡ 0
-    pub type : (q : Object) → at st.world.content.objects a.object ≡ Some q → q.ty ≡ a.ty
-
-  lies_all : (ss : List ℕ) (a b : Region) → IsTrue types st.world.content a → IsAllOf a → Lies types st.world.content ss a b → IsAllOf b
-  lies_all [] a b is all lies = subst IsAllOf lies all
-  lies_all (s ∷ ss) a b is all lies = lies_all ss lies.0 b (goes_true types k.ordered (hand_of rest st) st.world.content (store_of types f rest S st k) s a lies.0 is lies.1) (step lies.1) lies.2
+  lies_all : (ss : List ℕ) (a b : Region) → IsTrue types st.world.content a → IsAllOf st.world.content a → Lies types st.world.content ss a b → IsAllOf st.world.content b
+  lies_all [] a b is all lies = subst (IsAllOf st.world.content) lies all
+  lies_all (s ∷ ss) a b is all lies = lies_all ss lies.0 b (goes_true types k.ordered (hand_of rest st) st.world.content (store_of types f rest inputs S st k) s a lies.0 is lies.1) (step lies.1) lies.2
     where
-      step : Goes types st.world.content s a lies.0 → IsAllOf lies.0
+      step : Goes types st.world.content s a lies.0 → IsAllOf st.world.content lies.0
       step (inl m) = absurd (none_some (sym (no_member types k.ordered k.plain st.world.content a.ty s) ∙ m.type))
-      step (inr o) = record { word = o.word; type = owned_typed types k.ordered (hand_of rest st) st.world.content (store_of types f rest S st k) s a lies.0 is o }
+      step (inr o) = record { word = o.word; type = owned_typed types k.ordered (hand_of rest st) st.world.content (store_of types f rest inputs S st k) s a lies.0 is o }
 
-  root_all : (ro : Root) (a : Region) → RootStands types f NoInput st.cells ro a → IsAllOf a
-  root_all (root.Input q member) a stands = absurd stands
+  root_all : (ro : Root) (a : Region) → RootStands types f (StandsAt inputs) st.cells ro a → IsAllOf st.world.content a
+  root_all (root.Input q member) a stands = k.given.all (root.Input q member) a stands
   root_all (root.Local x) a stands = by (k.stands.frame.objects x a.object stands.0)
     where
-      by : IsVariable st.world.content (local_type types f x) a.object → IsAllOf a
+      by : IsVariable st.world.content (local_type types f x) a.object → IsAllOf st.world.content a
       by v = record { word = stands.1; type = λ q there. ap (λ (o : Object). o.ty) (some_same (sym there ∙ v.there)) ∙ some_same (sym v.type ∙ stands.2) }
 
-  module _ (o : Operand) (r : IsReached types f st NoInput any_root S o) where
-    pub region_all : IsAllOf r.region
-    region_all = lies_all (path r.place) r.lies.start r.region ((rooted_of types f rest S st k).fits r.place.root r.lies.start r.lies.stands) (root_all r.place.root r.lies.start r.lies.stands) r.lies.lies
+  pub place_all : (place : AbsPlace) (r : Region) → IsAt types st.world.content (RootStands types f (StandsAt inputs) st.cells) place r → IsAllOf st.world.content r
+  place_all place r at_r = lies_all (path place) at_r.start r ((rooted_of types f rest inputs S st k).fits place.root at_r.start at_r.stands) (root_all place.root at_r.start at_r.stands) at_r.lies
+
+  module _ (o : Operand) (r : IsReached types f st (StandsAt inputs) (may_change types f) S o) where
+    pub region_all : IsAllOf st.world.content r.region
+    region_all = place_all r.place r.region r.lies
 
     -- ---- its place
 
     pub path_of : is_void (type_of types f o) ≡ false → ((x : Fact) → S x → IsOf (table_of types f) x) → IsItsPath r.place
     path_of solid of = go o r solid
       where
-        go : (p : Operand) (h : IsReached types f st NoInput any_root S p) → is_void (type_of types f p) ≡ false → IsItsPath h.place
+        go : (p : Operand) (h : IsReached types f st (StandsAt inputs) (may_change types f) S p) → is_void (type_of types f p) ≡ false → IsItsPath h.place
         go (named.Name l) h s =
-            subst IsItsPath (sym (h.by ∙ ap (members_place (local_place l.local)) (whole_type types k.plain (shapes.local_type types f l.local) l.members (solid_type types f rest S st k (named.Name l) s)))) (local_path_here l.local)
+            subst IsItsPath (sym (h.by ∙ ap (members_place (local_place l.local)) (whole_type types k.plain (shapes.local_type types f l.local) l.members (solid_type types f rest inputs S st k (named.Name l) s)))) (local_path_here l.local)
           where
             local_path_here : (x : ℕ) → IsItsPath (local_place x)
             local_path_here x = record { eight = refl; made = refl }
         go (named.Through p ms) h s =
-            subst IsItsPath (sym (h.by.2 ∙ ap (members_place h.by.0) (whole_type types k.plain (target_type types (location_type types f p)) ms (solid_type types f rest S st k (named.Through p ms) s))))
-            (fact_path types k.ordered k.plain f k.shaped k.short st.world.content st.cells (object_named types f rest S st k) (located p) h.by.0 (of (fact_at (located p) (element.At h.by.0)) h.by.1))
+            subst IsItsPath (sym (h.by.2 ∙ ap (members_place h.by.0) (whole_type types k.plain (target_type types (location_type types f p)) ms (solid_type types f rest inputs S st k (named.Through p ms) s))))
+            (fact_path types k.ordered k.plain f k.shaped k.short st.world.content st.cells (object_named types f rest inputs S st k) inputs k.given.each (located p) h.by.0 (of (fact_at (located p) (element.At h.by.0)) h.by.1))
 
     pub place_known : is_void (type_of types f o) ≡ false → ((x : Fact) → S x → IsOf (table_of types f) x) → Contains (elements_of types f) (element.At r.place)
-    place_known solid of = known_at types k.ordered k.plain f k.shaped k.short st.world.content st.cells (object_named types f rest S st k) r.place r.region (path_of solid of) r.lies
+    place_known solid of = known_at types k.ordered k.plain f k.shaped k.short st.world.content st.cells (object_named types f rest inputs S st k) inputs k.given.each r.place r.region (path_of solid of) r.lies
 
     -- ---- what it has
 
@@ -123,8 +124,8 @@ module _ (types : Types) (f : Function) (rest : ℕ → ℕ) (S : Fact → Type 
         let there : slice_get types.types r.region.ty.0 ≡ Some u = ap (λ (i : TyId). slice_get types.types i.0) (sym same) ∙ of.there in
         let made : parts_at types r.region.ty ≡ p = parts_typed types k.ordered r.region.ty u there ∙ parts in
         let b = buffered p made has in
-        let l = buffer_lives types k.ordered (hand_of rest st) st.world.content (store_of types f rest S st k) r.region.object r.index r.region.word r.region.ty r.holder r.there
-        (lies_true types k.ordered (hand_of rest st) st.world.content (store_of types f rest S st k) (path r.place) r.lies.start r.region ((rooted_of types f rest S st k).fits r.place.root r.lies.start r.lies.stands) r.lies.lies r.holder r.there) r.small p made b.0
+        let l = buffer_lives types k.ordered (hand_of rest st) st.world.content (store_of types f rest inputs S st k) r.region.object r.index r.region.word r.region.ty r.holder r.there
+        (lies_true types k.ordered (hand_of rest st) st.world.content (store_of types f rest inputs S st k) (path r.place) r.lies.start r.region ((rooted_of types f rest inputs S st k).fits r.place.root r.lies.start r.lies.stands) r.lies.lies r.holder r.there) r.small p made b.0
         (subst (λ m. owned_of p (spot_words st.world.content (record { object = r.region.object; index = r.index; word = r.region.word }) m) ≡ b.0 ∷ []) (sym one)
         (owns b.0 (spot_words st.world.content (record { object = r.region.object; index = r.index; word = r.region.word }) 1) b.1)) in record {
           typed = of.is ∙ ap Some same;
@@ -149,5 +150,5 @@ module _ (types : Types) (f : Function) (rest : ℕ → ℕ) (S : Fact → Type 
 
     -- the place of what it has
     pub opens_place : is_void (type_of types f o) ≡ false → ((x : Fact) → S x → IsOf (table_of types f) x) → (item : TyId) → owned_in_type types (slice_get types.types r.region.ty.0) ≡ Some item
-        → CanOpen types k.ordered k.plain f k.shaped k.short st.world.content st.cells (object_named types f rest S st k) r.place
-    opens_place solid of item type = can_open types k.ordered k.plain f k.shaped k.short st.world.content st.cells (object_named types f rest S st k) r.place r.region item (path_of solid of) r.lies type
+        → CanOpen types k.ordered k.plain f k.shaped k.short st.world.content st.cells (object_named types f rest inputs S st k) inputs k.given.each r.place
+    opens_place solid of item type = can_open types k.ordered k.plain f k.shaped k.short st.world.content st.cells (object_named types f rest inputs S st k) inputs k.given.each r.place r.region item (path_of solid of) r.lies type

@@ -66,7 +66,7 @@ given_fact types f st Input may_change sigs place i S S' owned p (named.Through 
 
 module _ (types : Types) (ordered : IsOrdered types) (f : Function) (hand : ℕ → ℕ) (st : State) (store : IsStore types hand st.world.content) (Input : Root → Region → Type 0) (may_change owning : Root → Bool)
     (rooted : AreRooted types st.world.content (RootStands types f Input st.cells) owning) (sigs : List Signature) (place : Place) (S S' : Fact → Type 0) (old : LocalsCovered types f Input may_change S st)
-    (o : Operand) (r : IsReached types f st Input may_change S o) (own : owning r.place.root ≡ true) (typed : operand_type types f o ≡ Some r.region.ty) (b : ℕ)
+    (o : Operand) (r : IsReached types f st Input may_change S o) (typed : operand_type types f o ≡ Some r.region.ty) (b : ℕ)
     (owned : owned_at st.world.content (record { object = r.region.object; index = r.index; word = r.region.word }) ≡ Some b) (s : Setting) where
   module _ (p : ℕ) (item : TyId) (ob : Object) (lives : at st.world.content.objects b ≡ Some ob) (type : owned_in_type types (slice_get types.types r.region.ty.0) ≡ Some item) (target : IsSeenAs types (look_at types f p).target item)
       (change : (look_at types f p).constant ≡ false → may_change r.place.root ≡ true) (room : HasRoom 1 r.place) (no_object : (k : ℕ) → cell st p ≡ Some (Named k) → ⊥) where

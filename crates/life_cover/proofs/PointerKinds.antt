@@ -24,7 +24,7 @@ use Rattle.life_contract.specs.Located.{located}
 use Rattle.life_contract.specs.Signatures.{Signature}
 use Rattle.life_rules.specs.Arguing.{argument_diags}
 use Rattle.life_rules.specs.Carrying.{is_gone, makes, taken, writes}
-use Rattle.life_rules.specs.Diagnosing.{misopened_as, misread, misread_as, misused_as, moved_as, opens, owners, reads, step_diags, use_diags, uses}
+use Rattle.life_rules.specs.Diagnosing.{misopened_as, misread, misread_as, misused_as, moved_as, opens, owners, reads, step_diags, step_diags_of_two, use_diags, uses}
 use Rattle.life_rules.specs.Keeping.{keeping_diags}
 use Rattle.life_rules.specs.Matching.{fact_at}
 use Rattle.life_rules.specs.declared.diag.Diag.{Diag}
@@ -48,6 +48,10 @@ use Rattle.life_cover.proofs.Walks.{IsAimed, advance_right, cursor_right, cut_ri
 -- nothing is wrong at the instruction
 abbrev pub IsClean : List Signature → Types → ℕ → Function → Place → Step → (Fact → Type 0) → Type 0
 IsClean sigs types n f place i S = (x : Fact) → S x → (d : Diag) → Contains (step_diags sigs types n f place i x) d → ⊥
+
+-- .. with two facts
+abbrev pub IsCleanOfTwo : List Signature → Types → ℕ → Function → Place → Step → (Fact → Type 0) → Type 0
+IsCleanOfTwo sigs types n f place i S = (a b : Fact) → S a → S b → (d : Diag) → Contains (step_diags_of_two sigs types n f place i a b) d → ⊥
 
 -- so a view, a span or an iterator that it reads may not be invalid
 pub read_right : (sigs : List Signature) (types : Types) (n : ℕ) (f : Function) (place : Place) (i : Step) (S : Fact → Type 0) → IsClean sigs types n f place i S → (l : Location) → Contains (reads i) l → NotInvalid S (located l)

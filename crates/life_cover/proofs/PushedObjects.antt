@@ -1,6 +1,6 @@
 -- Behind an object that is pushed to a vector of a frame without structs, and gives its value over, each vector and each string has its buffer; and
 -- what is touched lies beneath what the frame names.
-use Rattle.std.proofs.Common.{◌≡◌, ◌≢◌, ⊎_elim, ℕ, ◌<◌, List, length, Option, Some, refl, sym, ap, subst, ◌∙◌, arith, ◌⊎◌, ◌+◌, ◌∷◌, []}
+use Rattle.std.proofs.Common.{◌≡◌, ◌≢◌, ⊎_elim, ℕ, ◌<◌, true, List, length, Option, Some, refl, sym, ap, subst, ◌∙◌, arith, ◌⊎◌, ◌+◌, ◌∷◌, []}
 use Rattle.std.specs.Prelude.{slice_get, slice_set}
 use Rattle.life_types.specs.Types.{Types}
 use Rattle.life_types.specs.declared.ty.Ty.TheVariants as ty
@@ -10,6 +10,7 @@ use Rattle.life_core.specs.Function.{Function}
 use Rattle.life_core.specs.Operands.{Operand}
 use Rattle.life_core.specs.Step.{Changes, PushBack}
 use Rattle.life_pset.specs.declared.element.Fact.{Fact}
+use Rattle.life_pset.specs.declared.element.Root.{Root}
 use Rattle.life_proper.specs.Placed.{type_of}
 use Rattle.life_store.specs.Cells.{at}
 use Rattle.life_store.specs.Content.{Slot, Object, Content, word_in}
@@ -41,7 +42,7 @@ use Rattle.life_forest.proofs.Counting.{one_same}
 use Rattle.life_forest.proofs.Frames.{less_in_hand, named_put}
 use Rattle.life_forest.proofs.Following.{in_hand}
 use Rattle.life_cover.specs.Buffered.{AreBuffered, HasBuffers}
-use Rattle.life_cover.specs.Frames.{NoInput, any_root}
+use Rattle.life_cover.specs.Inputs.{may_change, owning, StandsAt}
 use Rattle.life_cover.specs.Regions.{Region, foot_of}
 use Rattle.life_cover.proofs.Buffers.{buffer_lives, buffer_low, low, foot_covers, buffer, own}
 use Rattle.life_cover.proofs.Copies.{whole_parts}
@@ -92,7 +93,7 @@ module _ (types : Types) (ordered : IsOrdered types) (hand : ℕ → ℕ) (c : C
 
 -- ---- in a frame
 
-module _ (types : Types) (f : Function) (rest : ℕ → ℕ) (S : Fact → Type 0) (st : State) (k : IsKnownFrame types f rest S st) (s : Setting) (o : Operand) (item : TyId) (is_vector : type_of types f o ≡ ty.Vector item) (x m : ℕ) (named : cell st x ≡ Some (Named m)) (typed : local_type types f x ≡ Some item) where
+module _ (types : Types) (f : Function) (rest : ℕ → ℕ) (inputs : Root → Option Region) (S : Fact → Type 0) (st : State) (k : IsKnownFrame types f rest inputs S st) (s : Setting) (o : Operand) (item : TyId) (is_vector : type_of types f o ≡ ty.Vector item) (x m : ℕ) (named : cell st x ≡ Some (Named m)) (typed : local_type types f x ≡ Some item) where
   variable : IsVariable st.world.content (local_type types f x) m
   variable = k.stands.frame.objects x m named
 
@@ -116,37 +117,37 @@ module _ (types : Types) (f : Function) (rest : ℕ → ℕ) (S : Fact → Type 
   abbrev region : Region
   region = record { object = m; word = 0; ty = variable.object.ty }
 
-  module _ (r : IsReached types f st NoInput any_root S o) where
-    abbrev h : IsOpened types f rest S st k o r (ty.Vector item) item
-    h = vector_opened types f rest S st k o r item is_vector
+  module _ (r : IsReached types f st (StandsAt inputs) (may_change types f) S o) (own : owning types f r.place.root ≡ true) where
+    abbrev h : IsOpened types f rest inputs S st k o r (ty.Vector item) item
+    h = vector_opened types f rest inputs S st k o r item is_vector
 
-    abbrev elements : (y : Object) × (at st.world.content.objects (vector_opened types f rest S st k o r item is_vector).buffer ≡ Some y)
-    elements = held types f rest S st k o r item is_vector
+    abbrev elements : (y : Object) × (at st.world.content.objects (vector_opened types f rest inputs S st k o r item is_vector).buffer ≡ Some y)
+    elements = held types f rest inputs S st k o r item is_vector
 
     -- the store, where what is given over is in the hand by itself
     in_two : IsStore types (λ j. times (m ∷ []) j + (times (named_in (slice_set st.cells x Empty)) j + rest j)) st.world.content
     in_two =
         less_in_hand types (hand_of rest st) (λ j. times (m ∷ []) j + (times (named_in (slice_set st.cells x Empty)) j + rest j)) st.world.content
-        (λ j. let e = named_put st.cells x (Named m) Empty j named in omega (arith, e)) (store_of types f rest S st k)
+        (λ j. let e = named_put st.cells x (Named m) Empty j named in omega (arith, e)) (store_of types f rest inputs S st k)
 
-    pub pushed_touches : IfGot (pushed s item (parts_at types item) (record { object = r.region.object; index = r.index; word = r.region.word }) (vector_opened types f rest S st k o r item is_vector).buffer (consumed (parts_at types item) m) st.world.content)
+    pub pushed_touches : IfGot (pushed s item (parts_at types item) (record { object = r.region.object; index = r.index; word = r.region.word }) (vector_opened types f rest inputs S st k o r item is_vector).buffer (consumed (parts_at types item) m) st.world.content)
         (Touches (kinds_of types) (pushed_foot types r.region m) st.world.content)
     pushed_touches =
-        object_touches types k.ordered (λ j. times (named_in (slice_set st.cells x Empty)) j + rest j) st.world.content m in_two r.region.object r.index r.region.word r.region.ty r.holder r.there (region_within types f rest S st k o r) r.small
-        item (vector_parts types f rest S st k o r item is_vector) h.buffer h.owned variable.object variable.slot variable.there variable.one m_type s
+        object_touches types k.ordered (λ j. times (named_in (slice_set st.cells x Empty)) j + rest j) st.world.content m in_two r.region.object r.index r.region.word r.region.ty r.holder r.there (region_within types f rest inputs S st k o r) r.small
+        item (vector_parts types f rest inputs S st k o r item is_vector) h.buffer h.owned variable.object variable.slot variable.there variable.one m_type s
 
     -- a string there has another buffer than the vector
     free_of : (p : Parts) → parts_at types variable.object.ty ≡ p → IsFree types p (λ j. (j ≡ h.buffer) ⊎ (j ≡ st.world.content.births)) variable.slot.words
     free_of (Text id) is = λ j e out.
         let old = ap listed (owned_is st.world.content m 0 0 variable.object variable.there ∙ ap (λ (t : Option Slot). owned_in (word_in t 0)) slot_there ∙ e) in
         let small : 0 < length variable.object.slots = (let one = ap length variable.one in omega (arith, one)) in
-        let l = buffer_lives types k.ordered (hand_of rest st) st.world.content (store_of types f rest S st k) m 0 0 variable.object.ty variable.object variable.there (within_self types variable.object.ty) small (Text id) is j old in
-        let beneath = buffer_low types k.ordered (hand_of rest st) st.world.content (store_of types f rest S st k) m 0 0 variable.object.ty variable.object variable.there (within_self types variable.object.ty) small (Text id) is j old in
+        let l = buffer_lives types k.ordered (hand_of rest st) st.world.content (store_of types f rest inputs S st k) m 0 0 variable.object.ty variable.object variable.there (within_self types variable.object.ty) small (Text id) is j old in
+        let beneath = buffer_low types k.ordered (hand_of rest st) st.world.content (store_of types f rest inputs S st k) m 0 0 variable.object.ty variable.object variable.there (within_self types variable.object.ty) small (Text id) is j old in
         ⊎_elim
         (λ same.
-        let less = beneath_lesser types k.ordered (hand_of rest st) st.world.content (store_of types f rest S st k) region j beneath variable.object l.0 variable.there l.1 in
+        let less = beneath_lesser types k.ordered (hand_of rest st) st.world.content (store_of types f rest inputs S st k) region j beneath variable.object l.0 variable.there l.1 in
         let one = ap (λ (q : Object). rank_of types q.ty) (some_same (sym l.1 ∙ ap (at st.world.content.objects) same ∙ elements.1)) in
-        let two = ap (rank_of types) (held_type types f rest S st k o r item is_vector ∙ sym m_type) in
+        let two = ap (rank_of types) (held_type types f rest inputs S st k o r item is_vector ∙ sym m_type) in
         omega (arith, less, one, two))
         (λ new. let old_one = k.stands.store.forest.births j l.0 l.1 in omega (arith, old_one, new)) out
     free_of Single is = tt
@@ -161,45 +162,45 @@ module _ (types : Types) (f : Function) (rest : ℕ → ℕ) (S : Fact → Type 
     -- what the vector has lies beneath it, so it isn't what gives its value over, and neither is what its elements have
     buffer_beneath : Beneath (kinds_of types) st.world.content (foot_of types r.region) h.buffer
     buffer_beneath =
-        low types k.ordered (hand_of rest st) st.world.content (store_of types f rest S st k) r.region.object r.index r.region.word r.region.ty r.holder r.there (region_within types f rest S st k o r) r.small item (parts_at types item) (vector_parts types f rest S st k o r item is_vector)
+        low types k.ordered (hand_of rest st) st.world.content (store_of types f rest inputs S st k) r.region.object r.index r.region.word r.region.ty r.holder r.there (region_within types f rest inputs S st k o r) r.small item (parts_at types item) (vector_parts types f rest inputs S st k o r item is_vector)
         h.buffer h.owned
 
     apart : h.buffer ≢ m
     apart e = named_free types f rest st k.stands.store k.stands.frame x m r.region named (subst (Beneath (kinds_of types) st.world.content (foot_of types r.region)) e buffer_beneath)
 
     holder_apart : h.buffer ≢ r.region.object
-    holder_apart e = not_itself types k.ordered (hand_of rest st) st.world.content (store_of types f rest S st k) r.region (subst (Beneath (kinds_of types) st.world.content (foot_of types r.region)) e buffer_beneath)
+    holder_apart e = not_itself types k.ordered (hand_of rest st) st.world.content (store_of types f rest inputs S st k) r.region (subst (Beneath (kinds_of types) st.world.content (foot_of types r.region)) e buffer_beneath)
 
     unborn : (j : ℕ) (q : Object) → at st.world.content.objects j ≡ Some q → j ≡ st.world.content.births → ⊥
     unborn j q there e = let old = k.stands.store.forest.births j q there in omega (arith, old, e)
 
     fit_word : elements.0.width ≡ width (parts_at types item)
-    fit_word = (k.stands.store.fit h.buffer elements.0 elements.1).width ∙ ap (width_at types) (held_type types f rest S st k o r item is_vector)
+    fit_word = (k.stands.store.fit h.buffer elements.0 elements.1).width ∙ ap (width_at types) (held_type types f rest inputs S st k o r item is_vector)
 
     pushed_one : IfGot (pushed s item (parts_at types item) (record { object = r.region.object; index = r.index; word = r.region.word }) h.buffer (consumed (parts_at types item) m) st.world.content) (AreBuffered types)
     pushed_one =
-        at_start types f rest S st k o r s (λ spot. IfGot (pushed s item (parts_at types item) spot h.buffer (consumed (parts_at types item) m) st.world.content) (AreBuffered types))
-        (object_buffered types s item (parts_at types item) (whole_parts types k.plain item) refl h.buffer st.world.content k.buffered elements.0 elements.1 (held_type types f rest S st k o r item is_vector)
+        at_start types f rest inputs S st k o r s (λ spot. IfGot (pushed s item (parts_at types item) spot h.buffer (consumed (parts_at types item) m) st.world.content) (AreBuffered types))
+        (object_buffered types s item (parts_at types item) (whole_parts types k.plain item) refl h.buffer st.world.content k.buffered elements.0 elements.1 (held_type types f rest inputs S st k o r item is_vector)
         (subst (λ n. AllWide n elements.0.slots) fit_word (k.stands.store.fit h.buffer elements.0 elements.1).slots) fit_word (k.stands.store.forest.births h.buffer elements.0 elements.1) m born apart
-        (all_free types f rest S st k o r item is_vector (λ j. ⊥ ⊎ (j ≡ st.world.content.births)) (λ j q there beneath out. ⊎_elim (λ none. none) (λ new. unborn j q there new) out))
-        (all_free types f rest S st k o r item is_vector (λ j. (⊥ ⊎ (j ≡ st.world.content.births)) ⊎ (j ≡ m))
+        (all_free types f rest inputs S st k o r item is_vector (λ j. ⊥ ⊎ (j ≡ st.world.content.births)) (λ j q there beneath out. ⊎_elim (λ none. none) (λ new. unborn j q there new) out))
+        (all_free types f rest inputs S st k o r item is_vector (λ j. (⊥ ⊎ (j ≡ st.world.content.births)) ⊎ (j ≡ m))
         (λ j q there beneath out. ⊎_elim (λ left. ⊎_elim (λ none. none) (λ new. unborn j q there new) left)
-        (λ same. named_free types f rest st k.stands.store k.stands.frame x m (elements_region types f rest S st k o r item is_vector) named (subst (Beneath (kinds_of types) st.world.content (foot_of types (elements_region types f rest S st k o r item is_vector))) same beneath)) out))
+        (λ same. named_free types f rest st k.stands.store k.stands.frame x m (elements_region types f rest inputs S st k o r item is_vector) named (subst (Beneath (kinds_of types) st.world.content (foot_of types (elements_region types f rest inputs S st k o r item is_vector))) same beneath)) out))
         variable.object variable.slot variable.there variable.one m_has m_wide (subst (λ (id : TyId). IsFree types (parts_at types id) (λ j. (j ≡ h.buffer) ⊎ (j ≡ st.world.content.births)) variable.slot.words) m_type (free_of (parts_at types variable.object.ty) refl))
-        r.region.object r.index (holder_born types f rest S st k o r s) holder_apart (is_owner types f rest S st k o r s (Vector item (parts_at types item)) (vector_parts types f rest S st k o r item is_vector) refl (λ ws j e. (j, e))))
+        r.region.object r.index (holder_born types f rest inputs S st k o r s) holder_apart (is_owner types f rest inputs S st k o r s (Vector item (parts_at types item)) (vector_parts types f rest inputs S st k o r item is_vector) refl (λ ws j e. (j, e))))
 
-    after_edit : (a : Attempt Content) → IfGot a (λ d. AreBuffered types d × Touches (kinds_of types) (pushed_foot types r.region m) st.world.content d) → OnNext (on_next (on_got a (λ d. Next (put_content d st))) (λ after. Next (put_cell x Empty after))) (IsBehind types st)
-    after_edit (Got d) e = behind_empty types st x d e.0 (pushed_spares types f rest S st k o r m (in_hand st.cells x m named) d e.1)
+    after_edit : (a : Attempt Content) → IfGot a (λ d. AreBuffered types d × Touches (kinds_of types) (pushed_foot types r.region m) st.world.content d) → OnNext (on_next (on_got a (λ d. Next (put_content d st))) (λ after. Next (put_cell x Empty after))) (IsBehind types f inputs st)
+    after_edit (Got d) e = behind_empty types f inputs st x d e.0 (pushed_spares types f rest inputs S st k o r own m (in_hand st.cells x m named) d e.1)
     after_edit (GotTrap kind) e = tt
     after_edit (GotFault kind) e = tt
     after_edit GotLost e = tt
 
-    pub object_pushed : OnNext (does s types f (Changes o (PushBack x)) st) (IsBehind types st)
+    pub object_pushed : OnNext (does s types f (Changes o (PushBack x)) st) (IsBehind types f inputs st)
     object_pushed =
-        by_change types f rest S st k o r s (Vector item (parts_at types item)) (vector_operand types f rest S st k o r item is_vector) (PushBack x)
-        (subst (λ (v : Option Cell). OnNext (pushes s types f (Vector item (parts_at types item)) (record { object = r.region.object; index = r.index; word = r.region.word }) x v st) (IsBehind types st)) (sym named)
-        (subst (λ (p : Parts). OnNext (on_next (edits s (Vector item (parts_at types item)) (record { object = r.region.object; index = r.index; word = r.region.word }) (Push (consumed p m)) st) (λ after. Next (put_cell x Empty after))) (IsBehind types st)) (sym (ap (parts_if types) typed))
-        (subst (λ w. OnNext (on_next (on_got (got_or w (GotFault fault.Moved)) go) (λ after. Next (put_cell x Empty after))) (IsBehind types st)) (sym h.owned)
+        by_change types f rest inputs S st k o r s (Vector item (parts_at types item)) (vector_operand types f rest inputs S st k o r item is_vector) (PushBack x)
+        (subst (λ (v : Option Cell). OnNext (pushes s types f (Vector item (parts_at types item)) (record { object = r.region.object; index = r.index; word = r.region.word }) x v st) (IsBehind types f inputs st)) (sym named)
+        (subst (λ (p : Parts). OnNext (on_next (edits s (Vector item (parts_at types item)) (record { object = r.region.object; index = r.index; word = r.region.word }) (Push (consumed p m)) st) (λ after. Next (put_cell x Empty after))) (IsBehind types f inputs st)) (sym (ap (parts_if types) typed))
+        (subst (λ w. OnNext (on_next (on_got (got_or w (GotFault fault.Moved)) go) (λ after. Next (put_cell x Empty after))) (IsBehind types f inputs st)) (sym h.owned)
         (after_edit (pushed s item (parts_at types item) (record { object = r.region.object; index = r.index; word = r.region.word }) h.buffer (consumed (parts_at types item) m) st.world.content)
         (both_got (pushed s item (parts_at types item) (record { object = r.region.object; index = r.index; word = r.region.word }) h.buffer (consumed (parts_at types item) m) st.world.content) (AreBuffered types) (Touches (kinds_of types) (pushed_foot types r.region m) st.world.content)
         pushed_one pushed_touches)))))

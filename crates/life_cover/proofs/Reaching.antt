@@ -10,7 +10,7 @@ use Rattle.life_types.specs.declared.ty.Ty.{Ty}
 use Rattle.life_types.specs.declared.ty.Ty.TheVariants as variant
 use Rattle.life_types.specs.declared.ty.TyId.{TyId}
 use Rattle.life_core.specs.Function.{Function}
-use Rattle.life_core.specs.Operands.{Location, Operand, whole}
+use Rattle.life_core.specs.Operands.{Operand, whole}
 use Rattle.life_core.specs.Operands as named
 use Rattle.life_pset.specs.Elements.{local_place}
 use Rattle.life_pset.specs.Places.{members_place}
@@ -19,8 +19,10 @@ use Rattle.life_pset.specs.declared.element.AbsPlace.{AbsPlace}
 use Rattle.life_pset.specs.declared.element.Element.TheVariants as element
 use Rattle.life_pset.specs.declared.element.Fact.{Fact}
 use Rattle.life_pset.specs.declared.element.Root.{Root}
+use Rattle.life_pset.specs.declared.element.Root.TheVariants as root
 use Rattle.life_contract.specs.Located.{located}
 use Rattle.life_proper.specs.OperandTypes.{is_range}
+use Rattle.life_proper.specs.Placed.{is_const_place}
 use Rattle.life_rules.specs.Matching.{fact_at}
 use Rattle.life_store.specs.Cells.{at}
 use Rattle.life_store.specs.Content.{Object}
@@ -68,6 +70,7 @@ module _ (types : Types) (f : Function) (st : State) (Input : Root → Region �
     pub place : AbsPlace
     pub lies : IsAt types st.world.content (RootStands types f Input st.cells) place region
     pub by : IsBy o place
+    pub change : is_const_place types f o ≡ false → may_change place.root ≡ true
     pub seen : IsSeenAs types (operand_type types f o) region.ty
     pub found : locate types f o st ≡ Here region.object index holder
     pub word : operand_word types f o st ≡ region.word
@@ -101,12 +104,12 @@ module _ (types : Types) (f : Function) (st : State) (Input : Root → Region �
   -- ---- a local
 
   module _ (frame : IsFrame types f st.world.content st.cells) where
-    pub named_reach : (x : ℕ) (v : Option Cell) → cell st x ≡ v → Reach (named.Name (whole x))
-    named_reach x None e = astray (ap (named_by st.world.content) e)
-    named_reach x (Some Empty) e = astray (ap (named_by st.world.content) e)
-    named_reach x (Some (Number z)) e = astray (ap (named_by st.world.content) e)
-    named_reach x (Some (Points p)) e = astray (ap (named_by st.world.content) e)
-    named_reach x (Some (Named n)) e = variable (frame.objects x n e)
+    pub named_reach : (x : ℕ) → may_change (root.Local x) ≡ true → (v : Option Cell) → cell st x ≡ v → Reach (named.Name (whole x))
+    named_reach x may None e = astray (ap (named_by st.world.content) e)
+    named_reach x may (Some Empty) e = astray (ap (named_by st.world.content) e)
+    named_reach x may (Some (Number z)) e = astray (ap (named_by st.world.content) e)
+    named_reach x may (Some (Points p)) e = astray (ap (named_by st.world.content) e)
+    named_reach x may (Some (Named n)) e = variable (frame.objects x n e)
       where
         variable : IsVariable st.world.content (local_type types f x) n → Reach (named.Name (whole x))
         variable v =
@@ -120,6 +123,7 @@ module _ (types : Types) (f : Function) (st : State) (Input : Root → Region �
               place = local_place x;
               lies = record { start = record { object = n; word = 0; ty = v.object.ty }; stands = (e, refl, v.type); lies = refl };
               by = refl;
+              change = λ e. may;
               seen = subst (λ (t : Option TyId). IsSeenAs types t v.object.ty) (sym v.type) (inl refl);
               found = ap (named_by st.world.content) e ∙ ap (λ (ob : Option Object). found_in ob n 0) v.there ∙ ap (λ b. here_if b n 0 v.object) (lt_true 0 (length v.object.slots) small);
               word = refl;
@@ -154,6 +158,7 @@ module _ (types : Types) (f : Function) (st : State) (Input : Root → Region �
                 place = to.place;
                 lies = to.points.lies;
                 by = (to.place, to.fact, refl);
+                change = λ e. to.points.change e;
                 seen = subst (λ (id : Option TyId). IsSeenAs types id to.points.region.ty) sees to.points.type;
                 found = is ∙ ap (λ b. reached_if b t.object t.index l.0) lt ∙ ap (λ n. Here n t.index l.0) to.points.object;
                 word = ap (λ (v : Option Cell). pointer_word v + 0) e ∙ nothing t.word ∙ to.points.word;

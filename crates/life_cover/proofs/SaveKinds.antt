@@ -10,6 +10,7 @@ use Rattle.life_core.specs.Step.{Save}
 use Rattle.life_pset.specs.Elements.{local_place}
 use Rattle.life_pset.specs.Places.{path}
 use Rattle.life_pset.specs.declared.element.Fact.{Fact}
+use Rattle.life_pset.specs.declared.element.Root.{Root}
 use Rattle.life_contract.specs.Signatures.{Signature}
 use Rattle.life_proper.specs.Placed.{type_of}
 use Rattle.life_store.specs.Content.{Object, with_object, with_word}
@@ -29,15 +30,17 @@ use Rattle.life_forest.proofs.SeenTypes.{character_parts, value_parts}
 use Rattle.life_forest.proofs.Spots.{lies_at}
 use Rattle.life_forest.proofs.TypedSteps.{operand_of, value_solid}
 use Rattle.life_cover.specs.Covers.{IsSeenAs}
-use Rattle.life_cover.specs.Frames.{FrameCovered, NoInput, RootStands, any_root, look_at}
+use Rattle.life_cover.specs.Frames.{FrameCovered, RootStands, look_at}
 use Rattle.life_cover.proofs.Inside.{lies_true}
 use Rattle.life_cover.proofs.KnownFrames.{IsKnownFrame, IsRight, hand_of, reach_at, rooted_of, store_of, used_right}
 use Rattle.life_cover.proofs.OwnerKinds.{number_right}
 use Rattle.life_cover.proofs.Pointers.{OnRight}
 use Rattle.life_cover.proofs.Reaching.{IsReached, on_place_right}
 use Rattle.life_cover.proofs.Unkilled.{no_foot, unkilled_cover}
+use Rattle.life_cover.specs.Inputs.{may_change, StandsAt}
+use Rattle.life_cover.specs.Regions.{Region}
 
-module _ (types : Types) (f : Function) (rest : ℕ → ℕ) (S : Fact → Type 0) (st : State) (k : IsKnownFrame types f rest S st) (o : Operand) (r : IsReached types f st NoInput any_root S o) where
+module _ (types : Types) (f : Function) (rest : ℕ → ℕ) (inputs : Root → Option Region) (S : Fact → Type 0) (st : State) (k : IsKnownFrame types f rest inputs S st) (o : Operand) (r : IsReached types f st (StandsAt inputs) (may_change types f) S o) where
   -- what is of a value's type has one word
   pub value_there : is_value (type_of types f o) ≡ true → parts_at types r.region.ty ≡ Single
   value_there value = go r.seen
@@ -58,7 +61,7 @@ module _ (types : Types) (f : Function) (rest : ℕ → ℕ) (S : Fact → Type 
 
   pub region_within : LiesWithin types r.holder.ty r.region.word r.region.ty
   region_within =
-      lies_true types k.ordered (hand_of rest st) st.world.content (store_of types f rest S st k) (path r.place) r.lies.start r.region ((rooted_of types f rest S st k).fits r.place.root r.lies.start r.lies.stands) r.lies.lies r.holder r.there
+      lies_true types k.ordered (hand_of rest st) st.world.content (store_of types f rest inputs S st k) (path r.place) r.lies.start r.region ((rooted_of types f rest inputs S st k).fits r.place.root r.lies.start r.lies.stands) r.lies.lies r.holder r.there
 
   -- so words that are written there touch nothing that is owned
   pub words_touches : is_value (type_of types f o) ≡ true → (ws : List ℕ) → length ws ≡ 1 → Touches (kinds_of types) no_foot st.world.content (wrote_spot (record { object = r.region.object; index = r.index; word = r.region.word }) ws st.world.content)
@@ -68,23 +71,23 @@ module _ (types : Types) (f : Function) (rest : ℕ → ℕ) (S : Fact → Type 
       lies : LiesAt (kinds_of types) st.world.content (record { object = r.region.object; index = r.index; word = r.region.word }) Single r.holder
       lies =
           subst (λ (p : Parts). LiesAt (kinds_of types) st.world.content (record { object = r.region.object; index = r.index; word = r.region.word }) p r.holder) (value_there value)
-          (lies_at types k.ordered (hand_of rest st) st.world.content (store_of types f rest S st k) r.region.object r.index r.region.word r.region.ty r.holder r.there region_within r.small)
+          (lies_at types k.ordered (hand_of rest st) st.world.content (store_of types f rest inputs S st k) r.region.object r.index r.region.word r.region.ty r.holder r.there region_within r.small)
 
   pub saved_touches : is_value (type_of types f o) ≡ true → (word : ℕ) → Touches (kinds_of types) no_foot st.world.content (with_object r.region.object (with_word r.index r.region.word word r.holder) st.world.content)
   saved_touches value word =
       subst (Touches (kinds_of types) no_foot st.world.content) (ap (λ (x : Option Object). wrote_if x r.region.object r.index r.region.word (word ∷ []) st.world.content) r.there)
       (words_touches value (word ∷ []) refl)
 
-module _ (types : Types) (f : Function) (rest : ℕ → ℕ) (S : Fact → Type 0) (st : State) (k : IsKnownFrame types f rest S st) (sigs : List Signature) (n : ℕ) (place : Place) (S' : Fact → Type 0) where
-  pub save_kind : (s : Setting) (o : Operand) (q : ℕ) → IsRight sigs types n f place (Save o q) S S' → is_value (type_of types f o) ≡ true → OnRight (does s types f (Save o q) st) (FrameCovered types f S')
+module _ (types : Types) (f : Function) (rest : ℕ → ℕ) (inputs : Root → Option Region) (S : Fact → Type 0) (st : State) (k : IsKnownFrame types f rest inputs S st) (sigs : List Signature) (n : ℕ) (place : Place) (S' : Fact → Type 0) where
+  pub save_kind : (s : Setting) (o : Operand) (q : ℕ) → IsRight sigs types n f place (Save o q) S S' → is_value (type_of types f o) ≡ true → OnRight (does s types f (Save o q) st) (FrameCovered types f inputs S')
   save_kind s o q right value =
-      number_right (cell st q) (λ z. on_found (locate types f o st) (λ m i object. Next (saved z m i (operand_word types f o st) object st))) (FrameCovered types f S')
-      (λ z. on_place_right types f st NoInput any_root S o (reach_at types f rest S st k o (value_solid (type_of types f o) value) (λ p used. used_right sigs types n f place (Save o q) S right.clean p used))
-      (λ m i object. Next (saved z m i (operand_word types f o st) object st)) (λ c. Strays) (FrameCovered types f S')
-      (λ r. subst (λ w. FrameCovered types f S' (saved z r.region.object r.index w r.holder st)) (sym r.word) (kept r (word_of_number z))) (λ c single. tt))
+      number_right (cell st q) (λ z. on_found (locate types f o st) (λ m i object. Next (saved z m i (operand_word types f o st) object st))) (FrameCovered types f inputs S')
+      (λ z. on_place_right types f st (StandsAt inputs) (may_change types f) S o (reach_at types f rest inputs S st k o (value_solid (type_of types f o) value) (λ p used. used_right sigs types n f place (Save o q) S right.clean p used))
+      (λ m i object. Next (saved z m i (operand_word types f o st) object st)) (λ c. Strays) (FrameCovered types f inputs S')
+      (λ r. subst (λ w. FrameCovered types f inputs S' (saved z r.region.object r.index w r.holder st)) (sym r.word) (kept r (word_of_number z))) (λ c single. tt))
     where
-      kept : (r : IsReached types f st NoInput any_root S o) (word : ℕ) → FrameCovered types f S' (put_content (with_object r.region.object (with_word r.index r.region.word word r.holder) st.world.content) st)
+      kept : (r : IsReached types f st (StandsAt inputs) (may_change types f) S o) (word : ℕ) → FrameCovered types f inputs S' (put_content (with_object r.region.object (with_word r.index r.region.word word r.holder) st.world.content) st)
       kept r word x v e =
-          unkilled_cover types k.ordered (hand_of rest st) st.world.content (with_object r.region.object (with_word r.index r.region.word word r.holder) st.world.content) (store_of types f rest S st k)
-          (saved_touches types f rest S st k o r value word) (RootStands types f NoInput st.cells) (RootStands types f NoInput st.cells) any_root (rooted_of types f rest S st k).fits sigs f place (Save o q) S S' right.closed (λ e. refl)
+          unkilled_cover types k.ordered (hand_of rest st) st.world.content (with_object r.region.object (with_word r.index r.region.word word r.holder) st.world.content) (store_of types f rest inputs S st k)
+          (saved_touches types f rest inputs S st k o r value word) (RootStands types f (StandsAt inputs) st.cells) (RootStands types f (StandsAt inputs) st.cells) (may_change types f) (rooted_of types f rest inputs S st k).fits sigs f place (Save o q) S S' right.closed (λ e. refl)
           (λ a h names free stands. stands) (local_place x) (look_at types f x) v refl (k.covered x v e)

@@ -19,6 +19,7 @@ use Rattle.life_pset.specs.declared.element.Element.{Element}
 use Rattle.life_pset.specs.declared.element.Element.TheVariants as element
 use Rattle.life_pset.specs.declared.element.Fact.{Fact}
 use Rattle.life_pset.proofs.Numbers.{is_of_iff, place_laws}
+use Rattle.life_pset.specs.declared.element.Root.{Root}
 use Rattle.life_contract.specs.Signatures.{Signature}
 use Rattle.life_proper.specs.Placed.{type_at}
 use Rattle.life_rules.specs.Arguing.{argument_diags}
@@ -42,7 +43,8 @@ use Rattle.life_forest.specs.Values.{listed}
 use Rattle.life_forest.specs.Within.{LiesWithin}
 use Rattle.life_forest.proofs.Members.{within_self}
 use Rattle.life_cover.specs.Covers.{CoversOwner, IsSeenAs, PointsTo}
-use Rattle.life_cover.specs.Frames.{FrameCovered, NoInput, RootStands, any_root, look_at}
+use Rattle.life_cover.specs.Frames.{FrameCovered, RootStands, look_at}
+use Rattle.life_cover.specs.Inputs.{may_change, StandsAt}
 use Rattle.life_cover.specs.Regions.{IsAt, Region, owned_in_type}
 use Rattle.life_cover.specs.Uniques.{UniquesTold, had_by}
 use Rattle.life_cover.proofs.AimKinds.{given}
@@ -58,23 +60,23 @@ use Rattle.life_cover.proofs.Takes.{made_of, named_fact}
 use Rattle.life_cover.proofs.UniqueFacts.{has_something}
 use Rattle.life_cover.proofs.UniqueLocals.{IsUniqueLocal, on_location_local, on_spot_local, unique_local}
 
-module _ (types : Types) (f : Function) (rest : ℕ → ℕ) (S : Fact → Type 0) (st : State) (k : IsKnownFrame types f rest S st) (sigs : List Signature) (number : ℕ) (place : Place) (S' : Fact → Type 0) (s : Setting) (p : ℕ) (pointer : is_pointer (type_at types f p) ≡ true)
+module _ (types : Types) (f : Function) (rest : ℕ → ℕ) (inputs : Root → Option Region) (S : Fact → Type 0) (st : State) (k : IsKnownFrame types f rest inputs S st) (sigs : List Signature) (number : ℕ) (place : Place) (S' : Fact → Type 0) (s : Setting) (p : ℕ) (pointer : is_pointer (type_at types f p) ≡ true)
     (single : (look_at types f p).ranged ≡ false) (x : ℕ) (unique : is_unique (type_at types f x) ≡ true) (told : UniquesTold types f S st) where
   -- p sees what the unique_ptr has
   abbrev pub Sees : Type 0
-  Sees = (n : ℕ) (names_x : cell st x ≡ Some (Named n)) → IsSeenAs types (look_at types f p).target (unique_local types f rest S st k x n names_x unique).target
+  Sees = (n : ℕ) (names_x : cell st x ≡ Some (Named n)) → IsSeenAs types (look_at types f p).target (unique_local types f rest inputs S st k x n names_x unique).target
 
   listed_p : Contains (locations_of types f) (local_place p)
   listed_p = pointer_listed types k.ordered f p pointer
 
-  module _ (n : ℕ) (names_x : cell st x ≡ Some (Named n)) (seen : IsSeenAs types (look_at types f p).target (unique_local types f rest S st k x n names_x unique).target) where
-    abbrev u : IsUniqueLocal types f rest S st k x n
-    u = unique_local types f rest S st k x n names_x unique
+  module _ (n : ℕ) (names_x : cell st x ≡ Some (Named n)) (seen : IsSeenAs types (look_at types f p).target (unique_local types f rest inputs S st k x n names_x unique).target) where
+    abbrev u : IsUniqueLocal types f rest inputs S st k x n
+    u = unique_local types f rest inputs S st k x n names_x unique
 
     abbrev region : Region
-    region = record { object = n; word = 0; ty = (unique_local types f rest S st k x n names_x unique).number }
+    region = record { object = n; word = 0; ty = (unique_local types f rest inputs S st k x n names_x unique).number }
 
-    at_x : IsAt types st.world.content (RootStands types f NoInput st.cells) (local_place x) region
+    at_x : IsAt types st.world.content (RootStands types f (StandsAt inputs) st.cells) (local_place x) region
     at_x = record { start = region; stands = (names_x, refl, u.typed); lies = refl }
 
     within : LiesWithin types u.variable.object.ty 0 u.number
@@ -86,20 +88,20 @@ module _ (types : Types) (f : Function) (rest : ℕ → ℕ) (S : Fact → Type 
     owns : owned_in_type types (slice_get types.types u.number.0) ≡ Some u.target
     owns = ap (owned_in_type types) u.there
 
-    can : CanOpen types k.ordered k.plain f k.shaped k.short st.world.content st.cells (object_named types f rest S st k) (local_place x)
-    can = can_open types k.ordered k.plain f k.shaped k.short st.world.content st.cells (object_named types f rest S st k) (local_place x) region u.target (record { eight = refl; made = refl }) at_x owns
+    can : CanOpen types k.ordered k.plain f k.shaped k.short st.world.content st.cells (object_named types f rest inputs S st k) inputs k.given.each (local_place x)
+    can = can_open types k.ordered k.plain f k.shaped k.short st.world.content st.cells (object_named types f rest inputs S st k) inputs k.given.each (local_place x) region u.target (record { eight = refl; made = refl }) at_x owns
 
-    points : (b : ℕ) → had_by st.world.content n ≡ Some b → PointsTo types st.world.content (RootStands types f NoInput st.cells) any_root (look_at types f p) (owned_place (local_place x)) (at_position st.world.content b 0 0)
+    points : (b : ℕ) → had_by st.world.content n ≡ Some b → PointsTo types st.world.content (RootStands types f (StandsAt inputs) st.cells) (may_change types f) (look_at types f p) (owned_place (local_place x)) (at_position st.world.content b 0 0)
     points b owned =
-        let l = buffer_lives types k.ordered (hand_of rest st) st.world.content (store_of types f rest S st k) n 0 0 u.number u.variable.object u.variable.there within slot (Unique u.target (parts_at types u.target)) u.parts b (ap listed owned) in
-        element_pointed types st.world.content (RootStands types f NoInput st.cells) any_root (local_place x) region 0 b u.variable.object u.target can.room at_x owns u.variable.there owned (look_at types f p) seen (λ e. refl) (kinds_of types) (hand_of rest st)
-        (store_of types f rest S st k).forest l.0 l.1 single 0 (omega arith)
+        let l = buffer_lives types k.ordered (hand_of rest st) st.world.content (store_of types f rest inputs S st k) n 0 0 u.number u.variable.object u.variable.there within slot (Unique u.target (parts_at types u.target)) u.parts b (ap listed owned) in
+        element_pointed types st.world.content (RootStands types f (StandsAt inputs) st.cells) (may_change types f) (local_place x) region 0 b u.variable.object u.target can.room at_x owns u.variable.there owned (look_at types f p) seen (λ e. refl) (kinds_of types) (hand_of rest st)
+        (store_of types f rest inputs S st k).forest l.0 l.1 single 0 (omega arith)
 
     -- a pointer to it is covered by its place
     into : (i : Step) → IsRight sigs types number f place i S S' → ((e : Element) → is_gone types f place i e ≡ false) → ((y : ℕ) → p ≢ y → writes i (local_place y) ≡ false) → S' (fact_at (local_place p) (element.At (owned_place (local_place x)))) → (b : ℕ) → had_by st.world.content n ≡ Some b
-        → OnRight (pointed types f (whole p) (pointer_to st.world.content b 0 0) st) (FrameCovered types f S')
+        → OnRight (pointed types f (whole p) (pointer_to st.world.content b 0 0) st) (FrameCovered types f inputs S')
     into i right gone others fact b owned =
-        given types f rest S st k sigs number place S' p pointer i right gone others (pointer_to st.world.content b 0 0) (record { known = element.At (owned_place (local_place x)); holds = fact; covers = points b owned })
+        given types f rest inputs S st k sigs number place S' p pointer i right gone others (pointer_to st.world.content b 0 0) (record { known = element.At (owned_place (local_place x)); holds = fact; covers = points b owned })
 
     -- ---- its target
 
@@ -128,9 +130,9 @@ module _ (types : Types) (f : Function) (rest : ℕ → ℕ) (S : Fact → Type 
           has_something S (local_place x) (had_by st.world.content n) (told x n names_x unique) (wrong element.Null (diag why.Null) (at_head (diag why.Null) []))
           (λ cause. wrong (element.Moved cause) (diag (why.Cause cause)) (at_head (diag (why.Cause cause)) []))
 
-      target_aimed : OnRight (target_at types f (whole p) (owned_at st.world.content (record { object = n; index = 0; word = 0 })) st) (FrameCovered types f S')
+      target_aimed : OnRight (target_at types f (whole p) (owned_at st.world.content (record { object = n; index = 0; word = 0 })) st) (FrameCovered types f inputs S')
       target_aimed =
-          subst (λ (o : Option ℕ). OnRight (target_at types f (whole p) o st) (FrameCovered types f S')) (sym has.1)
+          subst (λ (o : Option ℕ). OnRight (target_at types f (whole p) o st) (FrameCovered types f inputs S')) (sym has.1)
           (into i right (λ e. refl) (λ y ne. other_local p y ne)
           (named_fact sigs types f place i S S' right.closed (whole p) (element.At (owned_place (local_place x))) (at_head (fact_at (local_place p) (element.At (owned_place (local_place x)))) []) listed_p can.known) has.0 has.1)
 
@@ -143,11 +145,11 @@ module _ (types : Types) (f : Function) (rest : ℕ → ℕ) (S : Fact → Type 
           (subst (λ b. Contains (facts_if b (local_place p) (gotten (local_place x) e)) (fact_at (local_place p) g)) (sym (place_laws.refl (local_place x)))
           (subst (λ (o : Option Element). Contains (facts_at (local_place p) o) (fact_at (local_place p) g)) (sym gives) (at_head (fact_at (local_place p) g) [])))
 
-      null_got : S' (fact_at (local_place p) element.Null) → OnRight (pointed types f (whole p) Null st) (FrameCovered types f S')
+      null_got : S' (fact_at (local_place p) element.Null) → OnRight (pointed types f (whole p) Null st) (FrameCovered types f inputs S')
       null_got fact =
-          given types f rest S st k sigs number place S' p pointer (Aim (whole p) (named.Get (whole x))) right (λ e. refl) (λ y ne. other_local p y ne) Null (record { known = element.Null; holds = fact; covers = tt })
+          given types f rest inputs S st k sigs number place S' p pointer (Aim (whole p) (named.Get (whole x))) right (λ e. refl) (λ y ne. other_local p y ne) Null (record { known = element.Null; holds = fact; covers = tt })
 
-      by_fact : (e : Element) (o : Option ℕ) → had_by st.world.content n ≡ o → S (fact_at (local_place x) e) → CoversOwner true e o → OnRight (pointed types f (whole p) (owned_pointer st.world.content o) st) (FrameCovered types f S')
+      by_fact : (e : Element) (o : Option ℕ) → had_by st.world.content n ≡ o → S (fact_at (local_place x) e) → CoversOwner true e o → OnRight (pointed types f (whole p) (owned_pointer st.world.content o) st) (FrameCovered types f inputs S')
       by_fact element.Own (Some b) is holds covers = into (Aim (whole p) (named.Get (whole x))) right (λ e. refl) (λ y ne. other_local p y ne) (got_fact element.Own (element.At (owned_place (local_place x))) refl can.known holds) b is
       by_fact element.Own None is holds covers = absurd covers
       by_fact element.Null None is holds covers = null_got (got_fact element.Null element.Null refl (null_known types k.ordered f) holds)
@@ -161,13 +163,13 @@ module _ (types : Types) (f : Function) (rest : ℕ → ℕ) (S : Fact → Type 
       by_fact (element.At a) None is holds covers = absurd covers
       by_fact (element.At a) (Some b) is holds covers = absurd covers
 
-      got_aimed : OnRight (pointed types f (whole p) (owned_pointer st.world.content (owned_at st.world.content (record { object = n; index = 0; word = 0 }))) st) (FrameCovered types f S')
+      got_aimed : OnRight (pointed types f (whole p) (owned_pointer st.world.content (owned_at st.world.content (record { object = n; index = 0; word = 0 }))) st) (FrameCovered types f inputs S')
       got_aimed = let t = told x n names_x unique in by_fact t.known (had_by st.world.content n) refl t.holds t.covers
 
   -- ---- the kinds
 
-  pub target_kind : Sees → IsRight sigs types number f place (step.Element (whole p) (named.Owner (named.Name (whole x))) which.Target) S S' → OnRight (does s types f (step.Element (whole p) (named.Owner (named.Name (whole x))) which.Target) st) (FrameCovered types f S')
-  target_kind sees right = on_spot_local types f rest S st k x (λ spot. owner_element types f (whole p) spot which.Target st) (FrameCovered types f S') (λ n names_x. target_aimed n names_x (sees n names_x) right)
+  pub target_kind : Sees → IsRight sigs types number f place (step.Element (whole p) (named.Owner (named.Name (whole x))) which.Target) S S' → OnRight (does s types f (step.Element (whole p) (named.Owner (named.Name (whole x))) which.Target) st) (FrameCovered types f inputs S')
+  target_kind sees right = on_spot_local types f rest inputs S st k x (λ spot. owner_element types f (whole p) spot which.Target st) (FrameCovered types f inputs S') (λ n names_x. target_aimed n names_x (sees n names_x) right)
 
-  pub get_kind : Sees → IsRight sigs types number f place (Aim (whole p) (named.Get (whole x))) S S' → OnRight (does s types f (Aim (whole p) (named.Get (whole x))) st) (FrameCovered types f S')
-  get_kind sees right = on_location_local types f rest S st k x (λ spot. pointed types f (whole p) (owned_pointer st.world.content (owned_at st.world.content spot)) st) (FrameCovered types f S') (λ n names_x. got_aimed n names_x (sees n names_x) right)
+  pub get_kind : Sees → IsRight sigs types number f place (Aim (whole p) (named.Get (whole x))) S S' → OnRight (does s types f (Aim (whole p) (named.Get (whole x))) st) (FrameCovered types f inputs S')
+  get_kind sees right = on_location_local types f rest inputs S st k x (λ spot. pointed types f (whole p) (owned_pointer st.world.content (owned_at st.world.content spot)) st) (FrameCovered types f inputs S') (λ n names_x. got_aimed n names_x (sees n names_x) right)

@@ -13,6 +13,7 @@ use Rattle.life_core.specs.Operands.{Operand, whole}
 use Rattle.life_core.specs.Operands as named
 use Rattle.life_pset.specs.Shapes.{ty_if}
 use Rattle.life_pset.specs.declared.element.Fact.{Fact}
+use Rattle.life_pset.specs.declared.element.Root.{Root}
 use Rattle.life_proper.specs.Placed.{type_at, type_of}
 use Rattle.life_store.specs.Cells.{at}
 use Rattle.life_store.specs.Content.{Content, Object}
@@ -29,7 +30,7 @@ use Rattle.life_forest.proofs.OneNumber.{typed_at}
 use Rattle.life_forest.proofs.SeenTypes.{character_parts, parts_typed}
 use Rattle.life_forest.proofs.TypedSteps.{operand_of}
 use Rattle.life_cover.specs.Covers.{IsSeenAs}
-use Rattle.life_cover.specs.Frames.{NoInput, any_root}
+use Rattle.life_cover.specs.Inputs.{may_change, StandsAt}
 use Rattle.life_cover.specs.Regions.{Region, foot_of, is_in_region}
 use Rattle.life_cover.specs.Uniques.{had_by}
 use Rattle.life_cover.proofs.Inside.{region_within}
@@ -47,7 +48,7 @@ unique_is _ e = absurd (false≢true e)
 lt_true : (a b : ℕ) → a < b → nat_lt a b ≡ true
 lt_true a b h = grind (arith, nat_tests)
 
-module _ (types : Types) (f : Function) (rest : ℕ → ℕ) (S : Fact → Type 0) (st : State) (k : IsKnownFrame types f rest S st) where
+module _ (types : Types) (f : Function) (rest : ℕ → ℕ) (inputs : Root → Option Region) (S : Fact → Type 0) (st : State) (k : IsKnownFrame types f rest inputs S st) where
   -- its type, its parts, and its object
   pub record IsUniqueLocal (x n : ℕ) : Type 0 where
     pub target : TyId
@@ -79,7 +80,7 @@ module _ (types : Types) (f : Function) (rest : ℕ → ℕ) (S : Fact → Type 
     pub had_stays : (t : Foot) (d : Content) → Touches (kinds_of types) t st.world.content d → (Beneath (kinds_of types) st.world.content t n → ⊥) → t.part n 0 ≡ false → had_by d n ≡ had_by st.world.content n
     had_stays t d touch apart free =
         let u = unique_local x n named unique in
-        owner_kept (kinds_of types) t st.world.content d n 0 0 u.variable.object touch ((store_of types f rest S st k).forest.births n u.variable.object u.variable.there) apart u.variable.there
+        owner_kept (kinds_of types) t st.world.content d n 0 0 u.variable.object touch ((store_of types f rest inputs S st k).forest.births n u.variable.object u.variable.there) apart u.variable.there
         (ap (λ (id : TyId). is_value (kind_in (parts_at types id) 0)) u.type ∙ ap (λ (p : Parts). is_value (kind_in p 0)) u.parts) free
 
     -- what is owned in a region is beneath no local
@@ -91,12 +92,12 @@ module _ (types : Types) (f : Function) (rest : ℕ → ℕ) (S : Fact → Type 
     not_true false h = refl
 
     -- and an operand that is no unique_ptr lies elsewhere
-    module _ (o : Operand) (r : IsReached types f st NoInput any_root S o) (solid : is_void (type_of types f o) ≡ false) (other : is_unique (type_of types f o) ≡ false) where
+    module _ (o : Operand) (r : IsReached types f st (StandsAt inputs) (may_change types f) S o) (solid : is_void (type_of types f o) ≡ false) (other : is_unique (type_of types f o) ≡ false) where
       elsewhere : is_in_region types r.region n 0 ≡ true → ⊥
       elsewhere e =
           let u = unique_local x n named unique in
           let in_object = (region_within types r.region n 0 e).object in
-          let same : u.number ≡ r.region.ty = sym u.type ∙ (region_all types f rest S st k o r).type u.variable.object (ap (at st.world.content.objects) (sym in_object) ∙ u.variable.there) in
+          let same : u.number ≡ r.region.ty = sym u.type ∙ (region_all types f rest inputs S st k o r).type u.variable.object (ap (at st.world.content.objects) (sym in_object) ∙ u.variable.there) in
           let of = operand_of types k.ordered k.once 0 [] f k.shaped o (type_of types f o) refl solid in
           go u.target u.number u.there u.parts same of.number of.there (subst (λ (t : Option TyId). IsSeenAs types t r.region.ty) of.is r.seen)
         where

@@ -1,9 +1,14 @@
 -- Places, covered pointers and kills, worked out by hand.
-use Rattle.std.proofs.Common.{◌≡◌, ℕ, inl, inr, false, true, [], ◌∷◌, length, Option, Some, refl, sym, ap, ◌∙◌, arith}
+use Rattle.std.proofs.Common.{◌≡◌, ℕ, Bool, inl, inr, false, true, [], ◌∷◌, length, Option, Some, None, refl, sym, ap, ◌∙◌, arith}
+use Rattle.std.specs.Prelude.{option_map, pos}
 use Rattle.std.proofs.lemmas.Bool.{false≢true}
 use Rattle.life_types.specs.Types.{Types}
+use Rattle.life_types.specs.declared.place.Place.{Place}
 use Rattle.life_types.specs.declared.ty.Ty.TheVariants as variant
 use Rattle.life_types.specs.declared.ty.TyId.{TyId}
+use Rattle.life_core.specs.declared.program.Local.{Local}
+use Rattle.life_core.specs.declared.program.LocalKind.TheVariants.{Register}
+use Rattle.life_core.specs.Function.{Function}
 use Rattle.life_pset.specs.Elements.{local_place}
 use Rattle.life_pset.specs.Places as places
 use Rattle.life_pset.specs.Places.{member_place, owned_place, path}
@@ -13,10 +18,13 @@ use Rattle.life_pset.specs.declared.element.Root.TheVariants as root
 use Rattle.life_store.specs.Cells.{at, at-unset_same}
 use Rattle.life_store.specs.Content.{Slot, Object, Content, is_valid_in, resized, without}
 use Rattle.life_store.specs.Held.{slots_if}
-use Rattle.life_store.specs.State.{Target, To, Null}
+use Rattle.life_store.specs.State.{Target, Named, Null, Number, Points, To}
 use Rattle.life_cover.specs.Covers.{Covers, Holds, Look}
+use Rattle.life_cover.specs.Inputs.{entry_inputs, frame_foot, no_inputs}
 use Rattle.life_cover.specs.Kills.{is_hit}
+use Rattle.life_cover.specs.Passed.{takes_null}
 use Rattle.life_cover.specs.Regions.{Lies, Region}
+use Rattle.life_cover.proofs.Mutated.{none_mutated}
 
 abbrev id : ℕ → TyId
 id n = record { 0 = n }
@@ -125,3 +133,44 @@ set_anew c i n h = false≢true (sym (ap (is_valid_in i n 5) (at-unset_same c.ob
 
 empty_handed : (c : Content) → Covers table c V (λ r. true) of_ints element.Null Null × (Covers table c V (λ r. true) of_ints element.Null (To (iterator 0)) → ⊥) × (Covers table c V (λ r. true) of_ints element.Own Null → ⊥)
 empty_handed c = (tt, λ h. h, λ h. h)
+
+-- ---- inputs at a function's entry
+
+-- what a pointer points to is its input, and null and a number stand for none
+pointer_stands : (c : Content) (i : ℕ) → at c.objects 8 ≡ Some buffer → entry_inputs c (Number (pos 3) ∷ Points (To (iterator i)) ∷ []) (root.Input 1 None) ≡ Some (region 8 0 0)
+pointer_stands c i there = ap (option_map (λ (o : Object). record { object = 8; word = 0; ty = o.ty })) there
+
+number_stands : (c : Content) (i : ℕ) → entry_inputs c (Number (pos 3) ∷ Points (To (iterator i)) ∷ []) (root.Input 0 None) ≡ None
+number_stands c i = refl
+
+null_stands : (c : Content) → entry_inputs c (Points Null ∷ []) (root.Input 0 None) ≡ None
+null_stands c = refl
+
+-- a frame without inputs may touch what it names, and nothing else
+named_touched : (f : Function) → (frame_foot table f no_inputs (Named 7 ∷ [])).whole 7 ≡ true
+named_touched f = refl
+
+others_spared : (f : Function) → (frame_foot table f no_inputs (Named 7 ∷ [])).whole 8 ≡ false
+others_spared f = refl
+
+parts_spared : (f : Function) (m u : ℕ) → (frame_foot table f no_inputs (Named 7 ∷ [])).part m u ≡ true → ⊥
+parts_spared f m u = none_mutated table f m u
+
+-- ---- what a parameter may be given
+
+-- 0 int, 1 int*, 2 int&
+abbrev pointers : Types
+pointers = record { types = variant.Int ∷ variant.Raw (id 0) false ∷ variant.Reference (id 0) false ∷ []; structs = [] }
+
+abbrev parameter : (type : ℕ) → (nonnull : Bool) → Place → Local
+parameter n nonnull place = record { name = None; ty = id n; kind = Register; place = place; nonnull = nonnull; keeps = false }
+
+-- a raw pointer may be null, and a reference may not, nor one that bears nonnull
+raw_null : (place : Place) → takes_null pointers 1 0 (Some (parameter 1 false place)) ≡ true
+raw_null place = refl
+
+nonnull_given : (place : Place) → takes_null pointers 1 0 (Some (parameter 1 true place)) ≡ false
+nonnull_given place = refl
+
+reference_given : (place : Place) → takes_null pointers 1 0 (Some (parameter 2 false place)) ≡ false
+reference_given place = refl

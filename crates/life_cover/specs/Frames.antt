@@ -1,5 +1,5 @@
 -- Where the places of a frame lie, and that its facts cover what its pointers hold.
-use Rattle.std.specs.Prelude.{◌≡◌, ℕ, Bool, true, List, Some, slice_get}
+use Rattle.std.specs.Prelude.{◌≡◌, ℕ, Bool, List, Option, Some, slice_get}
 use Rattle.life_types.specs.TypeTests.{is_constant}
 use Rattle.life_types.specs.Types.{Types}
 use Rattle.life_core.specs.Function.{Function}
@@ -13,6 +13,7 @@ use Rattle.life_store.specs.Parts.{local_type}
 use Rattle.life_store.specs.State.{Pointer, Cell, Named, Points, State}
 use Rattle.life_forest.specs.FrameTypes.{seen_type}
 use Rattle.life_cover.specs.Covers.{IsCovered, Look}
+use Rattle.life_cover.specs.Inputs.{StandsAt, may_change}
 use Rattle.life_cover.specs.Regions.{Region}
 
 -- a local's object is all of it; where the inputs stand was settled at the frame's entry
@@ -28,15 +29,11 @@ abbrev pub LocalsCovered : Types → Function → (Input : Root → Region → T
 LocalsCovered types f Input may_change S st =
     (x : ℕ) (v : Pointer) → slice_get st.cells x ≡ Some (Points v) → IsCovered types st.world.content (RootStands types f Input st.cells) may_change S (local_place x) (look_at types f x) v
 
--- ---- a frame without inputs
+-- ---- a frame
 
 -- no input stands anywhere
 abbrev pub NoInput : Root → Region → Type 0
 NoInput r a = ⊥
 
--- all that its locals are and own may be changed
-abbrev pub any_root : Root → Bool
-any_root r = true
-
-abbrev pub FrameCovered : Types → Function → (S : Fact → Type 0) → State → Type 0
-FrameCovered types f S st = LocalsCovered types f NoInput any_root S st
+abbrev pub FrameCovered : Types → Function → (inputs : Root → Option Region) → (S : Fact → Type 0) → State → Type 0
+FrameCovered types f inputs S st = LocalsCovered types f (StandsAt inputs) (may_change types f) S st

@@ -1,7 +1,9 @@
 pub mod Buffered
 pub mod Covers
 pub mod Frames
+pub mod Inputs
 pub mod Kills
+pub mod Passed
 pub mod Regions
 pub mod Roots
 pub mod Uniques

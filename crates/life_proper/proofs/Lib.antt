@@ -5,7 +5,6 @@ pub mod Lists
 pub mod Loops
 pub mod Meeting
 pub mod PlainPrograms
-pub mod Pointers
 pub mod PointsAsked
 pub mod ProperFunctions
 pub mod Readiness

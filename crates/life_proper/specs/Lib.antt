@@ -1,3 +1,4 @@
+pub mod ByValue
 pub mod Checking
 pub mod GivenOver
 pub mod Knowing

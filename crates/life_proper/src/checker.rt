@@ -23,7 +23,6 @@ pub fn is_proper(alloc: Global, p: &CoreProgram) -> Result<bool, NoMemory>
     for f in &p.functions {
         let at = Scope {
             types: &p.types,
-            functions: &p.functions,
             function: f,
         };
         if !is_checked(alloc, &at)? {

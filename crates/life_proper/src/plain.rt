@@ -1,8 +1,8 @@
-// Whether a program's calls hand over values and views alone.
+// Whether a program's calls hand over and give back values alone.
 ghost use Rattle.std.specs.Prelude.{◌≡◌, map};
-ghost use Rattle.life_core.specs.ByValue.{calls_by_value};
 ghost use Rattle.life_core.specs.Function.{function_of, program_of};
 ghost use Rattle.life_core.specs.Tree.{condition_tree, tree_of};
+ghost use Rattle.life_proper.specs.ByValue.{calls_by_value};
 ghost use Rattle.life_proper.specs.Plain.{are_plain, is_plain_tree};
 
 use crate::by_value::is_by_value;
@@ -10,9 +10,9 @@ use crate::scope::Scope;
 use life_core::{Condition, CoreFn, CoreProgram, Stmt};
 use life_types::TypeTable;
 
-/// Whether no raw pointer and no reference goes through a call. It takes no memory, and goes once over the
-/// text and, at each call, once over what the called function takes. It is for programs that are made by
-/// hand, as those of tests: a translation is plain by a law, and isn't asked.
+/// Whether calls hand over and give back values alone. It takes no memory, and goes once over the text. It
+/// is for programs that are made by hand, as those of tests: a translation is plain by a law, and isn't
+/// asked.
 pub fn is_plain_program(p: &CoreProgram) -> bool
     ensures { result ≡ calls_by_value (program_of p.now) }
 {
@@ -20,14 +20,10 @@ pub fn is_plain_program(p: &CoreProgram) -> bool
 }
 
 fn are_plain(types: &TypeTable, functions: &[CoreFn]) -> bool
-    ensures { result ≡ are_plain types.now (map function_of functions.now) (map function_of functions.now) }
+    ensures { result ≡ are_plain types.now (map function_of functions.now) }
 {
     for function in functions {
-        let at = Scope {
-            types,
-            functions,
-            function,
-        };
+        let at = Scope { types, function };
         if !is_plain(&function.body, &at) {
             return false;
         }
@@ -38,7 +34,7 @@ fn are_plain(types: &TypeTable, functions: &[CoreFn]) -> bool
 /// Whether all points of the statement are plain.
 #[cycle(plain)]
 fn is_plain(s: &Stmt, at: &Scope) -> bool
-    ensures { result ≡ is_plain_tree at.now.types.now (map function_of at.now.functions.now) (function_of at.now.function.now) (tree_of s.now) }
+    ensures { result ≡ is_plain_tree at.now.types.now (function_of at.now.function.now) (tree_of s.now) }
 {
     match s {
         Stmt::List(items) => {
@@ -63,7 +59,7 @@ fn is_plain(s: &Stmt, at: &Scope) -> bool
 /// .. and of the condition.
 #[cycle(plain)]
 fn is_plain_condition(condition: &Condition, at: &Scope) -> bool
-    ensures { result ≡ is_plain_tree at.now.types.now (map function_of at.now.functions.now) (function_of at.now.function.now) (condition_tree condition.now) }
+    ensures { result ≡ is_plain_tree at.now.types.now (function_of at.now.function.now) (condition_tree condition.now) }
 {
     match condition {
         Condition::After(before, last) => is_plain(before, at) && is_plain_condition(last, at),

@@ -2,10 +2,9 @@
 use life_core::CoreFn;
 use life_types::TypeTable;
 
-/// A function, and the types and functions of its program.
+/// A function, and the types of its program.
 #[derive(Drop)]
 pub(crate) struct Scope<'a> {
     pub(crate) types: &'a TypeTable,
-    pub(crate) functions: &'a [CoreFn],
     pub(crate) function: &'a CoreFn,
 }

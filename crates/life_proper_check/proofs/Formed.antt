@@ -184,18 +184,17 @@ module _ (types : Types) (ordered : IsOrdered types) (names texts : ℕ) (fs : L
 
 -- ---- programs
 
-none_of : {A : Type 0} (xs : List A) → nat_eq (length xs) 0 ≡ true → xs ≡ []
+pub none_of : {A : Type 0} (xs : List A) → nat_eq (length xs) 0 ≡ true → xs ≡ []
 none_of [] e = refl
 none_of (x ∷ xs) e = absurd (grind (arith, nat_tests))
 
 none_named : (names : ℕ) (structs : List (List TyId)) (members : List (List NameId)) → nat_eq (length structs) 0 ≡ true → nat_eq (length members) 0 ≡ true → have_names names structs members ≡ true
 none_named names structs members a b = rw (none_of structs a, none_of members b) refl
 
-pub program_formed : (p : Program) → IsOrdered p.types → HasEachOnce p.types → is_served_program p ≡ true → is_formed_program p ≡ true → IsWellFormedProgram p
-program_formed p ordered once served e =
-    let a = and_parts (has_no_structs p) _ e in
-    let none = and_parts (nat_eq (length p.types.structs) 0) (nat_eq (length p.members) 0) a.0 in
-    let b = and_parts (have_own_names p.functions) _ a.1 in
+pub program_formed : (p : Program) → IsOrdered p.types → HasEachOnce p.types → is_served_program p ≡ true → has_no_structs p ≡ true → is_formed_program p ≡ true → IsWellFormedProgram p
+program_formed p ordered once served plain e =
+    let none = and_parts (nat_eq (length p.types.structs) 0) (nat_eq (length p.members) 0) plain in
+    let b = and_parts (have_own_names p.functions) _ e in
     record {
       table = ordered;
       once = once;

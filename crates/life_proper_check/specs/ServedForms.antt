@@ -120,9 +120,7 @@ abbrev pub has_no_structs : Program → Bool
 has_no_structs p = nat_eq (length p.types.structs) 0 && nat_eq (length p.members) 0
 
 abbrev pub is_formed_program : Program → Bool
-is_formed_program p =
-    has_no_structs p
-    && (have_own_names p.functions && list_all (is_formed_function p.types (length p.names) (length p.texts) p.functions) p.functions)
+is_formed_program p = have_own_names p.functions && list_all (is_formed_function p.types (length p.names) (length p.texts) p.functions) p.functions
 
 -- each of these functions passes no limit
 abbrev pub AreWithin : Types → List Function → Type 0

@@ -28,9 +28,11 @@ use std::alloc::Global;
 /// A part of what is asked of a proper program.
 #[derive(Clone, Copy)]
 pub enum Part {
-    /// It has a step or a local that is served later, or a struct.
+    /// It has a step or a local that is served later.
     Served,
-    /// A call hands over a raw pointer or a reference, or gives one back.
+    /// It has a struct.
+    Structs,
+    /// A call hands over a pointer or a slot, or gives a pointer back.
     ByValue,
     /// A number names nothing, a type doesn't fit, or what is const is written.
     WellFormed,
@@ -84,6 +86,7 @@ fn first_unmet(alloc: Global, p: &CoreProgram) -> Result<Option<Part>, NoMemory>
     let once = has_each_once(alloc, &p.types)?;
     Ok(first_of(Met {
         served,
+        no_structs: has_no_structs(p),
         by_value: is_plain_program(p),
         typed: has_types(&p.types),
         once,
@@ -98,6 +101,7 @@ fn first_unmet(alloc: Global, p: &CoreProgram) -> Result<Option<Part>, NoMemory>
 #[derive(Clone, Copy)]
 struct Met {
     served: bool,
+    no_structs: bool,
     by_value: bool,
     typed: bool,
     once: bool,
@@ -108,10 +112,12 @@ struct Met {
 }
 
 fn first_of(met: Met) -> Option<Part>
-    ensures { result ≡ None → (met.served ≡ true) × ((met.by_value ≡ true) × ((met.typed ≡ true) × ((met.once ≡ true) × ((met.formed ≡ true) × ((met.breaks ≡ true) × ((met.limits ≡ true) × (met.ready ≡ true))))))) }
+    ensures { result ≡ None → (met.served ≡ true) × ((met.no_structs ≡ true) × ((met.by_value ≡ true) × ((met.typed ≡ true) × ((met.once ≡ true) × ((met.formed ≡ true) × ((met.breaks ≡ true) × ((met.limits ≡ true) × (met.ready ≡ true)))))))) }
 {
     if !met.served {
         Some(Part::Served)
+    } else if !met.no_structs {
+        Some(Part::Structs)
     } else if !met.by_value {
         Some(Part::ByValue)
     } else if !met.typed || !met.once || !met.formed {
@@ -209,9 +215,6 @@ fn has_no_structs(p: &CoreProgram) -> bool
 fn is_formed_program(alloc: Global, p: &CoreProgram) -> Result<bool, NoMemory>
     ensures { IfOk result (λ answer. answer ≡ is_formed_program (program_of p.now)) }
 {
-    if !has_no_structs(p) {
-        return Ok(false);
-    }
     if !have_own_names(&p.functions) {
         return Ok(false);
     }

@@ -151,6 +151,7 @@ fn compare_runs(
 fn part_name(part: Part) -> &'static str {
     match part {
         Part::Served => "served",
+        Part::Structs => "structs",
         Part::ByValue => "by-value",
         Part::WellFormed => "well-formed",
         Part::Breaks => "breaks",

@@ -13,6 +13,5 @@ decreases-is_plain_condition l = goal.size-is_plain_condition l
 -- what is left decides
 abbrev pub invariant-is_plain-loop-item : goal.invariant-is_plain-loop-item
 invariant-is_plain-loop-item l =
-    let functions = map function_of l.at.functions.now in
     let f = function_of l.at.function.now in
-    is_plain_tree l.at.types.now functions f (trees (map tree_of (drop l.item-index l.item-items))) ≡ is_plain_tree l.at.types.now functions f (tree_of l.s)
+    is_plain_tree l.at.types.now f (trees (map tree_of (drop l.item-index l.item-items))) ≡ is_plain_tree l.at.types.now f (tree_of l.s)

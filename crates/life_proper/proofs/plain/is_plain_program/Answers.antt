@@ -8,4 +8,4 @@ use Rattle.life_proper.proofs.plain.is_plain_program.Goals as goal
 pub returns : goal.returns
 returns c =
     let p = program_of c.args.p.now in
-    c.are_plain.ensures ∙ ap (λ (fs : List CoreFn). are_plain p.types (map function_of fs) (map function_of fs)) c.deref.ensures.value ∙ sym (plain_calls p)
+    c.are_plain.ensures ∙ ap (λ (fs : List CoreFn). are_plain p.types (map function_of fs)) c.deref.ensures.value ∙ sym (plain_calls p)

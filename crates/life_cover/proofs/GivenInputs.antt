@@ -1,0 +1,286 @@
+-- The inputs of a callee stand apart where nothing is diagnosed at the call: from what is given over, and from each other, if one of them is mutating.
+use Rattle.std.proofs.Common.{◌≡◌, ◌≢◌, ◌⊎◌, ⊎_elim, inl, inr, ℕ, zero, suc, ◌<◌, Bool, true, false, ◌||◌, List, [], ◌∷◌, Option, Some, None, refl, sym, ap, subst, ◌∙◌, arith}
+use Rattle.std.specs.Prelude.{not, option_map, slice_get, ◌&&◌}
+use Rattle.std.proofs.lemmas.Bool.{and_parts, false≢true}
+use Rattle.life_types.specs.Pointees.{or_void, ty_of}
+use Rattle.life_types.specs.Trees.{IsOrdered, holds_owner, tree_at}
+use Rattle.life_types.specs.TypeTests.{is_constant}
+use Rattle.life_types.specs.Types.{Types}
+use Rattle.life_types.specs.declared.place.Place.{Place}
+use Rattle.life_types.specs.declared.ty.Ty.{Ty}
+use Rattle.life_types.specs.declared.ty.Ty.TheVariants as ty
+use Rattle.life_types.specs.declared.ty.TyId.{TyId}
+use Rattle.life_core.specs.declared.program.FnId.{FnId}
+use Rattle.life_core.specs.declared.program.Local.{Local}
+use Rattle.life_core.specs.Function.{Function}
+use Rattle.life_core.specs.Operands.{Argument, Location}
+use Rattle.life_core.specs.Step.{Call}
+use Rattle.life_pset.specs.Elements.{Input, local_place}
+use Rattle.life_pset.specs.Places.{overlap, path}
+use Rattle.life_pset.specs.Shapes.{shape, shape_of, target_of, target_type, tree_if, ty_if}
+use Rattle.life_pset.specs.contracts.element.RootPartialEq.TheImpl.{ghosts as compared}
+use Rattle.life_pset.specs.declared.element.AbsPlace.{AbsPlace}
+use Rattle.life_pset.specs.declared.element.Fact.{Fact}
+use Rattle.life_pset.specs.declared.element.Root.{Root}
+use Rattle.life_pset.specs.declared.element.Root.TheVariants as root
+use Rattle.life_contract.specs.Inputs.{bears_keeps, input_parameter, is_mutating}
+use Rattle.life_contract.specs.Signatures.{Signature, signature_of}
+use Rattle.life_store.specs.Cells.{at}
+use Rattle.life_store.specs.Content.{Content, Object}
+use Rattle.life_store.specs.Effects.{cell}
+use Rattle.life_store.specs.Parts.{characters_type}
+use Rattle.life_store.specs.State.{Cell, Empty, Named, Null, Number, Points, State, Static, Target, To, Wild}
+use Rattle.life_store.proofs.CellLemmas.{none_some, some_same}
+use Rattle.life_forest.specs.Forest.{Beneath, all_of}
+use Rattle.life_forest.specs.FrameTypes.{seen_in, seen_type}
+use Rattle.life_forest.specs.Frames.{named_in}
+use Rattle.life_forest.specs.Kinds.{kinds_of}
+use Rattle.life_forest.specs.Owned.{times}
+use Rattle.life_forest.proofs.Shaped.{IsShaped}
+use Rattle.life_cover.specs.Covers.{IsSeenAs}
+use Rattle.life_cover.specs.Frames.{RootStands, look_at}
+use Rattle.life_cover.specs.Inputs.{AreGiven, IsInput, StandsAt, entry_inputs, foot_with, input_at, may_change, mutated, owning, pointed, test_input}
+use Rattle.life_cover.specs.Kills.{IsUnnamed, Names}
+use Rattle.life_cover.specs.Passed.{parameter_input}
+use Rattle.life_cover.specs.Regions.{IsAt, Region, foot_of}
+use Rattle.life_cover.proofs.ApartPlaces.{one_root, place_other, place_over, place_under}
+use Rattle.life_cover.proofs.Arguments.{IsAimedBy}
+use Rattle.life_cover.proofs.CalledRight.{argument_unkept, not_overlapping}
+use Rattle.life_cover.proofs.CopyKinds.{seen_holds}
+use Rattle.life_cover.proofs.FootParts.{IsBelow, below_region, below_whole, is_below}
+use Rattle.life_cover.proofs.Guarding.{exact_root, root_laws}
+use Rattle.life_cover.proofs.InputPlaces.{holds_up, mutating_input}
+use Rattle.life_cover.proofs.Inside.{not_itself}
+use Rattle.life_cover.proofs.KnownFrames.{IsKnownFrame, IsRight, hand_of, store_of}
+use Rattle.life_cover.proofs.Mutated.{mutated_from}
+use Rattle.life_cover.proofs.PointerInputs.{found_input, is_input, pairs_in_signature}
+use Rattle.life_cover.proofs.PushKinds.{elsewhere}
+
+-- ---- what stands at the entry
+
+-- a pointer that was handed over
+pub record IsEntered (c : Content) (vs : List Cell) (r : Root) (a : Region) : Type 0 where
+  pub parameter : ℕ
+  pub target : Target
+  pub object : Object
+  pub root : r ≡ root.Input parameter None
+  pub handed : slice_get vs parameter ≡ Some (Points (To target))
+  pub there : at c.objects target.object ≡ Some object
+  pub is : record { object = target.object; word = target.word; ty = object.ty } ≡ a
+
+pub is_entered : (c : Content) (vs : List Cell) (r : Root) (a : Region) → StandsAt (entry_inputs c vs) r a → IsEntered c vs r a
+is_entered c vs (root.Local x) a e = absurd (none_some e)
+is_entered c vs (root.Input q (Some m)) a e = absurd (none_some e)
+is_entered c vs (root.Input q None) a e = by_cell (slice_get vs q) refl e
+  where
+    by_object : (t : Target) → slice_get vs q ≡ Some (Points (To t)) → (o : Option Object) → at c.objects t.object ≡ o → option_map (λ (u : Object). record { object = t.object; word = t.word; ty = u.ty }) o ≡ Some a → IsEntered c vs (root.Input q None) a
+    by_object t here None is h = absurd (none_some h)
+    by_object t here (Some o) is h = record { parameter = q; target = t; object = o; root = refl; handed = here; there = is; is = some_same h }
+
+    by_cell : (v : Option Cell) → slice_get vs q ≡ v → pointed c v ≡ Some a → IsEntered c vs (root.Input q None) a
+    by_cell (Some (Points (To t))) here h = by_object t here (at c.objects t.object) refl h
+    by_cell (Some (Points Null)) here h = absurd (none_some h)
+    by_cell (Some (Points Wild)) here h = absurd (none_some h)
+    by_cell (Some (Points (Static s))) here h = absurd (none_some h)
+    by_cell (Some Empty) here h = absurd (none_some h)
+    by_cell (Some (Named n)) here h = absurd (none_some h)
+    by_cell (Some (Number z)) here h = absurd (none_some h)
+    by_cell None here h = absurd (none_some h)
+
+either_less : (x y : ℕ) → x ≢ y → (x < y) ⊎ (y < x)
+either_less zero zero ne = absurd (ne refl)
+either_less zero (suc y) ne = inl (omega arith)
+either_less (suc x) zero ne = inr (omega arith)
+either_less (suc x) (suc y) ne = ⊎_elim (λ l. inl (omega (arith, l))) (λ h. inr (omega (arith, h))) (either_less x y (λ e. ne (ap suc e)))
+
+or_right : (a b : Bool) → b ≡ true → (a || b) ≡ true
+or_right true b e = refl
+or_right false b e = e
+
+one_or_other : (r s : Root) → (r ≡ s) ⊎ (r ≢ s)
+one_or_other r s = go (compared.eq r s) refl
+  where
+    go : (b : Bool) → compared.eq r s ≡ b → (r ≡ s) ⊎ (r ≢ s)
+    go true e = inl (exact_root r s e)
+    go false e = inr (λ same. false≢true (sym e ∙ subst (λ (z : Root). compared.eq r z ≡ true) same (root_laws.refl r)))
+
+-- ---- what is seen through an input
+
+seen_input : (types : Types) (o : Option Ty) (id : TyId) → IsSeenAs types (seen_in types o) id → (target_of (or_void o) ≡ Some id) ⊎ (id ≡ characters_type types)
+seen_input types (Some ty.View) id (inl e) = inr (sym e)
+seen_input types (Some ty.View) id (inr e) = inr e.1
+seen_input types (Some (ty.Raw target constant)) id (inl e) = inl (ap Some e)
+seen_input types (Some (ty.Raw target constant)) id (inr e) = inr e.1
+seen_input types (Some (ty.Reference target constant)) id (inl e) = inl (ap Some e)
+seen_input types (Some (ty.Reference target constant)) id (inr e) = inr e.1
+seen_input types (Some (ty.Iterator target constant)) id (inl e) = inl (ap Some e)
+seen_input types (Some (ty.Iterator target constant)) id (inr e) = inr e.1
+seen_input types (Some (ty.Span target constant)) id (inl e) = inl (ap Some e)
+seen_input types (Some (ty.Span target constant)) id (inr e) = inr e.1
+seen_input types _ id e = absurd e
+
+-- what is seen through one behind which there is an owner holds it
+seen_owner : (types : Types) (ordered : IsOrdered types) (plain : types.structs ≡ []) (o : Option Ty) (id : TyId) → IsSeenAs types (seen_in types o) id → holds_owner (tree_if types (target_of (or_void o))) ≡ true → holds_owner (tree_at types id) ≡ true
+seen_owner types ordered plain (Some ty.View) id seen h = absurd (false≢true h)
+seen_owner types ordered plain (Some (ty.Raw target constant)) id seen h = seen_holds types ordered plain (Some target) id seen h
+seen_owner types ordered plain (Some (ty.Reference target constant)) id seen h = seen_holds types ordered plain (Some target) id seen h
+seen_owner types ordered plain (Some (ty.Iterator target constant)) id seen h = seen_holds types ordered plain (Some target) id seen h
+seen_owner types ordered plain (Some (ty.Span target constant)) id seen h = seen_holds types ordered plain (Some target) id seen h
+seen_owner types ordered plain _ id seen h = absurd seen
+
+-- ---- of a frame of which all is known
+
+module _ (types : Types) (f : Function) (rest : ℕ → ℕ) (inputs : Root → Option Region) (S : Fact → Type 0) (st : State) (k : IsKnownFrame types f rest inputs S st) (sigs : List Signature) (number : ℕ) (place : Place) (S' : Fact → Type 0) (target : Option Location) (g : FnId) (xs : List Argument)
+    (right : IsRight sigs types number f place (Call target g xs) S S') (values : List Cell) (gf : Function) (at_g : slice_get sigs g.0 ≡ Some (signature_of gf)) (shaped : IsShaped types gf) (aims : (q : ℕ) (t : Target) → slice_get values q ≡ Some (Points (To t)) → IsAimedBy types f inputs S st xs gf q t)
+    (over : (n : ℕ) → 0 < times (named_in values) n → (x : ℕ) × (cell st x ≡ Some (Named n)) × IsUnnamed S x) where
+  abbrev pub Stood : AbsPlace → Region → Type 0
+  Stood a r = IsAt types st.world.content (RootStands types f (StandsAt inputs) st.cells) a r
+
+  module _ (r : Root) (a : Region) (stands : StandsAt (entry_inputs st.world.content values) r a) where
+    abbrev e : IsEntered st.world.content values r a
+    e = is_entered st.world.content values r a stands
+
+    abbrev aim : IsAimedBy types f inputs S st xs gf (is_entered st.world.content values r a stands).parameter (is_entered st.world.content values r a stands).target
+    aim = aims (is_entered st.world.content values r a stands).parameter (is_entered st.world.content values r a stands).target (is_entered st.world.content values r a stands).handed
+
+    abbrev pub input : Input
+    input = parameter_input types gf.parameters (is_entered st.world.content values r a stands).parameter (aims (is_entered st.world.content values r a stands).parameter (is_entered st.world.content values r a stands).target (is_entered st.world.content values r a stands).handed).local
+
+    -- it is where the argument points
+    region_is : aim.points.region ≡ a
+    region_is = sym (aim.object e.object e.there) ∙ e.is
+
+    pub stood : Stood (aims (is_entered st.world.content values r a stands).parameter (is_entered st.world.content values r a stands).target (is_entered st.world.content values r a stands).handed).place a
+    stood = subst (Stood aim.place) region_is aim.points.lies
+
+    pub object_lives : at st.world.content.objects a.object ≡ Some (is_entered st.world.content values r a stands).object
+    object_lives = ap (λ (b : Region). at st.world.content.objects b.object) (sym e.is) ∙ e.there
+
+    object_type : e.object.ty ≡ a.ty
+    object_type = ap (λ (b : Region). b.ty) e.is
+
+    passed_object : aim.passed.object ≡ e.object
+    passed_object = some_same (sym aim.passed.there ∙ e.there)
+
+    seen_as : IsSeenAs types (seen_in types (slice_get types.types (shape types gf.parameters e.parameter aim.local).0)) a.ty
+    seen_as =
+        subst (λ (id : Option TyId). IsSeenAs types (seen_type types id) a.ty) (sym (shaped e.parameter) ∙ ap (shape_of types gf.parameters e.parameter) aim.there)
+        (subst (IsSeenAs types (look_at types gf e.parameter).target) (ap (λ (o : Object). o.ty) passed_object ∙ object_type) aim.passed.type)
+
+    -- an input of the callee
+    pub entered_input : IsInput types gf r a
+    entered_input = record {
+      input = input;
+      is = ap (input_at types gf) e.root ∙ found_input types k.ordered gf e.parameter aim.local aim.there aim.lt aim.parameter;
+      among = is_input types k.ordered gf e.parameter aim.local aim.there aim.lt aim.parameter;
+      named = sym e.root;
+      type = seen_input types (slice_get types.types (shape types gf.parameters e.parameter aim.local).0) a.ty seen_as;
+    }
+
+    -- a mutating one
+    module _ (own : owning types gf r ≡ true) where
+      pub mutating : is_mutating types (signature_of gf) input ≡ true
+      mutating = ap (test_input (is_mutating types (signature_of gf))) (sym (found_input types k.ordered gf e.parameter aim.local aim.there aim.lt aim.parameter)) ∙ ap (owning types gf) (sym e.root) ∙ own
+
+      writable : (look_at types f aim.from).constant ≡ false
+      writable = aim.look.constant (first (is_constant (ty_of types (shape types gf.parameters e.parameter aim.local))) (holds_owner (tree_if types (target_type types input.ty)) && not (bears_keeps (input_parameter (signature_of gf) input))) mutating own_shape)
+        where
+          own_shape : is_constant (ty_of types (shape types gf.parameters e.parameter aim.local)) ≡ (look_at types gf e.parameter).constant
+          own_shape = ap (λ (o : Option Local). is_constant (ty_if types (shape_of types gf.parameters e.parameter o))) (sym aim.there)
+
+          first : (constant owner : Bool) → (not constant && owner) ≡ true → {b : Bool} → constant ≡ b → b ≡ false
+          first true owner h e = absurd (false≢true h)
+          first false owner h e = sym e
+
+      holds : holds_owner (tree_at types a.ty) ≡ true
+      holds =
+          seen_owner types k.ordered k.plain (slice_get types.types (shape types gf.parameters e.parameter aim.local).0) a.ty seen_as
+          (and_parts (holds_owner (tree_if types (target_type types input.ty))) _ (and_parts (not (is_constant (ty_if types input.ty))) _ mutating).1).0
+
+      pub caller_owns : owning types f aim.place.root ≡ true
+      caller_owns = go aim.place.root refl stood.stands
+        where
+          go : (ro : Root) → aim.place.root ≡ ro → RootStands types f (StandsAt inputs) st.cells ro stood.start → owning types f aim.place.root ≡ true
+          go (root.Local x) is stands = ap (owning types f) is
+          go (root.Input q member) is at_input =
+              let i = k.given.each (root.Input q member) stood.start at_input in
+              ap (owning types f) is
+              ∙ mutating_input types k.ordered f q member stood.start i (sym (ap (may_change types f) is) ∙ aim.points.change writable) (holds_up types k.ordered k.plain st.world.content (path aim.place) stood.start a stood.lies holds)
+              (argument_unkept sigs types number f place S target g xs (signature_of gf) at_g right.clean input aim.among (local_place aim.from) aim.argument mutating aim.place aim.fact q member i.input is i.is)
+
+  -- ---- two of them
+
+  module _ (r s : Root) (a b : Region) (own : owning types gf r ≡ true) (ne : r ≢ s) (at_r : StandsAt (entry_inputs st.world.content values) r a) (at_s : StandsAt (entry_inputs st.world.content values) s b) where
+    abbrev e1 : IsEntered st.world.content values r a
+    e1 = is_entered st.world.content values r a at_r
+
+    abbrev e2 : IsEntered st.world.content values s b
+    e2 = is_entered st.world.content values s b at_s
+
+    abbrev one : IsAimedBy types f inputs S st xs gf (is_entered st.world.content values r a at_r).parameter (is_entered st.world.content values r a at_r).target
+    one = aims (is_entered st.world.content values r a at_r).parameter (is_entered st.world.content values r a at_r).target (is_entered st.world.content values r a at_r).handed
+
+    abbrev two : IsAimedBy types f inputs S st xs gf (is_entered st.world.content values s b at_s).parameter (is_entered st.world.content values s b at_s).target
+    two = aims (is_entered st.world.content values s b at_s).parameter (is_entered st.world.content values s b at_s).target (is_entered st.world.content values s b at_s).handed
+
+    apart : e1.parameter ≢ e2.parameter
+    apart same = ne (e1.root ∙ ap (λ q. root.Input q None) same ∙ sym e2.root)
+
+    -- their arguments' places have two roots
+    roots_differ : one.place.root ≢ two.place.root
+    roots_differ same = ⊎_elim
+        (λ lt. not_overlapping sigs types number f place S target g xs (signature_of gf) at_g right.clean_of_two (input r a at_r) (input s b at_s) (local_place one.from) (local_place two.from) one.place two.place
+        (λ h d told. pairs_in_signature types k.ordered gf e1.parameter e2.parameter one.local two.local one.there one.lt one.parameter two.there two.lt two.parameter lt h d told) one.argument two.argument one.fact two.fact
+        (ap (λ t. t || is_mutating types (signature_of gf) (input s b at_s)) (mutating r a at_r own)) overlaps)
+        (λ lt. not_overlapping sigs types number f place S target g xs (signature_of gf) at_g right.clean_of_two (input s b at_s) (input r a at_r) (local_place two.from) (local_place one.from) two.place one.place
+        (λ h d told. pairs_in_signature types k.ordered gf e2.parameter e1.parameter two.local one.local two.there two.lt two.parameter one.there one.lt one.parameter lt h d told) two.argument one.argument two.fact one.fact
+        (or_right (is_mutating types (signature_of gf) (input s b at_s)) (is_mutating types (signature_of gf) (input r a at_r)) (mutating r a at_r own)) turned)
+        (either_less e1.parameter e2.parameter apart)
+      where
+        overlaps : overlap one.place two.place ≡ true
+        overlaps = one_root types f rest inputs S st k one.place two.place a b (stood r a at_r) (stood s b at_s) same
+
+        turned : overlap two.place one.place ≡ true
+        turned = one_root types f rest inputs S st k two.place one.place b a (stood s b at_s) (stood r a at_r) (sym same)
+
+    pub inputs_other : a.object ≢ b.object
+    inputs_other = place_other types f rest inputs S st k one.place two.place a b (stood r a at_r) (stood s b at_s) (caller_owns r a at_r own) roots_differ
+
+    pub inputs_over : Beneath (kinds_of types) st.world.content (foot_of types b) a.object → ⊥
+    inputs_over = place_under types f rest inputs S st k one.place two.place a b (stood r a at_r) (stood s b at_s) (caller_owns r a at_r own) roots_differ
+
+    -- .. and the other isn't beneath the mutating one
+    pub inputs_under : Beneath (kinds_of types) st.world.content (foot_of types a) b.object → ⊥
+    inputs_under = place_over types f rest inputs S st k one.place two.place a b (stood r a at_r) (stood s b at_s) (caller_owns r a at_r own) roots_differ
+
+  -- ---- all of them
+
+  -- no fact points into what is given over
+  pub not_given_over : (p : AbsPlace) (r : Region) → Names S p → Stood p r → (n : ℕ) → 0 < times (named_in values) n → Beneath (kinds_of types) st.world.content (all_of (n ∷ [])) r.object → ⊥
+  not_given_over p r names at_p n lt low = let h = over n lt in elsewhere types f rest inputs S st k h.0 n h.1 h.2 p r names at_p low
+
+  input_free : (r : Root) (a : Region) → StandsAt (entry_inputs st.world.content values) r a → IsBelow types st.world.content (mutated types gf (entry_inputs st.world.content values)) (named_in values) a.object → ⊥
+  input_free r a at_r (below_whole n lt low) = not_given_over (aim r a at_r).place a (local_place (aim r a at_r).from, (aim r a at_r).fact) (stood r a at_r) n lt low
+  input_free r a at_r (below_region b among low) = by_root (one_or_other r m.0)
+    where
+      m : (s : Root) × (StandsAt (entry_inputs st.world.content values) s b) × (owning types gf s ≡ true)
+      m = mutated_from types gf (entry_inputs st.world.content values) b among
+
+      by_root : (r ≡ m.0) ⊎ (r ≢ m.0) → ⊥
+      by_root (inl same) =
+          let is : a ≡ b = some_same (sym at_r ∙ ap (entry_inputs st.world.content values) same ∙ m.1) in
+          not_itself types k.ordered (hand_of rest st) st.world.content (store_of types f rest inputs S st k) a (subst (λ (z : Region). Beneath (kinds_of types) st.world.content (foot_of types z) a.object) (sym is) low)
+      by_root (inr ne) = inputs_under m.0 r b a m.2 (λ same. ne (sym same)) m.1 at_r low
+
+  pub callee_given : AreGiven types gf (entry_inputs st.world.content values) (foot_with types (mutated types gf (entry_inputs st.world.content values)) (named_in values)) st.world.content
+  callee_given = record {
+    each = entered_input;
+    all = λ r a at_r. record {
+      word = sym (ap (λ (z : Region). z.word) (is_entered st.world.content values r a at_r).is) ∙ (aim r a at_r).passed.word;
+      type = λ q there. ap (λ (o : Object). o.ty) (some_same (sym there ∙ object_lives r a at_r)) ∙ object_type r a at_r;
+    };
+    born = λ r a at_r. (store_of types f rest inputs S st k).forest.births a.object (is_entered st.world.content values r a at_r).object (object_lives r a at_r);
+    free = λ r a at_r low. input_free r a at_r (is_below types st.world.content (mutated types gf (entry_inputs st.world.content values)) (named_in values) a.object low);
+    other = inputs_other;
+    over = inputs_over;
+  }

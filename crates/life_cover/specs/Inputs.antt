@@ -1,0 +1,107 @@
+-- The inputs of a function: what it may change behind them, where they stand, and what a frame may touch.
+use Rattle.std.specs.Prelude.{◌≡◌, ◌≢◌, ℕ, ◌<◌, Bool, true, false, not, List, [], ◌∷◌, Option, Some, None, Contains, option_map, slice_get}
+use Rattle.std.proofs.Common.{◌⊎◌}
+use Rattle.std.specs.List.{flat_map, list_any}
+use Rattle.life_types.specs.TypeTests.{is_constant}
+use Rattle.life_types.specs.Types.{Types}
+use Rattle.life_core.specs.Function.{Function}
+use Rattle.life_pset.specs.Elements.{Input, inputs_of}
+use Rattle.life_pset.specs.Shapes.{target_type, ty_if}
+use Rattle.life_pset.specs.declared.element.Root.{Root}
+use Rattle.life_pset.specs.declared.element.Root.TheVariants as root
+use Rattle.life_contract.specs.Inputs.{is_mutating}
+use Rattle.life_contract.specs.Signatures.{signature_of}
+use Rattle.life_rules.specs.Texts.{input_of}
+use Rattle.life_store.specs.Cells.{at}
+use Rattle.life_store.specs.Content.{Content, Object}
+use Rattle.life_store.specs.Parts.{characters_type}
+use Rattle.life_store.specs.State.{Cell, Points, To}
+use Rattle.life_forest.specs.Forest.{Beneath, Foot, positive}
+use Rattle.life_forest.specs.Frames.{named_in}
+use Rattle.life_forest.specs.Kinds.{kinds_of}
+use Rattle.life_forest.specs.Owned.{times}
+use Rattle.life_cover.specs.Regions.{Region, foot_of, is_in_region}
+
+-- ---- by a function's head
+
+-- something is said of the input, where there is one
+abbrev pub test_input : (Input → Bool) → Option Input → Bool
+test_input test None = false
+test_input test (Some i) = test i
+
+-- the input that a root stands for
+abbrev pub input_at : Types → Function → Root → Option Input
+input_at types f (root.Local x) = None
+input_at types f (root.Input q member) = input_of types f q member
+
+-- all that locals are and own may be changed, and what a pointer without const was given
+abbrev pub may_change : Types → Function → Root → Bool
+may_change types f (root.Local x) = true
+may_change types f (root.Input q member) = test_input (λ i. not (is_constant (ty_if types i.ty))) (input_of types f q member)
+
+-- .. and its owners, if the input is mutating
+abbrev pub owning : Types → Function → Root → Bool
+owning types f (root.Local x) = true
+owning types f (root.Input q member) = test_input (is_mutating types (signature_of f)) (input_of types f q member)
+
+-- ---- where the inputs of a frame stand
+
+-- an input stands in at most one region
+abbrev pub StandsAt : (inputs : Root → Option Region) → Root → Region → Type 0
+StandsAt inputs r a = inputs r ≡ Some a
+
+-- no input stands anywhere
+abbrev pub no_inputs : Root → Option Region
+no_inputs r = None
+
+-- at a function's entry: a pointer that its caller hands over stands for all of the object into which it points
+abbrev pub pointed : Content → Option Cell → Option Region
+pointed c (Some (Points (To t))) = option_map (λ (o : Object). record { object = t.object; word = t.word; ty = o.ty }) (at c.objects t.object)
+pointed c _ = None
+
+abbrev pub entry_inputs : Content → (arguments : List Cell) → Root → Option Region
+entry_inputs c vs (root.Input q None) = pointed c (slice_get vs q)
+entry_inputs c vs _ = None
+
+-- it is an input of the function, and what stands there has the type that its pointer points to, or is the characters of a string
+pub record IsInput (types : Types) (f : Function) (r : Root) (a : Region) : Type 0 where
+  pub input : Input
+  pub is : input_at types f r ≡ Some input
+  pub among : Contains (inputs_of types f) input
+  pub named : input.root ≡ r
+  pub type : (target_type types input.ty ≡ Some a.ty) ⊎ (a.ty ≡ characters_type types)
+
+-- all of an object, as long as it lives
+pub record IsAllOf (c : Content) (a : Region) : Type 0 where
+  pub word : a.word ≡ 0
+  pub type : (q : Object) → at c.objects a.object ≡ Some q → q.ty ≡ a.ty
+
+-- ---- what a frame may touch
+
+abbrev pub region_if : Option Region → (here : Bool) → List Region
+region_if (Some a) true = a ∷ []
+region_if _ _ = []
+
+-- where its inputs stand that are mutating
+abbrev pub mutated : Types → Function → (Root → Option Region) → List Region
+mutated types f inputs = flat_map (λ i. region_if (inputs i.root) (owning types f i.root)) (inputs_of types f)
+
+-- some objects, whole, and the owners there
+abbrev pub foot_with : Types → List Region → List ℕ → Foot
+foot_with types regions ns = record { whole = λ n. positive (times ns n); part = λ m u. list_any (λ a. is_in_region types a m u) regions }
+
+-- all that the frame names, and the owners behind its mutating inputs
+abbrev pub frame_foot : Types → Function → (Root → Option Region) → List Cell → Foot
+frame_foot types f inputs cells = foot_with types (mutated types f inputs) (named_in cells)
+
+-- ---- the inputs stand well in a content, where this foot may be touched
+
+-- each is an input of the function, and stands at all of an object that was there; it isn't beneath the foot; and one that is mutating is
+-- another object than each other, and isn't beneath it
+pub record AreGiven (types : Types) (f : Function) (inputs : Root → Option Region) (foot : Foot) (c : Content) : Type 0 where
+  pub each : (r : Root) (a : Region) → StandsAt inputs r a → IsInput types f r a
+  pub all : (r : Root) (a : Region) → StandsAt inputs r a → IsAllOf c a
+  pub born : (r : Root) (a : Region) → StandsAt inputs r a → a.object < c.births
+  pub free : (r : Root) (a : Region) → StandsAt inputs r a → Beneath (kinds_of types) c foot a.object → ⊥
+  pub other : (r s : Root) (a b : Region) → owning types f r ≡ true → r ≢ s → StandsAt inputs r a → StandsAt inputs s b → a.object ≢ b.object
+  pub over : (r s : Root) (a b : Region) → owning types f r ≡ true → r ≢ s → StandsAt inputs r a → StandsAt inputs s b → Beneath (kinds_of types) c (foot_of types b) a.object → ⊥
