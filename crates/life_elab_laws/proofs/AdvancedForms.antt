@@ -13,7 +13,6 @@ use Rattle.life_typed.specs.Delimiters.{DelimitersForm}
 use Rattle.life_typed.specs.Operators.{are_iterators_of_one, dereferenced}
 use Rattle.life_typed.specs.TypedForm.{Form, Typed, binary, dereference, method}
 use Rattle.life_typed.specs.declared.typed_expr.BinaryOperator.{BinaryOperator}
-use Rattle.life_typed.specs.declared.typed_expr.Category.{Category}
 use Rattle.life_typed.specs.declared.typed_expr.Category.TheVariants as category
 use Rattle.life_typed.specs.declared.typed_expr.ExprType.{ExprType}
 use Rattle.life_typed.specs.declared.typed_expr.ExprType.TheVariants.{Of}
@@ -48,7 +47,7 @@ use Rattle.life_elab_laws.proofs.FormedVariables.{behind_place, type_later}
 use Rattle.life_elab_laws.proofs.Gifts.{a_number, a_place, a_pointer, a_pointing, both, nothing as no_gift}
 use Rattle.life_elab_laws.proofs.Held.{two_there}
 use Rattle.life_elab_laws.proofs.Instructions.{IsIntoOf, computed_part, into_of_later}
-use Rattle.life_elab_laws.proofs.ObjectForms.{IsObject, element_form}
+use Rattle.life_elab_laws.proofs.ObjectForms.{IsOwner, element_form}
 use Rattle.life_elab_laws.proofs.OperandsThere.{value_same}
 use Rattle.life_elab_laws.proofs.Parts.{Makes, Part, and_part, seen_part, then_part}
 use Rattle.life_elab_laws.proofs.PointerForms.{own_typed}
@@ -72,12 +71,12 @@ value_no_walker t v w = false≢true (sym (by_values (λ t. is_walker t ≡ fals
 module _ (a : Around) (visible : List ℕ) (types : Types) (texts : ℕ) (so_far : Bool) (fs : List Function) (f : Function) (setting : Setting so_far a types fs f) where
   -- ---- the ends of a vector
 
-  pub end_walker : (base : Form) (m : Method) (given : Form) (d : DelimitersForm) (e : Typed) (place : Place) → IsObject a visible types texts so_far fs f setting base → is_end m ≡ true
+  pub end_walker : (base : Form) (m : Method) (given : Form) (d : DelimitersForm) (e : Typed) (place : Place) → IsOwner a visible types texts so_far fs f setting base → is_end m ≡ true
       → IsCalled a.program.types (typed_in base).ty (typed_in base).category m given e → IsWalkerAt a visible types texts so_far fs f setting e ((form_uses a (method base m given d) place e.ty e.category).pointing)
   end_walker base m given d e place is ends h = go is.ty refl is.owner m ends (subst (λ (x : ExprType). IsCalled a.program.types x (typed_in base).category m given e) is.is h)
     where
       at_end : (item : TyId) → e.ty ≡ Of (ty.Iterator item (is_constant (typed_in base).category)) → e.ty ≡ Of (ty.Iterator item is.constant)
-      at_end item at = at ∙ ap (λ (c : Category). Of (ty.Iterator item (is_constant c))) is.place
+      at_end item at = at ∙ ap (λ (c : Bool). Of (ty.Iterator item c)) is.told
 
       go : (t : Ty) → is.ty ≡ t → is_owner_of_values a.program.types t ≡ true → (m : Method) → is_end m ≡ true → IsCalled a.program.types (Of t) (typed_in base).category m given e
           → IsWalkerAt a visible types texts so_far fs f setting e ((form_uses a (method base m given d) place e.ty e.category).pointing)

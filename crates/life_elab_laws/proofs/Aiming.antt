@@ -51,7 +51,6 @@ module _ (f : Function) where
       subst (Keeps f z None k) (sym (ap (λ (q : Location). known_after (touched_by f (pointed p q)) k) h.is ∙ (pointed_fills h.local m p k g).after)) (record {
         sized = set_length k h.local known.Ready;
         below = λ y lt b. set_same k h.local known.Ready y h.held;
-        named = λ y u name there is. set_same k h.local known.Ready y h.held;
       })
 
 -- ---- what it is given fits it

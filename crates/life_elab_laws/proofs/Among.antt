@@ -1,6 +1,7 @@
 -- Numbers among others.
-use Rattle.std.proofs.Common.{◌≡◌, ◌<◌, ◌≤◌, ◌⊎◌, inl, inr, ℕ, zero, suc, List, [], ◌∷◌, ◌++◌, Contains, drop, length, reverse, slice_index_or, take, refl, sym, subst, arith, take-append-drop}
-use Rattle.std.proofs.lemmas.Bool.{cases_eq}
+use Rattle.std.proofs.Common.{◌≡◌, ◌<◌, ◌≤◌, ◌⊎◌, inl, inr, ℕ, zero, suc, List, [], ◌∷◌, ◌++◌, Contains, drop, length, reverse, slice_index_or, take, refl, sym, subst, arith, take-append-drop, Bool, true}
+use Rattle.std.proofs.lemmas.Bool.{and_from, cases_eq}
+use Rattle.std.specs.List.{list_all}
 use Rattle.std.proofs.lemmas.List.{reverse-append}
 
 -- one of them is this one
@@ -62,6 +63,11 @@ among_drop n xs y h = subst (Among y) (take-append-drop n xs) (among_right (take
 
 pub among_parts : (n : ℕ) (xs : List ℕ) (y : ℕ) → Among y xs → Among y (take n xs) ⊎ Among y (drop n xs)
 among_parts n xs y h = among_either (take n xs) (drop n xs) y (subst (Among y) (sym (take-append-drop n xs)) h)
+
+-- what each of them passes, all do
+pub all_among : (test : ℕ → Bool) (xs : List ℕ) → ((y : ℕ) → Among y xs → test y ≡ true) → list_all test xs ≡ true
+all_among test [] each = refl
+all_among test (x ∷ xs) each = and_from (test x) (list_all test xs) (each x (inl refl)) (all_among test xs (λ y m. each y (inr m)))
 
 -- ---- each is greater than those before it
 

@@ -129,7 +129,7 @@ module _ (types : Types) (texts : ℕ) (so_far : Bool) (fs : List Function) (f :
   characters_there (Single r) n k p = (p, tt)
 
 module _ (a : Around) (visible : List ℕ) (types : Types) (texts : ℕ) (so_far : Bool) (fs : List Function) (f : Function) (setting : Setting so_far a types fs f) where
-  abbrev Finds : Form → Type 0
+  abbrev pub Finds : Form → Type 0
   Finds form = (s : State) → Standing a visible types texts so_far fs f setting s → Makes types texts so_far fs f None s (seen (uses a form) s) (a_found types texts so_far fs f)
 
   -- a char

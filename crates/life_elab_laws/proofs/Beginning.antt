@@ -32,8 +32,8 @@ use Rattle.life_elab_laws.proofs.Following.{Follows, HasRegister, follows_below,
 use Rattle.life_elab_laws.proofs.Fronts.{IsFront, front_append, front_itself, last_there}
 use Rattle.life_elab_laws.proofs.Growing.{Grows, grows_none}
 use Rattle.life_elab_laws.proofs.OrderedTypes.{order_none}
-use Rattle.life_elab_laws.proofs.Shaped.{AreShaped, shaped_more}
 use Rattle.life_elab_laws.proofs.WrittenLocals.{AddsRegisters, AreWrittenLocals, IsIntermediate, locals_added, own_added, register_pushed, registers_none, value_fits}
+use Rattle.life_elab_laws.proofs.PendingTemporaries.{none_pending, pending_later}
 
 -- ---- what is there at the entry
 
@@ -108,14 +108,6 @@ module _ (a : Around) where
   code_same (p ∷ ps) [] s = refl
   code_same (p ∷ ps) (u ∷ us) s = code_same ps us (with_new (parameter_local a p u) s)
 
-  shaped_same : (ps : List ParameterPromise) (us : List TypedLocal) (s : State) → are_reached_variables false a.program.types us ≡ true → AreShaped a.program.types s.locals → AreShaped a.program.types (elab.with_parameters a ps us s).locals
-  shaped_same [] us s b h = h
-  shaped_same (p ∷ ps) [] s b h = h
-  shaped_same (p ∷ ps) (u ∷ us) s b h =
-      let parts = and_parts (is_reached_variable false a.program.types u.ty) (are_reached_variables false a.program.types us) b in
-      shaped_same ps us (with_new (parameter_local a p u) s) parts.1
-      (shaped_more a.program.types s.locals (parameter_local a p u) h (λ is. record { name = u.name; named = refl; built = parts.0 }))
-
   own_parameters : (so_far : Bool) (types : Types) (ps : List ParameterPromise) (done us : List TypedLocal) (s : State) → done ++ us ≡ a.function.locals → AreWrittenLocals so_far types a s → AreWrittenLocals so_far types a (elab.with_parameters a ps us s)
   own_parameters so_far types [] done us s e h = h
   own_parameters so_far types (p ∷ ps) done [] s e h = h
@@ -144,7 +136,7 @@ module _ (a : Around) where
   one_register : (so_far : Bool) (types : Types) (t : Ty) (s : State) → is_value t ≡ true → slice_get s.types.types a.function.result.0 ≡ Some t
       → (y : ℕ) (l : Local) → slice_get (s.locals ++ nameless a.function.place a.function.result ∷ []) y ≡ Some l → (slice_get s.locals y ≡ Some l) ⊎ IsIntermediate so_far types s.types l
   one_register so_far types t s v at =
-      register_pushed so_far types s.types s.locals (nameless a.function.place a.function.result) (record { nameless = refl; kind = refl; ty = t; typed = at; fits = value_fits so_far types t v })
+      register_pushed so_far types s.types s.locals (nameless a.function.place a.function.result) (record { nameless = refl; ty = t; typed = at; fits = inl (refl, value_fits so_far types t v) })
 
   one_register_grows : (s : State) → Grows s (record s { locals = s.locals ++ nameless a.function.place a.function.result ∷ [] })
   one_register_grows s = record {
@@ -153,9 +145,10 @@ module _ (a : Around) where
     count = omega (arith, length-append s.locals (nameless a.function.place a.function.result ∷ []));
     variables = refl;
     living = refl;
-    pending = refl;
+    pending = front_itself s.pending;
+    fresh = λ y m lt. m;
+    pends = λ p. pending_later s (record s { locals = s.locals ++ nameless a.function.place a.function.result ∷ [] }) (front_append s.locals (nameless a.function.place a.function.result ∷ [])) (front_itself s.types.types) refl refl p;
     outside = refl;
-    shaped = λ types h. shaped_more types s.locals (nameless a.function.place a.function.result) h (λ is. absurd (false≢true (sym is)));
   }
 
   pub result_grows : (t : Ty) (s : State) → (is_void t || is_value t) ≡ true → Grows s (with_result a t s)
@@ -189,6 +182,10 @@ module _ (a : Around) where
   result_code ty.Void s = refl
   result_code _ s = refl
 
+  result_pending : (t : Ty) (s : State) → (with_result a t s).pending ≡ s.pending
+  result_pending ty.Void s = refl
+  result_pending _ s = refl
+
   result_types : (t : Ty) (s : State) → (with_result a t s).types ≡ s.types
   result_types ty.Void s = refl
   result_types _ s = refl
@@ -207,11 +204,6 @@ module _ (a : Around) where
 
     pub first_types : (first_state a T).types ≡ T
     first_types = result_types (type_at a.program.types a.function.result) given ∙ types_same a.function.parameters a.function.locals (nothing_written T)
-
-    pub first_shaped : are_reached_variables false a.program.types a.function.locals ≡ true → is_built_result a.program.types a.function.result ≡ true → AreShaped a.program.types (first_state a T).locals
-    first_shaped b result =
-        (result_grows (type_at a.program.types a.function.result) given result).shaped a.program.types
-        (shaped_same a.function.parameters a.function.locals (nothing_written T) b tt)
 
     -- the parameters, and the register of the result
     pub first_locals : (so_far : Bool) (types : Types) (t : Ty) → slice_get a.program.types.types a.function.result.0 ≡ Some t → is_built_result a.program.types a.function.result ≡ true → AreWrittenLocals so_far types a (first_state a T)
@@ -250,11 +242,12 @@ module _ (a : Around) where
       nothing_follows = record {
         count = refl;
         visible = λ x c. absurd (contains_among [] x c);
-        stands = record { table = table; opened = λ y c. absurd (contains_among [] y c); seen = λ x u c at. absurd (contains_among [] x c) };
+        stands = record { table = table; opened = λ y c. absurd (contains_among [] y c); pends = none_pending [] T.types [] [] refl; seen = λ x u c at. absurd (contains_among [] x c) };
         ascend = tt;
         outside = omega arith;
         living = λ y m. absurd m;
         sorts = λ b y m. absurd m;
+        pending = refl;
       }
 
       each_follows : (ps : List ParameterPromise) (done us : List TypedLocal) (v : Visible) (s : State) → done ++ us ≡ a.function.locals → length done ≡ v.declared → length ps ≤ length us → Follows types f a v s
@@ -272,14 +265,14 @@ module _ (a : Around) where
           (each_follows a.function.parameters [] a.function.locals (with_parameters 0) (nothing_written T) refl refl fits nothing_follows)
 
       pub first_follows : is_built_result a.program.types a.function.result ≡ true → Follows types f a (with_parameters (length a.function.parameters)) (first_state a T)
-      first_follows result = follows_grown types f a (with_parameters (length a.function.parameters)) given (first_state a T) (result_grows (type_at a.program.types a.function.result) given result) given_follows
+      first_follows result = follows_grown types f a (with_parameters (length a.function.parameters)) given (first_state a T) (result_pending (type_at a.program.types a.function.result) given) (result_grows (type_at a.program.types a.function.result) given result) given_follows
 
       -- the parameters are known, and all else that has a name is blank
       pub entry_knows : is_built_result a.program.types a.function.result ≡ true → f.parameters ≡ length a.function.parameters → IsFront (first_state a T).locals f.locals → Knows f (first_state a T).living (entry_known f)
       entry_knows result count locals = record {
         sized = map_length (given_ready f.parameters f.locals) ∙ given_length f.parameters f.locals;
         alive = λ y m. alive y (subst (Among y) same m);
-        blank = λ y l name there named none. blank y l there (λ m. none (subst (Among y) (sym same) m));
+        blank = λ y l there lasts none. blank y l there (λ m. none (subst (Among y) (sym same) m));
       }
         where
           grows : Grows given (first_state a T)

@@ -1,5 +1,5 @@
 -- Branches: two lists of statements behind a condition, and assertions.
-use Rattle.std.proofs.Common.{◌≡◌, ℕ, Bool, List, [], ◌∷◌, ◌++◌, length, take, None, Some, refl, sym, ap, ◌∙◌, subst}
+use Rattle.std.proofs.Common.{◌≡◌, ℕ, Bool, List, [], ◌∷◌, ◌++◌, take, Some, refl, sym, ap, ◌∙◌, subst}
 use Rattle.life_types.specs.Types.{Types}
 use Rattle.life_types.specs.declared.place.Place.{Place}
 use Rattle.life_core.specs.Function.{Function}
@@ -13,30 +13,33 @@ use Rattle.life_well_typed.specs.Visible.{Visible}
 use Rattle.life_writer.specs.Around.{Around, result_local}
 use Rattle.life_writer.specs.Writing.{State, Gives, with_code, write}
 use Rattle.life_elab_laws.proofs.Doing.{Acting, DoesLevel}
-use Rattle.life_elab_laws.proofs.Exits.{Knows, Leaves, MayKnow, knows_written, leaves_falling, leaves_joined, leaves_may, leaves_same}
-use Rattle.life_elab_laws.proofs.Following.{Adds, Follows, adds_then, begins_added, follows_grown, follows_named, grows_adds, knows_alive}
+use Rattle.life_elab_laws.proofs.Exits.{Knows, Leaves, MayKnow, leaves_falling, leaves_joined, leaves_may, leaves_same}
+use Rattle.life_elab_laws.proofs.Following.{alive_knows, Adds, Follows, adds_then, begins_added, follows_grown, grows_adds, knows_alive}
 use Rattle.life_elab_laws.proofs.GivingBack.{GivesValue, asks_known, known_may}
 use Rattle.life_elab_laws.proofs.Growing.{Begins}
 use Rattle.life_elab_laws.proofs.OrderedTypes.{order_then}
 use Rattle.life_elab_laws.proofs.Conditions.{Asked, AsksAll, Tests}
 use Rattle.life_elab_laws.proofs.Shaping.{stated_alone, stated_choice, stated_none}
 use Rattle.life_elab_laws.proofs.WrittenLocals.{locals_added}
+use Rattle.life_elab_laws.proofs.Making.{Alive}
 
 module _ (types : Types) (texts : ℕ) (so_far : Bool) (fs : List Function) (f : Function) where
   -- ---- behind a condition
 
-  module _ (a : Around) (v : Visible) (in_loop : Bool) (s : State) (w : Gives Tree) (h : Follows types f a v s) (test : Tests types texts so_far fs f s w) where
+  module _ {ends : Place} (a : Around) (v : Visible) (in_loop : Bool) (s : State) (w : Gives Tree) (h : Follows types f a v s) (test : Tests types texts so_far fs f (Some ends) s w) where
     pub tested_follows : Follows types f a v (with_code [] w.state)
-    tested_follows = follows_grown types f a v s w.state test.grown h
+    tested_follows = follows_grown types f a v s w.state (test.level tt) test.grown h
 
     pub same_outside : take w.state.outside w.state.living ≡ take s.outside s.living
     same_outside = ap (λ (n : ℕ). take n w.state.living) test.grown.outside ∙ ap (take s.outside) test.grown.living
 
     -- what is known on both ways
-    pub known_behind : Begins types f w.state → (k : List Known) (asked : Asked types texts so_far fs f s w.given k) → Knows f s.living k → Knows f s.living asked.on × Knows f s.living asked.off
-    known_behind b k asked knows =
-        let names = follows_named types f a v s h (begins_added types f s w.state (grows_adds types f s w.state test.grown) b) in
-        (knows_written f s.living (length s.locals) None k asked.on names knows asked.keeps_on, knows_written f s.living (length s.locals) None k asked.off names knows asked.keeps_off)
+    pub known_behind : (k : List Known) (asked : Asked types texts so_far fs f s w.state w.given k) → Knows f s.living asked.on × Knows f s.living asked.off
+    known_behind k asked =
+        (there asked.on asked.alive_on, there asked.off asked.alive_off)
+      where
+        there : (j : List Known) → Alive f w.state j → Knows f s.living j
+        there j alive = subst (λ (ys : List ℕ). Knows f ys j) test.grown.living (alive_knows types f w.state j (test.level tt ∙ h.pending) alive)
 
     -- both branches, the second of which is written behind the first
     module _ (u x : Visible) (t r : State) (first : DoesLevel types texts so_far fs f a u in_loop (with_code [] w.state) t) (second : DoesLevel types texts so_far fs f a x in_loop (with_code [] t) r) where
@@ -49,7 +52,7 @@ module _ (types : Types) (texts : ℕ) (so_far : Bool) (fs : List Function) (f :
       branched_adds : Adds types f s both
       branched_adds =
           adds_then types f s t r
-          (adds_then types f s w.state t (grows_adds types f s w.state test.grown) first.does.adds)
+          (adds_then types f s w.state t (grows_adds types f s w.state (test.level tt) test.grown) first.does.adds)
           second.does.adds
 
       branched_level : r.living ≡ s.living
@@ -62,7 +65,7 @@ module _ (types : Types) (texts : ℕ) (so_far : Bool) (fs : List Function) (f :
         tested : Begins types f w.state
         tested = begins_added types f w.state t first.does.adds begun
 
-        asks : AsksAll types texts so_far fs f s w.given
+        asks : AsksAll types texts so_far fs f s w.state w.given
         asks = test.runs tested
 
         one : Acting types texts so_far fs f in_loop (with_code [] w.state) t first.does.code
@@ -76,14 +79,14 @@ module _ (types : Types) (texts : ℕ) (so_far : Bool) (fs : List Function) (f :
 
         -- .. on each of both ways
         module _ (k : List Known) (knows : Knows f s.living k) where
-          abbrev g : Asked types texts so_far fs f s w.given k
-          g = asks.goes k (knows_alive types f a v s k knows)
+          abbrev g : Asked types texts so_far fs f s w.state w.given k
+          g = asks.goes k (knows_alive types f a v s h k knows)
 
           known_on : Knows f w.state.living g.on
-          known_on = subst (λ (xs : List ℕ). Knows f xs g.on) (sym test.grown.living) (known_behind tested k g knows).0
+          known_on = subst (λ (xs : List ℕ). Knows f xs g.on) (sym test.grown.living) (known_behind k g).0
 
           known_off : Knows f t.living g.off
-          known_off = subst (λ (xs : List ℕ). Knows f xs g.off) (sym (first.level ∙ test.grown.living)) (known_behind tested k g knows).1
+          known_off = subst (λ (xs : List ℕ). Knows f xs g.off) (sym (first.level ∙ test.grown.living)) (known_behind k g).1
 
           went : Leaves f in_loop r.living (take s.outside s.living) (flow types f (trees (chosen ∷ [])) (Some k))
           went =
@@ -142,24 +145,24 @@ module _ (types : Types) (texts : ℕ) (so_far : Bool) (fs : List Function) (f :
       ways = leaves_may types f in_loop s.living w.state.living (take s.outside s.living) (trees (Choice w.given Skip (Stops keyword) ∷ [])) went;
     }
       where
-        asks : AsksAll types texts so_far fs f s w.given
+        asks : AsksAll types texts so_far fs f s w.state w.given
         asks = test.runs b
 
         went : (k : List Known) → Knows f s.living k → Leaves f in_loop w.state.living (take s.outside s.living) (flow types f (trees (Choice w.given Skip (Stops keyword) ∷ [])) (Some k))
         went k knows =
-            let g = asks.goes k (knows_alive types f a v s k knows) in
+            let g = asks.goes k (knows_alive types f a v s h k knows) in
             subst (Leaves f in_loop w.state.living (take s.outside s.living))
             (sym (joined_end (flow types f (Choice w.given Skip (Stops keyword)) (Some k))
             ∙ ap (λ (q : Flow). joined (before_both q) (joined (flow types f Skip q.on_true) (flow types f (Stops keyword) q.on_false))) g.decides))
-            (leaves_falling f in_loop w.state.living (take s.outside s.living) g.on (subst (λ (xs : List ℕ). Knows f xs g.on) (sym test.grown.living) (known_behind b k g knows).0))
+            (leaves_falling f in_loop w.state.living (take s.outside s.living) g.on (subst (λ (xs : List ℕ). Knows f xs g.on) (sym test.grown.living) (known_behind k g).0))
 
     pub asserted_does : (keyword : Place) → DoesLevel types texts so_far fs f a v in_loop s (write (Choice w.given Skip (Stops keyword)) w.state)
     asserted_does keyword = record {
       does = record {
-        adds = grows_adds types f s w.state test.grown;
+        adds = grows_adds types f s w.state (test.level tt) test.grown;
         locals = locals_added so_far types a s w.state test.grown.types test.registers;
         order = test.registers.1;
-        follows = follows_grown types f a v s w.state test.grown h;
+        follows = follows_grown types f a v s w.state (test.level tt) test.grown h;
         code = Choice w.given Skip (Stops keyword) ∷ [];
         written = ap (λ (c : List Tree). c ++ Choice w.given Skip (Stops keyword) ∷ []) test.unwritten;
         acts = asserted_acts keyword;

@@ -1,5 +1,5 @@
 -- What is built is reached, where the program is one that is served so far.
-use Rattle.std.proofs.Common.{◌≡◌, ℕ, Bool, true, ◌&&◌, List, [], ◌∷◌, length, take, slice_get, Option, Some, None, refl, ap, ◌∙◌, if◌then◌else◌, false}
+use Rattle.std.proofs.Common.{◌≡◌, ℕ, Bool, true, ◌&&◌, List, [], ◌∷◌, length, take, slice_get, Option, Some, None, refl, ap, ◌∙◌, if◌then◌else◌, false, ◌||◌}
 use Rattle.std.proofs.lemmas.Bool.{and_from, and_parts, false≢true, or_left}
 use Rattle.life_types.specs.Types.{Types}
 use Rattle.life_types.specs.declared.ty.Ty.{Ty}
@@ -10,9 +10,10 @@ use Rattle.life_typed.specs.Programs.{FunctionForm}
 use Rattle.life_typed.specs.TypedForm.{Form, Typed, number, character, boolean, text, null, local, call, construct, paren, move, make_unique, text_of, input, member, dereference, index, method, negate, not as negation, address_of, binary, typed, nothing, ◌⨟◌, whole}
 use Rattle.life_typed.specs.TypedStatement.{StmtForm, DeclarationForm, ForStartForm, InitialForm, ItemForm, SimpleForm, one, several, assign, compound, step, discarded, declared_first, done_first, printed, line_end, block, empty, sentence, branching, while_loop, for_loop, range_loop, loop_break, loop_continue, returned, print, assertion, branch, declaration, no_more, chain}
 use Rattle.life_typed.specs.declared.typed_program.TypedLocal.{TypedLocal}
-use Rattle.life_elab_laws.specs.Reached.{are_reached_functions, are_reached_items, are_reached_variables, is_reached_declaration, is_reached_declared, is_reached_expression, is_reached_form, is_reached_function, is_reached_if_any, is_reached_initial, is_reached_item, is_reached_simple, is_reached_start, is_reached_statement, is_reached_step, is_reached_value, is_reached_variable, is_reached_type, is_reached_change, is_reached_object, is_owner_type, is_erased, is_reached_walker}
+use Rattle.life_elab_laws.specs.Reached.{are_reached_functions, are_reached_items, are_reached_variables, is_reached_declaration, is_reached_declared, is_reached_expression, is_reached_form, is_reached_function, is_reached_if_any, is_reached_initial, is_reached_item, is_reached_simple, is_reached_start, is_reached_statement, is_reached_step, is_reached_value, is_reached_variable, is_reached_type, is_reached_change, is_reached_owner, is_owner_type, is_erased, is_reached_walker}
 use Rattle.life_typed.specs.declared.typed_expr.ExprType.{ExprType}
 use Rattle.life_typed.specs.declared.typed_expr.ExprType.TheVariants.{NullPointer, Of, TextLiteral}
+use Rattle.life_well_typed.specs.Given.{is_number}
 
 -- two tests that both hold
 both : (a b c d : Bool) → (a ≡ true → c ≡ true) → (b ≡ true → d ≡ true) → (a && b) ≡ true → (c && d) ≡ true
@@ -80,14 +81,14 @@ module _ (texts : ℕ) where
   simple_as (assign target equals initial) h = or_left (is_reached_expression texts true target && is_reached_value texts true initial) _ (both (is_built_expression target) (is_built_value initial) (is_reached_expression texts true target) (is_reached_value texts true initial) (expression_as target) (value_as initial) h)
   simple_as (compound target operator place e) h = or_left (is_reached_expression texts true target && is_reached_expression texts true e) _ (both (is_built_expression target) (is_built_expression e) (is_reached_expression texts true target) (is_reached_expression texts true e) (expression_as target) (expression_as e) h)
   simple_as (step target operator place) h = or_left (is_reached_expression texts true target) _ (expression_as target h)
-  simple_as (discarded e) h = or_left _ (is_erased texts true e.form && is_reached_walker texts true (whole e)) (or_left _ (is_reached_change texts true e.form) (both (is_call e.form) (is_built_expression e) (is_call e.form) (is_reached_expression texts true e) (λ h. h) (expression_as e) h))
+  simple_as (discarded e) h = or_left _ (is_erased texts true e.form && is_reached_walker texts true (whole e)) (or_left _ (is_reached_change texts true e.form) (both (is_call e.form) (is_built_expression e) (is_call e.form || is_number e.ty) (is_reached_expression texts true e) (or_left (is_call e.form) (is_number e.ty)) (expression_as e) h))
 
   step_as : (it : Option SimpleForm) → is_built_step it ≡ true → is_reached_step texts true it ≡ true
   step_as None h = refl
   step_as (Some it) h = simple_as it h
 
   item_as : (i : ItemForm) → is_built_item i ≡ true → is_reached_item texts true i ≡ true
-  item_as (printed e) h = ap (λ (b : Bool). if b then is_reached_object (whole e) else is_reached_expression texts true e) (no_owner_as e.ty) ∙ expression_as e h
+  item_as (printed e) h = ap (λ (b : Bool). if b then is_reached_owner texts true (whole e) else is_reached_expression texts true e) (no_owner_as e.ty) ∙ expression_as e h
   item_as (line_end place) h = refl
 
   items_as : (is : List ItemForm) → are_built_items is ≡ true → are_reached_items texts true is ≡ true

@@ -1,5 +1,5 @@
 -- Calls: each argument is a number of the parameter's type in a register, and the result goes to a register of its type.
-use Rattle.std.proofs.Common.{◌≡◌, ℕ, Bool, true, false, ◌&&◌, ◌||◌, if◌then◌else◌, List, [], ◌∷◌, flat_map, slice_get, Option, Some, None, refl, ap, ◌∙◌}
+use Rattle.std.proofs.Common.{◌≡◌, ℕ, Bool, true, false, ◌&&◌, ◌||◌, if◌then◌else◌, List, [], ◌∷◌, flat_map, slice_get, Option, Some, None, refl, sym, ap, ◌∙◌}
 use Rattle.std.proofs.lemmas.Bool.{and_from, and_parts, or_left, or_right}
 use Rattle.std.specs.List.{list_all}
 use Rattle.life_types.specs.Pointees.{ty_of}
@@ -10,9 +10,7 @@ use Rattle.life_types.specs.declared.ty.Ty.{Ty}
 use Rattle.life_types.specs.declared.ty.Ty.TheVariants as ty
 use Rattle.life_types.specs.declared.ty.TyId.{TyId}
 use Rattle.life_typed.specs.Programs.{FunctionForm}
-use Rattle.life_core.specs.ByValue.{is_pointer as points}
 use Rattle.life_core.specs.Function.{Function}
-use Rattle.life_core.specs.Holdings.{sort_of}
 use Rattle.life_core.specs.Operands.{Argument, Location, Value, whole}
 use Rattle.life_proper.specs.GivenOver.{given_argument}
 use Rattle.life_proper.specs.OperandTypes.{same}
@@ -28,7 +26,7 @@ use Rattle.life_elab_laws.proofs.Calls.{IsCallee, alone_plain, call_plain, writt
 use Rattle.life_elab_laws.proofs.Gifts.{AreHanded, a_number, arguments, both, nothing}
 use Rattle.life_elab_laws.proofs.Instructions.{Computes, IsIntoOf, computed_part, into_of_later}
 use Rattle.life_elab_laws.proofs.Making.{IsOpen}
-use Rattle.life_elab_laws.proofs.OperandsThere.{number_any, number_sort, value_same}
+use Rattle.life_elab_laws.proofs.OperandsThere.{number_any, same_is, value_same}
 use Rattle.life_elab_laws.proofs.Parts.{Makes, and_part, leaf_part, seen_part, then_part}
 use Rattle.life_elab_laws.proofs.Shaping.{IsFineStep, is_no_object}
 use Rattle.life_elab_laws.proofs.Values.{by_values}
@@ -40,7 +38,7 @@ module _ (types : Types) (texts : ℕ) (so_far : Bool) (fs : List Function) (f :
   -- ---- arguments
 
   pub none_handed : (s : State) → Makes types texts so_far fs f None s (gives [] s) (arguments types texts so_far fs f [])
-  none_handed s = leaf_part types texts so_far fs f [] s (arguments types texts so_far fs f []) (λ b. record { fit = refl; own = refl; given = refl; served = λ so. refl }) (λ b k alive. tt)
+  none_handed s = leaf_part types texts so_far fs f [] s (arguments types texts so_far fs f []) (λ b. record { fit = refl; own = refl; given = refl; served = λ so. refl; values = λ so. refl }) (λ b k alive. tt)
 
   -- one before the others
   pub handed_part : (id : TyId) (t : Ty) (ids : List TyId) (first : State → Gives ℕ) (others : State → Gives (List Argument)) (s : State) → ty_of types id ≡ t → IsOpen s
@@ -57,6 +55,7 @@ module _ (types : Types) (texts : ℕ) (so_far : Bool) (fs : List Function) (f :
         own = h.1.own;
         given = h.1.given;
         served = h.1.served;
+        values = h.1.values;
       })
       (λ n k h. h)
 
@@ -75,6 +74,13 @@ module _ (types : Types) (texts : ℕ) (so_far : Bool) (fs : List Function) (f :
       ap (λ (b : Bool). if b then operands.takes types (type_in types f (whole x)) t else (same t (type_in types f (whole x)) && (object_at types f x || is_number types f x))) (value_no_pointer t v)
       ∙ and_from (same t (placed.type_at types f x)) (object_at types f x || is_number types f x) (ap (same t) typed ∙ value_same t v) (or_left (object_at types f x) (is_number types f x) there)
 
+  -- a local to which a value goes is no pointer
+  takes_value : (t : Ty) (x : ℕ) → is_value t ≡ true → goes_to types texts fs f t (Some (whole x)) ≡ true → is_pointer (placed.type_at types f x) ≡ false
+  takes_value t x v goes =
+      let into : (same t (placed.type_at types f x) && (object_at types f x || is_number types f x)) ≡ true =
+      ap (λ (b : Bool). if b then operands.takes types (type_in types f (whole x)) t else (same t (type_in types f (whole x)) && (object_at types f x || is_number types f x))) (sym (value_no_pointer t v)) ∙ goes in
+      ap is_pointer (sym (same_is t (placed.type_at types f x) (and_parts (same t (placed.type_at types f x)) (object_at types f x || is_number types f x) into).0)) ∙ value_no_pointer t v
+
   pub called_formed : (g : ℕ) (xs : List Argument) (of : FunctionForm) (target : Option Location) → IsCallee types fs g of → AreHanded types texts so_far fs f (parameter_types (Some of)) xs
       → goes_to types texts fs f (ty_of types of.result) target ≡ true → is_call types texts fs f (slice_get fs g) target xs ≡ true
   called_formed g xs of target callee given goes =
@@ -87,17 +93,17 @@ module _ (types : Types) (texts : ℕ) (so_far : Bool) (fs : List Function) (f :
   pub alone_fine : (g : ℕ) (xs : List Argument) (of : FunctionForm) → IsCallee types fs g of → AreHanded types texts so_far fs f (parameter_types (Some of)) xs → ty_of types of.result ≡ ty.Void
       → IsFineStep types texts so_far fs f (called_alone g xs)
   alone_fine g xs of callee h void = record {
-    plain = λ so. alone_plain types fs f g of callee xs;
+    plain = λ so. alone_plain types f g xs (h.values so);
     given = and_from (list_all (is_no_object types f) (flat_map given_argument xs)) true h.given refl;
     formed = called_formed g xs of None callee h (ap (λ (u : Ty). goes_to types texts fs f u None) void);
     served = h.served;
   }
 
-  -- a call whose result goes to a local that holds no pointer
-  pub called_fine : (g : ℕ) (xs : List Argument) (of : FunctionForm) (x : ℕ) → IsCallee types fs g of → AreHanded types texts so_far fs f (parameter_types (Some of)) xs → points (sort_of types f x) ≡ false
+  -- a call that gives a value
+  pub called_fine : (g : ℕ) (xs : List Argument) (of : FunctionForm) (x : ℕ) → IsCallee types fs g of → AreHanded types texts so_far fs f (parameter_types (Some of)) xs → is_value (ty_of types of.result) ≡ true
       → goes_to types texts fs f (ty_of types of.result) (Some (whole x)) ≡ true → IsFineStep types texts so_far fs f (called g xs (whole x))
-  called_fine g xs of x callee h sort goes = record {
-    plain = λ so. call_plain types fs f g of callee xs x sort;
+  called_fine g xs of x callee h value goes = record {
+    plain = λ so. call_plain types f g xs (h.values so) x (takes_value (ty_of types of.result) x value goes);
     given = and_from (list_all (is_no_object types f) (flat_map given_argument xs)) true h.given refl;
     formed = called_formed g xs of (Some (whole x)) callee h goes;
     served = h.served;
@@ -109,7 +115,7 @@ module _ (types : Types) (texts : ℕ) (so_far : Bool) (fs : List Function) (f :
       → Computes types texts so_far fs f (arguments types texts so_far fs f (parameter_types (Some of))) xs t (λ r. called g xs (whole r))
   call_computes g xs of t callee own v = record {
     fills = λ r n k e p. written_fills f g (parameter_types (Some of)) xs n k p r e;
-    fine = λ r e h. called_fine g xs of r callee h (ap points (number_sort types f t r e)) (ap (λ (u : Ty). goes_to types texts fs f u (Some (whole r))) own ∙ goes_value t r v e);
+    fine = λ r e h. called_fine g xs of r callee h (ap is_value own ∙ v) (ap (λ (u : Ty). goes_to types texts fs f u (Some (whole r))) own ∙ goes_value t r v e);
   }
 
   pub call_part : (g : ℕ) (of : FunctionForm) (into : Option ℕ) (t : Ty) (place : Place) (s : State) (w : Gives (List Argument)) → IsCallee types fs g of → ty_of types of.result ≡ t

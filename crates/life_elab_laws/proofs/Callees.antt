@@ -16,34 +16,26 @@ use Rattle.life_typed.specs.Programs.{FunctionForm, ProgramForm}
 use Rattle.life_typed.specs.declared.typed_program.ParameterPromise.{ParameterPromise}
 use Rattle.life_typed.specs.declared.typed_program.TypedLocal.{TypedLocal}
 use Rattle.life_core.specs.Function.{Function}
-use Rattle.life_core.specs.Holdings.{AnObject, Holding, held_by, held_if, parameter_sorts, sort_of_local}
 use Rattle.life_core.specs.declared.program.Local.{Local}
 use Rattle.life_proper.specs.WellFormed.{local_type, types_taken}
 use Rattle.life_well_typed.specs.Expressions.{parameter_types, type_of}
 use Rattle.life_well_typed.specs.Functions.{IsWellTypedFunction}
 use Rattle.life_writer.specs.Around.{Around}
-use Rattle.life_writer.specs.Variables.{kind}
 use Rattle.life_elab.specs.Functions.{parameter_local}
 use Rattle.life_elab.specs.ProgramForms.{first_state}
 use Rattle.life_elab.specs.Programs.{around, texts_of}
 use Rattle.life_elab_laws.proofs.Beginning.{parameter_locals, parameters_front, register_there}
-use Rattle.life_elab_laws.proofs.Calls.{IsCallee, objects}
+use Rattle.life_elab_laws.proofs.Calls.{IsCallee}
 use Rattle.life_elab_laws.proofs.Fronts.{IsFront, front_cut, front_then}
 use Rattle.life_elab_laws.proofs.Reaching.{variables_any}
 use Rattle.life_elab_laws.proofs.Shaped.{value_later}
-use Rattle.life_elab_laws.proofs.Types.{value_class, value_held}
+use Rattle.life_elab_laws.proofs.Types.{value_class}
 use Rattle.life_elab_laws.proofs.Values.{by_results}
+use Rattle.life_core.specs.declared.program.LocalKind.TheVariants.{Register}
 
 -- what stands in a table is the type there
 pub type_found : (types : Types) (id : TyId) (t : Ty) → slice_get types.types id.0 ≡ Some t → type_at types id ≡ t
 type_found types id t at = ap (λ (o : Option Ty). unwrap_or o ty.Void) at
-
-value_found : (types : Types) (id : TyId) → is_value (type_at types id) ≡ true → (t : Ty) × (slice_get types.types id.0 ≡ Some t) × (is_value t ≡ true)
-value_found types id w = go (slice_get types.types id.0) refl w
-  where
-    go : (o : Option Ty) → slice_get types.types id.0 ≡ o → is_value (unwrap_or o ty.Void) ≡ true → (t : Ty) × (slice_get types.types id.0 ≡ Some t) × (is_value t ≡ true)
-    go None at w = absurd (false≢true w)
-    go (Some t) at w = (t, at, w)
 
 -- a value, or nothing
 value_or_void : (t : Ty) → (is_void t || is_value t) ≡ true → class (Some t) ≡ Value
@@ -75,24 +67,7 @@ values_at types (u ∷ us) b (suc n) id at = values_at types us (and_parts (is_v
 
 -- ---- what a function takes
 
-module _ (a : Around) (types : Types) (front : IsFront a.program.types.types types.types) where
-  held_parameter : (p : ParameterPromise) (u : TypedLocal) → is_value (type_at a.program.types u.ty) ≡ true → held_by types (Some (parameter_local a p u)) ≡ AnObject
-  held_parameter p u w =
-      let found = value_found a.program.types u.ty w in
-      ap (λ (o : Option Ty). held_if (class o) (kind (class_at a.program.types u.ty)) o) (front u.ty.0 found.0 found.1)
-      ∙ ap (λ (o : Option Ty). held_if (class (Some found.0)) (kind (class o)) (Some found.0)) found.1
-      ∙ value_held found.0 found.2
-
-  objects_taken : (ps : List ParameterPromise) (us : List TypedLocal) (rest : List Local) → length ps ≤ length us → are_values a.program.types (take (length ps) us) ≡ true
-      → map (sort_of_local types) (take (length ps) (parameter_locals a ps us ++ rest)) ≡ objects (map type_of (take (length ps) us))
-  objects_taken [] us rest few b = refl
-  objects_taken (p ∷ ps) [] rest few b = absurd (omega (arith, few))
-  objects_taken (p ∷ ps) (u ∷ us) rest few b =
-      let parts = and_parts (is_value (type_at a.program.types u.ty)) (are_values a.program.types (take (length ps) us)) b in
-      ap (λ (h : Holding). h ∷ map (sort_of_local types) (take (length ps) (parameter_locals a ps us ++ rest))) (held_parameter p u parts.0)
-      ∙ ap (λ (hs : List Holding). AnObject ∷ hs) (objects_taken ps us rest (omega (arith, few)) parts.1)
-
--- .. of the types of its parameters
+-- the types of its parameters
 types_cut : (a : Around) (ps : List ParameterPromise) (us : List TypedLocal) (rest : List Local) → length ps ≤ length us
     → map local_type (take (length ps) (parameter_locals a ps us ++ rest)) ≡ map type_of (take (length ps) us)
 types_cut a [] us rest few = refl
@@ -137,12 +112,6 @@ module _ (so_far : Bool) (p : ProgramForm) (of : FunctionForm) (T types : Types)
       front_cut (parameter_locals (around p of) of.parameters of.locals) core.locals
       (front_then (parameter_locals (around p of) of.parameters of.locals) (first_state (around p of) T).locals core.locals (parameters_front (around p of) T is.typed.parameters begun.table is.built.result) begun.locals)
 
-  takes_objects : parameter_sorts types core ≡ objects (parameter_types (Some of))
-  takes_objects =
-      ap (λ (n : ℕ). map (sort_of_local types) (take n core.locals)) begun.count
-      ∙ ap (λ (ls : List Local). map (sort_of_local types) (take (length of.parameters) ls)) cut.1
-      ∙ objects_taken (around p of) types front of.parameters of.locals cut.0 is.typed.parameters is.built.parameters
-
   takes_types : types_taken core ≡ parameter_types (Some of)
   takes_types =
       ap (λ (n : ℕ). map local_type (take n core.locals)) begun.count
@@ -159,22 +128,23 @@ module _ (so_far : Bool) (p : ProgramForm) (of : FunctionForm) (T types : Types)
   result_type = ap (λ (id : TyId). slice_get types.types id.0) begun.same ∙ front of.result.0 is.ty is.result
 
   pub callee_from : (fs : List Function) (g : ℕ) → slice_get fs g ≡ Some core → IsCallee types fs g of
-  callee_from fs g there = record { core = core; there = there; takes = takes_objects; typed = takes_types; gives = begun.same }
+  callee_from fs g there = record { core = core; there = there; typed = takes_types; gives = begun.same }
 
   pub gives_from : class_at types core.result ≡ Value
   gives_from =
       ap class result_type
       ∙ value_or_void is.ty (subst (λ (t : Ty). (is_void t || is_value t) ≡ true) (type_found p.types of.result is.ty is.result) is.built.result)
 
-  -- the local of its result has no name
-  pub result_nameless : (l : Local) → slice_get core.locals core.parameters ≡ Some l → is_void (ty_of types core.result) ≡ false → l.name ≡ None
-  result_nameless l at void = go (or_cases (is_void (type_at p.types of.result)) (is_value (type_at p.types of.result)) is.built.result)
+  -- the local of its result is a register, and has no name
+  pub result_register : (l : Local) → slice_get core.locals core.parameters ≡ Some l → is_void (ty_of types core.result) ≡ false → (l.name ≡ None) × (l.kind ≡ Register)
+  result_register l at void = go (or_cases (is_void (type_at p.types of.result)) (is_value (type_at p.types of.result)) is.built.result)
     where
       type_is : ty_of types core.result ≡ type_at p.types of.result
       type_is = ap or_void result_type ∙ sym (type_found p.types of.result is.ty is.result)
 
-      go : (is_void (type_at p.types of.result) ≡ true) ⊎ (is_value (type_at p.types of.result) ≡ true) → l.name ≡ None
+      go : (is_void (type_at p.types of.result) ≡ true) ⊎ (is_value (type_at p.types of.result) ≡ true) → (l.name ≡ None) × (l.kind ≡ Register)
       go (inl e) = absurd (false≢true (sym void ∙ ap is_void type_is ∙ e))
       go (inr e) =
           let register = (register_there (around p of) T is.typed.parameters begun.table is.ty is.result e).0 in
-          ap (λ (x : Local). x.name) (same_Some l register.local (sym at ∙ ap (slice_get core.locals) begun.count ∙ begun.locals (length of.parameters) register.local register.there)) ∙ register.nameless
+          let same : l ≡ register.local = same_Some l register.local (sym at ∙ ap (slice_get core.locals) begun.count ∙ begun.locals (length of.parameters) register.local register.there) in
+          (ap (λ (x : Local). x.name) same ∙ register.nameless, ap (λ (x : Local). x.kind) same ∙ register.kind)

@@ -1,13 +1,12 @@
 -- Calls: arguments in registers, and what a function that is called takes and gives.
-use Rattle.std.proofs.Common.{◌≡◌, ℕ, Bool, true, false, ◌||◌, not, List, [], ◌∷◌, ◌++◌, cond, flat_map, slice_get, Option, Some, None, refl, ap, ◌∙◌}
-use Rattle.std.specs.List.{list_any}
+use Rattle.std.proofs.Common.{◌≡◌, ℕ, Bool, true, false, not, List, [], ◌∷◌, ◌++◌, cond, flat_map, slice_get, Option, Some, None, refl, ap, ◌∙◌}
+use Rattle.std.specs.List.{list_all}
 use Rattle.std.proofs.lemmas.Bool.{and_from, false≢true}
+use Rattle.life_types.specs.TypeTests.{is_pointer}
 use Rattle.life_types.specs.Types.{Types}
 use Rattle.life_types.specs.declared.ty.TyId.{TyId}
 use Rattle.life_typed.specs.Programs.{FunctionForm}
-use Rattle.life_core.specs.ByValue.{is_by_value, is_pointer, takes_pointer}
 use Rattle.life_core.specs.Function.{Function}
-use Rattle.life_core.specs.Holdings.{Holding, AnObject, parameter_sorts, sort_of}
 use Rattle.life_core.specs.Kinds.{has_kind, is_object, is_object_at, is_register, is_register_at}
 use Rattle.life_core.specs.Operands.{Argument, Value, whole}
 use Rattle.life_core.specs.Touched.{argument_leaves, argument_uses, if_object, touched_by, unless_object}
@@ -16,7 +15,9 @@ use Rattle.life_core.specs.declared.program.LocalKind.{LocalKind}
 use Rattle.life_core.specs.declared.program.LocalKind.TheVariants.{Object, Range, Register}
 use Rattle.life_proper.specs.declared.known.Known.{Known}
 use Rattle.life_proper.specs.declared.known.Known.TheVariants as known
+use Rattle.life_proper.specs.ByValue.{is_by_value, is_value_argument}
 use Rattle.life_proper.specs.Knowing.{known_at}
+use Rattle.life_proper.specs.Placed.{type_at}
 use Rattle.life_proper.specs.ReadyKnown.{are_known, are_ready, can_leave, is_known, known_after, set_known}
 use Rattle.life_proper.specs.WellFormed.{types_taken}
 use Rattle.life_proper.proofs.ReadyTests.{all_ready, both_known, one_known}
@@ -28,35 +29,21 @@ use Rattle.life_elab_laws.proofs.Held.{blank_there, ready_there}
 
 -- ---- functions
 
--- what so many value parameters hold
-abbrev pub objects : List TyId → List Holding
-objects [] = []
-objects (id ∷ ids) = AnObject ∷ objects ids
-
-no_pointers : (ids : List TyId) → list_any is_pointer (objects ids) ≡ false
-no_pointers [] = refl
-no_pointers (id ∷ ids) = no_pointers ids
-
--- the core function with this number takes values
+-- the core function with this number takes values of the types that the typed one takes, and gives what that gives
 pub record IsCallee (types : Types) (fs : List Function) (g : ℕ) (of : FunctionForm) : Type 0 where
   pub core : Function
   pub there : slice_get fs g ≡ Some core
-  pub takes : parameter_sorts types core ≡ objects (parameter_types (Some of))
-  -- .. of the types of the typed one, and gives what that gives
   pub typed : types_taken core ≡ parameter_types (Some of)
   pub gives : core.result ≡ of.result
 
 -- ---- no pointer goes into a call, or comes out of it
 
-module _ (types : Types) (fs : List Function) (f : Function) (g : ℕ) (of : FunctionForm) (callee : IsCallee types fs g of) (xs : List Argument) where
-  taken_plain : takes_pointer types (slice_get fs g) ≡ false
-  taken_plain = ap (takes_pointer types) callee.there ∙ ap (list_any is_pointer) callee.takes ∙ no_pointers (parameter_types (Some of))
+module _ (types : Types) (f : Function) (g : ℕ) (xs : List Argument) (values : list_all is_value_argument xs ≡ true) where
+  pub call_plain : (x : ℕ) → is_pointer (type_at types f x) ≡ false → is_by_value types f (called g xs (whole x)) ≡ true
+  call_plain x e = and_from (list_all is_value_argument xs) (not (is_pointer (type_at types f x))) values (ap not e)
 
-  pub call_plain : (x : ℕ) → is_pointer (sort_of types f x) ≡ false → is_by_value types fs f (called g xs (whole x)) ≡ true
-  call_plain x e = ap not (ap (λ (b : Bool). b || is_pointer (sort_of types f x)) taken_plain ∙ e)
-
-  pub alone_plain : is_by_value types fs f (called_alone g xs) ≡ true
-  alone_plain = ap not (ap (λ (b : Bool). b || false) taken_plain)
+  pub alone_plain : is_by_value types f (called_alone g xs) ≡ true
+  alone_plain = and_from (list_all is_value_argument xs) true values refl
 
 -- ---- a call is ready where its arguments are there
 

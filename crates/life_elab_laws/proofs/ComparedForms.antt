@@ -25,7 +25,7 @@ use Rattle.life_elab_laws.specs.Reached.{compares, is_owner_of_values}
 use Rattle.life_elab_laws.proofs.ExpressionForms.{IsForm, IsWhole, Standing, Valued, value_form}
 use Rattle.life_elab_laws.proofs.ExpressionTypes.{own_no_iterator, seen_kind, view_wide}
 use Rattle.life_elab_laws.proofs.Instructions.{IsIntoOf}
-use Rattle.life_elab_laws.proofs.ObjectForms.{IsObject}
+use Rattle.life_elab_laws.proofs.ObjectForms.{IsOwner}
 use Rattle.life_elab_laws.proofs.RowTypes.{AreIterators, Fits, IsCompared, row_fits_between, sees}
 use Rattle.life_elab_laws.proofs.SeenForms.{Shows, compared_part, string_shows, whole_shows}
 use Rattle.life_elab_laws.proofs.Setting.{Setting}
@@ -34,11 +34,11 @@ use Rattle.life_elab_laws.proofs.TypedKinds.{IsCombined}
 module _ (a : Around) (visible : List ℕ) (types : Types) (texts : ℕ) (so_far : Bool) (fs : List Function) (f : Function) (setting : Setting so_far a types fs f) where
   -- an expression with a value, or an owner
   abbrev pub IsEither : Form → Type 0
-  IsEither form = IsWhole a visible types texts so_far fs f setting form ⊎ IsObject a visible types texts so_far fs f setting form
+  IsEither form = IsWhole a visible types texts so_far fs f setting form ⊎ IsOwner a visible types texts so_far fs f setting form
 
   -- an owner whose characters are seen is a string
-  pub object_text : (form : Form) → (is : IsObject a visible types texts so_far fs f setting form) → sees (typed_in form).ty ≡ true → is.ty ≡ ty.Text
-  object_text form is s = go is.ty is.owner (sym (ap sees is.is) ∙ s)
+  pub owner_text : (form : Form) → (is : IsOwner a visible types texts so_far fs f setting form) → sees (typed_in form).ty ≡ true → is.ty ≡ ty.Text
+  owner_text form is s = go is.ty is.owner (sym (ap sees is.is) ∙ s)
     where
       go : (t : Ty) → is_owner_of_values a.program.types t ≡ true → sees (Of t) ≡ true → t ≡ ty.Text
       go ty.Text o s = refl
@@ -47,7 +47,7 @@ module _ (a : Around) (visible : List ℕ) (types : Types) (texts : ℕ) (so_far
 
   pub either_shows : (form : Form) → IsEither form → sees (typed_in form).ty ≡ true → Shows a visible types texts so_far fs f setting form
   either_shows form (inl is) s = whole_shows a visible types texts so_far fs f setting form is (seen_kind so_far a.program.types (typed_in form) is.kind.kind s)
-  either_shows form (inr is) s = string_shows a visible types texts so_far fs f setting form is (object_text form is s)
+  either_shows form (inr is) s = string_shows a visible types texts so_far fs f setting form is (owner_text form is s)
 
   -- .. and where it is no literal, the program isn't served so far
   either_wide : (form : Form) → IsEither form → is_literal (typed_in form).ty ≡ false → sees (typed_in form).ty ≡ true → so_far ≡ false

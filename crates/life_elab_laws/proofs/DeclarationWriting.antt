@@ -10,23 +10,22 @@ use Rattle.life_types.specs.declared.ty.Ty.{Ty}
 use Rattle.life_types.specs.declared.ty.Ty.TheVariants as ty
 use Rattle.life_types.specs.declared.ty.TyId.{TyId}
 use Rattle.life_built.specs.Built.{needs_no_temporary}
-use Rattle.life_elab_laws.specs.Reached.{is_owner_of_values, is_reached_declaration, is_reached_declared, is_reached_expression, is_reached_initial, is_reached_variable, is_given_owner, is_reached_object, is_reached_owned, is_text_there, is_owner_type, is_walker, is_reached_walker, is_span, is_walker_of_values, is_vector, is_reached_list, is_reached_form}
+use Rattle.life_elab_laws.specs.Reached.{is_owner_of_values, is_reached_declaration, is_reached_declared, is_reached_expression, is_reached_initial, is_reached_variable, is_given_owner, is_reached_owner, is_reached_owned, is_text_there, is_owner_type, is_walker, is_reached_walker, is_span, is_walker_of_values, is_vector, is_reached_list, is_reached_form}
 use Rattle.life_typed.specs.BaseTypes.{type_at}
 use Rattle.life_typed.specs.Conversions.{is_place, fits}
 use Rattle.life_typed.specs.Programs.{FunctionForm}
-use Rattle.life_typed.specs.TypedForm.{Typed, whole as whole_form, Form, text, typed, forms, ◌⨟◌, nothing as no_form}
+use Rattle.life_typed.specs.TypedForm.{Typed, whole as whole_form, Form, forms, text, typed}
 use Rattle.life_typed.specs.TypedStatement.{DeclarationForm, InitialForm, one, several, ListForm}
 use Rattle.life_typed.specs.declared.typed_expr.Category.TheVariants as category
 use Rattle.life_typed.specs.declared.typed_program.TypedLocal.{TypedLocal}
 use Rattle.life_type_stmt.specs.Declarations.{default_fault}
 use Rattle.life_core.specs.Function.{Function}
 use Rattle.life_core.specs.Operands.{Argument, Empty, Location, Place as Aimed, object_named, whole, Text, View}
-use Rattle.life_core.specs.ByValue.{is_pointer as points}
 use Rattle.life_core.specs.Holdings.{AnObject, sort_of}
 use Rattle.life_core.specs.Served.{is_served_birth}
 use Rattle.life_core.specs.Step.{Aim, Live, Save, Step, Copy, Changes, Set}
 use Rattle.life_core.specs.Tree.{Tree, Acts}
-use Rattle.life_core.specs.declared.instr.Form.TheVariants.{Plain, Zero}
+use Rattle.life_core.specs.declared.instr.Form.TheVariants.{Plain}
 use Rattle.life_proper.specs.declared.known.Known.{Known}
 use Rattle.life_proper.specs.declared.known.Known.TheVariants as known
 use Rattle.life_proper.specs.Knowing.{known_at}
@@ -61,11 +60,11 @@ use Rattle.life_elab_laws.proofs.Doing.{Does}
 use Rattle.life_elab_laws.proofs.ExpressionKinds.{variable_built}
 use Rattle.life_elab_laws.proofs.ExpressionForms.{IsWhole}
 use Rattle.life_elab_laws.proofs.ExpressionTypes.{seen_kind}
-use Rattle.life_elab_laws.proofs.Expressions.{whole_expression, walker_expression, wholes}
+use Rattle.life_elab_laws.proofs.Expressions.{owner_expression, walker_expression, whole_expression, wholes}
 use Rattle.life_elab_laws.proofs.PointerForms.{points_whole, result_later}
 use Rattle.life_elab_laws.proofs.GivenKinds.{given_number, given_pointer, given_view}
 use Rattle.life_elab_laws.proofs.Falling.{Falls, Fills, falls_acts, falls_append, falls_filling}
-use Rattle.life_elab_laws.proofs.Following.{Follows, follows_grown}
+use Rattle.life_elab_laws.proofs.Following.{Follows, follows_settled, settled}
 use Rattle.life_elab_laws.proofs.Filling.{aimed_filling, filling_fills, text_filling}
 use Rattle.life_elab_laws.proofs.FormedFits.{IsBoundTo, given_raw, given_reference, given_seen, given_owner, given_string, given_vector, given_walker}
 use Rattle.life_elab_laws.proofs.Gifts.{Gift, a_number, a_place, a_pointing, arguments, nothing, takes_from, a_pointer}
@@ -75,7 +74,6 @@ use Rattle.life_elab_laws.proofs.Knowledge.{at_set, beside_set}
 use Rattle.life_elab_laws.proofs.Locations.{is_location, is_pointed, seen_pointed}
 use Rattle.life_elab_laws.proofs.NewVariables.{bound_given, location_declared, owner_lives, raw_lives, reference_declared, value_goes, value_lives, value_saved, owner_declared, location_lives}
 use Rattle.life_elab_laws.proofs.Parts.{Makes, leaf_part, then_part}
-use Rattle.life_elab_laws.proofs.Pending.{same_pending}
 use Rattle.life_elab_laws.proofs.Reaching.{variable_any}
 use Rattle.life_elab_laws.proofs.Setting.{Setting}
 use Rattle.life_elab_laws.proofs.Shaping.{IsFineStep, fine_acts, fine_append}
@@ -83,14 +81,15 @@ use Rattle.life_elab_laws.proofs.TypedKinds.{none_some}
 use Rattle.life_elab_laws.proofs.Types.{same_types, value_held}
 use Rattle.life_elab_laws.proofs.Values.{by_values}
 use Rattle.life_elab_laws.proofs.VariablePlaces.{IsVariableType, a_raw, a_reference, a_value, a_view, an_owner, owner_is, variable_type, a_walker, walker_is}
-use Rattle.life_elab_laws.proofs.ObjectForms.{IsObject}
+use Rattle.life_elab_laws.proofs.MadeForms.{Builds, IsMade, IsOwning, gift_of, is_made, owning_owner, stands_there}
+use Rattle.life_elab_laws.proofs.ObjectForms.{IsObject, IsOwner}
 use Rattle.life_elab_laws.proofs.OwnerBirths.{lives_then}
 use Rattle.life_elab_laws.proofs.OwnerSteps.{copy_fine, place_held}
 use Rattle.life_elab_laws.proofs.SeenForms.{string_points}
 use Rattle.life_core.specs.Touched.{place_uses}
 use Rattle.life_typed.specs.declared.typed_expr.Category.{Category}
 use Rattle.life_typed.specs.declared.typed_expr.ExprType.TheVariants.{Of, TextLiteral}
-use Rattle.life_elab_laws.proofs.ElementForms.{object_expression}
+use Rattle.life_elab_laws.proofs.BuiltVariables.{built_does}
 use Rattle.life_elab_laws.proofs.Instructions.{literal_located_part}
 use Rattle.life_elab_laws.proofs.ViewSteps.{pointer_is_held}
 use Rattle.life_proper.specs.Placed.{is_const_place, type_of as type_of_place}
@@ -100,20 +99,25 @@ use Rattle.life_elab_laws.proofs.WalkerForms.{IsWalker, vector_points, walker_po
 use Rattle.life_elab_laws.proofs.WalkerSteps.{keeps_itself}
 use Rattle.life_elab_laws.proofs.FormedVariables.{type_later}
 use Rattle.life_elab_laws.proofs.OperandsThere.{value_same}
-use Rattle.life_elab_laws.proofs.ListBirths.{list_does}
-use Rattle.life_well_typed.specs.Members.{are_elements, is_listed}
+use Rattle.life_elab_laws.proofs.ListForms.{list_builds}
+use Rattle.life_well_typed.specs.Members.{is_listed}
 use Rattle.life_writer.specs.Initialising.{initialised}
-use Rattle.life_writer.specs.Lists.{listed}
+use Rattle.life_writer.specs.Lists.{list_object, listed}
 use Rattle.life_elab_laws.proofs.ViewForms.{AreWhole}
+use Rattle.life_elab_laws.proofs.TemporaryEnds.{TemporariesEnd, temporary_ends}
 
 module _ (a : Around) (types : Types) (texts : ℕ) (so_far : Bool) (fs : List Function) (f : Function) (setting : Setting so_far a types fs f) (v : Visible) (in_loop : Bool) where
-  module _ (u : TypedLocal) (s : State) (h : Follows types f a v s) (at : slice_get a.function.locals v.declared ≡ Some u) (built : is_reached_variable so_far a.program.types u.ty ≡ true) where
+  module _ (u : TypedLocal) (s : State) (h : Follows types f a v s) (at : slice_get a.function.locals v.declared ≡ Some u) (built : is_reached_variable so_far a.program.types u.ty ≡ true) (last : Place) where
     -- whatever is served so far
     any : is_reached_variable false a.program.types u.ty ≡ true
     any = variable_any so_far a.program.types u.ty built
 
+    -- its temporaries end behind it
     abbrev Born : State → Type 0
-    Born s' = Does types texts so_far fs f a (with_next v) in_loop s s'
+    Born s' = Does types texts so_far fs f a (with_next v) in_loop s (end_pending (length s.pending) last s')
+
+    can : TemporariesEnd types texts fs f
+    can = temporary_ends types texts fs f setting.registers
 
     abbrev Whole : Typed → Type 0
     Whole e = IsExpression a.program a.function.locals v.visible (whole_form e)
@@ -128,10 +132,10 @@ module _ (a : Around) (types : Types) (texts : ℕ) (so_far : Bool) (fs : List F
     -- ---- what the variable holds
 
     object_sort : (t : Ty) → slice_get a.program.types.types u.ty.0 ≡ Some t → is_value t ≡ true → (s' : State) → Grows s s' → New s' → sort_of types f (length s'.locals) ≡ AnObject
-    object_sort t is w s' g b = new_sort types f a setting.front v u (variable_local a u) (its_local a u) s' (follows_grown types f a v s s' g h) at any b t is ∙ value_held t w
+    object_sort t is w s' g b = new_sort types f a setting.front v u (variable_local a u) (its_local a u) (settled types f s s') (follows_settled types f a v s s' g h) at any b t is ∙ value_held t w
 
     below : (s' : State) → Grows s s' → New s' → length s'.locals < length f.locals
-    below s' g b = new_below types f a setting.front v u (variable_local a u) (its_local a u) s' (follows_grown types f a v s s' g h) at any b
+    below s' g b = new_below types f a setting.front v u (variable_local a u) (its_local a u) (settled types f s s') (follows_settled types f a v s s' g h) at any b
 
     -- ---- it comes to life
 
@@ -146,20 +150,20 @@ module _ (a : Around) (types : Types) (texts : ℕ) (so_far : Bool) (fs : List F
 
     live_does : (New s → can_live types texts fs f (length s.locals) ≡ true) → (New s → so_far ≡ true → is_served_birth (sort_of types f (length s.locals)) ≡ true) → Born (live (home a u) s).state
     live_does lives born =
-        declared_does types texts so_far fs f a setting.front v in_loop u s (gives tt s) (nothing types texts so_far fs f) (Acts u.place (Live (length s.locals) Plain) ∷ []) h at any
+        declared_does types texts so_far fs f a setting.front v in_loop can last u s (gives tt s) (nothing types texts so_far fs f) (Acts u.place (Live (length s.locals) Plain) ∷ []) h at any
         (leaf_part types texts so_far fs f tt s (nothing types texts so_far fs f) (λ b. tt) (λ b k alive. tt))
         (λ b q. fine_acts types texts so_far fs f u.place (Live (length s.locals) Plain) (live_fine s (lives b) (born b)))
         (λ b k size q blank. falls_filling types f u.place (Live (length s.locals) Plain) (length s.locals) k (live_fills (length s.locals) k blank))
 
-    -- .. from an empty list
-    zero_does : (New s → can_live types texts fs f (length s.locals) ≡ true) → so_far ≡ false → Born (emit u.place (Live (length s.locals) Zero) (with_new (variable_local a u) s))
-    zero_does lives wide =
-        declared_does types texts so_far fs f a setting.front v in_loop u s (gives tt s) (nothing types texts so_far fs f) (Acts u.place (Live (length s.locals) Zero) ∷ []) h at any
-        (leaf_part types texts so_far fs f tt s (nothing types texts so_far fs f) (λ b. tt) (λ b k alive. tt))
-        (λ b q. fine_acts types texts so_far fs f u.place (Live (length s.locals) Zero)
-        (record { plain = λ so. absurd (false≢true (sym wide ∙ so)); given = refl; formed = lives b; served = λ so. absurd (false≢true (sym wide ∙ so)) }))
-        (λ b k size q blank. falls_filling types f u.place (Live (length s.locals) Zero) (length s.locals) k
-        (record { ready = one_known known.Blank k (length s.locals) (blank_there k (length s.locals) blank); after = refl }))
+    -- an owner, by whatever builds it
+    builds_does : (t : Ty) → slice_get a.program.types.types u.ty.0 ≡ Some t → is_owner_of_values a.program.types t ≡ true → (w : Gives Remaining) → so_far ≡ false → Builds a v.visible types texts so_far fs f setting t s w → Born (w.given (home a u) w.state).state
+    builds_does t is o w wide made =
+        subst (λ (r : Remaining). Born (r (home a u) w.state).state) (sym made.lives)
+        (built_does a types texts so_far fs f setting v in_loop last u s h at any (gives made.found w.state) (gift_of a v.visible types texts so_far fs f setting made.making) made.part wide made.form t
+        (made.act u.place (object_named (length w.state.locals)))
+        (λ b. owner_lives a types texts so_far fs f setting.front u w.state b t is o)
+        (λ b. owner_declared a types texts so_far fs f setting.front u w.state b t is o)
+        (made.acts u.place (object_named (length w.state.locals)) (emit u.place (Live (length w.state.locals) made.form) (with_new (variable_local a u) w.state))))
 
     -- ---- an object
 
@@ -183,7 +187,7 @@ module _ (a : Around) (types : Types) (texts : ℕ) (so_far : Bool) (fs : List F
         let typed : Makes types texts so_far fs f None s w (a_number types texts so_far fs f (type_of a u.ty)) = subst (λ (x : Ty). Makes types texts so_far fs f None s w (a_number types texts so_far fs f x)) (sym (type_is t is)) made in
         subst (λ (c : List Tree). Born (with_code c (with_new (variable_local a u) w.state)))
         (sym (append_assoc w.state.code lives saves))
-        (declared_does types texts so_far fs f a setting.front v in_loop u s w (a_number types texts so_far fs f (type_of a u.ty)) (lives ++ saves) h at any typed
+        (declared_does types texts so_far fs f a setting.front v in_loop can last u s w (a_number types texts so_far fs f (type_of a u.ty)) (lives ++ saves) h at any typed
         (λ b q.
         fine_append types texts so_far fs f lives saves
         (fine_acts types texts so_far fs f u.place (Live x Plain) (live_fine w.state (value_lives a types texts so_far fs f setting.front u w.state b value) (λ so. value_born t is worth w.state made.grown b)))
@@ -198,7 +202,7 @@ module _ (a : Around) (types : Types) (texts : ℕ) (so_far : Bool) (fs : List F
         → Born (emit place (step w.given (whole (length w.state.locals))) (with_new (variable_local a u) w.state))
     filled_does place w Q step made fits fills =
         let x = length w.state.locals in
-        declared_does types texts so_far fs f a setting.front v in_loop u s w Q (Acts place (step w.given (whole x)) ∷ []) h at any made
+        declared_does types texts so_far fs f a setting.front v in_loop can last u s w Q (Acts place (step w.given (whole x)) ∷ []) h at any made
         (λ b q. fine_acts types texts so_far fs f place (step w.given (whole x)) (fits b q))
         (λ b k size q blank. falls_filling types f place (step w.given (whole x)) x k (fills b k q blank))
 
@@ -211,7 +215,7 @@ module _ (a : Around) (types : Types) (texts : ℕ) (so_far : Bool) (fs : List F
         let callee = setting.callees g of there in
         filled_does place w (arguments types texts so_far fs f (parameter_types (Some of))) (called g) made
         (λ b q.
-        called_fine types texts so_far fs f g w.given of x callee q (ap points (object_sort t is worth w.state made.grown b))
+        called_fine types texts so_far fs f g w.given of x callee q (ap is_value (same ∙ type_is t is) ∙ worth)
         (ap (λ (r : Ty). goes_to types texts fs f r (Some (whole x))) same ∙ value_goes a types texts so_far fs f setting.front u w.state b (ap is_value (type_is t is) ∙ worth)))
         (λ b k q blank. born_fills f g (parameter_types (Some of)) w.given x k q x blank)
 
@@ -337,19 +341,28 @@ module _ (a : Around) (types : Types) (texts : ℕ) (so_far : Bool) (fs : List F
           (λ b q. pointed_fine types texts so_far fs f (whole (length w.state.locals)) t source w.given loc (location_declared a types texts so_far fs f setting.front u w.state b t loc is) taken q)
           (λ b k q blank. pointed_fills f (length w.state.locals) (length w.state.locals) w.given k q)
 
+      -- a copy
       module _ (from : IsObject a v.visible types texts so_far fs f setting (whole_form e)) where
-        -- a copy
         copied_does : (t : Ty) → slice_get a.program.types.types u.ty.0 ≡ Some t → is_owner_of_values a.program.types t ≡ true → is_given a.program.types t e ≡ true → Born (GivenThis t)
         copied_does t is o given =
             let w = (uses a (whole_form e)).at s in
             let one : from.ty ≡ t = given_owner a.program.types t from.ty e o from.owner from.is given in
             let made = subst (λ (x : Ty). Makes types texts so_far fs f None s w (a_place types texts so_far fs f x from.constant)) one (from.names s h.stands) in
             subst Born (sym (by_owner t o ∙ ap (λ (c : Category). (object_by c (uses a (whole_form e)).at (uses a (whole_form e)).object s >> λ rest s. rest (home a u) s).state) from.place))
-            (lives_then a types texts so_far fs f setting v in_loop u s h at any u.place w (a_place types texts so_far fs f t from.constant) made (λ x. Copy (object_named x) w.given) (place_uses w.given) (λ x. refl)
+            (lives_then a types texts so_far fs f setting v in_loop last u s h at any u.place w (a_place types texts so_far fs f t from.constant) made (λ x. Copy (object_named x) w.given) (place_uses w.given) (λ x. refl)
             (λ n k q. place_held w.given n k q) from.wide
             (λ b. owner_lives a types texts so_far fs f setting.front u w.state b t is o)
             (λ b q. let at = owner_declared a types texts so_far fs f setting.front u w.state b t is o in copy_fine types texts so_far fs f a.program.types t (object_named (length w.state.locals)) w.given from.wide o at.typed at.held q.typed))
 
+      -- one that is made, where the variable has come to life
+      made_does : (t : Ty) → slice_get a.program.types.types u.ty.0 ≡ Some t → is_owner_of_values a.program.types t ≡ true → is_given a.program.types t e ≡ true → IsMade a v.visible types texts so_far fs f setting (whole_form e) → Born (GivenThis t)
+      made_does t is o given from =
+          let w = (uses a (whole_form e)).object s in
+          let one : from.ty ≡ t = given_owner a.program.types t from.ty e o from.owner from.is given in
+          subst Born (sym (by_owner t o ∙ ap (λ (c : Category). (object_by c (uses a (whole_form e)).at (uses a (whole_form e)).object s >> λ rest s. rest (home a u) s).state) from.value))
+          (builds_does t is o w from.wide (subst (λ (x : Ty). Builds a v.visible types texts so_far fs f setting x s w) one (from.builds s h.stands)))
+
+      module _ (from : IsOwner a v.visible types texts so_far fs f setting (whole_form e)) where
         -- a view of the whole
         string_view_does : slice_get a.program.types.types u.ty.0 ≡ Some ty.View → is_given a.program.types ty.View e ≡ true → Born (GivenThis ty.View)
         string_view_does is given = shown_does ty.View refl is (Of ty.View) (string_points a v.visible types texts so_far fs f setting (whole_form e) from (given_string a.program.types from.ty e from.owner from.is given) s h.stands) refl
@@ -357,7 +370,7 @@ module _ (a : Around) (types : Types) (texts : ℕ) (so_far : Bool) (fs : List F
         -- a span of the whole
         span_does : (item : TyId) (constant : Bool) → is_value (type_at a.program.types item) ≡ true → slice_get a.program.types.types u.ty.0 ≡ Some (ty.Span item constant) → is_given a.program.types (ty.Span item constant) e ≡ true → Born (GivenThis (ty.Span item constant))
         span_does item constant worth is given =
-            let to = given_vector a.program.types item constant from.constant from.id from.ty e from.owner from.is from.place given in
+            let to = given_vector a.program.types item constant from.constant from.ty e from.owner from.is from.told given in
             shown_does (ty.Span item constant) refl is (Of (ty.Span item constant)) (vector_points a v.visible types texts so_far fs f setting (whole_form e) from item constant to.is to.kept s h.stands)
             (and_from (same (ty_of types item) (ty_of types item)) (keeps_const constant constant) (value_same (ty_of types item) (ap is_value (type_later a.program.types types setting.front item worth) ∙ worth)) (keeps_itself constant))
 
@@ -384,7 +397,7 @@ module _ (a : Around) (types : Types) (texts : ℕ) (so_far : Bool) (fs : List F
           subst Born (sym (by_owner ty.Text refl
           ∙ ap (λ (c : Category). (object_by c (uses a (whole_form e)).at (uses a (whole_form e)).object s >> λ rest s. rest (home a u) s).state) held
           ∙ ap (λ (g : Form). ((uses a (typed e.place e.ty e.category g)).object s >> λ rest s. rest (home a u) s).state) same))
-          (lives_then a types texts so_far fs f setting v in_loop u s h at any u.place w (a_pointer types texts so_far fs f ty.View) made (λ x. Changes (object_named x) (Set (View w.given))) (w.given.local ∷ []) (λ x. refl)
+          (lives_then a types texts so_far fs f setting v in_loop last u s h at any u.place w (a_pointer types texts so_far fs f ty.View) made (λ x. Changes (object_named x) (Set (View w.given))) (w.given.local ∷ []) (λ x. refl)
           (λ n k q. (pointer_is_held w.given n k q, tt)) wide
           (λ b. owner_lives a types texts so_far fs f setting.front u w.state b ty.Text is refl)
           (λ b q. let at = owner_declared a types texts so_far fs f setting.front u w.state b ty.Text is refl in record {
@@ -399,9 +412,9 @@ module _ (a : Around) (types : Types) (texts : ℕ) (so_far : Bool) (fs : List F
     owned_does : (e : Typed) → (he : Whole e) → (behind : Place) → is_reached_owned texts so_far (type_of a u.ty) e ≡ true → is_given a.program.types (type_of a u.ty) e ≡ true → Born (GivenThis e he behind (type_of a u.ty))
     owned_does e he behind b given = elim (or_cases (is_given_owner texts so_far (type_of a u.ty) e) _ b) [
       | inl owner ↦
-          let one = and_parts (is_owner (type_of a u.ty) || (is_view (type_of a u.ty) || is_span texts so_far (type_of a u.ty))) (is_owner_type so_far e.ty && is_reached_object (whole_form e)) owner in
-          let two = and_parts (is_owner_type so_far e.ty) (is_reached_object (whole_form e)) one.1 in
-          given_owner_does one.0 (object_expression a v.visible types texts so_far fs f setting (whole_form e) two.1 two.0 he) (variable_type so_far a.program.types u.ty built)
+          let one = and_parts (is_owner (type_of a u.ty) || (is_view (type_of a u.ty) || is_span texts so_far (type_of a u.ty))) (is_owner_type so_far e.ty && is_reached_owner texts so_far (whole_form e)) owner in
+          let two = and_parts (is_owner_type so_far e.ty) (is_reached_owner texts so_far (whole_form e)) one.1 in
+          given_owner_does one.0 (owner_expression a v.visible types texts so_far fs f setting (whole_form e) two.1 two.0 he) (variable_type so_far a.program.types u.ty built)
       | inr other ↦ elim (or_cases (is_owner (type_of a u.ty) && (not so_far && is_text_there texts so_far e.form)) (is_walker (type_of a u.ty) && is_reached_walker texts so_far (whole_form e)) other) [
         | inl literal ↦
             let one = and_parts (is_owner (type_of a u.ty)) (not so_far && is_text_there texts so_far e.form) literal in
@@ -427,15 +440,16 @@ module _ (a : Around) (types : Types) (texts : ℕ) (so_far : Bool) (fs : List F
         refused : (t : Ty) → slice_get a.program.types.types u.ty.0 ≡ Some t → (is_owner t || (is_view t || is_span texts so_far t)) ≡ false → (is_owner (type_of a u.ty) || (is_view (type_of a u.ty) || is_span texts so_far (type_of a u.ty))) ≡ true → Born (GivenThis e he behind (type_of a u.ty))
         refused t is none p = absurd (false≢true (sym (ap (λ (x : Ty). is_owner x || (is_view x || is_span texts so_far x)) (type_is t is) ∙ none) ∙ p))
 
-        given_owner_does : (is_owner (type_of a u.ty) || (is_view (type_of a u.ty) || is_span texts so_far (type_of a u.ty))) ≡ true → IsObject a v.visible types texts so_far fs f setting (whole_form e) → IsVariableType so_far a.program.types u.ty → Born (GivenThis e he behind (type_of a u.ty))
+        given_owner_does : (is_owner (type_of a u.ty) || (is_view (type_of a u.ty) || is_span texts so_far (type_of a u.ty))) ≡ true → IsOwning a v.visible types texts so_far fs f setting (whole_form e) → IsVariableType so_far a.program.types u.ty → Born (GivenThis e he behind (type_of a u.ty))
         given_owner_does p from (a_value t is w) = refused t is (by_values (λ t. (is_owner t || (is_view t || is_span texts so_far t)) ≡ false) refl refl refl refl refl t w) p
         given_owner_does p from (a_raw target constant is w) = refused (ty.Raw target constant) is refl p
         given_owner_does p from (a_reference target constant is w) = refused (ty.Reference target constant) is refl p
-        given_owner_does p from (a_view so is) = as_type ty.View is (string_view_does e he behind from is (as_given ty.View is))
+        given_owner_does p from (a_view so is) = as_type ty.View is (string_view_does e he behind (owning_owner a v.visible types texts so_far fs f setting (whole_form e) from) is (as_given ty.View is))
         given_owner_does p from (a_walker so (ty.Iterator item constant) is w) = refused (ty.Iterator item constant) is refl p
-        given_owner_does p from (a_walker so (ty.Span item constant) is w) = as_type (ty.Span item constant) is (span_does e he behind from item constant w is (as_given (ty.Span item constant) is))
+        given_owner_does p from (a_walker so (ty.Span item constant) is w) = as_type (ty.Span item constant) is (span_does e he behind (owning_owner a v.visible types texts so_far fs f setting (whole_form e) from) item constant w is (as_given (ty.Span item constant) is))
         given_owner_does p from (a_walker so _ is w) = absurd (false≢true w)
-        given_owner_does p from (an_owner so t is o) = as_type t is (copied_does e he behind from t is o (as_given t is))
+        given_owner_does p (stands_there from) (an_owner so t is o) = as_type t is (copied_does e he behind from t is o (as_given t is))
+        given_owner_does p (is_made from) (an_owner so t is o) = as_type t is (made_does e he behind t is o (as_given t is) from)
 
         no_walker : (t : Ty) → slice_get a.program.types.types u.ty.0 ≡ Some t → is_walker t ≡ false → is_walker (type_of a u.ty) ≡ true → Born (GivenThis e he behind (type_of a u.ty))
         no_walker t is none p = absurd (false≢true (sym (ap is_walker (type_is t is) ∙ none) ∙ p))
@@ -529,14 +543,6 @@ module _ (a : Around) (types : Types) (texts : ℕ) (so_far : Bool) (fs : List F
         no_vector : (t : Ty) → slice_get a.program.types.types u.ty.0 ≡ Some t → is_vector texts so_far t ≡ false → is_vector texts so_far (type_of a u.ty) ≡ true → Born (ListGiven list behind (forms list.elements) (type_of a u.ty))
         no_vector t is none p = absurd (false≢true (sym (ap (is_vector texts so_far) (type_is t is) ∙ none) ∙ p))
 
-        by_elements : so_far ≡ false → (item : TyId) → slice_get a.program.types.types u.ty.0 ≡ Some (ty.Vector item) → is_value (type_at a.program.types item) ≡ true → (es : Form) → AreWhole a v.visible types texts so_far fs f setting es
-            → are_elements a.program.types item es ≡ true → Born (ListGiven list behind es (ty.Vector item))
-        by_elements wide item is worth (e ⨟ es) whole all =
-            list_does a types texts so_far fs f setting v in_loop u s item is worth wide list.opening (e ⨟ es) list.delimiters whole all h.outside
-            (live_does (λ b. owner_lives a types texts so_far fs f setting.front u s b (ty.Vector item) is worth) (λ b so. absurd (false≢true (sym wide ∙ so))))
-        by_elements wide item is worth no_form whole all = zero_does (λ b. owner_lives a types texts so_far fs f setting.front u s b (ty.Vector item) is worth) wide
-        by_elements wide item is worth _ whole all = absurd whole
-
         go : AreWhole a v.visible types texts so_far fs f setting (forms list.elements) → is_vector texts so_far (type_of a u.ty) ≡ true → IsVariableType so_far a.program.types u.ty → Born (ListGiven list behind (forms list.elements) (type_of a u.ty))
         go whole p (a_value t is w) = no_vector t is (by_values (λ t. is_vector texts so_far t ≡ false) refl refl refl refl refl t w) p
         go whole p (a_raw target constant is w) = no_vector (ty.Raw target constant) is refl p
@@ -548,7 +554,8 @@ module _ (a : Around) (types : Types) (texts : ℕ) (so_far : Bool) (fs : List F
         go whole p (an_owner so ty.Text is o) = no_vector ty.Text is refl p
         go whole p (an_owner so (ty.Vector item) is o) =
             subst (λ (t : Ty). Born (ListGiven list behind (forms list.elements) t)) (sym (type_is (ty.Vector item) is))
-            (by_elements so item is o (forms list.elements) whole (subst (λ (t : Ty). is_listed a.program.types t (forms list.elements) ≡ true) (type_is (ty.Vector item) is) i.0))
+            (builds_does (ty.Vector item) is o (gives (list_object a (ty.Vector item) list.opening (all_uses a (forms list.elements)) list.delimiters) s) so
+            (list_builds a v.visible types texts so_far fs f setting item o so list.opening (forms list.elements) list.delimiters s whole (subst (λ (t : Ty). is_listed a.program.types t (forms list.elements) ≡ true) (type_is (ty.Vector item) is) i.0)))
         go whole p (an_owner so _ is o) = absurd (false≢true o)
 
     initial_does : (initial : Option InitialForm) (behind : Place) → is_reached_initial texts so_far (type_of a u.ty) initial ≡ true → IsInitialised a.program a.function.locals a.function.result v.visible (Some u) initial → Born (given_initial a u initial behind s)
@@ -564,14 +571,10 @@ module _ (a : Around) (types : Types) (texts : ℕ) (so_far : Bool) (fs : List F
 
   pub declaration_does : (d : DeclarationForm) (behind : Place) (s : State) → Follows types f a v s → is_reached_declaration texts so_far a.program.types a.function.locals d ≡ true → IsDeclaration a.program a.function.locals a.function.result d v
       → Does types texts so_far fs f a (with_next v) in_loop s (declared a d behind s)
-  declaration_does d behind s h b here = ended (declared_as a (slice_get a.function.locals d.local) d.value behind s) (go (slice_get a.function.locals d.local) refl b here.1)
+  declaration_does d behind s h b here = go (slice_get a.function.locals d.local) refl b here.1
     where
       go : (o : Option TypedLocal) → slice_get a.function.locals d.local ≡ o → is_reached_declared texts so_far a.program.types o d.value ≡ true → IsInitialised a.program a.function.locals a.function.result v.visible o d.value
-          → Does types texts so_far fs f a (with_next v) in_loop s (declared_as a o d.value behind s)
+          → Does types texts so_far fs f a (with_next v) in_loop s (end_pending (length s.pending) behind (declared_as a o d.value behind s))
       go None at b i = absurd i
       go (Some u) at b i =
-          initial_does u s h (sym (ap (slice_get a.function.locals) here.0) ∙ at) (variable_built so_far a.program.types a.function.locals d.local u setting.variables at) d.value behind b i
-
-      -- it makes no temporaries
-      ended : (s' : State) → Does types texts so_far fs f a (with_next v) in_loop s s' → Does types texts so_far fs f a (with_next v) in_loop s (end_pending (length s.pending) behind s')
-      ended s' does = subst (Does types texts so_far fs f a (with_next v) in_loop s) (sym (same_pending s s' behind does.adds.pending)) does
+          initial_does u s h (sym (ap (slice_get a.function.locals) here.0) ∙ at) (variable_built so_far a.program.types a.function.locals d.local u setting.variables at) behind d.value behind b i

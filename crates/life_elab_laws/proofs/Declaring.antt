@@ -21,30 +21,37 @@ use Rattle.life_proper.specs.Placed as placed
 use Rattle.life_proper.specs.declared.known.Known.{Known}
 use Rattle.life_proper.specs.declared.known.Known.TheVariants as known
 use Rattle.life_proper.specs.Checking.{flow}
-use Rattle.life_proper.specs.Knowing.{State as Knowing, known_at}
-use Rattle.life_proper.specs.ResultsKnown.{ReturnsKnown}
+use Rattle.life_proper.specs.Knowing.{known_at}
 use Rattle.life_well_typed.specs.Visible.{Visible, with_next}
 use Rattle.life_writer.specs.Around.{Around, result_local}
-use Rattle.life_writer.specs.Variables.{kind, variable, variable_local, with_variable}
+use Rattle.life_writer.specs.Variables.{kind, variable, variable_local, with_variable, end_pending}
 use Rattle.life_writer.specs.Writing.{State, Gives, with_code}
-use Rattle.life_elab_laws.proofs.Among.{Among, among_either, among_left, among_right, ascend_more}
+use Rattle.life_elab_laws.proofs.Among.{Among, among_either, among_left, among_right, ascend_more, all_among}
 use Rattle.life_elab_laws.proofs.Doing.{Acting, Does}
-use Rattle.life_elab_laws.proofs.Exits.{Knows, Leaves, knows_written, leaves_falling, leaves_may}
+use Rattle.life_elab_laws.proofs.Exits.{Knows, Leaves, leaves_falling, leaves_may, knows_same}
 use Rattle.life_elab_laws.proofs.Falling.{Falls, falls_append}
-use Rattle.life_elab_laws.proofs.Following.{Adds, Follows, IsLiving, may_end, adds_then, begins_added, follows_below, follows_grown, follows_named, grows_adds, knows_alive, same_variable}
+use Rattle.life_elab_laws.proofs.Following.{Adds, Follows, IsLiving, may_end, adds_then, follows_below, knows_alive, same_variable, alive_knows, settled, follows_settled, adds_settled}
 use Rattle.life_elab_laws.proofs.FormedVariables.{reference_there, type_later}
 use Rattle.life_elab_laws.proofs.Fronts.{IsFront, front_append, front_itself, front_then, last_there}
-use Rattle.life_elab_laws.proofs.GivingBack.{fine_known, known_append}
+use Rattle.life_elab_laws.proofs.GivingBack.{fine_known}
 use Rattle.life_elab_laws.proofs.Growing.{Begins}
-use Rattle.life_elab_laws.proofs.Knowledge.{at_set, beside_set, set_length}
+use Rattle.life_elab_laws.proofs.Knowledge.{at_set, beside_set, set_length, ready_set}
 use Rattle.life_elab_laws.proofs.Gifts.{Gift, nothing}
 use Rattle.life_elab_laws.proofs.OperandsThere.{object_there, type_there}
 use Rattle.life_elab_laws.proofs.Parts.{Makes, Runs}
-use Rattle.life_elab_laws.proofs.Shaped.{shaped_more, variable_later}
-use Rattle.life_elab_laws.proofs.Shaping.{IsFine, stated_append}
+use Rattle.life_elab_laws.proofs.Shaped.{named_lasts}
+use Rattle.life_elab_laws.proofs.Shaping.{IsFine, fine_append}
 use Rattle.life_elab_laws.proofs.Types.{value_kind}
 use Rattle.life_elab_laws.proofs.VariablePlaces.{IsVariableAt, IsVariableType, a_raw, a_reference, a_value, a_view, an_owner, owner_kind, variable_type, a_walker, walker_is}
 use Rattle.life_elab_laws.proofs.WrittenLocals.{IsLocalOf, locals_added, own_added}
+use Rattle.life_elab_laws.proofs.PendingTemporaries.{none_pending}
+use Rattle.life_elab_laws.proofs.EndedTemporaries.{ending, ends_alive, ends_apart, ends_below, ends_pending, ends_temporary}
+use Rattle.life_elab_laws.proofs.EndSteps.{IsEnded, ended}
+use Rattle.life_elab_laws.proofs.Ending.{blank_beside, blank_length, blank_set, ends_there, set_blank}
+use Rattle.life_elab_laws.proofs.TemporaryEnds.{TemporariesEnd}
+use Rattle.life_proper.specs.WellFormed.{can_end}
+use Rattle.life_proper.specs.ReadyKnown.{can_leave}
+use Rattle.life_types.specs.declared.place.Place.{Place}
 
 take_before : (xs ys : List ℕ) → take (length xs) (xs ++ ys) ≡ xs
 take_before [] ys = refl
@@ -171,16 +178,15 @@ module _ (types : Types) (f : Function) (a : Around) (front : IsFront a.program.
       stands = record {
         table = h.stands.table;
         opened = opened;
+        pends = none_pending (with_new l s).locals s.types.types (with_new l s).living s.pending h.pending;
         seen = λ x w c there. elim (Contains-push_cases v.visible v.declared x c) [ inl old ↦ moved x w (h.visible x old) (h.stands.seen x w old there) | inr e ↦ fresh x w e there ];
       };
       ascend = ascend_more 0 s.living (length s.locals) h.ascend (omega arith) (λ y m. follows_below types f a v s h y m);
       outside = omega (arith, length-append s.living (length s.locals ∷ []), h.outside);
       living = λ y m. lives y (among_either s.living (length s.locals ∷ []) y m);
       sorts = λ b y m. sorted b y (among_either s.living (length s.locals ∷ []) y m);
+      pending = h.pending;
     }
-
-    its_type : is_reached_variable false types l.ty ≡ true
-    its_type = ap (is_reached_variable false types) of.typed ∙ variable_later a.program.types types front false u.ty built
 
     pub adds_new : Adds types f s (with_new l s)
     adds_new = record {
@@ -190,14 +196,13 @@ module _ (types : Types) (f : Function) (a : Around) (front : IsFront a.program.
       living = take_before s.living (length s.locals ∷ []);
       pending = refl;
       outside = refl;
-      shaped = λ are. shaped_more types s.locals l are (λ is. record { name = u.name; named = of.named; built = its_type });
     }
 
     -- ---- what is known
 
     pub blank_new : Begins types f (with_new l s) → (k : List Known) → Knows f s.living k → known_at k (length s.locals) ≡ known.Blank
     blank_new b k knows =
-        knows.blank (length s.locals) l u.name (b.locals (length s.locals) l new_at) of.named
+        knows.blank (length s.locals) l (b.locals (length s.locals) l new_at) (named_lasts l u.name of.named)
         (λ m. let below = follows_below types f a v s h (length s.locals) m in omega (arith, below))
 
     pub knows_new : Begins types f (with_new l s) → (k : List Known) → Knows f s.living k
@@ -205,9 +210,9 @@ module _ (types : Types) (f : Function) (a : Around) (front : IsFront a.program.
     knows_new b k knows = record {
       sized = set_length k (length s.locals) known.Ready ∙ knows.sized;
       alive = λ y m. alive y (among_either s.living (length s.locals ∷ []) y m);
-      blank = λ y z name there named no.
+      blank = λ y z there lasts no.
           beside_set k (length s.locals) y known.Ready (λ e. no (among_right s.living (length s.locals ∷ []) y (inl e)))
-          ∙ knows.blank y z name there named (λ m. no (among_left s.living (length s.locals ∷ []) y m));
+          ∙ knows.blank y z there lasts (λ m. no (among_left s.living (length s.locals ∷ []) y m));
     }
       where
         lt : length s.locals < length k
@@ -222,64 +227,96 @@ module _ (types : Types) (f : Function) (a : Around) (front : IsFront a.program.
 -- ---- the whole: what computes what it is given, the variable, and what gives it that
 
 module _ (types : Types) (texts : ℕ) (so_far : Bool) (fs : List Function) (f : Function) (a : Around) (front : IsFront a.program.types.types types.types) where
-  module _ {A : Type 0} (v : Visible) (in_loop : Bool) (u : TypedLocal) (s : State) (w : Gives A) (Q : Gift types texts so_far fs f A) (code : List Tree)
+  module _ {A : Type 0} (v : Visible) (in_loop : Bool) (can : TemporariesEnd types texts fs f) (last : Place) (u : TypedLocal) (s : State) (w : Gives A) (Q : Gift types texts so_far fs f A) (code : List Tree)
       (h : Follows types f a v s) (at : slice_get a.function.locals v.declared ≡ Some u) (built : is_reached_variable false a.program.types u.ty ≡ true)
       (made : Makes types texts so_far fs f None s w Q)
       (fine : Begins types f (with_new (variable_local a u) w.state) → Q.typed w.given → IsFine types texts so_far fs f code)
       (falls : Begins types f (with_new (variable_local a u) w.state) → (k : List Known) → length k ≡ length f.locals → Q.ready w.given (length w.state.locals) k → known_at k (length w.state.locals) ≡ known.Blank
       → Falls types f code k (slice_set k (length w.state.locals) known.Ready)) where
-    later : Follows types f a v w.state
-    later = follows_grown types f a v s w.state made.grown h
+    -- its temporaries end behind it
+    abbrev there : State
+    there = settled types f s w.state
 
-    adds : Adds types f s (with_new (variable_local a u) w.state)
-    adds = adds_then types f s w.state (with_new (variable_local a u) w.state) (grows_adds types f s w.state made.grown) (adds_new types f a front v u (variable_local a u) (its_local a u) w.state later at built)
+    later : Follows types f a v there
+    later = follows_settled types f a v s w.state made.grown h
+
+    adds : Adds types f s (with_new (variable_local a u) there)
+    adds = adds_then types f s there (with_new (variable_local a u) there) (adds_settled types f s w.state made.grown) (adds_new types f a front v u (variable_local a u) (its_local a u) there later at built)
 
     abbrev done : State
     done = with_code (w.state.code ++ code) (with_new (variable_local a u) w.state)
 
-    -- nothing returns there
-    no_returns : Begins types f (with_new (variable_local a u) w.state) → (o : Knowing) → ReturnsKnown types f (result_local a) (trees (made.code ++ code)) o
-    no_returns b o =
-        let first = made.runs (begins_old types f a front v u (variable_local a u) (its_local a u) w.state later at built b) tt in
-        known_append types f (result_local a) made.code code o (fine_known types f (result_local a) texts so_far fs made.code first.fine o)
-        (fine_known types f (result_local a) texts so_far fs code (fine b first.typed) (flow types f (trees made.code) o).next)
+    abbrev x : ℕ
+    x = length w.state.locals
 
-    acting : Begins types f (with_new (variable_local a u) w.state) → Acting types texts so_far fs f in_loop s done (made.code ++ code)
-    acting b = record {
-      stated = stated_append types texts so_far fs f in_loop made.code code (part.fine.stated in_loop) ((fine b part.typed).stated in_loop);
-      ways = leaves_may types f in_loop s.living (w.state.living ++ length w.state.locals ∷ []) (take s.outside s.living) (trees (made.code ++ code)) went;
-    }
-      where
-        before : Begins types f w.state
-        before = begins_old types f a front v u (variable_local a u) (its_local a u) w.state later at built b
+    abbrev over : List ℕ
+    over = ending types texts so_far fs f s w.state made.grown h.stands.pends last
 
-        part : Runs types texts so_far fs f (nothing types texts so_far fs f) tt None s w Q made.code
-        part = made.runs before tt
+    e : IsEnded types texts so_far fs f over last done
+    e = ended types texts so_far fs f over last done
 
-        first : Begins types f s
-        first = begins_added types f s w.state (grows_adds types f s w.state made.grown) before
+    abbrev finished : State
+    finished = record done { code = done.code ++ e.code; pending = take (length s.pending) w.state.pending }
 
-        went : (k : List Known) → Knows f s.living k
-            → Leaves f in_loop (w.state.living ++ length w.state.locals ∷ []) (take s.outside s.living) (flow types f (trees (made.code ++ code)) (Some k))
-        went k knows =
-            let g = part.goes k (knows_alive types f a v s k knows) tt in
-            let mid : Knows f w.state.living g.after =
-            subst (λ (ys : List ℕ). Knows f ys g.after) (sym made.grown.living) (knows_written f s.living (length s.locals) None k g.after (follows_named types f a v s h first) knows g.keeps) in
-            let after : List Known = slice_set g.after (length w.state.locals) known.Ready in
-            subst (Leaves f in_loop (w.state.living ++ length w.state.locals ∷ []) (take s.outside s.living))
-            (sym (falls_append types f made.code code k g.after after g.falls (falls b g.after mid.sized g.gives (blank_new types f a front v u (variable_local a u) (its_local a u) w.state later at built b g.after mid))))
-            (leaves_falling f in_loop (w.state.living ++ length w.state.locals ∷ []) (take s.outside s.living) after (knows_new types f a front v u (variable_local a u) (its_local a u) w.state later at built b g.after mid))
+    finished_is : end_pending (length s.pending) last done ≡ finished
+    finished_is = ap (λ (r : State). record r { pending = take (length s.pending) w.state.pending }) e.written
 
-    pub declared_does : Does types texts so_far fs f a (with_next v) in_loop s done
-    declared_does = record {
+    abbrev whole : List Tree
+    whole = made.code ++ (code ++ e.code)
+
+    module _ (b : Begins types f (with_new (variable_local a u) w.state)) where
+      before : Begins types f w.state
+      before = begins_old types f a front v u (variable_local a u) (its_local a u) there later at built b
+
+      part : Runs types texts so_far fs f (nothing types texts so_far fs f) tt None s w Q made.code
+      part = made.runs before tt
+
+      ends_fine_here : IsFine types texts so_far fs f e.code
+      ends_fine_here = e.fine (all_among (can_end types texts fs f) over (λ y m. can y (ends_temporary types texts so_far fs f s w.state made.grown h.stands.pends last before y m)))
+
+      all_fine : IsFine types texts so_far fs f whole
+      all_fine = fine_append types texts so_far fs f made.code (code ++ e.code) part.fine (fine_append types texts so_far fs f code e.code (fine b part.typed) ends_fine_here)
+
+      -- the variable is none of them
+      beside : Among x over → ⊥
+      beside m = let lt = ends_below types texts so_far fs f s w.state made.grown h.stands.pends last x m in omega (arith, lt)
+
+      went : (k : List Known) → Knows f s.living k → Leaves f in_loop (w.state.living ++ x ∷ []) (take s.outside s.living) (flow types f (trees whole) (Some k))
+      went k knows =
+          let g = part.goes k (knows_alive types f a v s h k knows) tt in
+          let mid : Knows f w.state.living (set_blank over g.after) = alive_knows types f there (set_blank over g.after) later.pending (ends_alive types texts so_far fs f s w.state made.grown h.stands.pends last g.after g.alive) in
+          let blank : known_at g.after x ≡ known.Blank = sym (blank_beside over g.after x beside) ∙ blank_new types f a front v u (variable_local a u) (its_local a u) there later at built b (set_blank over g.after) mid in
+          let lt : x < length g.after = omega (arith, g.alive.sized, new_below types f a front v u (variable_local a u) (its_local a u) there later at built b) in
+          let j : List Known = slice_set g.after x known.Ready in
+          let ready : can_leave j over ≡ true =
+          ends_there over j (ends_apart types texts so_far fs f s w.state made.grown h.stands.pends last) (λ y m. ready_set g.after x y lt (g.alive.pending y (ends_pending types texts so_far fs f s w.state made.grown h.stands.pends last y m))) in
+          subst (Leaves f in_loop (w.state.living ++ x ∷ []) (take s.outside s.living))
+          (sym (falls_append types f made.code (code ++ e.code) k g.after (set_blank over j) g.falls (falls_append types f code e.code g.after j (set_blank over j) (falls b g.after g.alive.sized g.gives blank) (e.falls j ready))))
+          (leaves_falling f in_loop (w.state.living ++ x ∷ []) (take s.outside s.living) (set_blank over j)
+          (knows_same f (w.state.living ++ x ∷ []) (slice_set (set_blank over g.after) x known.Ready) (set_blank over j)
+          (blank_length over j ∙ set_length g.after x known.Ready ∙ sym (blank_length over g.after) ∙ sym (set_length (set_blank over g.after) x known.Ready))
+          (λ y. blank_set over g.after x y lt beside)
+          (knows_new types f a front v u (variable_local a u) (its_local a u) there later at built b (set_blank over g.after) mid)))
+
+      acting : Acting types texts so_far fs f in_loop s finished whole
+      acting = record {
+        stated = all_fine.stated in_loop;
+        ways = leaves_may types f in_loop s.living (w.state.living ++ x ∷ []) (take s.outside s.living) (trees whole) went;
+      }
+
+    finished_does : Does types texts so_far fs f a (with_next v) in_loop s finished
+    finished_does = record {
       adds = adds;
       locals = λ are.
           own_added so_far types a w.state (variable_local a u) (record { number = v.declared; variable = u; there = at; of = its_local a u })
           (locals_added so_far types a s w.state made.grown.types made.registers are);
       order = made.registers.1;
-      follows = follows_new types f a front v u (variable_local a u) (its_local a u) w.state later at built;
-      code = made.code ++ code;
-      written = ap (λ (c : List Tree). c ++ code) made.written ∙ append_assoc s.code made.code code;
+      follows = follows_new types f a front v u (variable_local a u) (its_local a u) there later at built;
+      code = whole;
+      written = ap (λ (c : List Tree). (c ++ code) ++ e.code) made.written ∙ ap (λ (c : List Tree). c ++ e.code) (append_assoc s.code made.code code) ∙ append_assoc s.code (made.code ++ code) e.code ∙ ap (λ (c : List Tree). s.code ++ c) (append_assoc made.code code e.code);
       acts = acting;
-      returns = λ b gives o k. no_returns b o;
+      returns = λ b gives o k. fine_known types f (result_local a) texts so_far fs whole (all_fine b) o;
     }
+
+    pub declared_does : Does types texts so_far fs f a (with_next v) in_loop s (end_pending (length s.pending) last done)
+    declared_does = subst (Does types texts so_far fs f a (with_next v) in_loop s) (sym finished_is) finished_does

@@ -10,16 +10,21 @@ use Rattle.life_proper.specs.ResultsKnown.{ReturnsKnown}
 use Rattle.life_well_typed.specs.Visible.{Visible}
 use Rattle.life_writer.specs.Around.{Around, result_local}
 use Rattle.life_writer.specs.Writing.{State, Gives}
-use Rattle.life_elab_laws.proofs.Exits.{Knows, Leaves, MayKnow, knows_written, leaves_falling, leaves_may, leaves_then, none_leaves}
-use Rattle.life_elab_laws.proofs.Falling.{flow_append}
-use Rattle.life_elab_laws.proofs.Following.{Adds, Follows, adds_none, adds_then, begins_added, follows_grown, follows_named, grows_adds, knows_alive, take_front, take_itself}
+use Rattle.life_elab_laws.proofs.Exits.{Knows, Leaves, MayKnow, leaves_falling, leaves_may, leaves_then, none_leaves}
+use Rattle.life_elab_laws.proofs.Falling.{Falls, falls_append, flow_append}
+use Rattle.life_elab_laws.proofs.Following.{Adds, Follows, adds_none, adds_then, begins_added, alive_knows, follows_grown, grows_adds, knows_alive, take_front, take_itself}
 use Rattle.life_elab_laws.proofs.GivingBack.{GivesValue, fine_known, known_append}
-use Rattle.life_elab_laws.proofs.Growing.{Begins}
+use Rattle.life_elab_laws.proofs.Growing.{Begins, Grows}
 use Rattle.life_elab_laws.proofs.Gifts.{Gift}
 use Rattle.life_elab_laws.proofs.Parts.{Goes, Makes}
 use Rattle.life_elab_laws.proofs.OrderedTypes.{KeepsOrder, order_none, order_then}
-use Rattle.life_elab_laws.proofs.Shaping.{IsStated, stated_append, stated_none}
+use Rattle.life_elab_laws.proofs.Shaping.{IsFine, IsStated, fine_append, stated_append, stated_none}
 use Rattle.life_elab_laws.proofs.WrittenLocals.{AreWrittenLocals, locals_added}
+use Rattle.life_elab_laws.proofs.EndedTemporaries.{behind, behind_grows, behind_is, ending, ending_is, ends_alive, ends_fall, ends_fine, ends_level}
+use Rattle.life_elab_laws.proofs.Ending.{set_blank}
+use Rattle.life_elab_laws.proofs.TemporaryEnds.{TemporariesEnd}
+use Rattle.life_types.specs.declared.place.Place.{Place}
+use Rattle.life_writer.specs.Variables.{end_pending}
 
 module _ (types : Types) (texts : ℕ) (so_far : Bool) (fs : List Function) (f : Function) where
   pub record Acting (in_loop : Bool) (s s' : State) (code : List Tree) : Type 0 where
@@ -88,38 +93,71 @@ module _ (types : Types) (texts : ℕ) (so_far : Bool) (fs : List Function) (f :
         (second.returns b gives (flow types f (trees first.code) o).next ((first.acts before).ways o k).next);
   }
 
-  -- ---- what an expression writes, as a statement
+  -- ---- what a full expression writes, as a statement: behind it its temporaries end
 
-  module _ {A : Type 0} (a : Around) (v : Visible) (in_loop : Bool) (into : Option ℕ) (s : State) (w : Gives A) (Q : Gift types texts so_far fs f A) (h : Follows types f a v s) (made : Makes types texts so_far fs f into s w Q) where
-    begun : Begins types f w.state → Begins types f s
-    begun b = begins_added types f s w.state (grows_adds types f s w.state made.grown) b
+  module _ {A : Type 0} (a : Around) (v : Visible) (in_loop : Bool) (into : Option ℕ) (s : State) (w : Gives A) (Q : Gift types texts so_far fs f A) (h : Follows types f a v s) (can : TemporariesEnd types texts fs f) (place : Place)
+      (made : Makes types texts so_far fs f into s w Q) where
+    -- where they have ended
+    abbrev pub full_state : State
+    full_state = behind types texts so_far fs f s w.state made.grown h.stands.pends place
 
-    -- behind it the same variables live
-    pub made_knows : Begins types f w.state → (k : List Known) → Knows f s.living k → (g : Goes types texts so_far fs f into s w Q made.code k) → Knows f w.state.living g.after
-    made_knows b k known g =
-        subst (λ (ys : List ℕ). Knows f ys g.after) (sym made.grown.living)
-        (knows_written f s.living (length s.locals) into k g.after (follows_named types f a v s h (begun b)) known g.keeps)
+    abbrev ends : List Tree
+    ends = (ending_is types texts so_far fs f s w.state made.grown h.stands.pends place).code
 
-    pub made_acts : Begins types f w.state → Acting in_loop s w.state made.code
-    made_acts b = record {
-      stated = (made.runs b tt).fine.stated in_loop;
-      ways = leaves_may types f in_loop s.living w.state.living (take s.outside s.living) (trees made.code) went;
+    abbrev pub full_code : List Tree
+    full_code = made.code ++ ends
+
+    abbrev pub ended_then : List Known → List Known
+    ended_then k = set_blank (ending types texts so_far fs f s w.state made.grown h.stands.pends place) k
+
+    full_level : full_state.pending ≡ s.pending
+    full_level = ends_level types texts so_far fs f s w.state made.grown h.stands.pends place
+
+    full_grows : Grows s full_state
+    full_grows = behind_grows types texts so_far fs f s w.state made.grown h.stands.pends place
+
+    pub full_adds : Adds types f s full_state
+    full_adds = grows_adds types f s full_state full_level full_grows
+
+    pub full_follows : Follows types f a v full_state
+    full_follows = follows_grown types f a v s full_state full_level full_grows h
+
+    -- the same variables live
+    pub full_knows : (k : List Known) → (g : Goes types texts so_far fs f into s w Q made.code k) → Knows f w.state.living (ended_then g.after)
+    full_knows k g = alive_knows types f full_state (ended_then g.after) (full_level ∙ h.pending) (ends_alive types texts so_far fs f s w.state made.grown h.stands.pends place g.after g.alive)
+
+    pub full_fine : Begins types f w.state → IsFine types texts so_far fs f full_code
+    full_fine b = fine_append types texts so_far fs f made.code ends (made.runs b tt).fine (ends_fine types texts so_far fs f s w.state made.grown h.stands.pends place b can)
+
+    pub full_falls : (k : List Known) → (g : Goes types texts so_far fs f into s w Q made.code k) → Falls types f full_code k (ended_then g.after)
+    full_falls k g = falls_append types f made.code ends k g.after (ended_then g.after) g.falls (ends_fall types texts so_far fs f s w.state made.grown h.stands.pends place g.after g.alive)
+
+    pub full_written : full_state.code ≡ s.code ++ full_code
+    full_written = ap (λ (c : List Tree). c ++ ends) made.written ∙ append_assoc s.code made.code ends
+
+    pub full_acts : Begins types f w.state → Acting in_loop s full_state full_code
+    full_acts b = record {
+      stated = (full_fine b).stated in_loop;
+      ways = leaves_may types f in_loop s.living w.state.living (take s.outside s.living) (trees full_code) went;
     }
       where
-        went : (k : List Known) → Knows f s.living k → Leaves f in_loop w.state.living (take s.outside s.living) (flow types f (trees made.code) (Some k))
+        went : (k : List Known) → Knows f s.living k → Leaves f in_loop w.state.living (take s.outside s.living) (flow types f (trees full_code) (Some k))
         went k known =
-            let g = (made.runs b tt).goes k (knows_alive types f a v s k known) tt in
-            subst (Leaves f in_loop w.state.living (take s.outside s.living)) (sym g.falls)
-            (leaves_falling f in_loop w.state.living (take s.outside s.living) g.after (made_knows b k known g))
+            let g = (made.runs b tt).goes k (knows_alive types f a v s h k known) tt in
+            subst (Leaves f in_loop w.state.living (take s.outside s.living)) (sym (full_falls k g))
+            (leaves_falling f in_loop w.state.living (take s.outside s.living) (ended_then g.after) (full_knows k g))
 
-  pub does_made : {A : Type 0} (a : Around) (v : Visible) (in_loop : Bool) (into : Option ℕ) (s : State) (w : Gives A) (Q : Gift types texts so_far fs f A) → Follows types f a v s → Makes types texts so_far fs f into s w Q → Does a v in_loop s w.state
-  does_made a v in_loop into s w Q h made = record {
-    adds = grows_adds types f s w.state made.grown;
-    locals = locals_added so_far types a s w.state made.grown.types made.registers;
-    order = made.registers.1;
-    follows = follows_grown types f a v s w.state made.grown h;
-    code = made.code;
-    written = made.written;
-    acts = made_acts a v in_loop into s w Q h made;
-    returns = λ b gives o k. fine_known types f (result_local a) texts so_far fs made.code (made.runs b tt).fine o;
-  }
+    full_does : Does a v in_loop s full_state
+    full_does = record {
+      adds = full_adds;
+      locals = locals_added so_far types a s w.state made.grown.types made.registers;
+      order = made.registers.1;
+      follows = full_follows;
+      code = full_code;
+      written = full_written;
+      acts = full_acts;
+      returns = λ b gives o k. fine_known types f (result_local a) texts so_far fs full_code (full_fine b) o;
+    }
+
+    pub does_full : Does a v in_loop s (end_pending (length s.pending) place w.state)
+    does_full = subst (Does a v in_loop s) (sym (behind_is types texts so_far fs f s w.state made.grown h.stands.pends place)) full_does

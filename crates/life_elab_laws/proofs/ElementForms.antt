@@ -12,7 +12,6 @@ use Rattle.life_typed.specs.Members.{element_type}
 use Rattle.life_typed.specs.Operators.{indexed}
 use Rattle.life_typed.specs.TypedForm.{Form, Typed, index, local, method, paren, typed}
 use Rattle.life_typed.specs.declared.basic.TheConstants.{CHAR}
-use Rattle.life_typed.specs.declared.typed_expr.Category.{Category}
 use Rattle.life_typed.specs.declared.typed_expr.Category.TheVariants as category
 use Rattle.life_typed.specs.declared.typed_expr.ExprType.{ExprType}
 use Rattle.life_typed.specs.declared.typed_expr.ExprType.TheVariants.{Of}
@@ -36,7 +35,7 @@ use Rattle.life_elab_laws.specs.Reached.{is_owner_of_values, is_reached_either, 
 use Rattle.life_elab_laws.proofs.BaseSteps.{IsWhich, IsWhichOf, a_which}
 use Rattle.life_elab_laws.proofs.ExpressionForms.{IsForm, IsWhole, Placed, Standing, value_form}
 use Rattle.life_elab_laws.proofs.Gifts.{a_number, nothing as no_gift}
-use Rattle.life_elab_laws.proofs.ObjectForms.{IsAsked, IsObject, IsObjectAt, element_form, element_placed, emptied_part, object_same, owner_asked, sized_part, variable_object, view_asked}
+use Rattle.life_elab_laws.proofs.ObjectForms.{IsAsked, IsObject, IsObjectAt, IsOwner, element_form, element_placed, emptied_part, object_same, owner_asked, sized_part, variable_object, view_asked}
 use Rattle.life_elab_laws.proofs.Parts.{leaf_part, seen_part}
 use Rattle.life_elab_laws.proofs.Setting.{Setting}
 use Rattle.life_elab_laws.proofs.TypedKinds.{HasKind, a_null, a_number as is_number_kind, a_pointer as is_pointer_kind, a_text, a_view, err_ok, no_value, none_some, ok_same, some_same}
@@ -48,10 +47,10 @@ position_number (Of t) p = p
 position_number _ p = absurd (false≢true p)
 
 -- what is asked has a value, or is an owner
-pub either_reached : (so_far : Bool) (base : Form) (value : Bool) → is_reached_either so_far base value ≡ true → (value ≡ true) ⊎ ((is_owner_type so_far (typed_in base).ty ≡ true) × (is_reached_object base ≡ true))
-either_reached so_far base value h = go (is_owner_type so_far (typed_in base).ty) refl h
+pub either_reached : (so_far : Bool) (base : Form) (owner value : Bool) → is_reached_either so_far base owner value ≡ true → (value ≡ true) ⊎ ((is_owner_type so_far (typed_in base).ty ≡ true) × (owner ≡ true))
+either_reached so_far base owner value h = go (is_owner_type so_far (typed_in base).ty) refl h
   where
-    go : (b : Bool) → is_owner_type so_far (typed_in base).ty ≡ b → (if b then is_reached_object base else value) ≡ true → (value ≡ true) ⊎ ((is_owner_type so_far (typed_in base).ty ≡ true) × (is_reached_object base ≡ true))
+    go : (b : Bool) → is_owner_type so_far (typed_in base).ty ≡ b → (if b then owner else value) ≡ true → (value ≡ true) ⊎ ((is_owner_type so_far (typed_in base).ty ≡ true) × (owner ≡ true))
     go true is h = inr (is, h)
     go false is h = inl h
 
@@ -123,7 +122,7 @@ module _ (a : Around) (visible : List ℕ) (types : Types) (texts : ℕ) (so_far
               (subst (λ (y : TyId × Bool). IsIndexed (typed_in base) (typed_in position) e y.0 y.1) one x.2)
 
   -- .. of an owner
-  pub owner_index_form : (base position : Form) (closing : Place) (e : Typed) → IsObject a visible types texts so_far fs f setting base → IsWhole a visible types texts so_far fs f setting position
+  pub owner_index_form : (base position : Form) (closing : Place) (e : Typed) → IsOwner a visible types texts so_far fs f setting base → IsWhole a visible types texts so_far fs f setting position
       → indexed_at a.program.types e.place (typed_in base) (typed_in position) closing ≡ Ok e → IsForm a visible types texts so_far fs f setting (index base position closing) e
   owner_index_form base position closing e is at_position h = go is.ty refl is.owner
     where
@@ -133,7 +132,7 @@ module _ (a : Around) (visible : List ℕ) (types : Types) (texts : ℕ) (so_far
       told : (t : Ty) → is.ty ≡ t → (id : TyId) → type_at a.program.types id ≡ element_type a.program.types t → indexed (Of t) is.constant ≡ Some (id, is.constant) → IsForm a visible types texts so_far fs f setting (index base position closing) e
       told t same id here by =
           let x = indexed_by (typed_in base) (typed_in position) e closing (Some (id, is.constant))
-          (ap (λ (y : ExprType). indexed y (is_constant (typed_in base).category)) (is.is ∙ ap Of same) ∙ ap (λ (c : Category). indexed (Of t) (is_constant c)) is.place ∙ by) h in
+          (ap (λ (y : ExprType). indexed y (is_constant (typed_in base).category)) (is.is ∙ ap Of same) ∙ ap (indexed (Of t)) is.told ∙ by) h in
           index_form base position closing e (element_type a.program.types is.ty) id is.constant asked at_position (here ∙ ap (element_type a.program.types) (sym same))
           (subst (λ (y : TyId × Bool). IsIndexed (typed_in base) (typed_in position) e y.0 y.1) (sym (some_same x.1)) x.2)
 
@@ -144,7 +143,7 @@ module _ (a : Around) (visible : List ℕ) (types : Types) (texts : ℕ) (so_far
 
   -- ---- members of owners that only ask
 
-  pub owner_method_form : (base : Form) (m : Method) (given : Form) (d : DelimitersForm) (e : Typed) → IsObject a visible types texts so_far fs f setting base → is_reached_method m ≡ true
+  pub owner_method_form : (base : Form) (m : Method) (given : Form) (d : DelimitersForm) (e : Typed) → IsOwner a visible types texts so_far fs f setting base → is_reached_method m ≡ true
       → IsCalled a.program.types (typed_in base).ty (typed_in base).category m given e → IsForm a visible types texts so_far fs f setting (method base m given d) e
   owner_method_form base m given d e is reached h = go is.ty refl is.owner m reached (subst (λ (x : ExprType). IsCalled a.program.types x (typed_in base).category m given e) is.is h)
     where
@@ -174,7 +173,7 @@ module _ (a : Around) (visible : List ℕ) (types : Types) (texts : ℕ) (so_far
       own_type_is item same at = at ∙ ap (λ (t : Ty). Of (element_type a.program.types t)) (sym same)
 
       own_place : (item : TyId) → e.category ≡ category.Place item (is_constant (typed_in base).category) → e.category ≡ category.Place item is.constant
-      own_place item at = at ∙ ap (λ (c : Category). category.Place item (is_constant c)) is.place
+      own_place item at = at ∙ ap (category.Place item) is.told
 
       front_form : (item : TyId) → is.ty ≡ ty.Vector item → IsAnswer (Of (type_at a.program.types item), category.Place item (is_constant (typed_in base).category)) e → IsForm a visible types texts so_far fs f setting (method base methods.Front given d) e
       front_form item same c =

@@ -1,11 +1,10 @@
 -- A register that an instruction writes.
-use Rattle.std.proofs.Common.{◌≡◌, ◌<◌, ℕ, true, List, length, slice_get, slice_set, Option, Some, None, refl, sym, ap, ◌∙◌, arith, Bool}
-use Rattle.std.proofs.lemmas.Option.{none-some, same_Some, slice_get_within}
+use Rattle.std.proofs.Common.{◌≡◌, ◌<◌, ℕ, true, List, length, slice_get, slice_set, Option, Some, None, refl, ap, ◌∙◌, arith, Bool, inl}
+use Rattle.std.proofs.lemmas.Option.{slice_get_within}
 use Rattle.life_types.specs.Trees.{HasPartsBelow}
 use Rattle.life_types.specs.TypeTests.{is_value}
 use Rattle.life_types.specs.Types.{Types}
 use Rattle.life_types.specs.declared.place.Place.{Place}
-use Rattle.life_types.specs.declared.ty.NameId.{NameId}
 use Rattle.life_types.specs.declared.ty.Ty.{Ty}
 use Rattle.life_core.specs.Function.{Function}
 use Rattle.life_core.specs.Kinds.{has_kind, is_register, is_register_at}
@@ -47,17 +46,8 @@ pub nameless_register : (f : Function) (r : ℕ) → IsNameless f r → is_regis
 nameless_register f r is = ap (has_kind is_register) is.there ∙ ap is_register is.kind
 
 -- what stays where it is written
-pub keeps_set : (f : Function) (n : ℕ) (into : Option ℕ) (r : ℕ) (a : Known) (k : List Known) → IsNameless f r → ((y : ℕ) → y < n → IsBeside into y → r ≡ y → ⊥) → Keeps f n into k (slice_set k r a)
-keeps_set f n into r a k is beside = record {
-  sized = set_length k r a;
-  below = λ y lt b. beside_set k r y a (beside y lt b);
-  named = λ y l name there named. beside_set k r y a (clash y l name there named);
-}
-  where
-    clash : (y : ℕ) (l : Local) (name : NameId) → slice_get f.locals y ≡ Some l → l.name ≡ Some name → r ≡ y → ⊥
-    clash y l name there named e =
-        let one : is.local ≡ l = same_Some is.local l (sym is.there ∙ ap (slice_get f.locals) e ∙ there) in
-        none-some name (sym is.nameless ∙ ap (λ (u : Local). u.name) one ∙ named)
+pub keeps_set : (f : Function) (n : ℕ) (into : Option ℕ) (r : ℕ) (a : Known) (k : List Known) → ((y : ℕ) → y < n → IsBeside into y → r ≡ y → ⊥) → Keeps f n into k (slice_set k r a)
+keeps_set f n into r a k beside = record { sized = set_length k r a; below = λ y lt b. beside_set k r y a (beside y lt b) }
 
 module _ (so_far : Bool) (types : Types) (f : Function) where
   -- the register that is written, where a part has begun
@@ -65,13 +55,14 @@ module _ (so_far : Bool) (types : Types) (f : Function) where
     pub grown : Grows s w.state
     pub registers : AddsRegisters so_far types s w.state
     pub unwritten : w.state.code ≡ s.code
+    pub level : w.state.pending ≡ s.pending
     pub below : w.given < length w.state.locals
     pub there : Begins types f w.state → IsNameless f w.given
     pub beside : (y : ℕ) → y < length s.locals → IsBeside into y → w.given ≡ y → ⊥
 
   register_new : (place : Place) (t : Ty) (s : State) → fits_register so_far types t ≡ true → HasPartsBelow s.types (length s.types.types) t → AddsRegisters so_far types s (new_register place t s).state
   register_new place t s fits below = (
-    register_pushed so_far types (new_register place t s).state.types s.locals (added place t s) (record { nameless = refl; kind = refl; ty = t; typed = type_added s.types.types t; fits = fits }),
+    register_pushed so_far types (new_register place t s).state.types s.locals (added place t s) (record { nameless = refl; ty = t; typed = type_added s.types.types t; fits = inl (refl, fits) }),
     type_ordered s.types t below,
   )
 
@@ -80,6 +71,7 @@ module _ (so_far : Bool) (types : Types) (f : Function) where
     grown = register_grows place t s;
     registers = register_new place t s fits below;
     unwritten = refl;
+    level = refl;
     below = register_below place t s;
     there = λ b. record { local = added place t s; there = b.locals (length s.locals) (added place t s) (last_there s.locals (added place t s)); nameless = refl; kind = refl };
     beside = λ y lt b e. omega (arith, lt, e);
@@ -91,6 +83,7 @@ module _ (so_far : Bool) (types : Types) (f : Function) where
     grown = grows_none s;
     registers = registers_none so_far types s;
     unwritten = refl;
+    level = refl;
     below = slice_get_within s.locals r h.local h.there;
     there = λ b. record { local = h.local; there = b.locals r h.local h.there; nameless = h.nameless; kind = h.kind };
     beside = λ y lt b. b;

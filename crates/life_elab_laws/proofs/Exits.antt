@@ -1,30 +1,27 @@
 -- What is known between statements: each living variable is there, and no other one is.
-use Rattle.std.proofs.Common.{◌≡◌, ℕ, zero, suc, Bool, true, false, ◌&&◌, is_none, List, [], ◌∷◌, length, slice_get, Option, Some, None, refl, sym, ◌∙◌, subst, arith}
+use Rattle.std.proofs.Common.{◌≡◌, ℕ, zero, suc, Bool, true, false, List, [], ◌∷◌, length, slice_get, Some, None, refl, sym, ◌∙◌, subst, arith}
 use Rattle.std.proofs.lemmas.Bool.{and_from}
 use Rattle.life_types.specs.Types.{Types}
 use Rattle.life_types.specs.declared.ty.NameId.{NameId}
 use Rattle.life_core.specs.Function.{Function}
-use Rattle.life_core.specs.Kinds.{is_register}
 use Rattle.life_core.specs.Tree.{Tree}
 use Rattle.life_core.specs.declared.program.Local.{Local}
-use Rattle.life_core.specs.declared.program.LocalKind.{LocalKind}
-use Rattle.life_core.specs.declared.program.LocalKind.TheVariants as kind
 use Rattle.life_proper.specs.declared.known.Known.{Known}
 use Rattle.life_proper.specs.declared.known.Known.TheVariants as known
 use Rattle.life_proper.specs.Checking.{Flow, before_next, flow, joined}
-use Rattle.life_proper.specs.Knowing.{State, agreed_all, are_implied, forgotten, is_implied, is_intermediate, known_at, met, is_forgotten, is_lost}
+use Rattle.life_proper.specs.Knowing.{State, agreed_all, are_implied, forgotten, is_implied, known_at, met, is_forgotten}
 use Rattle.life_elab_laws.proofs.Among.{Among}
 use Rattle.life_elab_laws.proofs.Falling.{falling}
 use Rattle.life_elab_laws.proofs.Knowledge.{agreed_length, at_agreed}
-use Rattle.life_elab_laws.proofs.Making.{Keeps}
 use Rattle.life_elab_laws.proofs.Nowhere.{IsNowhere, none_met, nowhere_flows}
+use Rattle.life_elab_laws.proofs.Shaped.{is_passing}
 
 module _ (f : Function) where
-  -- these variables live, and no other one does
+  -- these variables live, and nothing else does but what is passing
   pub record Knows (living : List ℕ) (k : List Known) : Type 0 where
     pub sized : length k ≡ length f.locals
     pub alive : (y : ℕ) → Among y living → known_at k y ≡ known.Ready
-    pub blank : (y : ℕ) (l : Local) (name : NameId) → slice_get f.locals y ≡ Some l → l.name ≡ Some name → (Among y living → ⊥) → known_at k y ≡ known.Blank
+    pub blank : (y : ℕ) (l : Local) → slice_get f.locals y ≡ Some l → is_passing l ≡ false → (Among y living → ⊥) → known_at k y ≡ known.Blank
 
   -- .. where some way comes
   abbrev pub MayKnow : List ℕ → State → Type 0
@@ -35,6 +32,10 @@ module _ (f : Function) where
   abbrev pub AreNamed : List ℕ → Type 0
   AreNamed living = (y : ℕ) → Among y living → (l : Local) × (name : NameId) × (slice_get f.locals y ≡ Some l) × (l.name ≡ Some name)
 
+  -- what knows the same
+  pub knows_same : (living : List ℕ) (k j : List Known) → length j ≡ length k → ((y : ℕ) → known_at j y ≡ known_at k y) → Knows living k → Knows living j
+  knows_same living k j sized same h = record { sized = sized ∙ h.sized; alive = λ y m. same y ∙ h.alive y m; blank = λ y l there lasts c. same y ∙ h.blank y l there lasts c }
+
   -- ---- where two ways meet
 
   agreed_at : (living : List ℕ) (k j : List Known) (y : ℕ) → Knows living k → Knows living j → known_at k y ≡ known_at j y → known_at (agreed_all k j) y ≡ known_at k y
@@ -44,22 +45,13 @@ module _ (f : Function) where
   knows_agreed living k j a b = record {
     sized = agreed_length k j (a.sized ∙ sym b.sized) ∙ a.sized;
     alive = λ y c. agreed_at living k j y a b (a.alive y c ∙ sym (b.alive y c)) ∙ a.alive y c;
-    blank = λ y l name there named c. agreed_at living k j y a b (a.blank y l name there named c ∙ sym (b.blank y l name there named c)) ∙ a.blank y l name there named c;
+    blank = λ y l there lasts c. agreed_at living k j y a b (a.blank y l there lasts c ∙ sym (b.blank y l there lasts c)) ∙ a.blank y l there lasts c;
   }
 
   pub may_met : (living : List ℕ) (s t : State) → MayKnow living s → MayKnow living t → MayKnow living (met s t)
   may_met living None t a b = b
   may_met living (Some k) None a b = a
   may_met living (Some k) (Some j) a b = knows_agreed living k j a b
-
-  -- ---- behind an expression, also one that goes to a register that was there
-
-  pub knows_written : (living : List ℕ) (n : ℕ) (into : Option ℕ) (k j : List Known) → AreNamed living → Knows living k → Keeps f n into k j → Knows living j
-  knows_written living n into k j names a keeps = record {
-    sized = keeps.sized ∙ a.sized;
-    alive = λ y c. let is = names y c in keeps.named y is.0 is.1 is.2 is.3 ∙ a.alive y c;
-    blank = λ y l name there named c. keeps.named y l name there named ∙ a.blank y l name there named c;
-  }
 
   -- ---- the ways out of a statement
 
@@ -136,19 +128,9 @@ implied_same known.Unknown b e = refl
 implied_same known.Blank b e = subst (λ (c : Known). is_implied known.Blank c ≡ true) (sym e) refl
 implied_same known.Ready b e = subst (λ (c : Known). is_implied known.Ready c ≡ true) (sym e) refl
 
--- what is kept at the head of a loop is no intermediate register
-kept_there : (l : Local) (a : Known) → is_forgotten l a ≡ false → is_intermediate l ≡ false
-kept_there l a e = go l.kind (is_none l.name) e
-  where
-    go : (k : LocalKind) (nameless : Bool) → (nameless && is_lost k a) ≡ false → (is_register k && nameless) ≡ false
-    go kind.Object nameless h = refl
-    go kind.Register true h = h
-    go kind.Register false h = refl
-    go kind.Range nameless h = refl
-
--- what is known at the head is known on the way back, where both know the same of all but intermediate registers
+-- what is known at the head is known on the way back, where both know the same of all that isn't forgotten at the head
 pub forgotten_implied : (ls : List Local) (k j : List Known) → length k ≡ length ls → length j ≡ length ls
-    → ((y : ℕ) (l : Local) → slice_get ls y ≡ Some l → is_intermediate l ≡ false → known_at j y ≡ known_at k y) → are_implied (forgotten ls k) j ≡ true
+    → ((y : ℕ) (l : Local) → slice_get ls y ≡ Some l → is_forgotten l (known_at k y) ≡ false → known_at j y ≡ known_at k y) → are_implied (forgotten ls k) j ≡ true
 forgotten_implied [] [] j a b h = refl
 forgotten_implied [] (x ∷ k) j a b h = absurd (omega (arith, a))
 forgotten_implied (l ∷ ls) [] j a b h = refl
@@ -157,4 +139,4 @@ forgotten_implied (l ∷ ls) (x ∷ k) (y ∷ j) a b h = go (is_forgotten l x) r
   where
     go : (m : Bool) → is_forgotten l x ≡ m → are_implied (forgotten ls k) j ≡ true → are_implied (forgotten (l ∷ ls) (x ∷ k)) (y ∷ j) ≡ true
     go true e rest = rw e rest
-    go false e rest = rw e (and_from (is_implied x y) (are_implied (forgotten ls k) j) (implied_same x y (h zero l refl (kept_there l x e))) rest)
+    go false e rest = rw e (and_from (is_implied x y) (are_implied (forgotten ls k) j) (implied_same x y (h zero l refl e)) rest)

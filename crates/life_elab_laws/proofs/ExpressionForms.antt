@@ -47,6 +47,7 @@ use Rattle.life_elab_laws.proofs.Setting.{Setting}
 use Rattle.life_elab_laws.proofs.TypedKinds.{IsKind, a_number as is_number_kind, kind_same, none_some, value_place}
 use Rattle.life_elab_laws.proofs.VariablePlaces.{Stands}
 use Rattle.life_elab_laws.proofs.WrittenLocals.{fits_below, fits_later, fits_register}
+use Rattle.life_elab_laws.proofs.TemporaryEnds.{TemporariesEnd, temporary_ends}
 
 module _ (a : Around) (visible : List ℕ) (types : Types) (texts : ℕ) (so_far : Bool) (fs : List Function) (f : Function) (setting : Setting so_far a types fs f) where
   abbrev pub Standing : State → Type 0
@@ -67,8 +68,11 @@ module _ (a : Around) (visible : List ℕ) (types : Types) (texts : ℕ) (so_far
   abbrev pub Hands : FunctionForm → State → Gives (List Argument) → Type 0
   Hands of s w = Makes types texts so_far fs f None s w (arguments types texts so_far fs f (parameter_types (Some of)))
 
-  abbrev pub Decided : State → Gives Tree → Type 0
-  Decided s w = Tests types texts so_far fs f s w
+  abbrev pub Decided : Option Place → State → Gives Tree → Type 0
+  Decided ends s w = Tests types texts so_far fs f ends s w
+
+  pub can : TemporariesEnd types texts fs f
+  can = temporary_ends types texts fs f setting.registers
 
   -- ---- what is asked
 
@@ -96,7 +100,7 @@ module _ (a : Around) (visible : List ℕ) (types : Types) (texts : ℕ) (so_far
     -- a pointer points
     pub points : is_pointed e.ty ≡ true → (place : Place) (s : State) → Standing s → Points e.ty s ((form_uses a form place e.ty e.category).pointing s)
     -- what is made of conditions decides
-    pub decides : (place : Place) (b : Behind) (w : State → Gives Tree) → (form_uses a form place e.ty e.category).decision b ≡ Some w → (s : State) → Standing s → Decided s (w s)
+    pub decides : (place : Place) (b : Behind) (w : State → Gives Tree) → (form_uses a form place e.ty e.category).decision b ≡ Some w → (s : State) → Standing s → Decided b.ends s (w s)
     -- what is a call is one of a function that is there
     pub calls : (c : Called) → form_call form ≡ Some c → IsCall c e.ty e.category
 
@@ -109,21 +113,21 @@ module _ (a : Around) (visible : List ℕ) (types : Types) (texts : ℕ) (so_far
         → Placed (type_at a.program.types id) constant s ((uses a form).at s)
     pub points : is_pointed (typed_in form).ty ≡ true → (s : State) → Standing s → Points (typed_in form).ty s ((uses a form).pointing s)
     pub pointers : (u : Ty) → (typed_in form).ty ≡ Of u → is_location u ≡ true → (s : State) → Standing s → Pointed u s (located (uses a form).place (own (uses a form)) ((uses a form).pointing s).given ((uses a form).pointing s).state)
-    pub conditions : is_condition (typed_in form).ty ≡ true → (b : Behind) (s : State) → Standing s → Decided s (condition (uses a form) b s)
-    pub decides : (b : Behind) (w : State → Gives Tree) → (uses a form).decision b ≡ Some w → (s : State) → Standing s → Decided s (w s)
+    pub conditions : is_condition (typed_in form).ty ≡ true → (b : Behind) (s : State) → Standing s → Decided b.ends s (condition (uses a form) b s)
+    pub decides : (b : Behind) (w : State → Gives Tree) → (uses a form).decision b ≡ Some w → (s : State) → Standing s → Decided b.ends s (w s)
     pub calls : (c : Called) → expression_call form ≡ Some c → IsCall c (typed_in form).ty (typed_in form).category
 
   -- ---- a whole expression, of what it is made by
 
-  value_from : (d : Option (State → Gives Tree)) (t : Ty) (place : Place) (c : Category) (at : State → Gives Operand) (make : Option ℕ → State → Gives ℕ) (into : Option ℕ) (s : State)
+  value_from : (ends : Option Place) (d : Option (State → Gives Tree)) (t : Ty) (place : Place) (c : Category) (at : State → Gives Operand) (make : Option ℕ → State → Gives ℕ) (into : Option ℕ) (s : State)
       → is_value t ≡ true → IsIntoOf t s into → Standing s
-      → ((w : State → Gives Tree) → d ≡ Some w → Decided s (w s))
+      → ((w : State → Gives Tree) → d ≡ Some w → Decided ends s (w s))
       → (d ≡ None → c ≡ category.Value → Valued t into s (make into s))
       → ((id : TyId) (constant : Bool) → c ≡ category.Place id constant → Placed t constant s (at s))
       → Valued t into s (values.value_from t place c d at make into s)
-  value_from (Some w) t place c at make into s v wanted stands decides makes places = by_branch_part types texts so_far fs f into t place w s v wanted stands.opened (decides w refl)
-  value_from None t place category.Value at make into s v wanted stands decides makes places = makes refl refl
-  value_from None t place (category.Place id constant) at make into s v wanted stands decides makes places =
+  value_from ends (Some w) t place c at make into s v wanted stands decides makes places = by_branch_part types texts so_far fs f ends into t place w s v wanted (decides w refl)
+  value_from ends None t place category.Value at make into s v wanted stands decides makes places = makes refl refl
+  value_from ends None t place (category.Place id constant) at make into s v wanted stands decides makes places =
       read_part types texts so_far fs f t constant place at into s v wanted stands.opened (places id constant refl)
 
   -- .. it lands in the register that is wanted
@@ -204,14 +208,14 @@ module _ (a : Around) (visible : List ℕ) (types : Types) (texts : ℕ) (so_far
     points = λ p s stands. is.points p place s stands;
     pointers = λ x at loc s stands. pointer_part u.pointing t x place s at loc (fits x at loc) stands (is.points (ap is_pointed at ∙ loc) place s stands);
     conditions = λ h b s stands.
-        condition_part types texts so_far fs f (u.decision b) (own_type t) place b.ends (nullable u) (read_or_made u b.token None) s (own_no_unique so_far a.program.types e is.kind.kind)
+        condition_part types texts so_far fs f (u.decision b) (own_type t) place b.ends (nullable u) (read_or_made u b.token None) s (own_no_unique so_far a.program.types e is.kind.kind) stands.pends can
         (λ w at. is.decides place b w at s stands)
         (λ none raw. let loc = raw_location (own_type t) raw in let at = location_is t loc in
         subst (λ (w : Gives Location). Makes types texts so_far fs f None (with_code [] s) w (a_pointer types texts so_far fs f (own_type t))) (sym (nullable_raw u (own_type t) (with_code [] s) refl raw))
         (pointer_part u.pointing t (own_type t) place (with_code [] s) at loc (fits (own_type t) at loc) stands (is.points (ap is_pointed at ∙ loc) place (with_code [] s) stands)))
         (λ none raw.
         let n = condition_number so_far a.program.types e is.kind.kind h raw in
-        value_from None (own_type t) place c u.at (u.made b.token) None (with_code [] s) (own_value t n) tt stands (λ w at. absurd (none_some at))
+        value_from None None (own_type t) place c u.at (u.made b.token) None (with_code [] s) (own_value t n) tt stands (λ w at. absurd (none_some at))
         (λ un at. is.computes at n place b none None (with_code [] s) tt stands)
         (λ id constant at. named n id constant at (with_code [] s) stands));
     decides = λ b w eq s stands. is.decides place b w eq s stands;
@@ -236,7 +240,7 @@ module _ (a : Around) (visible : List ℕ) (types : Types) (texts : ℕ) (so_far
           → Valued (own_type t) into s (value_itself (uses a (typed place t c form)) behind into s)
       own_value_part behind n into s wanted stands =
           let v = uses a (typed place t c form) in
-          value_from (v.decision (lasting behind)) (own_type t) place c v.at (v.made behind) into s (own_value t n) wanted stands
+          value_from None (v.decision (lasting behind)) (own_type t) place c v.at (v.made behind) into s (own_value t n) wanted stands
           (λ w at. is.decides place (lasting behind) w at s stands)
           (λ none at. is.computes at n place (lasting behind) none into s wanted stands)
           (λ id constant at. named n id constant at s stands)
@@ -262,7 +266,7 @@ module _ (a : Around) (visible : List ℕ) (types : Types) (texts : ℕ) (so_far
   pub decided_form : (form : Form) (e : Typed) (t : Ty) → e.ty ≡ Of t → e.category ≡ category.Value → is_value t ≡ true → form_call form ≡ None
       → ((place : Place) (b : Behind) → (ValueUses form t place).decision b ≡ None → (into : Option ℕ) (s : State) → IsIntoOf t s into → Standing s → Valued t into s ((ValueUses form t place).made b.token into s))
       → ((place : Place) (b : Behind) → (ValueUses form t place).decision b ≡ None → (r : ℕ) (s : State) → ((ValueUses form t place).made b.token (Some r) s).given ≡ r)
-      → ((place : Place) (b : Behind) (w : State → Gives Tree) → (ValueUses form t place).decision b ≡ Some w → (s : State) → Standing s → Decided s (w s)) → IsForm form e
+      → ((place : Place) (b : Behind) (w : State → Gives Tree) → (ValueUses form t place).decision b ≡ Some w → (s : State) → Standing s → Decided b.ends s (w s)) → IsForm form e
   decided_form form e t is c v none makes lands decides = record {
     kind = record { kind = is_number_kind t is v; place = λ id constant at. absurd (value_place (sym c ∙ at)) };
     computes = λ at n place b un into s wanted stands.
@@ -271,7 +275,7 @@ module _ (a : Around) (visible : List ℕ) (types : Types) (texts : ℕ) (so_far
     lands = λ at n place b un r s. subst (λ (u : Uses). u.decision b ≡ None → (u.made b.token (Some r) s).given ≡ r) (as_told e t form place is c) (λ un. lands place b un r s) un;
     names = no_place form e c;
     points = λ p. absurd (number_no_pointer e.ty (of_number e.ty t is v) p);
-    decides = λ place b w at s stands. subst (λ (u : Uses). u.decision b ≡ Some w → Decided s (w s)) (as_told e t form place is c) (λ at. decides place b w at s stands) at;
+    decides = λ place b w at s stands. subst (λ (u : Uses). u.decision b ≡ Some w → Decided b.ends s (w s)) (as_told e t form place is c) (λ at. decides place b w at s stands) at;
     calls = λ d at. absurd (none_some (sym none ∙ at));
   }
 

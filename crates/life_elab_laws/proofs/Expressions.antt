@@ -8,7 +8,7 @@ use Rattle.life_types.specs.declared.place.Place.{Place}
 use Rattle.life_types.specs.declared.ty.Ty.{Ty}
 use Rattle.life_types.specs.declared.ty.Ty.TheVariants as ty
 use Rattle.life_types.specs.declared.ty.TyId.{TyId}
-use Rattle.life_elab_laws.specs.Reached.{is_reached_either, is_reached_form, is_reached_method, is_reached_type, compares, is_reached_object, is_owner_type, is_end, is_reached_walker, is_walker_type, is_erase, is_subspan}
+use Rattle.life_elab_laws.specs.Reached.{is_reached_either, is_reached_form, is_reached_method, is_reached_type, compares, concatenates, is_reached_object, is_reached_owner, is_owner_type, is_end, is_reached_walker, is_walker_type, is_erase, is_subspan}
 use Rattle.life_typed.specs.BaseTypes.{type_at}
 use Rattle.life_typed.specs.Programs.{FunctionForm}
 use Rattle.life_typed.specs.Delimiters.{DelimitersForm, behind_first, behind_others}
@@ -56,7 +56,9 @@ use Rattle.life_elab_laws.proofs.WalkerForms.{IsWalker, IsWalkerAt, variable_wal
 use Rattle.life_elab_laws.proofs.SpanForms.{span_index_form, span_method_form}
 use Rattle.life_elab_laws.proofs.SubspanForms.{subspan_walker}
 use Rattle.life_elab_laws.proofs.EraseForms.{erased_walker}
-use Rattle.life_elab_laws.proofs.ObjectForms.{IsObject}
+use Rattle.life_elab_laws.proofs.MadeForms.{IsOwning, IsOwningAt, is_made, owning_owner, owning_same, stands_there}
+use Rattle.life_elab_laws.proofs.ObjectForms.{IsObject, IsOwner, owner_type, variable_object}
+use Rattle.life_elab_laws.proofs.StringForms.{joined_made, text_of_owner, text_of_view}
 use Rattle.life_well_typed.specs.Members.{IsCalled}
 use Rattle.life_typed.specs.declared.typed_expr.Method.{Method}
 
@@ -64,8 +66,8 @@ module _ (a : Around) (visible : List ℕ) (types : Types) (texts : ℕ) (so_far
   abbrev Standing : State → Type 0
   Standing s = Stands a visible s
 
-  abbrev Decided : State → Gives Tree → Type 0
-  Decided s w = Tests types texts so_far fs f s w
+  abbrev Decided : Option Place → State → Gives Tree → Type 0
+  Decided ends s w = Tests types texts so_far fs f ends s w
 
   -- ---- arguments by value
 
@@ -75,11 +77,16 @@ module _ (a : Around) (visible : List ℕ) (types : Types) (texts : ℕ) (so_far
       ap (λ (w : Gives Argument). w >> λ x s. mapped (λ xs. x ∷ xs) (others s))
       (by_values (λ x. giving.argument a e x behind s ≡ mapped Value (value e behind x None s)) refl refl refl refl refl t worth)
 
-  -- one with a value, which the recursion gives, or an owner
-  either_expression : (form : Form) → (is_reached_form texts so_far form ≡ true) ⊎ ((is_owner_type so_far (typed_in form).ty ≡ true) × (is_reached_object form ≡ true))
-      → (is_reached_form texts so_far form ≡ true → IsWhole a visible types texts so_far fs f setting form) → IsExpression a.program a.function.locals visible form → IsEither a visible types texts so_far fs f setting form
-  either_expression form (inl value) whole h = inl (whole value)
-  either_expression form (inr owner) whole h = inr (object_expression a visible types texts so_far fs f setting form owner.1 owner.0 h)
+  -- one with a value, or an owner
+  either_of : (form : Form) → is_reached_either so_far form (is_reached_owner texts so_far form) (is_reached_form texts so_far form) ≡ true → (is_reached_form texts so_far form ≡ true → IsWhole a visible types texts so_far fs f setting form)
+      → (is_reached_owner texts so_far form ≡ true → is_owner_type so_far (typed_in form).ty ≡ true → IsOwning a visible types texts so_far fs f setting form) → IsEither a visible types texts so_far fs f setting form
+  either_of form b value owner = elim (either_reached so_far form (is_reached_owner texts so_far form) (is_reached_form texts so_far form) b) [
+    | inl v ↦ inl (value v)
+    | inr o ↦ inr (owning_owner a visible types texts so_far fs f setting form (owner o.1 o.0))
+  ]
+
+  abbrev OwningAt : Typed → Uses → Type 0
+  OwningAt e u = IsOwningAt a visible types texts so_far fs f setting e u.at u.object u.replacing
 
   -- ---- iterators and spans
 
@@ -134,18 +141,18 @@ module _ (a : Around) (visible : List ℕ) (types : Types) (texts : ℕ) (so_far
         let is = whole_expression inner b h.1 in
         let g = inverted_as (typed_in inner) e h.0 in
         decided_form a visible types texts so_far fs f setting (not inner) e ty.Bool (ap (λ (y : Typed). y.ty) g.is) (ap (λ (y : Typed). y.category) g.is) refl refl (λ place b none. absurd (none_some (sym none))) (λ place b none. absurd (none_some (sym none)))
-        (λ place b w at s stands. subst (λ (v : State → Gives Tree). Decided s (v s)) (some_same at) (negation_part types texts so_far fs f (condition (uses a inner) b) s (is.conditions g.condition b s stands)))
+        (λ place b w at s stands. subst (λ (v : State → Gives Tree). Decided b.ends s (v s)) (some_same at) (negation_part types texts so_far fs f b.ends (condition (uses a inner) b) s (is.conditions g.condition b s stands)))
     expression (address_of inner) e q b h =
         let is = whole_expression inner b h.1 in address_form a visible types texts so_far fs f setting inner e (addressed_as so_far a.program.types (typed_in inner) e is.kind h.0) is
     expression (binary o left right) e q b h =
         let c = combined_as o e.place (typed_in left) (typed_in right) e h.0 in
         elim (or_cases (is_reached_form texts so_far left && is_reached_form texts so_far right) _ b) [
           | inl values ↦ let parts = and_parts (is_reached_form texts so_far left) (is_reached_form texts so_far right) values in binary_form a visible types texts so_far fs f setting o left right e c (whole_expression left parts.0 h.1) (whole_expression right parts.1 h.2)
-          | inr others ↦ elim (or_cases (compares (row_between o left right) && (is_reached_either so_far left (is_reached_form texts so_far left) && is_reached_either so_far right (is_reached_form texts so_far right))) _ others) [
+          | inr others ↦ elim (or_cases (compares (row_between o left right) && (is_reached_either so_far left (is_reached_owner texts so_far left) (is_reached_form texts so_far left) && is_reached_either so_far right (is_reached_owner texts so_far right) (is_reached_form texts so_far right))) _ others) [
             | inl texts_too ↦
                 let parts = and_parts (compares (row_between o left right)) _ texts_too in
-                let both = and_parts (is_reached_either so_far left (is_reached_form texts so_far left)) (is_reached_either so_far right (is_reached_form texts so_far right)) parts.1 in
-                compared_form a visible types texts so_far fs f setting o left right e c parts.0 (either_expression left (either_reached so_far left (is_reached_form texts so_far left) both.0) (λ v. whole_expression left v h.1) h.1) (either_expression right (either_reached so_far right (is_reached_form texts so_far right) both.1) (λ v. whole_expression right v h.2) h.2)
+                let both = and_parts (is_reached_either so_far left (is_reached_owner texts so_far left) (is_reached_form texts so_far left)) (is_reached_either so_far right (is_reached_owner texts so_far right) (is_reached_form texts so_far right)) parts.1 in
+                compared_form a visible types texts so_far fs f setting o left right e c parts.0 (either_of left both.0 (λ v. whole_expression left v h.1) (λ o n. owner_expression left o n h.1)) (either_of right both.1 (λ v. whole_expression right v h.2) (λ o n. owner_expression right o n h.2))
             | inr walkers ↦
                 let parts = and_parts (compares (row_between o left right)) (is_reached_walker texts so_far left && is_reached_walker texts so_far right) walkers in
                 let both = and_parts (is_reached_walker texts so_far left) (is_reached_walker texts so_far right) parts.1 in
@@ -159,28 +166,51 @@ module _ (a : Around) (visible : List ℕ) (types : Types) (texts : ℕ) (so_far
     expression (text_of inner closing) e q b h = absurd (false≢true b)
     expression (member base which) e q b h = absurd (false≢true b)
     expression (index base position closing) e q b h =
-        let parts = and_parts (is_reached_either so_far base (is_reached_form texts so_far base) || is_reached_walker texts so_far base) (is_reached_form texts so_far position) b in
+        let parts = and_parts (is_reached_either so_far base (is_reached_owner texts so_far base) (is_reached_form texts so_far base) || is_reached_walker texts so_far base) (is_reached_form texts so_far position) b in
         let at = whole_expression position parts.1 h.2 in
-        elim (or_cases (is_reached_either so_far base (is_reached_form texts so_far base)) (is_reached_walker texts so_far base) parts.0) [
-          | inl either ↦ elim (either_reached so_far base (is_reached_form texts so_far base) either) [
+        elim (or_cases (is_reached_either so_far base (is_reached_owner texts so_far base) (is_reached_form texts so_far base)) (is_reached_walker texts so_far base) parts.0) [
+          | inl either ↦ elim (either_reached so_far base (is_reached_owner texts so_far base) (is_reached_form texts so_far base) either) [
             | inl value ↦ view_index_form a visible types texts so_far fs f setting base position closing e (whole_expression base value h.1) at h.0
-            | inr owner ↦ owner_index_form a visible types texts so_far fs f setting base position closing e (object_expression a visible types texts so_far fs f setting base owner.1 owner.0 h.1) at h.0
+            | inr owner ↦ owner_index_form a visible types texts so_far fs f setting base position closing e (owning_owner a visible types texts so_far fs f setting base (owner_expression base owner.1 owner.0 h.1)) at h.0
           ]
           | inr walker ↦ span_index_form a visible types texts so_far fs f setting base position closing e (walker_expression base walker h.1) at h.0
         ]
     expression (method base which given delimiters) e q b h =
         let one = and_parts (is_reached_method which) _ b in
-        let two = and_parts (is_reached_either so_far base (is_reached_form texts so_far base) || is_reached_walker texts so_far base) (is_reached_form texts so_far given) one.1 in
-        elim (or_cases (is_reached_either so_far base (is_reached_form texts so_far base)) (is_reached_walker texts so_far base) two.0) [
-          | inl either ↦ elim (either_reached so_far base (is_reached_form texts so_far base) either) [
+        let two = and_parts (is_reached_either so_far base (is_reached_owner texts so_far base) (is_reached_form texts so_far base) || is_reached_walker texts so_far base) (is_reached_form texts so_far given) one.1 in
+        elim (or_cases (is_reached_either so_far base (is_reached_owner texts so_far base) (is_reached_form texts so_far base)) (is_reached_walker texts so_far base) two.0) [
+          | inl either ↦ elim (either_reached so_far base (is_reached_owner texts so_far base) (is_reached_form texts so_far base) either) [
             | inl value ↦ method_form a visible types texts so_far fs f setting base which given delimiters e (whole_expression base value h.1) (wholes given two.1 h.2) one.0 h.0
-            | inr owner ↦ owner_method_form a visible types texts so_far fs f setting base which given delimiters e (object_expression a visible types texts so_far fs f setting base owner.1 owner.0 h.1) one.0 h.0
+            | inr owner ↦ owner_method_form a visible types texts so_far fs f setting base which given delimiters e (owning_owner a visible types texts so_far fs f setting base (owner_expression base owner.1 owner.0 h.1)) one.0 h.0
           ]
           | inr walker ↦ span_method_form a visible types texts so_far fs f setting base which given delimiters e (walker_expression base walker h.1) one.0 h.0
         ]
     expression (typed at t c form) e q b h = absurd h
     expression nothing e q b h = absurd h
     expression (first ⨟ others) e q b h = absurd h
+
+    -- an owner
+    pub owner_expression : (form : Form) → is_reached_owner texts so_far form ≡ true → is_owner_type so_far (typed_in form).ty ≡ true → IsExpression a.program a.function.locals visible form → IsOwning a visible types texts so_far fs f setting form
+    owner_expression (typed place t c form) b n h = owner_made form (record { place = place; ty = t; category = c; form = form }) b n h place
+    owner_expression _ b n h = absurd h
+
+    owner_made : (form : Form) (e : Typed) → is_reached_owner texts so_far form ≡ true → is_owner_type so_far e.ty ≡ true → IsMadeOf a.program a.function.locals visible e form → (place : Place) → OwningAt e (form_uses a form place e.ty e.category)
+    owner_made (local x) e b n h place = stands_there (variable_object a visible types texts so_far fs f setting x e n h.0 h.1)
+    owner_made (paren inner closing) e b n h place =
+        let same = ok_same h.0 in
+        let t : (typed_in inner).ty ≡ e.ty = ap (λ (y : Typed). y.ty) same in
+        owning_same a visible types texts so_far fs f setting (typed_in inner) e ((uses a inner).at) ((uses a inner).object) ((uses a inner).replacing) t (ap (λ (y : Typed). y.category) same) (owner_expression inner b (ap (is_owner_type so_far) t ∙ n) h.1)
+    owner_made (binary o left right) e b n h place =
+        let parts = and_parts (concatenates (row_between o left right)) _ b in
+        let both = and_parts (is_reached_either so_far left (is_reached_owner texts so_far left) (is_reached_form texts so_far left)) (is_reached_either so_far right (is_reached_owner texts so_far right) (is_reached_form texts so_far right)) parts.1 in
+        is_made (joined_made a visible types texts so_far fs f setting o left right e place (combined_as o e.place (typed_in left) (typed_in right) e h.0) parts.0 (owner_type so_far e.ty n).wide (either_of left both.0 (λ v. whole_expression left v h.1) (λ o n. owner_expression left o n h.1)) (either_of right both.1 (λ v. whole_expression right v h.2) (λ o n. owner_expression right o n h.2)))
+    owner_made (text_of inner closing) e b n h place =
+        elim (either_reached so_far inner (is_reached_owner texts so_far inner) (is_reached_form texts so_far inner) b) [
+          | inl value ↦ is_made (text_of_view a visible types texts so_far fs f setting inner closing e place h.0 (owner_type so_far e.ty n).wide (whole_expression inner value h.1))
+          | inr owner ↦ is_made (text_of_owner a visible types texts so_far fs f setting inner closing e place h.0 (owner_expression inner owner.1 owner.0 h.1))
+        ]
+    owner_made (typed at t c form) e b n h place = absurd h
+    owner_made _ e b n h place = absurd (false≢true b)
 
     -- an iterator or a span
     pub walker_expression : (form : Form) → is_reached_walker texts so_far form ≡ true → IsExpression a.program a.function.locals visible form → IsWalker a visible types texts so_far fs f setting form
@@ -193,11 +223,11 @@ module _ (a : Around) (visible : List ℕ) (types : Types) (texts : ℕ) (so_far
     walker_made (local x) e n b h place = variable_walker a visible types texts so_far fs f setting x e n h.0 h.1
     walker_made (paren inner closing) e n b h place = walker_same a visible types texts so_far fs f setting (typed_in inner) e ((uses a inner).pointing) (ap (λ (y : Typed). y.ty) (ok_same h.0)) (walker_expression inner b h.1)
     walker_made (method base which given delimiters) e n b h place =
-        elim (or_cases (is_end which && (is_owner_type so_far (typed_in base).ty && is_reached_object base)) _ b) [
+        elim (or_cases (is_end which && (is_owner_type so_far (typed_in base).ty && is_reached_owner texts so_far base)) _ b) [
           | inl ends ↦
-              let one = and_parts (is_end which) (is_owner_type so_far (typed_in base).ty && is_reached_object base) ends in
-              let two = and_parts (is_owner_type so_far (typed_in base).ty) (is_reached_object base) one.1 in
-              end_walker a visible types texts so_far fs f setting base which given delimiters e place (object_expression a visible types texts so_far fs f setting base two.1 two.0 h.1) one.0 h.0
+              let one = and_parts (is_end which) (is_owner_type so_far (typed_in base).ty && is_reached_owner texts so_far base) ends in
+              let two = and_parts (is_owner_type so_far (typed_in base).ty) (is_reached_owner texts so_far base) one.1 in
+              end_walker a visible types texts so_far fs f setting base which given delimiters e place (owning_owner a visible types texts so_far fs f setting base (owner_expression base two.1 two.0 h.1)) one.0 h.0
           | inr others ↦ elim (or_cases (is_subspan which && (is_reached_walker texts so_far base && is_reached_form texts so_far given)) _ others) [
             | inl part ↦
                 let one = and_parts (is_subspan which) (is_reached_walker texts so_far base && is_reached_form texts so_far given) part in
@@ -247,3 +277,8 @@ module _ (a : Around) (visible : List ℕ) (types : Types) (texts : ℕ) (so_far
         (handed_part types texts so_far fs f id t ids (value (uses a e) (behind_first d) t None) (giving.arguments a (all_uses a es) (behind_others d) ids) s (type_later a.program.types types setting.front id worth) stands.opened first
         (handed (behind_others d) es parts.1 h.1 ids given.1 (λ n. v (suc n)) (value (uses a e) (behind_first d) t None s).state (stands_later a visible s (value (uses a e) (behind_first d) t None s).state first.grown stands)))
     handed d _ b h ids g v s stands = absurd h
+
+  -- ---- an owner that is asked something
+
+  pub asked_expression : (form : Form) → is_reached_owner texts so_far form ≡ true → is_owner_type so_far (typed_in form).ty ≡ true → IsExpression a.program a.function.locals visible form → IsOwner a visible types texts so_far fs f setting form
+  asked_expression form b n h = owning_owner a visible types texts so_far fs f setting form (owner_expression form b n h)

@@ -15,14 +15,14 @@ use Rattle.life_well_typed.specs.Visible.{Visible, behind}
 use Rattle.life_writer.specs.Around.{Around, result_local}
 use Rattle.life_writer.specs.Variables.{variable}
 use Rattle.life_writer.specs.Writing.{State}
-use Rattle.life_elab_laws.proofs.Among.{Among, Ascend, contains_among}
+use Rattle.life_elab_laws.proofs.Among.{Among, Ascend, among_contains, contains_among}
 use Rattle.life_elab_laws.proofs.Emitting.{IsWanted}
 use Rattle.life_elab_laws.proofs.Exits.{AreNamed, Knows}
-use Rattle.life_elab_laws.proofs.Fronts.{IsFront, front_itself, front_length, front_then}
+use Rattle.life_elab_laws.proofs.Fronts.{IsFront, front_itself, front_length, front_then, front_taken}
 use Rattle.life_elab_laws.proofs.Growing.{Begins, Grows, bare}
 use Rattle.life_elab_laws.proofs.Making.{Alive}
-use Rattle.life_elab_laws.proofs.Shaped.{AreShaped}
 use Rattle.life_elab_laws.proofs.VariablePlaces.{IsVariableAt, Stands}
+use Rattle.life_elab_laws.proofs.PendingTemporaries.{none_pending}
 
 -- the local of a living variable: it has a name
 pub record IsLivingBare (s : State) (y : ℕ) : Type 0 where
@@ -79,13 +79,31 @@ module _ (types : Types) (f : Function) where
     pub outside : s.outside ≤ length s.living
     pub living : (y : ℕ) → Among y s.living → IsLiving s y
     pub sorts : Begins types f s → (y : ℕ) → Among y s.living → may_end types f y ≡ true
+    -- no temporary does
+    pub pending : s.pending ≡ []
 
   abbrev pub Follows : Around → Visible → State → Type 0
   Follows a v s = FollowsBare a v (bare s)
 
   -- between statements all that is asked of expressions is there
-  pub knows_alive : (a : Around) (v : Visible) (s : State) (k : List Known) → Knows f s.living k → Alive f s k
-  knows_alive a v s k h = record { sized = h.sized; living = λ y c. h.alive y (contains_among s.living y c) }
+  pub knows_alive : (a : Around) (v : Visible) (s : State) → Follows a v s → (k : List Known) → Knows f s.living k → Alive f s k
+  knows_alive a v s follows k h = record {
+    sized = h.sized;
+    living = λ y c. h.alive y (contains_among s.living y c);
+    pending = λ y m. absurd (none y m);
+    blank = λ y l there lasts a b. h.blank y l there lasts a;
+  }
+    where
+      none : (y : ℕ) → Among y s.pending → ⊥
+      none y m = subst (Among y) follows.pending m
+
+  -- .. and behind them, where no temporaries are left
+  pub alive_knows : (s : State) (k : List Known) → s.pending ≡ [] → Alive f s k → Knows f s.living k
+  alive_knows s k none h = record {
+    sized = h.sized;
+    alive = λ y m. h.living y (among_contains s.living y m);
+    blank = λ y l there lasts m. h.blank y l there lasts m (λ p. subst (Among y) none p);
+  }
 
   pub follows_named : (a : Around) (v : Visible) (s : State) → Follows a v s → Begins types f s → AreNamed f s.living
   follows_named a v s h b y m = let is = h.living y m in (is.local, is.name, b.locals y is.local is.there, is.named)
@@ -102,7 +120,6 @@ module _ (types : Types) (f : Function) where
     pub living : take (length s.living) s'.living ≡ s.living
     pub pending : s'.pending ≡ s.pending
     pub outside : s'.outside ≡ s.outside
-    pub shaped : AreShaped types s.locals → AreShaped types s'.locals
 
   abbrev pub Adds : State → State → Type 0
   Adds s s' = AddsBare (bare s) (bare s')
@@ -123,7 +140,7 @@ module _ (types : Types) (f : Function) where
       tail e = ap rest e
 
   pub adds_none : (s : State) → Adds s s
-  adds_none s = record { locals = front_itself s.locals; table = front_itself s.types.types; variables = front_itself s.variables; living = take_itself s.living; pending = refl; outside = refl; shaped = λ h. h }
+  adds_none s = record { locals = front_itself s.locals; table = front_itself s.types.types; variables = front_itself s.variables; living = take_itself s.living; pending = refl; outside = refl }
 
   pub adds_then : (s t u : State) → Adds s t → Adds t u → Adds s u
   adds_then s t u g h = record {
@@ -135,18 +152,16 @@ module _ (types : Types) (f : Function) where
         ∙ ap (take (length s.living)) h.living ∙ g.living;
     pending = h.pending ∙ g.pending;
     outside = h.outside ∙ g.outside;
-    shaped = λ are. h.shaped (g.shaped are);
   }
 
-  pub grows_adds : (s s' : State) → Grows s s' → Adds s s'
-  grows_adds s s' g = record {
+  pub grows_adds : (s s' : State) → s'.pending ≡ s.pending → Grows s s' → Adds s s'
+  grows_adds s s' level g = record {
     locals = g.locals;
     table = g.types;
     variables = subst (IsFront s.variables) (sym g.variables) (front_itself s.variables);
     living = ap (take (length s.living)) g.living ∙ take_itself s.living;
-    pending = g.pending;
+    pending = level;
     outside = g.outside;
-    shaped = g.shaped types;
   }
 
   pub begins_added : (s s' : State) → Adds s s' → Begins types f s' → Begins types f s
@@ -169,20 +184,22 @@ module _ (types : Types) (f : Function) where
           never (z ∷ zs) zero lt e = none-some z (sym e)
           never (z ∷ zs) (suc n) lt e = never zs n (omega (arith, lt)) e
 
-  pub follows_again : (a : Around) (v : Visible) (s s' : State) (n : ℕ) → Follows a v s → IsFront s.locals s'.locals → IsFront s.types.types s'.types.types → IsFront s.variables s'.variables → s'.living ≡ s.living → s'.outside ≤ length s'.living
+  pub follows_again : (a : Around) (v : Visible) (s s' : State) (n : ℕ) → Follows a v s → IsFront s.locals s'.locals → IsFront s.types.types s'.types.types → IsFront s.variables s'.variables → s'.living ≡ s.living → s'.pending ≡ s.pending → s'.outside ≤ length s'.living
       → length s'.variables ≡ n → v.declared ≤ n → Follows a (record { declared = n; visible = v.visible }) s'
-  follows_again a v s s' n h locals table variables living outside count more = record {
+  follows_again a v s s' n h locals table variables living pending outside count more = record {
     count = count;
     visible = λ x c. omega (arith, h.visible x c, more);
     stands = record {
       table = front_then a.program.types.types s.types.types s'.types.types h.stands.table table;
       opened = λ y c. let is = later y (contains_among s.living y (subst (λ (ys : List ℕ). Contains ys y) living c)) in slice_get_within s'.locals y is.local is.there;
+      pends = none_pending s'.locals s'.types.types s'.living s'.pending (pending ∙ h.pending);
       seen = λ x u c at. moved x u c (h.stands.seen x u c at);
     };
     ascend = subst (Ascend 0) (sym living) h.ascend;
     outside = outside;
     living = λ y m. later y (subst (Among y) living m);
     sorts = λ b y m. h.sorts (record { locals = front_then s.locals s'.locals f.locals locals b.locals; table = front_then s.types.types s'.types.types types.types table b.table }) y (subst (Among y) living m);
+    pending = pending ∙ h.pending;
   }
     where
       later : (y : ℕ) → Among y s.living → IsLiving s' y
@@ -200,11 +217,30 @@ module _ (types : Types) (f : Function) where
           same : variable s' x ≡ variable s x
           same = same_variable s s' x variables (omega (arith, h.visible x c, h.count))
 
-  pub follows_grown : (a : Around) (v : Visible) (s s' : State) → Grows s s' → Follows a v s → Follows a v s'
-  follows_grown a v s s' g h = follows_again a v s s' v.declared h g.locals g.types (subst (IsFront s.variables) (sym g.variables) (front_itself s.variables)) g.living (omega (arith, g.outside, ap length g.living, h.outside)) (ap length g.variables ∙ h.count) (omega arith)
+  pub follows_grown : (a : Around) (v : Visible) (s s' : State) → s'.pending ≡ s.pending → Grows s s' → Follows a v s → Follows a v s'
+  follows_grown a v s s' level g h = follows_again a v s s' v.declared h g.locals g.types (subst (IsFront s.variables) (sym g.variables) (front_itself s.variables)) g.living level (omega (arith, g.outside, ap length g.living, h.outside)) (ap length g.variables ∙ h.count) (omega arith)
+
+  -- .. and where temporaries are pending, once they have ended
+  abbrev pub settled : State → State → State
+  settled s s' = record s' { pending = take (length s.pending) s'.pending }
+
+  pub follows_settled : (a : Around) (v : Visible) (s s' : State) → Grows s s' → Follows a v s → Follows a v (settled s s')
+  follows_settled a v s s' g h =
+      follows_again a v s (settled s s') v.declared h g.locals g.types (subst (IsFront s.variables) (sym g.variables) (front_itself s.variables)) g.living (front_taken s.pending s'.pending g.pending)
+      (omega (arith, g.outside, ap length g.living, h.outside)) (ap length g.variables ∙ h.count) (omega arith)
+
+  pub adds_settled : (s s' : State) → Grows s s' → Adds s (settled s s')
+  adds_settled s s' g = record {
+    locals = g.locals;
+    table = g.types;
+    variables = subst (IsFront s.variables) (sym g.variables) (front_itself s.variables);
+    living = ap (take (length s.living)) g.living ∙ take_itself s.living;
+    pending = front_taken s.pending s'.pending g.pending;
+    outside = g.outside;
+  }
 
   -- what was visible before is visible again, where the same lives
   pub visible_again : (a : Around) (v u : Visible) (s t : State) → Follows a v s → Adds s t → Follows a u t → t.living ≡ s.living → Follows a (behind v u) t
   visible_again a v u s t h adds later level =
-      follows_again a v s t u.declared h adds.locals adds.table adds.variables level (omega (arith, adds.outside, ap length level, h.outside)) later.count
+      follows_again a v s t u.declared h adds.locals adds.table adds.variables level adds.pending (omega (arith, adds.outside, ap length level, h.outside)) later.count
       (omega (arith, h.count, later.count, front_length s.variables t.variables adds.variables))

@@ -1,6 +1,5 @@
 -- What ends is an object or a pointer, and neither the result nor a slot.
-use Rattle.std.proofs.Common.{◌≡◌, inl, inr, ℕ, Bool, true, false, ◌&&◌, not, List, [], ◌∷◌, nat_eq, slice_get, Option, Some, None, is_none, refl, sym, ap, ◌∙◌, arith}
-use Rattle.std.specs.List.{list_all}
+use Rattle.std.proofs.Common.{◌≡◌, ℕ, Bool, true, false, ◌&&◌, not, List, nat_eq, slice_get, Option, Some, None, is_none, refl, sym, ap, ◌∙◌, arith}
 use Rattle.std.proofs.lemmas.Bool.{and_from, false≢true}
 use Rattle.std.proofs.lemmas.Bool.Decides.{nat_tests}
 use Rattle.life_types.specs.Pointees.{ty_of}
@@ -16,7 +15,6 @@ use Rattle.life_core.specs.Kinds.{is_register}
 use Rattle.life_core.specs.declared.program.Local.{Local}
 use Rattle.life_core.specs.declared.program.LocalKind.{LocalKind}
 use Rattle.life_core.specs.declared.program.LocalKind.TheVariants.{Object, Register, Range}
-use Rattle.life_elab_laws.proofs.Among.{Among}
 use Rattle.life_elab_laws.proofs.Shaped.{AreShaped, shaped_at}
 use Rattle.life_elab_laws.proofs.Following.{may_end}
 use Rattle.life_elab_laws.proofs.VariablePlaces.{IsVariableType, a_raw, a_reference, a_value, a_view, an_owner, variable_type, a_walker}
@@ -91,8 +89,3 @@ module _ (types : Types) (texts : ℕ) (so_far : Bool) (fs : List Function) (f :
       go (a_raw target constant found v) = both (ap (is_slot_type types) found)
       go (a_view so found) = both (ap (is_slot_type types) found)
       go (a_reference target constant found v) = both (ap (is_slot_type types) found ∙ reference_no_slot types target constant v)
-
-  -- .. and several
-  pub all_end : (xs : List ℕ) → ((y : ℕ) → Among y xs → can_end types texts fs f y ≡ true) → list_all (can_end types texts fs f) xs ≡ true
-  all_end [] each = refl
-  all_end (x ∷ xs) each = and_from (can_end types texts fs f x) (list_all (can_end types texts fs f) xs) (each x (inl refl)) (all_end xs (λ y m. each y (inr m)))

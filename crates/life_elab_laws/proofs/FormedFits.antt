@@ -9,7 +9,7 @@ use Rattle.life_types.specs.declared.ty.Ty.TheVariants as ty
 use Rattle.life_types.specs.declared.ty.TyId.{TyId}
 use Rattle.life_built.specs.Built.{needs_no_temporary}
 use Rattle.life_typed.specs.BaseTypes.{type_at}
-use Rattle.life_typed.specs.Conversions.{fits, initialised, is_place_of, pointer_from, unless, same_target}
+use Rattle.life_typed.specs.Conversions.{fits, initialised, is_const_place, is_place_of, pointer_from, unless, same_target}
 use Rattle.life_typed.specs.TypedForm.{Typed}
 use Rattle.life_typed.specs.declared.misfit.Misfit.TheVariants.{General, Constant}
 use Rattle.life_typed.specs.declared.typed_expr.Category.{Category}
@@ -17,6 +17,7 @@ use Rattle.life_typed.specs.declared.typed_expr.Category.TheVariants as category
 use Rattle.life_typed.specs.declared.typed_expr.ExprType.{ExprType}
 use Rattle.life_typed.specs.declared.typed_expr.ExprType.TheVariants.{Of, NullPointer, TextLiteral}
 use Rattle.life_type_expr.specs.Lists.{fits_at_all}
+use Rattle.life_type_expr.specs.Operands.{is_constant}
 use Rattle.life_well_typed.specs.Given.{is_given}
 use Rattle.life_proper.specs.OperandTypes.{keeps_const, same, takes}
 use Rattle.life_elab_laws.proofs.Gifts.{takes_from}
@@ -166,11 +167,17 @@ pub record IsSpanOf (item : TyId) (constant held : Bool) (u : Ty) : Type 0 where
   pub is : u ≡ ty.Vector item
   pub kept : keeps_const constant held ≡ true
 
-pub given_vector : (types : Types) (item : TyId) (constant held : Bool) (id_of : TyId) (u : Ty) (e : Typed) → is_owner_of_values types u ≡ true → e.ty ≡ Of u → e.category ≡ category.Place id_of held → is_given types (ty.Span item constant) e ≡ true → IsSpanOf item constant held u
-given_vector types item constant held id_of u e own is place given =
-    go u own (subst (λ (c : Category). fits_at_all (fits types (ty.Span item constant) (Of u) c) ≡ true) place (subst (λ (x : ExprType). fits_at_all (fits types (ty.Span item constant) x e.category) ≡ true) is given))
+-- const by both definitions
+const_either : (c : Category) → is_const_place c ≡ is_constant c
+const_either category.Value = refl
+const_either (category.Place target constant) = refl
+
+pub given_vector : (types : Types) (item : TyId) (constant held : Bool) (u : Ty) (e : Typed) → is_owner_of_values types u ≡ true → e.ty ≡ Of u → is_constant e.category ≡ held → is_given types (ty.Span item constant) e ≡ true → IsSpanOf item constant held u
+given_vector types item constant held u e own is told given = go u own (subst (λ (x : ExprType). fits_at_all (fits types (ty.Span item constant) x e.category) ≡ true) is given)
   where
-    go : (u : Ty) → is_owner_of_values types u ≡ true → fits_at_all (fits types (ty.Span item constant) (Of u) (category.Place id_of held)) ≡ true → IsSpanOf item constant held u
-    go (ty.Vector found) own h = let both = tested_target (id.eq found item) held constant h in record { is = ap ty.Vector (same_id found item both.0); kept = both.1 }
+    go : (u : Ty) → is_owner_of_values types u ≡ true → fits_at_all (fits types (ty.Span item constant) (Of u) e.category) ≡ true → IsSpanOf item constant held u
+    go (ty.Vector found) own h =
+        let both = tested_target (id.eq found item) held constant (subst (λ (b : Bool). fits_at_all (same_target (id.eq found item) b constant) ≡ true) (const_either e.category ∙ told) h) in
+        record { is = ap ty.Vector (same_id found item both.0); kept = both.1 }
     go ty.Text own h = absurd (false≢true h)
     go _ own h = absurd (false≢true own)

@@ -20,7 +20,7 @@ use Rattle.life_typed.specs.declared.typed_program.TypedLocal.{TypedLocal}
 use Rattle.life_core.specs.Function.{Function}
 use Rattle.life_core.specs.declared.program.Local.{Local}
 use Rattle.life_core.specs.declared.program.LocalKind.{LocalKind}
-use Rattle.life_core.specs.declared.program.LocalKind.TheVariants.{Register}
+use Rattle.life_core.specs.declared.program.LocalKind.TheVariants.{Object, Register}
 use Rattle.life_pset.specs.Shapes.{referred, shape, shape_if, unslotted}
 use Rattle.life_proper.specs.WellFormedPrograms.{are_well_formed_locals, fits_kind, is_name, is_name_if, is_named_as, is_result_local, is_result_of, is_well_formed_local, may_stand, names_parameters}
 use Rattle.life_well_typed.specs.Names.{is_function_named, is_local_named}
@@ -36,8 +36,9 @@ use Rattle.life_elab_laws.proofs.ExpressionKinds.{variable_built}
 use Rattle.life_elab_laws.proofs.Fronts.{IsFront, front_length, passed_at}
 use Rattle.life_elab_laws.proofs.OperandsThere.{type_either}
 use Rattle.life_elab_laws.proofs.Reaching.{IsReachedType, variable_found}
-use Rattle.life_elab_laws.proofs.WrittenLocals.{AreWrittenLocals, IsIntermediate, IsOwn, fits_later, fits_local, fits_register, local_later, owner_local, register_local}
+use Rattle.life_elab_laws.proofs.WrittenLocals.{AreWrittenLocals, IsIntermediate, IsOwn, fits_later, fits_local, fits_register, local_later, owner_local, register_local, FitsNameless}
 use Rattle.life_elab_laws.specs.Reached.{is_owner_of_values, is_walker_of_values}
+use Rattle.life_elab_laws.proofs.Shaped.{owner_later}
 
 -- ---- what a register or a variable holds
 
@@ -244,10 +245,23 @@ module _ (so_far : Bool) (p : ProgramForm) (of : FunctionForm) (T types : Types)
           ap (λ (l : Local). is_some l.name) (same_Some l found.0 (sym at ∙ there)) ∙ found.2
 
   intermediate_formed : (x : ℕ) (l : Local) → slice_get core.locals x ≡ Some l → IsIntermediate so_far p.types (written (around p of) T).types l → is_well_formed_local types names core.parameters x l ≡ true
-  intermediate_formed x l at is =
-      let fit = fits_later so_far p.types types front is.ty is.fits in
-      local_formed types names core.parameters x l is.ty (later l.ty.0 is.ty is.typed) (register_local so_far types is.ty fit)
-      (ap (λ (k : LocalKind). fits_kind k is.ty) is.kind ∙ fits_kept types so_far is.ty fit) (ap (is_named_as l.kind is.ty) is.nameless) (ap (is_name_if names) is.nameless) (has_name x l at)
+  intermediate_formed x l at is = go is.fits
+    where
+      nameless_formed : fits_local types is.ty ≡ true → fits_kind l.kind is.ty ≡ true → is_well_formed_local types names core.parameters x l ≡ true
+      nameless_formed fits kept = local_formed types names core.parameters x l is.ty (later l.ty.0 is.ty is.typed) fits kept (ap (is_named_as l.kind is.ty) is.nameless) (ap (is_name_if names) is.nameless) (has_name x l at)
+
+      owner_kept : (t : Ty) → is_owner_of_values types t ≡ true → fits_kind Object t ≡ true
+      owner_kept ty.Text o = refl
+      owner_kept (ty.Vector element) o = refl
+      owner_kept _ o = absurd (false≢true o)
+
+      go : FitsNameless so_far p.types l.kind is.ty → is_well_formed_local types names core.parameters x l ≡ true
+      go (inl register) =
+          let fit = fits_later so_far p.types types front is.ty register.1 in
+          nameless_formed (register_local so_far types is.ty fit) (ap (λ (k : LocalKind). fits_kind k is.ty) register.0 ∙ fits_kept types so_far is.ty fit)
+      go (inr temporary) =
+          let owner = owner_later p.types types front is.ty temporary.2 in
+          nameless_formed (owner_local types is.ty owner) (ap (λ (k : LocalKind). fits_kind k is.ty) temporary.0 ∙ owner_kept is.ty owner)
 
   own_formed : (x : ℕ) (l : Local) → slice_get core.locals x ≡ Some l → IsOwn (around p of) l → is_well_formed_local types names core.parameters x l ≡ true
   own_formed x l at is =

@@ -1,5 +1,5 @@
 -- Lists, number by number: what holds of all holds of one, and lists that begin with another one.
-use Rattle.std.proofs.Common.{◌≡◌, ◌≤◌, ℕ, zero, suc, Bool, true, ◌&&◌, List, [], ◌∷◌, ◌++◌, length, slice_get, Some, refl, sym, ap, ◌∙◌, subst, arith}
+use Rattle.std.proofs.Common.{◌≡◌, ◌≤◌, ℕ, zero, suc, Bool, true, ◌&&◌, List, [], ◌∷◌, ◌++◌, length, slice_get, Some, refl, sym, ap, ◌∙◌, subst, arith, take}
 use Rattle.std.proofs.lemmas.Bool.{and_parts}
 use Rattle.std.proofs.lemmas.Option.{none-some, same_Some}
 
@@ -37,7 +37,14 @@ front_length [] ys front = omega arith
 front_length (x ∷ xs) [] front = absurd (none-some x (front zero x refl))
 front_length (x ∷ xs) (y ∷ ys) front = let more = front_length xs ys (λ n z e. front (suc n) z e) in omega (arith, more)
 
--- .. and is cut in two
+-- .. and is cut off
+pub front_taken : {X : Type 0} (xs ys : List X) → IsFront xs ys → take (length xs) ys ≡ xs
+front_taken [] ys front = refl
+front_taken (x ∷ xs) [] front = absurd (none-some x (front zero x refl))
+front_taken {X} (x ∷ xs) (y ∷ ys) front =
+    ap (λ (z : X). z ∷ take (length xs) ys) (same_Some y x (front zero x refl)) ∙ ap (λ (zs : List X). x ∷ zs) (front_taken xs ys (λ n z e. front (suc n) z e))
+
+-- .. and in two
 pub front_cut : {X : Type 0} (xs ys : List X) → IsFront xs ys → (rest : List X) × (ys ≡ xs ++ rest)
 front_cut [] ys front = (ys, refl)
 front_cut (x ∷ xs) [] front = absurd (none-some x (front zero x refl))

@@ -11,6 +11,7 @@ use Rattle.life_core.specs.Function.{Function}
 use Rattle.life_core.specs.Operands.{Argument, Location, Operand, Value}
 use Rattle.life_core.specs.Served.{is_served_argument, is_served_location, is_served_operand}
 use Rattle.life_core.specs.Step.{Step}
+use Rattle.life_proper.specs.ByValue.{is_value_argument}
 use Rattle.life_proper.specs.GivenOver.{given_argument}
 use Rattle.life_proper.specs.OperandTypes.{keeps_const, takes}
 use Rattle.life_proper.specs.Placed.{is_const_place, is_number_of, type_in, type_of}
@@ -120,6 +121,7 @@ module _ (types : Types) (texts : ℕ) (so_far : Bool) (fs : List Function) (f :
     pub own : have_own_slots types texts fs f xs ≡ true
     pub given : list_all (is_no_object types f) (flat_map given_argument xs) ≡ true
     pub served : so_far ≡ true → list_all is_served_argument xs ≡ true
+    pub values : so_far ≡ true → list_all is_value_argument xs ≡ true
 
   pub numbers_stay : (ids : List TyId) (xs : List Argument) (n m : ℕ) (k j : List Known) → n ≤ m → AreNumbersFor ids xs n k → Keeps f n None k j → AreNumbersFor ids xs m j
   numbers_stay [] [] n m k j h p keeps = tt

@@ -1,5 +1,5 @@
 -- How what has been written grows, and what the finished function has of it.
-use Rattle.std.proofs.Common.{◌≡◌, ◌<◌, ◌≤◌, List, [], ◌∷◌, length, refl, ◌∙◌, arith, length-append, true≢false}
+use Rattle.std.proofs.Common.{◌≡◌, ◌<◌, ◌≤◌, List, [], ◌∷◌, length, refl, ◌∙◌, arith, length-append, ℕ}
 use Rattle.life_types.specs.Types.{Types}
 use Rattle.life_types.specs.declared.place.Place.{Place}
 use Rattle.life_types.specs.declared.ty.Ty.{Ty}
@@ -8,23 +8,25 @@ use Rattle.life_core.specs.declared.program.Local.{Local}
 use Rattle.life_writer.specs.Registers.{nameless, new_register, type_number, typed_with}
 use Rattle.life_writer.specs.Writing.{State, with_code}
 use Rattle.life_elab_laws.proofs.Fronts.{IsFront, front_append, front_itself, front_then}
-use Rattle.life_elab_laws.proofs.Shaped.{AreShaped, shaped_more}
 use Rattle.life_elab_laws.proofs.Types.{types_before}
+use Rattle.life_elab_laws.proofs.Among.{Among}
+use Rattle.life_elab_laws.proofs.PendingTemporaries.{ArePending, pending_later}
 
 -- without the list of statements that is being written: what is told of the rest holds whatever list that is
 abbrev pub bare : State → State
 bare s = with_code [] s
 
--- locals and types are added behind those that there are; the variables stay
+-- locals and types are added behind those that there are, and temporaries behind those that are pending; the variables stay
 pub record GrowsBare (s s' : State) : Type 0 where
   pub locals : IsFront s.locals s'.locals
   pub types : IsFront s.types.types s'.types.types
   pub count : length s.locals ≤ length s'.locals
   pub variables : s'.variables ≡ s.variables
   pub living : s'.living ≡ s.living
-  pub pending : s'.pending ≡ s.pending
+  pub pending : IsFront s.pending s'.pending
+  pub fresh : (y : ℕ) → Among y s'.pending → y < length s.locals → Among y s.pending
+  pub pends : ArePending s → ArePending s'
   pub outside : s'.outside ≡ s.outside
-  pub shaped : (types : Types) → AreShaped types s.locals → AreShaped types s'.locals
 
 abbrev pub Grows : State → State → Type 0
 Grows s s' = GrowsBare (bare s) (bare s')
@@ -36,9 +38,10 @@ grows_none s = record {
   count = omega arith;
   variables = refl;
   living = refl;
-  pending = refl;
+  pending = front_itself s.pending;
+  fresh = λ y m lt. m;
+  pends = λ p. p;
   outside = refl;
-  shaped = λ types h. h;
 }
 
 pub grows_then : (s t u : State) → Grows s t → Grows t u → Grows s u
@@ -48,9 +51,10 @@ grows_then s t u g h = record {
   count = omega (arith, g.count, h.count);
   variables = h.variables ∙ g.variables;
   living = h.living ∙ g.living;
-  pending = h.pending ∙ g.pending;
+  pending = front_then s.pending t.pending u.pending g.pending h.pending;
+  fresh = λ y m lt. g.fresh y (h.fresh y m (omega (arith, lt, g.count))) lt;
+  pends = λ p. h.pends (g.pends p);
   outside = h.outside ∙ g.outside;
-  shaped = λ types are. h.shaped types (g.shaped types are);
 }
 
 -- ---- the finished function
@@ -82,9 +86,10 @@ register_grows place t s = record {
   count = omega (arith, length-append s.locals (added place t s ∷ []));
   variables = refl;
   living = refl;
-  pending = refl;
+  pending = front_itself s.pending;
+  fresh = λ y m lt. m;
+  pends = λ p. pending_later s (new_register place t s).state (front_append s.locals (added place t s ∷ [])) (types_before s.types.types t) refl refl p;
   outside = refl;
-  shaped = λ types h. shaped_more types s.locals (added place t s) h (λ is. absurd (true≢false is));
 }
 
 pub register_below : (place : Place) (t : Ty) (s : State) → length s.locals < length (new_register place t s).state.locals

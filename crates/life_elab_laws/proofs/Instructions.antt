@@ -1,5 +1,5 @@
 -- Single instructions that write a register: what is asked of each, and that it is a part behind what its operands give.
-use Rattle.std.proofs.Common.{◌≡◌, ◌<◌, inl, inr, ℕ, Bool, true, false, ◌&&◌, cond, List, [], ◌∷◌, ◌++◌, length, slice_set, Option, Some, None, refl, sym, ap, ◌∙◌, subst, arith}
+use Rattle.std.proofs.Common.{◌≡◌, ◌<◌, inl, inr, ℕ, Bool, true, false, ◌&&◌, cond, List, [], ◌∷◌, ◌++◌, length, slice_set, Option, Some, None, refl, sym, ap, ◌∙◌, subst, arith, zero, suc}
 use Rattle.std.proofs.lemmas.Bool.{and_from, false≢true}
 use Rattle.std.proofs.lemmas.Option.{slice_get_within}
 use Rattle.std.specs.Prelude.{ℤ}
@@ -44,12 +44,13 @@ use Rattle.life_elab_laws.proofs.Growing.{Begins, Grows, added, grows_none}
 use Rattle.life_elab_laws.proofs.Held.{one_there, place_there, two_there}
 use Rattle.life_elab_laws.proofs.Knowledge.{at_set}
 use Rattle.life_elab_laws.proofs.Locations.{is_location}
-use Rattle.life_elab_laws.proofs.Making.{IsOpen, IsPointer, Keeps, keeps_all}
+use Rattle.life_elab_laws.proofs.Making.{IsOpen, IsPointer, Keeps, keeps_all, Alive}
 use Rattle.life_elab_laws.proofs.OperandsThere.{number_any, number_there, number_typed, type_there, value_same}
 use Rattle.life_elab_laws.proofs.Parts.{Makes, Part, Runs, and_part, gives_part, then_part}
 use Rattle.life_elab_laws.proofs.Shaping.{IsFineStep, fine_acts}
 use Rattle.life_elab_laws.proofs.Types.{same_types, type_added}
 use Rattle.life_elab_laws.proofs.WrittenLocals.{fits_register, registers_none}
+use Rattle.life_elab_laws.proofs.StillThere.{alive_grown, alive_same, alive_set}
 
 -- ---- the register that is written
 
@@ -104,8 +105,9 @@ module _ (types : Types) (texts : ℕ) (so_far : Bool) (fs : List Function) (f :
         goes = λ k alive p. record {
           after = slice_set k w.given known.Ready;
           falls = falls_filling types f place (step w.given) w.given k (fills w.given (length s.locals) k (nameless_register f w.given is) p);
-          keeps = keeps_set f (length s.locals) into w.given known.Ready k is t.beside;
+          keeps = keeps_set f (length s.locals) into w.given known.Ready k t.beside;
           gives = given (slice_set k w.given known.Ready) t.below (at_set k w.given known.Ready (omega (arith, alive.sized, slice_get_within f.locals w.given is.local is.there)));
+          alive = alive_set f w.state k w.given is (alive_grown f s w.state k t.level t.grown alive);
         };
       }
 
@@ -335,6 +337,7 @@ module _ (types : Types) (texts : ℕ) (so_far : Bool) (fs : List Function) (f :
         falls = falls_acts types f place i k here.0;
         keeps = subst (Keeps f (length s.locals) None k) (sym here.1) (keeps_all f (length s.locals) None k);
         gives = tt;
+        alive = subst (Alive f s) (sym here.1) alive;
       };
     };
   }
@@ -355,6 +358,7 @@ module _ (types : Types) (texts : ℕ) (so_far : Bool) (fs : List Function) (f :
         falls = falls_acts types f place i k (ready (length s.locals) k p);
         keeps = after (length s.locals) (length s.locals) k p;
         gives = tt;
+        alive = alive_same f s k (known_after (touched_by f i) k) (after (length s.locals) zero k p).sized (λ y. (after (length s.locals) (suc y) k p).below y (omega arith) tt) alive;
       };
     };
   }

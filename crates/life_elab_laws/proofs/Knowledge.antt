@@ -1,5 +1,6 @@
 -- What is known of each local, after one of them is written, and where two ways meet.
-use Rattle.std.proofs.Common.{◌≡◌, ◌<◌, ℕ, zero, suc, List, [], ◌∷◌, length, slice_set, refl, sym, ap, subst, arith}
+use Rattle.std.proofs.Common.{◌≡◌, ◌<◌, inl, inr, ℕ, zero, suc, List, [], ◌∷◌, length, slice_set, refl, sym, ap, ◌∙◌, subst, arith}
+use Rattle.std.proofs.lemmas.Bool.{cases_eq}
 use Rattle.life_proper.specs.declared.known.Known.{Known}
 use Rattle.life_proper.specs.declared.known.Known.TheVariants as known
 use Rattle.life_proper.specs.Knowing.{agreed, agreed_all, known_at}
@@ -30,6 +31,13 @@ set_same (b ∷ k) zero a zero e = sym e
 set_same (b ∷ k) zero a (suc y) e = refl
 set_same (b ∷ k) (suc x) a zero e = refl
 set_same (b ∷ k) (suc x) a (suc y) e = set_same k x a y e
+
+-- what is there stays so where another one comes
+pub ready_set : (k : List Known) (x y : ℕ) → x < length k → known_at k y ≡ known.Ready → known_at (slice_set k x known.Ready) y ≡ known.Ready
+ready_set k x y lt e = elim (cases_eq x y) [
+  | inl same ↦ subst (λ (z : ℕ). known_at (slice_set k x known.Ready) z ≡ known.Ready) same (at_set k x known.Ready lt)
+  | inr other ↦ beside_set k x y known.Ready other ∙ e
+]
 
 -- ---- two ways meet
 

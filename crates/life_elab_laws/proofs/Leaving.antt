@@ -1,71 +1,41 @@
 -- Where variables end: at the end of a block, and before control goes elsewhere.
-use Rattle.std.proofs.Common.{◌≡◌, ℕ, Bool, true, List, [], ◌∷◌, ◌++◌, drop, length, reverse, take, Option, Some, is_none, refl, sym, ap, ◌∙◌, subst, arith, append_assoc, append-nil}
-use Rattle.std.specs.List.{list_all}
+use Rattle.std.proofs.Common.{◌≡◌, ℕ, Bool, true, List, [], ◌∷◌, ◌++◌, drop, length, reverse, take, Option, Some, is_none, sym, ap, ◌∙◌, subst, arith, append_assoc}
 use Rattle.life_types.specs.Types.{Types}
 use Rattle.life_types.specs.declared.place.Place.{Place}
 use Rattle.life_types.specs.declared.ty.NameId.{NameId}
 use Rattle.life_core.specs.Function.{Function}
-use Rattle.life_core.specs.Step.{End}
-use Rattle.life_core.specs.Touched.{touched_by}
-use Rattle.life_core.specs.Tree.{Tree, Acts, trees}
+use Rattle.life_core.specs.Tree.{Tree, trees}
 use Rattle.life_proper.specs.declared.known.Known.{Known}
 use Rattle.life_proper.specs.Checking.{Flow, before_next, flow, joined}
 use Rattle.life_proper.specs.Knowing.{State as Knowing}
-use Rattle.life_proper.specs.ReadyKnown.{can_leave}
 use Rattle.life_proper.specs.ResultsKnown.{ReturnsKnown}
-use Rattle.life_proper.proofs.ReadyTests.{all_ready}
 use Rattle.life_proper.specs.WellFormed.{can_end}
 use Rattle.life_well_typed.specs.Visible.{Visible, behind}
 use Rattle.life_writer.specs.Around.{Around, result_local}
-use Rattle.life_writer.specs.Variables.{end, end_since, with_living_of}
+use Rattle.life_writer.specs.Variables.{end_since, with_living_of}
 use Rattle.life_writer.specs.Writing.{State, with_code, write}
 use Rattle.life_elab.specs.Statements.{left}
-use Rattle.life_elab_laws.proofs.Among.{Among, among_drop, reverse_among}
+use Rattle.life_elab_laws.proofs.Among.{Among, all_among, among_drop, reverse_among}
 use Rattle.life_elab_laws.proofs.Doing.{Acting, Does}
 use Rattle.life_elab_laws.proofs.Ending.{end_knows, end_ready, set_blank}
+use Rattle.life_elab_laws.proofs.EndSteps.{IsEnded, end_living, ended}
 use Rattle.life_elab_laws.proofs.Exits.{Knows, Leaves, MayKnow, leaves_falling, leaves_may, leaves_then}
-use Rattle.life_elab_laws.proofs.Falling.{Falls, falling, falls_acts, flow_append}
+use Rattle.life_elab_laws.proofs.Falling.{falling, flow_append}
 use Rattle.life_elab_laws.proofs.Following.{Follows, adds_none, follows_again, take_itself}
-use Rattle.life_elab_laws.proofs.FormedEnds.{all_end, variable_ends}
+use Rattle.life_elab_laws.proofs.FormedEnds.{variable_ends}
 use Rattle.life_elab_laws.proofs.Fronts.{front_length}
 use Rattle.life_elab_laws.proofs.GivingBack.{GivesValue, fine_known, known_append}
 use Rattle.life_elab_laws.proofs.Growing.{Begins}
 use Rattle.life_elab_laws.proofs.OrderedTypes.{order_none}
 use Rattle.life_elab_laws.proofs.Setting.{Setting}
-use Rattle.life_elab_laws.proofs.Shaping.{IsFine, IsStated, fine_acts, fine_none, stated_alone, stated_append}
+use Rattle.life_elab_laws.proofs.Shaping.{IsFine, IsStated, stated_alone, stated_append}
 
 module _ (types : Types) (texts : ℕ) (so_far : Bool) (fs : List Function) (f : Function) where
-  -- ---- these end
-
-  pub record IsEnded (xs : List ℕ) (place : Place) (s : State) : Type 0 where
-    pub code : List Tree
-    pub written : end xs place s ≡ with_code (s.code ++ code) s
-    pub fine : list_all (can_end types texts fs f) xs ≡ true → IsFine types texts so_far fs f code
-    pub falls : (k : List Known) → can_leave k xs ≡ true → Falls types f code k (set_blank xs k)
-
-  pub ended : (xs : List ℕ) (place : Place) (s : State) → IsEnded xs place s
-  ended [] place s = record {
-    code = [];
-    written = ap (λ (c : List Tree). with_code c s) (sym (append-nil s.code));
-    fine = λ ends. fine_none types texts so_far fs f;
-    falls = λ k ready. refl;
-  }
-  ended (x ∷ xs) place s = record {
-    code = Acts place (End (x ∷ xs)) ∷ [];
-    written = refl;
-    fine = λ ends. fine_acts types texts so_far fs f place (End (x ∷ xs)) (record { plain = λ so. refl; given = refl; formed = ends; served = λ so. refl });
-    falls = λ k ready. falls_acts types f place (End (x ∷ xs)) k (all_ready k (touched_by f (End (x ∷ xs))) refl ready refl);
-  }
-
-  end_living : (xs : List ℕ) (place : Place) (s : State) → (end xs place s).living ≡ s.living
-  end_living [] place s = refl
-  end_living (x ∷ xs) place s = refl
-
   -- all past so many
   module _ (a : Around) (setting : Setting so_far a types fs f) (v : Visible) (s : State) (h : Follows types f a v s) (b : Begins types f s) (n : ℕ) where
     -- .. each is a variable, so it can end
-    pub past_fine : (place : Place) (e : IsEnded (reverse (drop n s.living)) place s) → IsFine types texts so_far fs f e.code
-    past_fine place e = e.fine (all_end types texts so_far fs f setting.shaped setting.nameless (reverse (drop n s.living)) (λ y m. one y (among_drop n s.living y (reverse_among (drop n s.living) y m))))
+    pub past_fine : (place : Place) (e : IsEnded types texts so_far fs f (reverse (drop n s.living)) place s) → IsFine types texts so_far fs f e.code
+    past_fine place e = e.fine (all_among (can_end types texts fs f) (reverse (drop n s.living)) (λ y m. one y (among_drop n s.living y (reverse_among (drop n s.living) y m))))
       where
         one : (y : ℕ) → Among y s.living → can_end types texts fs f y ≡ true
         one y m =
@@ -76,13 +46,13 @@ module _ (types : Types) (texts : ℕ) (so_far : Bool) (fs : List Function) (f :
 
   -- what was visible before it is visible again, and only what lived before lives
   module _ (a : Around) (setting : Setting so_far a types fs f) (v u : Visible) (in_loop : Bool) (s t : State) (h : Follows types f a v s) (inner : Does types texts so_far fs f a u in_loop s t) (place : Place) where
-    is : IsEnded (reverse (drop (length s.living) t.living)) place t
-    is = ended (reverse (drop (length s.living) t.living)) place t
+    is : IsEnded types texts so_far fs f (reverse (drop (length s.living) t.living)) place t
+    is = ended types texts so_far fs f (reverse (drop (length s.living) t.living)) place t
 
     abbrev behind_block : List Tree → State
     behind_block code = with_living_of (length s.living) (with_code (t.code ++ code) t)
 
-    ended_acts : (e : IsEnded (reverse (drop (length s.living) t.living)) place t) → Begins types f t → Acting types texts so_far fs f in_loop s (behind_block e.code) (inner.code ++ e.code)
+    ended_acts : (e : IsEnded types texts so_far fs f (reverse (drop (length s.living) t.living)) place t) → Begins types f t → Acting types texts so_far fs f in_loop s (behind_block e.code) (inner.code ++ e.code)
     ended_acts e b = record {
       stated = stated_append types texts so_far fs f in_loop inner.code e.code (inner.acts b).stated ((past_fine a setting u t inner.follows b (length s.living) place e).stated in_loop);
       ways = ways;
@@ -103,7 +73,7 @@ module _ (types : Types) (texts : ℕ) (so_far : Bool) (fs : List Function) (f :
             (leaves_then f in_loop t.living (take (length s.living) t.living) (take s.outside s.living) (flow types f (trees inner.code) o) (flow types f (trees e.code) between) w
             (leaves_may types f in_loop t.living (take (length s.living) t.living) (take s.outside s.living) (trees e.code) last between w.next))
 
-    ended_does : (e : IsEnded (reverse (drop (length s.living) t.living)) place t) → Does types texts so_far fs f a (behind v u) in_loop s (behind_block e.code)
+    ended_does : (e : IsEnded types texts so_far fs f (reverse (drop (length s.living) t.living)) place t) → Does types texts so_far fs f a (behind v u) in_loop s (behind_block e.code)
     ended_does e = record {
       adds = record {
         locals = inner.adds.locals;
@@ -112,11 +82,10 @@ module _ (types : Types) (texts : ℕ) (so_far : Bool) (fs : List Function) (f :
         living = ap (take (length s.living)) inner.adds.living ∙ take_itself s.living;
         pending = inner.adds.pending;
         outside = inner.adds.outside;
-        shaped = inner.adds.shaped;
       };
       locals = inner.locals;
       order = inner.order;
-      follows = follows_again types f a v s (behind_block e.code) u.declared h inner.adds.locals inner.adds.table inner.adds.variables inner.adds.living
+      follows = follows_again types f a v s (behind_block e.code) u.declared h inner.adds.locals inner.adds.table inner.adds.variables inner.adds.living inner.adds.pending
           (omega (arith, inner.adds.outside, ap length inner.adds.living, h.outside)) inner.follows.count
           (omega (arith, h.count, inner.follows.count, front_length s.variables t.variables inner.adds.variables));
       code = inner.code ++ e.code;
@@ -131,13 +100,13 @@ module _ (types : Types) (texts : ℕ) (so_far : Bool) (fs : List Function) (f :
     block_does = subst (λ (r : State). Does types texts so_far fs f a (behind v u) in_loop s (with_living_of (length s.living) r)) (sym is.written) (ended_does is)
 
     pub block_level : (end_since place (length s.living) t).living ≡ s.living
-    block_level = ap (take (length s.living)) (end_living (reverse (drop (length s.living) t.living)) place t) ∙ inner.adds.living
+    block_level = ap (take (length s.living)) (end_living types texts so_far fs f (reverse (drop (length s.living) t.living)) place t) ∙ inner.adds.living
 
   -- ---- control goes elsewhere
 
   module _ (a : Around) (setting : Setting so_far a types fs f) (v : Visible) (in_loop : Bool) (s : State) (h : Follows types f a v s) (n : ℕ) (place : Place) (t : Tree) (stated : IsStated types texts so_far fs f in_loop t)
       (leaves : (k : List Known) → Knows f (take n s.living) k → Leaves f in_loop s.living (take s.outside s.living) (flow types f (trees (t ∷ [])) (Some k))) where
-    pub left_acts : (e : IsEnded (reverse (drop n s.living)) place s) → Begins types f s → Acting types texts so_far fs f in_loop s (write t (with_code (s.code ++ e.code) s)) (e.code ++ t ∷ [])
+    pub left_acts : (e : IsEnded types texts so_far fs f (reverse (drop n s.living)) place s) → Begins types f s → Acting types texts so_far fs f in_loop s (write t (with_code (s.code ++ e.code) s)) (e.code ++ t ∷ [])
     left_acts e b = record {
       stated = stated_append types texts so_far fs f in_loop e.code (t ∷ []) ((past_fine a setting v s h b n place e).stated in_loop) (stated_alone types texts so_far fs f in_loop t stated);
       ways = leaves_may types f in_loop s.living s.living (take s.outside s.living) (trees (e.code ++ t ∷ [])) went;
@@ -153,7 +122,7 @@ module _ (types : Types) (texts : ℕ) (so_far : Bool) (fs : List Function) (f :
             (leaves_falling f in_loop (take n s.living) (take s.outside s.living) j ends) (leaves j ends))
 
     -- .. and where that is a return, no value has to be given back
-    left_from : (GivesValue a → (o : Knowing) → ReturnsKnown types f (result_local a) (trees (t ∷ [])) o) → (e : IsEnded (reverse (drop n s.living)) place s)
+    left_from : (GivesValue a → (o : Knowing) → ReturnsKnown types f (result_local a) (trees (t ∷ [])) o) → (e : IsEnded types texts so_far fs f (reverse (drop n s.living)) place s)
         → Does types texts so_far fs f a v in_loop s (write t (with_code (s.code ++ e.code) s))
     left_from back e = record {
       adds = adds_none types f s;
@@ -169,7 +138,7 @@ module _ (types : Types) (texts : ℕ) (so_far : Bool) (fs : List Function) (f :
     }
 
     pub left_does : (GivesValue a → (o : Knowing) → ReturnsKnown types f (result_local a) (trees (t ∷ [])) o) → Does types texts so_far fs f a v in_loop s (left n place t s)
-    left_does back = subst (λ (r : State). Does types texts so_far fs f a v in_loop s (write t r)) (sym (ended (reverse (drop n s.living)) place s).written) (left_from back (ended (reverse (drop n s.living)) place s))
+    left_does back = subst (λ (r : State). Does types texts so_far fs f a v in_loop s (write t r)) (sym (ended types texts so_far fs f (reverse (drop n s.living)) place s).written) (left_from back (ended types texts so_far fs f (reverse (drop n s.living)) place s))
 
   pub left_level : (s : State) (n : ℕ) (place : Place) (t : Tree) → (left n place t s).living ≡ s.living
-  left_level s n place t = end_living (reverse (drop n s.living)) place s
+  left_level s n place t = end_living types texts so_far fs f (reverse (drop n s.living)) place s

@@ -6,6 +6,7 @@ pub mod BaseSteps
 pub mod Beginning
 pub mod Branching
 pub mod BuiltReached
+pub mod BuiltVariables
 pub mod CallParts
 pub mod Callees
 pub mod Calls
@@ -18,6 +19,8 @@ pub mod Declaring
 pub mod Doing
 pub mod ElementForms
 pub mod Emitting
+pub mod EndSteps
+pub mod EndedTemporaries
 pub mod Ending
 pub mod EraseForms
 pub mod Exits
@@ -41,13 +44,16 @@ pub mod Growing
 pub mod Held
 pub mod Instructions
 pub mod ItemTokens
+pub mod JoinedForms
 pub mod KeptGiven
 pub mod Knowledge
 pub mod Leaving
-pub mod ListBirths
+pub mod ListForms
 pub mod Locations
 pub mod Looping
+pub mod MadeForms
 pub mod Making
+pub mod MoveSteps
 pub mod NewVariables
 pub mod Nowhere
 pub mod ObjectForms
@@ -59,6 +65,7 @@ pub mod OwnerBirths
 pub mod OwnerSteps
 pub mod Parts
 pub mod Pending
+pub mod PendingTemporaries
 pub mod PointerForms
 pub mod ProgramNames
 pub mod Programs
@@ -70,6 +77,7 @@ pub mod SeenForms
 pub mod ServedLocals
 pub mod Setting
 pub mod Shaped
+pub mod ShapedLocals
 pub mod Shaping
 pub mod ShortPlaces
 pub mod SimpleStatements
@@ -77,8 +85,12 @@ pub mod SimpleTypes
 pub mod Simples
 pub mod SpanForms
 pub mod Statements
+pub mod StillThere
 pub mod Stopping
+pub mod StringForms
 pub mod SubspanForms
+pub mod TemporaryBirths
+pub mod TemporaryEnds
 pub mod TypedKinds
 pub mod Types
 pub mod Values

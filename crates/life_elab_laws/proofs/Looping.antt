@@ -1,9 +1,8 @@
 -- Loops: what is known at the head of a loop is known again wherever control comes back to it.
-use Rattle.std.proofs.Common.{◌≡◌, ◌⊎◌, inl, inr, ℕ, zero, suc, Bool, true, false, ◌&&◌, List, [], ◌∷◌, ◌++◌, length, slice_get, take, Some, None, refl, sym, ap, ◌∙◌, subst, arith, is_none}
+use Rattle.std.proofs.Common.{◌≡◌, ◌⊎◌, inl, inr, ℕ, zero, suc, Bool, true, false, ◌&&◌, List, [], ◌∷◌, ◌++◌, length, slice_get, take, Some, None, refl, sym, ap, ◌∙◌, subst, arith, is_none, not, true≢false}
 use Rattle.std.proofs.lemmas.Bool.{and_from}
 use Rattle.std.proofs.lemmas.Option.{same_Some}
 use Rattle.life_types.specs.Types.{Types}
-use Rattle.life_types.specs.declared.ty.NameId.{NameId}
 use Rattle.life_core.specs.Function.{Function}
 use Rattle.life_core.specs.Tree.{Tree, Turns, trees}
 use Rattle.life_core.specs.declared.program.Local.{Local}
@@ -26,51 +25,74 @@ use Rattle.life_elab_laws.proofs.Fronts.{front_itself}
 use Rattle.life_elab_laws.proofs.GivingBack.{GivesValue, asks_known, known_may}
 use Rattle.life_elab_laws.proofs.Growing.{Begins}
 use Rattle.life_elab_laws.proofs.OrderedTypes.{order_then}
-use Rattle.life_elab_laws.proofs.Shaped.{AreShaped, IsVariable, shaped_at}
+use Rattle.life_elab_laws.proofs.Shaped.{AreShaped, shaped_at, is_passing, named_lasts}
 use Rattle.life_elab_laws.proofs.Conditions.{Asked, AsksAll, Tests}
 use Rattle.life_elab_laws.proofs.Shaping.{stated_alone, stated_turns}
 use Rattle.life_elab_laws.proofs.WrittenLocals.{locals_added}
+use Rattle.life_core.specs.Kinds.{is_object, is_register}
+use Rattle.life_core.specs.declared.program.LocalKind.{LocalKind}
+use Rattle.life_core.specs.declared.program.LocalKind.TheVariants as kind
+use Rattle.life_types.specs.declared.place.Place.{Place}
 
 -- ---- at the head nothing is known of intermediate values, and the same of all others
 
-named_stays : (l : Local) (name : NameId) → l.name ≡ Some name → is_none l.name ≡ false
-named_stays l name e = ap is_none e
+passing_known : (l : Local) (x : Known) → is_passing l ≡ false → is_forgotten l x ≡ false
+passing_known l x lasts = go l.kind (is_none l.name) lasts
+  where
+    go : (k : LocalKind) (nameless : Bool) → (nameless && not (is_object k)) ≡ false → (nameless && is_lost k x) ≡ false
+    go kind.Object true h = refl
+    go kind.Register true h = h
+    go kind.Range true h = absurd (true≢false h)
+    go k false h = refl
+
+-- what is passing and isn't forgotten is no register
+passing_kept : (l : Local) (x : Known) → is_passing l ≡ true → is_forgotten l x ≡ false → is_intermediate l ≡ false
+passing_kept l x passes stays = go l.kind (is_none l.name) passes stays
+  where
+    go : (k : LocalKind) (nameless : Bool) → (nameless && not (is_object k)) ≡ true → (nameless && is_lost k x) ≡ false → (is_register k && nameless) ≡ false
+    go kind.Object nameless h e = refl
+    go kind.Register true h e = e
+    go kind.Register false h e = refl
+    go kind.Range nameless h e = refl
 
 forgotten_length : (ls : List Local) (k : List Known) → length (forgotten ls k) ≡ length k
 forgotten_length [] k = refl
 forgotten_length (l ∷ ls) [] = refl
 forgotten_length (l ∷ ls) (x ∷ k) = ap suc (forgotten_length ls k)
 
-forgotten_at : (ls : List Local) (k : List Known) (y : ℕ) (l : Local) → slice_get ls y ≡ Some l → is_none l.name ≡ false → known_at (forgotten ls k) y ≡ known_at k y
+forgotten_at : (ls : List Local) (k : List Known) (y : ℕ) (l : Local) → slice_get ls y ≡ Some l → is_passing l ≡ false → known_at (forgotten ls k) y ≡ known_at k y
 forgotten_at [] k y l at e = refl
 forgotten_at (u ∷ ls) [] y l at e = refl
 forgotten_at (u ∷ ls) (x ∷ k) zero l at e = rw here refl
   where
     here : is_forgotten u x ≡ false
-    here = ap (λ (b : Bool). b && is_lost u.kind x) (ap (λ (v : Local). is_none v.name) (same_Some u l at) ∙ e)
+    here = passing_known u x (ap (λ (v : Local). is_passing v) (same_Some u l at) ∙ e)
 forgotten_at (u ∷ ls) (x ∷ k) (suc y) l at e = forgotten_at ls k y l at e
 
 module _ (types : Types) (texts : ℕ) (so_far : Bool) (fs : List Function) (f : Function) where
   knows_forgotten : (living : List ℕ) (k : List Known) → AreNamed f living → Knows f living k → Knows f living (forgotten f.locals k)
   knows_forgotten living k names knows = record {
     sized = forgotten_length f.locals k ∙ knows.sized;
-    alive = λ y m. let is = names y m in forgotten_at f.locals k y is.0 is.2 (named_stays is.0 is.1 is.3) ∙ knows.alive y m;
-    blank = λ y l name there named no. forgotten_at f.locals k y l there (named_stays l name named) ∙ knows.blank y l name there named no;
+    alive = λ y m. let is = names y m in forgotten_at f.locals k y is.0 is.2 (named_lasts is.0 is.1 is.3) ∙ knows.alive y m;
+    blank = λ y l there lasts no. forgotten_at f.locals k y l there lasts ∙ knows.blank y l there lasts no;
   }
 
   -- control comes back with what is known at the head
   known_again : (living : List ℕ) (k j : List Known) → AreShaped types f.locals → Knows f living k → Knows f living j → are_implied (forgotten f.locals k) j ≡ true
   known_again living k j shaped a b = forgotten_implied f.locals k j a.sized b.sized same
     where
-      same : (y : ℕ) (l : Local) → slice_get f.locals y ≡ Some l → is_intermediate l ≡ false → known_at j y ≡ known_at k y
-      same y l there e = go (among_or y living)
+      same : (y : ℕ) (l : Local) → slice_get f.locals y ≡ Some l → is_forgotten l (known_at k y) ≡ false → known_at j y ≡ known_at k y
+      same y l there stays = told (is_passing l) refl
         where
-          named : IsVariable types l
-          named = shaped_at types f.locals y l shaped there e
+          go : is_passing l ≡ false → Among y living ⊎ (Among y living → ⊥) → known_at j y ≡ known_at k y
+          go lasts (inl m) = b.alive y m ∙ sym (a.alive y m)
+          go lasts (inr none) = b.blank y l there lasts none ∙ sym (a.blank y l there lasts none)
 
-          go : Among y living ⊎ (Among y living → ⊥) → known_at j y ≡ known_at k y
-          go (inl m) = b.alive y m ∙ sym (a.alive y m)
-          go (inr none) = b.blank y l named.name there named.named none ∙ sym (a.blank y l named.name there named.named none)
+          told : (p : Bool) → is_passing l ≡ p → known_at j y ≡ known_at k y
+          told false lasts = go lasts (among_or y living)
+          told true passes =
+              let is = shaped_at types f.locals y l shaped there (passing_kept l (known_at k y) passes stays) in
+              absurd (true≢false (sym passes ∙ is.lasts))
 
   comes : (living : List ℕ) (k : List Known) (o : Knowing) → AreShaped types f.locals → Knows f living k → MayKnow f living o → comes_back (Some (forgotten f.locals k)) o ≡ true
   comes living k None shaped a b = refl
@@ -100,7 +122,7 @@ module _ (types : Types) (texts : ℕ) (so_far : Bool) (fs : List Function) (f :
 
   -- ---- the whole loop
 
-  module _ (a : Around) (v : Visible) (in_loop : Bool) (s : State) (w : Gives Tree) (h : Follows types f a v s) (test : Tests types texts so_far fs f s w) (shaped : AreShaped types f.locals) where
+  module _ {ends : Place} (a : Around) (v : Visible) (in_loop : Bool) (s : State) (w : Gives Tree) (h : Follows types f a v s) (test : Tests types texts so_far fs f (Some ends) s w) (shaped : AreShaped types f.locals) where
     -- the body is written where all that lives stays outside of the loop
     abbrev pub inside : State
     inside = with_outside (length w.state.living) (with_code [] w.state)
@@ -110,14 +132,14 @@ module _ (types : Types) (texts : ℕ) (so_far : Bool) (fs : List Function) (f :
 
     pub inside_follows : Follows types f a v inside
     inside_follows =
-        let later = follows_grown types f a v s w.state test.grown h in
-        follows_again types f a v w.state inside v.declared later (front_itself w.state.locals) (front_itself w.state.types.types) (front_itself w.state.variables) refl (omega arith) later.count (omega arith)
+        let later = follows_grown types f a v s w.state (test.level tt) test.grown h in
+        follows_again types f a v w.state inside v.declared later (front_itself w.state.locals) (front_itself w.state.types.types) (front_itself w.state.variables) refl refl (omega arith) later.count (omega arith)
 
     -- .. and the step where what was visible before the body is again
     pub step_follows : (u : Visible) (t : State) → DoesLevel types texts so_far fs f a u true inside t → Follows types f a (behind v u) (with_code [] (past t))
     step_follows u t body =
         let again = visible_again types f a v u inside t inside_follows body.does.adds body.does.follows body.level in
-        follows_again types f a (behind v u) t (with_code [] (past t)) u.declared again (front_itself t.locals) (front_itself t.types.types) (front_itself t.variables) refl
+        follows_again types f a (behind v u) t (with_code [] (past t)) u.declared again (front_itself t.locals) (front_itself t.types.types) (front_itself t.variables) refl refl
         (omega (arith, test.grown.outside, h.outside, ap length body.level, ap length test.grown.living)) again.count (omega arith)
 
     module _ (u x : Visible) (t r : State) (body : DoesLevel types texts so_far fs f a u true inside t) (step : DoesLevel types texts so_far fs f a x false (with_code [] (past t)) r) where
@@ -135,7 +157,6 @@ module _ (types : Types) (texts : ℕ) (so_far : Bool) (fs : List Function) (f :
         living = body.does.adds.living;
         pending = body.does.adds.pending;
         outside = refl;
-        shaped = body.does.adds.shaped;
       }
 
       module _ (b : Begins types f r) where
@@ -145,7 +166,7 @@ module _ (types : Types) (texts : ℕ) (so_far : Bool) (fs : List Function) (f :
         tested : Begins types f w.state
         tested = begins_added types f w.state (past t) to_body begun
 
-        asks : AsksAll types texts so_far fs f s w.given
+        asks : AsksAll types texts so_far fs f s w.state w.given
         asks = test.runs tested
 
         one : Acting types texts so_far fs f true inside t body.does.code
@@ -167,7 +188,7 @@ module _ (types : Types) (texts : ℕ) (so_far : Bool) (fs : List Function) (f :
         step_outside = ap (take w.state.outside) body_living ∙ ap (λ (n : ℕ). take n s.living) test.grown.outside
 
         names : AreNamed f s.living
-        names = follows_named types f a v s h (begins_added types f s w.state (grows_adds types f s w.state test.grown) tested)
+        names = follows_named types f a v s h (begins_added types f s w.state (grows_adds types f s w.state (test.level tt) test.grown) tested)
 
         -- what is known at the head, in the body and in the step
         module _ (k : List Known) (knows : Knows f s.living k) where
@@ -177,11 +198,11 @@ module _ (types : Types) (texts : ℕ) (so_far : Bool) (fs : List Function) (f :
           at_head : Knows f s.living head
           at_head = knows_forgotten s.living k names knows
 
-          abbrev g : Asked types texts so_far fs f s w.given head
-          g = asks.goes head (knows_alive types f a v s head at_head)
+          abbrev g : Asked types texts so_far fs f s w.state w.given head
+          g = asks.goes head (knows_alive types f a v s h head at_head)
 
           both : Knows f s.living g.on × Knows f s.living g.off
-          both = known_behind types texts so_far fs f a v in_loop s w h test tested head g at_head
+          both = known_behind types texts so_far fs f a v in_loop s w h test head g
 
           known_on : Knows f w.state.living g.on
           known_on = subst (λ (xs : List ℕ). Knows f xs g.on) (sym test.grown.living) both.0
@@ -238,7 +259,7 @@ module _ (types : Types) (texts : ℕ) (so_far : Bool) (fs : List Function) (f :
       pub loop_does : DoesLevel types texts so_far fs f a x in_loop s whole
       loop_does = record {
         does = record {
-          adds = adds_then types f s (past t) r (adds_then types f s w.state (past t) (grows_adds types f s w.state test.grown) to_body) step.does.adds;
+          adds = adds_then types f s (past t) r (adds_then types f s w.state (past t) (grows_adds types f s w.state (test.level tt) test.grown) to_body) step.does.adds;
           locals = λ are. step.does.locals (body.does.locals (locals_added so_far types a s w.state test.grown.types test.registers are));
           order = order_then s.types w.state.types r.types test.registers.1 (order_then w.state.types t.types r.types body.does.order step.does.order);
           follows = step.does.follows;

@@ -1,6 +1,5 @@
 -- What a part of an expression gives where so much is known, where it begins, and what of that it keeps.
-use Rattle.std.proofs.Common.{◌≡◌, ◌<◌, ◌≤◌, ℕ, List, [], ◌∷◌, Contains, length, slice_get, Option, Some, None, refl, ◌∙◌, subst, arith}
-use Rattle.life_types.specs.declared.ty.NameId.{NameId}
+use Rattle.std.proofs.Common.{◌≡◌, ◌<◌, ◌≤◌, ℕ, false, List, [], ◌∷◌, Contains, length, slice_get, Option, Some, None, refl, ◌∙◌, arith, subst}
 use Rattle.life_core.specs.Function.{Function}
 use Rattle.life_core.specs.Operands.{Location, Operand, whole}
 use Rattle.life_core.specs.Step.{Step}
@@ -11,7 +10,9 @@ use Rattle.life_proper.specs.declared.known.Known.TheVariants as known
 use Rattle.life_proper.specs.Knowing.{known_at}
 use Rattle.life_writer.specs.Pointers.{Pointing, By, As}
 use Rattle.life_writer.specs.Writing.{State}
+use Rattle.life_elab_laws.proofs.Among.{Among}
 use Rattle.life_elab_laws.proofs.Growing.{Grows, bare}
+use Rattle.life_elab_laws.proofs.Shaped.{is_passing}
 
 -- ---- what a part gives
 
@@ -55,6 +56,10 @@ IsPointing f (As l) n k = IsPointer l n k
 abbrev pub IsOpen : State → Type 0
 IsOpen s = (y : ℕ) → Contains s.living y → y < length s.locals
 
+-- .. also where more is written
+pub opened_later : (s s' : State) → Grows s s' → IsOpen s → IsOpen s'
+opened_later s s' g h y c = omega (arith, h y (subst (λ (ys : List ℕ). Contains ys y) g.living c), g.count)
+
 -- ---- what stays
 
 -- the register that is wanted, if any, is another one
@@ -63,34 +68,28 @@ IsBeside None y = Unit {0}
 IsBeside (Some r) y = r ≡ y → ⊥
 
 module _ (f : Function) where
-  -- of the first so many locals, and of all that have names
+  -- of the first so many locals
   pub record Keeps (n : ℕ) (into : Option ℕ) (k j : List Known) : Type 0 where
     pub sized : length j ≡ length k
     pub below : (y : ℕ) → y < n → IsBeside into y → known_at j y ≡ known_at k y
-    pub named : (y : ℕ) (l : Local) (name : NameId) → slice_get f.locals y ≡ Some l → l.name ≡ Some name → known_at j y ≡ known_at k y
 
   pub keeps_all : (n : ℕ) (into : Option ℕ) (k : List Known) → Keeps n into k k
-  keeps_all n into k = record { sized = refl; below = λ y h b. refl; named = λ y l name there is. refl }
+  keeps_all n into k = record { sized = refl; below = λ y h b. refl }
 
   pub keeps_then : (n m : ℕ) (into : Option ℕ) (k j l : List Known) → n ≤ m → Keeps n None k j → Keeps m into j l → Keeps n into k l
   keeps_then n m into k j l h first second = record {
     sized = second.sized ∙ first.sized;
     below = λ y lt b. second.below y (omega (arith, h, lt)) b ∙ first.below y lt tt;
-    named = λ y u name there is. second.named y u name there is ∙ first.named y u name there is;
   }
 
   -- ---- what is there where it begins
 
-  -- the living variables are there, in a table of the right size
+  -- the living variables and the temporaries so far are there, in a table of the right size, and nothing else is but what is passing
   pub record AliveBare (s : State) (k : List Known) : Type 0 where
     pub sized : length k ≡ length f.locals
     pub living : (y : ℕ) → Contains s.living y → known_at k y ≡ known.Ready
+    pub pending : (y : ℕ) → Among y s.pending → known_at k y ≡ known.Ready
+    pub blank : (y : ℕ) (l : Local) → slice_get f.locals y ≡ Some l → is_passing l ≡ false → (Among y s.living → ⊥) → (Among y s.pending → ⊥) → known_at k y ≡ known.Blank
 
   abbrev pub Alive : State → List Known → Type 0
   Alive s k = AliveBare (bare s) k
-
-  pub alive_later : (s s' : State) (k j : List Known) → IsOpen s → Grows s s' → Alive s k → Keeps (length s.locals) None k j → Alive s' j
-  alive_later s s' k j below g alive keeps = record {
-    sized = keeps.sized ∙ alive.sized;
-    living = λ y h. let before : Contains s.living y = subst (λ (ys : List ℕ). Contains ys y) g.living h in keeps.below y (below y before) tt ∙ alive.living y before;
-  }

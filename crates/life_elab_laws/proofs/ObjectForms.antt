@@ -1,6 +1,7 @@
 -- Owners that stand at a place, and what has elements: how each is written.
-use Rattle.std.proofs.Common.{◌≡◌, ℕ, Bool, true, false, not, List, Contains, slice_get, Option, Some, None, refl, sym, ap, ◌∙◌, subst, unwrap_or, [], ◌∷◌}
+use Rattle.std.proofs.Common.{◌≡◌, ℕ, Bool, true, false, not, nat_eq, arith, List, Contains, slice_get, Option, Some, None, refl, sym, ap, ◌∙◌, subst, unwrap_or, [], ◌∷◌}
 use Rattle.std.proofs.lemmas.Bool.{false≢true, and_parts}
+use Rattle.std.proofs.lemmas.Bool.Decides.{nat_tests}
 use Rattle.life_types.specs.TypeTests.{is_value}
 use Rattle.life_types.specs.Types.{Types}
 use Rattle.life_types.specs.declared.place.Place.{Place}
@@ -15,11 +16,13 @@ use Rattle.life_typed.specs.declared.typed_expr.Category.TheVariants as category
 use Rattle.life_typed.specs.declared.typed_expr.ExprType.{ExprType}
 use Rattle.life_typed.specs.declared.typed_expr.ExprType.TheVariants.{NullPointer, Of, TextLiteral}
 use Rattle.life_typed.specs.declared.typed_program.TypedLocal.{TypedLocal}
-use Rattle.life_type_expr.specs.Operands.{place_of as place_typed, variable_of}
+use Rattle.life_type_expr.specs.Operands.{is_constant, place_of as place_typed, variable_of}
 use Rattle.life_core.specs.Function.{Function}
 use Rattle.life_core.specs.Operands.{Base, Operand, Owner, Pointer, Location}
 use Rattle.life_core.specs.declared.operand.Which.{Which}
 use Rattle.life_proper.specs.OperandTypes.{is_owner, owned_element, seen_element}
+use Rattle.life_core.specs.declared.program.LocalKind.TheVariants.{Object}
+use Rattle.life_proper.specs.WellFormed.{is_itself}
 use Rattle.life_well_typed.specs.Expressions.{IsVariable, typed_in}
 use Rattle.life_writer.specs.Around.{Around, own_type}
 use Rattle.life_writer.specs.Bases.{base as base_of, base_by, element}
@@ -28,7 +31,7 @@ use Rattle.life_writer.specs.ExpressionForms.{form_uses, uses}
 use Rattle.life_writer.specs.MethodForms.{emptied, sized}
 use Rattle.life_writer.specs.Uses.{own}
 use Rattle.life_writer.specs.Using.{operand, pointer}
-use Rattle.life_writer.specs.Variables.{variable_place}
+use Rattle.life_writer.specs.Variables.{variable, variable_place}
 use Rattle.life_writer.specs.Writing.{Gives, State, ◌>>◌, gives, mapped}
 use Rattle.life_writer.specs.declared.behind.Behind.{Behind}
 use Rattle.life_elab_laws.specs.Reached.{is_owner_of_values, is_owner_type}
@@ -44,7 +47,7 @@ use Rattle.life_elab_laws.proofs.PointerForms.{own_typed, placed_operand, pointe
 use Rattle.life_elab_laws.proofs.Setting.{Setting}
 use Rattle.life_elab_laws.proofs.TypedKinds.{a_number as is_number_kind, owner_named, place_same, value_place, walker_named}
 use Rattle.life_elab_laws.proofs.Values.{by_values}
-use Rattle.life_elab_laws.proofs.VariablePlaces.{IsVariableType, a_raw, a_reference, a_value, a_view, an_owner, stands_later, variable_there, variable_type, a_walker, walker_is}
+use Rattle.life_elab_laws.proofs.VariablePlaces.{IsVariableType, a_raw, a_reference, a_value, a_view, an_owner, kind_is, owner_kind, place_is, stands_later, variable_there, variable_type, a_walker, walker_is}
 use Rattle.life_well_typed.specs.Given.{is_number}
 
 -- ---- types
@@ -64,6 +67,17 @@ owner_type so_far (Of t) n = let parts = and_parts (not so_far) (is_owner t) n i
     go : (b : Bool) → not b ≡ true → b ≡ false
     go false e = refl
     go true e = absurd (false≢true e)
+
+-- two numbers that differ
+other_number : (n m : ℕ) → (n ≡ m → ⊥) → nat_eq n m ≡ false
+other_number n m other = go (nat_eq n m) refl
+  where
+    one : (a b : ℕ) → nat_eq a b ≡ true → a ≡ b
+    one a b h = grind (arith, nat_tests)
+
+    go : (b : Bool) → nat_eq n m ≡ b → nat_eq n m ≡ false
+    go false e = e
+    go true e = absurd (other (one n m e))
 
 -- what an owner of values holds
 pub element_value : (types : Types) (t : Ty) → is_owner_of_values types t ≡ true → is_value (element_type types t) ≡ true
@@ -93,14 +107,43 @@ module _ (a : Around) (visible : List ℕ) (types : Types) (texts : ℕ) (so_far
     pub place : e.category ≡ category.Place id constant
     pub here : type_at a.program.types id ≡ ty
     pub names : (s : State) → Stood s → PlacedAs ty constant s (at s)
+    -- it is none of those that don't live
+    pub apart : (s : State) → Stood s → (y : ℕ) → (Contains s.living y → ⊥) → is_itself types texts fs f y (at s).given ≡ false
 
   -- .. that an expression is
   abbrev pub IsObject : Form → Type 0
   IsObject form = IsObjectAt (typed_in form) ((uses a form).at)
 
+  -- ---- an owner, at a place or in a temporary
+
+  pub record IsOwnerAt (e : Typed) (place : State → Gives Operand) : Type 0 where
+    pub wide : so_far ≡ false
+    pub ty : Ty
+    pub is : e.ty ≡ Of ty
+    pub owner : is_owner_of_values a.program.types ty ≡ true
+    pub constant : Bool
+    pub told : is_constant e.category ≡ constant
+    pub names : (s : State) → Stood s → PlacedAs ty constant s (place s)
+
+  -- .. that an expression is
+  abbrev pub IsOwner : Form → Type 0
+  IsOwner form = IsOwnerAt (typed_in form) (operand (uses a form))
+
+  pub object_owner : (form : Form) → IsObject form → IsOwner form
+  object_owner form is = record {
+    wide = is.wide;
+    ty = is.ty;
+    is = is.is;
+    owner = is.owner;
+    constant = is.constant;
+    told = ap is_constant is.place;
+    names = λ s stands.
+        subst (PlacedAs is.ty is.constant s) (sym (placed_operand a visible types texts so_far fs f setting form is.id is.constant s is.place)) (is.names s stands);
+  }
+
   -- the same with another type and category that are equal
   pub object_same : (e e' : Typed) (at : State → Gives Operand) → e.ty ≡ e'.ty → e.category ≡ e'.category → IsObjectAt e at → IsObjectAt e' at
-  object_same e e' at t c is = record { wide = is.wide; ty = is.ty; is = sym t ∙ is.is; owner = is.owner; id = is.id; constant = is.constant; place = sym c ∙ is.place; here = is.here; names = is.names }
+  object_same e e' at t c is = record { wide = is.wide; ty = is.ty; is = sym t ∙ is.is; owner = is.owner; id = is.id; constant = is.constant; place = sym c ∙ is.place; here = is.here; names = is.names; apart = is.apart }
 
   -- a variable
   pub variable_object : (x : ℕ) (e : Typed) → is_owner_type so_far e.ty ≡ true → Contains visible x → IsVariable a.program.types x (slice_get a.function.locals x) e → IsObjectAt e (λ s. gives (variable_place s x) s)
@@ -152,6 +195,9 @@ module _ (a : Around) (visible : List ℕ) (types : Types) (texts : ℕ) (so_far
                 leaf_part types texts so_far fs f (variable_place s x) s (a_place types texts so_far fs f t l.constant)
                 (λ b. owner_formed types texts so_far fs f a setting.front s b x l (stands.seen x l c found) t l.constant at o)
                 (λ b k alive. variable_there a s x l (stands.seen x l c found) f k alive);
+            apart = λ s stands y dead.
+                let v = stands.seen x l c found in
+                ap (is_itself types texts fs f y) (place_is a s x l v Object (kind_is a s x l v t at ∙ owner_kind a.program.types t o)) ∙ other_number (variable s x) y (λ e. dead (subst (Contains s.living) e v.lives));
           }
             where
               place : e ≡ place_typed a.program.types l.ty l.constant e.place (local x)
@@ -178,23 +224,22 @@ module _ (a : Around) (visible : List ℕ) (types : Types) (texts : ℕ) (so_far
   }
 
   -- an owner
-  owner_base : (base : Form) → (is : IsObject base) → (s : State) → base_of (uses a base) s ≡ mapped Owner ((uses a base).at s)
+  owner_base : (base : Form) → (is : IsOwner base) → (s : State) → base_of (uses a base) s ≡ mapped Owner (operand (uses a base) s)
   owner_base base is s =
       ap (λ (x : Ty). base_by x (uses a base) s) (ap own_type (sym (own_typed a visible types texts so_far fs f setting base) ∙ is.is))
       ∙ owned is.ty is.owner
-      ∙ ap (mapped Owner) (placed_operand a visible types texts so_far fs f setting base is.id is.constant s is.place)
     where
       owned : (t : Ty) → is_owner_of_values a.program.types t ≡ true → base_by t (uses a base) s ≡ mapped Owner (operand (uses a base) s)
       owned ty.Text o = refl
       owned (ty.Vector item) o = refl
       owned _ o = absurd (false≢true o)
 
-  pub owner_asked : (base : Form) → (is : IsObject base) → IsAsked base (element_type a.program.types is.ty) is.constant
+  pub owner_asked : (base : Form) → (is : IsOwner base) → IsAsked base (element_type a.program.types is.ty) is.constant
   owner_asked base is = record {
     wide = is.wide;
     worth = element_value a.program.types is.ty is.owner;
     asks = λ s stands.
-        let w = (uses a base).at s in
+        let w = operand (uses a base) s in
         subst (λ (w : Gives Base). Makes types texts so_far fs f None s w (a_base types texts so_far fs f (element_type a.program.types is.ty) is.constant)) (sym (owner_base base is s))
         (seen_part types texts so_far fs f (no_gift types texts so_far fs f) tt None s w (a_place types texts so_far fs f is.ty is.constant) Owner (a_base types texts so_far fs f (element_type a.program.types is.ty) is.constant)
         (is.names s stands)

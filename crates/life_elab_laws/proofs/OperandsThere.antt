@@ -3,17 +3,15 @@ use Rattle.std.proofs.Common.{◌≡◌, ℕ, Bool, true, false, ◌&&◌, nat_l
 use Rattle.std.proofs.lemmas.Bool.{and_from, and_parts, false≢true}
 use Rattle.life_types.specs.Pointees.{or_void, ty_of}
 use Rattle.life_types.specs.TypeTests.{is_reference, is_value}
-use Rattle.life_types.specs.Types.{Types, class}
+use Rattle.life_types.specs.Types.{Types}
 use Rattle.life_types.specs.declared.ty.Ty.{Ty}
 use Rattle.life_types.specs.declared.ty.Ty.TheVariants as ty
 use Rattle.life_types.specs.declared.ty.TyId.{TyId}
 use Rattle.life_core.specs.Function.{Function}
 use Rattle.life_core.specs.declared.program.Local.{Local}
-use Rattle.life_core.specs.declared.program.LocalKind.{LocalKind}
 use Rattle.life_core.specs.declared.program.LocalKind.TheVariants.{Object, Register}
-use Rattle.life_core.specs.Holdings.{ANumber, held_by, held_if, sort_of}
 use Rattle.life_core.specs.Kinds.{has_kind, is_object, is_register}
-use Rattle.life_pset.specs.Shapes.{referred, shape_if, shape_of, ty_if, unslotted}
+use Rattle.life_pset.specs.Shapes.{shape_if, shape_of, ty_if, unslotted}
 use Rattle.life_proper.specs.OperandTypes.{same}
 use Rattle.life_proper.specs.Placed.{is_number, is_number_of, object_at, register_at, type_at}
 use Rattle.life_typed.specs.BaseTypes as base
@@ -90,37 +88,3 @@ module _ (types : Types) (f : Function) where
       let more = and_parts (register_at types f r) (is_value t && same t (type_at types f r)) h in
       and_from (register_at types f r) (is_value (type_at types f r)) more.0
       (subst (λ (u : Ty). is_value u ≡ true) (number_typed t r h) (and_parts (is_value t) (same t (type_at types f r)) more.1).0)
-
-  -- ---- what a register with a value holds
-
-  -- it is no slot, so its type is its own
-  shape_value : (parameter : Bool) (id : TyId) → is_value (ty_of types (shape_if types parameter id)) ≡ true → is_value (ty_of types id) ≡ true
-  shape_value false id v = v
-  shape_value true id v = go (ty_of types id) refl v
-    where
-      to : (target : TyId) (u : Ty) → ty_of types target ≡ u → is_value (ty_of types (referred id target u)) ≡ true → is_value (ty_of types id) ≡ true
-      to target (ty.Iterator item constant) at v = absurd (false≢true (sym (ap is_value at) ∙ v))
-      to target (ty.Span item constant) at v = absurd (false≢true (sym (ap is_value at) ∙ v))
-      to target ty.View at v = absurd (false≢true (sym (ap is_value at) ∙ v))
-      to target (ty.Unique item) at v = absurd (false≢true (sym (ap is_value at) ∙ v))
-      to target _ at v = v
-
-      go : (t : Ty) → ty_of types id ≡ t → is_value (ty_of types (unslotted types id t)) ≡ true → is_value (ty_of types id) ≡ true
-      go (ty.Reference target false) at v = to target (ty_of types target) refl v
-      go _ at v = v
-
-  value_register : (k : LocalKind) (o : Option Ty) → is_register k ≡ true → is_value (or_void o) ≡ true → held_if (class o) k o ≡ ANumber
-  value_register Register (Some ty.Bool) e v = refl
-  value_register Register (Some ty.Char) e v = refl
-  value_register Register (Some ty.Int) e v = refl
-  value_register Register (Some ty.Long) e v = refl
-  value_register Register (Some ty.Size) e v = refl
-  value_register Register _ e v = absurd (false≢true v)
-  value_register _ o e v = absurd (false≢true e)
-
-  pub number_sort : (t : Ty) (r : ℕ) → is_number_of types f t r ≡ true → sort_of types f r ≡ ANumber
-  number_sort t r h = let both = and_parts (register_at types f r) (is_value (type_at types f r)) (number_any t r h) in go (slice_get f.locals r) both.0 both.1
-    where
-      go : (o : Option Local) → has_kind is_register o ≡ true → is_value (ty_if types (shape_of types f.parameters r o)) ≡ true → held_by types o ≡ ANumber
-      go None e v = absurd (false≢true e)
-      go (Some l) e v = value_register l.kind (slice_get types.types l.ty.0) e (shape_value (nat_lt r f.parameters) l.ty v)

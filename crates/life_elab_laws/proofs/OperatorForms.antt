@@ -45,6 +45,7 @@ use Rattle.life_elab_laws.proofs.Setting.{Setting}
 use Rattle.life_elab_laws.proofs.TypedKinds.{IsCombined, none_some, some_same}
 use Rattle.life_elab_laws.proofs.VariablePlaces.{Stands, stands_later}
 use Rattle.life_elab_laws.proofs.PointerForms.{seen_view, tested_pointer, view_whole}
+use Rattle.life_elab_laws.proofs.TemporaryEnds.{temporary_ends}
 
 module _ (a : Around) (visible : List ℕ) (types : Types) (texts : ℕ) (so_far : Bool) (fs : List Function) (f : Function) (setting : Setting so_far a types fs f) where
   abbrev Standing : State → Type 0
@@ -56,8 +57,8 @@ module _ (a : Around) (visible : List ℕ) (types : Types) (texts : ℕ) (so_far
   abbrev Pointed : Ty → State → Gives Location → Type 0
   Pointed t s w = Makes types texts so_far fs f None s w (a_pointer types texts so_far fs f t)
 
-  abbrev Decided : State → Gives Tree → Type 0
-  Decided s w = Tests types texts so_far fs f s w
+  abbrev Decided : Option Place → State → Gives Tree → Type 0
+  Decided ends s w = Tests types texts so_far fs f ends s w
 
   -- ---- operators: what is written by each row
 
@@ -75,8 +76,8 @@ module _ (a : Around) (visible : List ℕ) (types : Types) (texts : ℕ) (so_far
     pointer_on Left s stands is = let raw = raw_on Left is in tested_pointer a visible types texts so_far fs f setting left is.own s is.is raw (l.pointers is.own is.is (raw_location is.own raw) s stands)
     pointer_on Right s stands is = let raw = raw_on Right is in tested_pointer a visible types texts so_far fs f setting right is.own s is.is raw (r.pointers is.own is.is (raw_location is.own raw) s stands)
 
-    not_null_on : (side : Side) (place : Place) (ends : Option Place) (s : State) → Standing s → IsTested (on side (typed_in left).ty (typed_in right).ty) t → Decided s (not_null place ends (on side (nullable (uses a left)) (nullable (uses a right))) s)
-    not_null_on side place ends s stands is = not_null_part types texts so_far fs f place ends is.own (on side (nullable (uses a left)) (nullable (uses a right))) s (raw_on side is) (pointer_on side (with_code [] s) stands is)
+    not_null_on : (side : Side) (place : Place) (ends : Option Place) (s : State) → Standing s → IsTested (on side (typed_in left).ty (typed_in right).ty) t → Decided ends s (not_null place ends (on side (nullable (uses a left)) (nullable (uses a right))) s)
+    not_null_on side place ends s stands is = not_null_part types texts so_far fs f place ends is.own (on side (nullable (uses a left)) (nullable (uses a right))) s (raw_on side is) stands.pends (temporary_ends types texts fs f setting.registers) (pointer_on side (with_code [] s) stands is)
 
     -- neither is a string or an iterator
     no_texts : AreTexts (typed_in left).ty (typed_in right).ty t → ⊥
@@ -134,16 +135,16 @@ module _ (a : Around) (visible : List ℕ) (types : Types) (texts : ℕ) (so_far
         (and_part types texts so_far fs f (gifts.nothing types texts so_far fs f) tt s x y P P stands.opened first second)
         (same_part types texts so_far fs f into t place equal (x.given, y.given) y.state fit.answers (row_wide fit) v (into_of_later t x.state y.state into second.grown (into_of_later t s x.state into first.grown wanted))))
 
-    row_decides : (w : Row) → Fits w (typed_in left).ty (typed_in right).ty t → (place : Place) (b : Behind) (by : State → Gives Tree) → (Operated w place).decision b ≡ Some by → (s : State) → Standing s → Decided s (by s)
+    row_decides : (w : Row) → Fits w (typed_in left).ty (typed_in right).ty t → (place : Place) (b : Behind) (by : State → Gives Tree) → (Operated w place).decision b ≡ Some by → (s : State) → Standing s → Decided b.ends s (by s)
     row_decides (Joined join) fit place b by at s stands =
         let first = l.conditions fit.left (ending place) s stands in
-        subst (λ (v : State → Gives Tree). Decided s (v s)) (some_same at)
-        (joined_part types texts so_far fs f join (condition (uses a left) (ending place)) (condition (uses a right) (ending b.token)) s stands.opened first
+        subst (λ (v : State → Gives Tree). Decided b.ends s (v s)) (some_same at)
+        (joined_part types texts so_far fs f join b.ends place b.token (condition (uses a left) (ending place)) (condition (uses a right) (ending b.token)) s first
         (r.conditions fit.right (ending b.token) (condition (uses a left) (ending place) s).state (stands_later a visible s (condition (uses a left) (ending place) s).state first.grown stands)))
     row_decides (IsNull side) fit place b by at s stands =
-        subst (λ (v : State → Gives Tree). Decided s (v s)) (some_same at)
-        (negation_part types texts so_far fs f (not_null place b.ends (on side (nullable (uses a left)) (nullable (uses a right)))) s (not_null_on side place b.ends s stands fit))
-    row_decides (NotNull side) fit place b by at s stands = subst (λ (v : State → Gives Tree). Decided s (v s)) (some_same at) (not_null_on side place b.ends s stands fit)
+        subst (λ (v : State → Gives Tree). Decided b.ends s (v s)) (some_same at)
+        (negation_part types texts so_far fs f b.ends (not_null place b.ends (on side (nullable (uses a left)) (nullable (uses a right)))) s (not_null_on side place b.ends s stands fit))
+    row_decides (NotNull side) fit place b by at s stands = subst (λ (v : State → Gives Tree). Decided b.ends s (v s)) (some_same at) (not_null_on side place b.ends s stands fit)
     row_decides (Computed by common) fit place b w at s stands = absurd (none_some at)
     row_decides Concatenated fit place b w at s stands = absurd (no_texts fit)
     row_decides (Advanced direction) fit place b w at s stands = absurd (no_move fit)

@@ -6,7 +6,7 @@ use Rattle.life_types.specs.Types.{Types}
 use Rattle.life_types.specs.declared.place.Place.{Place}
 use Rattle.life_types.specs.declared.ty.Ty.{Ty}
 use Rattle.life_types.specs.declared.ty.Ty.TheVariants as ty
-use Rattle.life_elab_laws.specs.Reached.{is_reached_item, is_owner_of_values, is_reached_expression}
+use Rattle.life_elab_laws.specs.Reached.{is_reached_item, is_owner_of_values, is_reached_expression, is_reached_owner}
 use Rattle.life_typed.specs.TypedForm.{Typed, whole as whole_form}
 use Rattle.life_typed.specs.TypedStatement.{ItemForm, line_end, printed}
 use Rattle.life_typed.specs.declared.typed_expr.ExprType.{ExprType}
@@ -31,7 +31,7 @@ use Rattle.life_elab.specs.Statements.{end_line}
 use Rattle.life_elab_laws.proofs.Emitting.{new_targeted}
 use Rattle.life_elab_laws.proofs.ExpressionTypes.{own_value}
 use Rattle.life_elab_laws.proofs.ExpressionForms.{IsWhole}
-use Rattle.life_elab_laws.proofs.Expressions.{whole_expression}
+use Rattle.life_elab_laws.proofs.Expressions.{asked_expression, whole_expression}
 use Rattle.life_elab_laws.proofs.Fronts.{last_there}
 use Rattle.life_elab_laws.proofs.Gifts.{Gift, a_number, a_pointer, held_stays, nothing}
 use Rattle.life_elab_laws.proofs.Growing.{Begins, added}
@@ -47,8 +47,8 @@ use Rattle.life_elab_laws.proofs.SimpleTypes.{printed_type}
 use Rattle.life_elab_laws.proofs.Types.{type_added}
 use Rattle.life_elab_laws.proofs.VariablePlaces.{Stands}
 use Rattle.life_elab_laws.proofs.SeenForms.{Shows, a_shown, string_shows, viewed_part, whole_shows}
-use Rattle.life_elab_laws.proofs.ObjectForms.{IsObject}
-use Rattle.life_elab_laws.proofs.ElementForms.{either_reached, object_expression}
+use Rattle.life_elab_laws.proofs.ObjectForms.{IsOwner}
+use Rattle.life_elab_laws.proofs.ElementForms.{either_reached}
 use Rattle.life_typed.specs.Statements.{is_printed}
 
 module _ (a : Around) (visible : List ℕ) (types : Types) (texts : ℕ) (so_far : Bool) (fs : List Function) (f : Function) (setting : Setting so_far a types fs f) where
@@ -121,7 +121,7 @@ module _ (a : Around) (visible : List ℕ) (types : Types) (texts : ℕ) (so_far
   seen_no_value TextLiteral e = refl
 
   -- a string
-  string_part : (e : Typed) (behind : Place) (s : State) → IsObject a visible types texts so_far fs f setting (whole_form e) → is_printed e.ty ≡ true → Stands a visible s → Acts a visible types texts so_far fs f setting s (item a (printed e) behind s)
+  string_part : (e : Typed) (behind : Place) (s : State) → IsOwner a visible types texts so_far fs f setting (whole_form e) → is_printed e.ty ≡ true → Stands a visible s → Acts a visible types texts so_far fs f setting s (item a (printed e) behind s)
   string_part e behind s is shown stands =
       let text = go is.ty is.owner (sym (ap is_printed is.is) ∙ shown) in
       seen_part e behind s (string_shows a visible types texts so_far fs f setting (whole_form e) is text) (ap (λ (x : ExprType). is_value (own_type x)) is.is ∙ ap is_value text) stands
@@ -133,13 +133,13 @@ module _ (a : Around) (visible : List ℕ) (types : Types) (texts : ℕ) (so_far
 
   pub item_part : nat_lt (end_line a) texts ≡ true → (i : ItemForm) (behind : Place) (s : State) → is_reached_item texts so_far i ≡ true → IsItem a.program a.function.locals a.function.result visible i → Stands a visible s → Acts a visible types texts so_far fs f setting s (item a i behind s)
   item_part lines (printed e) behind s b h stands =
-      elim (either_reached so_far (whole_form e) (is_reached_expression texts so_far e) b) [
+      elim (either_reached so_far (whole_form e) (is_reached_owner texts so_far (whole_form e)) (is_reached_expression texts so_far e) b) [
         | inl value ↦
             let is = whole_expression a visible types texts so_far fs f setting (whole_form e) value h.2 in
             elim (printed_type so_far a.program.types e is.kind.kind h.0) [
               | inl n ↦ printed_part e behind s is n stands
               | inr sees ↦ seen_part e behind s (whole_shows a visible types texts so_far fs f setting (whole_form e) is sees) (seen_no_value e.ty sees) stands
             ]
-        | inr owner ↦ string_part e behind s (object_expression a visible types texts so_far fs f setting (whole_form e) owner.1 owner.0 h.2) h.0 stands
+        | inr owner ↦ string_part e behind s (asked_expression a visible types texts so_far fs f setting (whole_form e) owner.1 owner.0 h.2) h.0 stands
       ]
   item_part lines (line_end place) behind s b h stands = line_part place behind s lines stands

@@ -18,13 +18,13 @@ use Rattle.life_proper.specs.declared.known.Known.TheVariants as known
 use Rattle.life_proper.proofs.ReadyTests.{both_known, one_known, uses_ready}
 use Rattle.life_well_typed.specs.Visible.{Visible, with_next}
 use Rattle.life_writer.specs.Around.{Around}
-use Rattle.life_writer.specs.Variables.{variable_local}
+use Rattle.life_writer.specs.Variables.{variable_local, end_pending}
 use Rattle.life_writer.specs.Writing.{Gives, State, emit, with_code}
 use Rattle.life_elab_laws.proofs.Declaring.{declared_does, its_local, new_below, with_new}
 use Rattle.life_elab_laws.proofs.Doing.{Does}
 use Rattle.life_elab_laws.proofs.Falling.{Falls, falls_acts, falls_append, falls_filling}
 use Rattle.life_elab_laws.proofs.Filling.{all_there}
-use Rattle.life_elab_laws.proofs.Following.{Follows, follows_grown}
+use Rattle.life_elab_laws.proofs.Following.{Follows, follows_settled, settled}
 use Rattle.life_elab_laws.proofs.Gifts.{Gift}
 use Rattle.life_elab_laws.proofs.Growing.{Begins}
 use Rattle.life_elab_laws.proofs.Held.{blank_there, one_there}
@@ -33,13 +33,14 @@ use Rattle.life_elab_laws.proofs.Making.{AreHeld}
 use Rattle.life_elab_laws.proofs.Parts.{Makes}
 use Rattle.life_elab_laws.proofs.Setting.{Setting}
 use Rattle.life_elab_laws.proofs.Shaping.{IsFineStep, fine_acts, fine_append}
+use Rattle.life_elab_laws.proofs.TemporaryEnds.{temporary_ends}
 
 -- what is there stays so where the next local comes to life
 held_beside : (xs : List ℕ) (n : ℕ) (k : List Known) → AreHeld xs n k → AreHeld xs n (slice_set k n known.Ready)
 held_beside [] n k h = tt
 held_beside (x ∷ xs) n k h = ((h.0.0, beside_set k n x known.Ready (λ e. omega (arith, e, h.0.0)) ∙ h.0.1), held_beside xs n k h.1)
 
-module _ (a : Around) (types : Types) (texts : ℕ) (so_far : Bool) (fs : List Function) (f : Function) (setting : Setting so_far a types fs f) (v : Visible) (in_loop : Bool)
+module _ (a : Around) (types : Types) (texts : ℕ) (so_far : Bool) (fs : List Function) (f : Function) (setting : Setting so_far a types fs f) (v : Visible) (in_loop : Bool) (last : Place)
     (u : TypedLocal) (s : State) (h : Follows types f a v s) (at : slice_get a.function.locals v.declared ≡ Some u) (built : is_reached_variable false a.program.types u.ty ≡ true) where
   module _ {A : Type 0} (place : Place) (w : Gives A) (Q : Gift types texts so_far fs f A) (made : Makes types texts so_far fs f None s w Q) (step : ℕ → Step) (used : List ℕ)
       (touches : (x : ℕ) → touched_by f (step x) ≡ record no_locals { uses = x ∷ used }) (ready : (n : ℕ) (k : List Known) → Q.ready w.given n k → AreHeld used n k) (wide : so_far ≡ false) where
@@ -67,10 +68,10 @@ module _ (a : Around) (types : Types) (texts : ℕ) (so_far : Bool) (fs : List F
         (subst (Falls types f acts j) (ap (λ (t : Touched). known_after t j) (touches x)) (falls_acts types f place (step x) j (ap (are_ready j) (touches x) ∙ uses_ready j (x ∷ used) [] all)))
 
     pub lives_then : (New → can_live types texts fs f x ≡ true) → (New → Q.typed w.given → IsFineStep types texts so_far fs f (step x))
-        → Does types texts so_far fs f a (with_next v) in_loop s (emit place (step x) (emit u.place (Live x Plain) (with_new (variable_local a u) w.state)))
+        → Does types texts so_far fs f a (with_next v) in_loop s (end_pending (length s.pending) last (emit place (step x) (emit u.place (Live x Plain) (with_new (variable_local a u) w.state))))
     lives_then can fine =
-        subst (λ (c : List Tree). Does types texts so_far fs f a (with_next v) in_loop s (with_code c (with_new (variable_local a u) w.state)))
+        subst (λ (c : List Tree). Does types texts so_far fs f a (with_next v) in_loop s (end_pending (length s.pending) last (with_code c (with_new (variable_local a u) w.state))))
         (sym (append_assoc w.state.code lives acts))
-        (declared_does types texts so_far fs f a setting.front v in_loop u s w Q (lives ++ acts) h at built made
+        (declared_does types texts so_far fs f a setting.front v in_loop (temporary_ends types texts fs f setting.registers) last u s w Q (lives ++ acts) h at built made
         (λ b q. fine_append types texts so_far fs f lives acts (fine_acts types texts so_far fs f u.place (Live x Plain) (live_fine (can b))) (fine_acts types texts so_far fs f place (step x) (fine b q)))
-        (λ b k size q blank. falls k (omega (arith, size, new_below types f a setting.front v u (variable_local a u) (its_local a u) w.state (follows_grown types f a v s w.state made.grown h) at built b)) q blank))
+        (λ b k size q blank. falls k (omega (arith, size, new_below types f a setting.front v u (variable_local a u) (its_local a u) (settled types f s w.state) (follows_settled types f a v s w.state made.grown h) at built b)) q blank))

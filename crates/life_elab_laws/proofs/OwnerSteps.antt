@@ -35,7 +35,7 @@ use Rattle.life_elab_laws.proofs.ViewSteps.{view_taker}
 
 -- ---- the types of owners
 
-owner_same : (table : Types) (t : Ty) → is_owner_of_values table t ≡ true → same t t ≡ true
+pub owner_same : (table : Types) (t : Ty) → is_owner_of_values table t ≡ true → same t t ≡ true
 owner_same table ty.Text o = same_type ty.Text
 owner_same table (ty.Vector item) o = same_type (ty.Vector item)
 owner_same table _ o = absurd (false≢true o)

@@ -9,7 +9,7 @@ use Rattle.life_writer.specs.Writing.{Gives, State, gives, mapped}
 use Rattle.life_elab_laws.proofs.Falling.{Falls, falls_append}
 use Rattle.life_elab_laws.proofs.Gifts.{Gift, both, nothing}
 use Rattle.life_elab_laws.proofs.Growing.{Begins, Grows, begins_before, grows_none, grows_then}
-use Rattle.life_elab_laws.proofs.Making.{Alive, IsOpen, Keeps, alive_later, keeps_all, keeps_then}
+use Rattle.life_elab_laws.proofs.Making.{Alive, IsOpen, Keeps, keeps_all, keeps_then}
 use Rattle.life_elab_laws.proofs.Shaping.{IsFine, fine_append, fine_none}
 use Rattle.life_elab_laws.proofs.WrittenLocals.{AddsRegisters, registers_none, registers_then}
 
@@ -22,6 +22,7 @@ module _ (types : Types) (texts : ℕ) (so_far : Bool) (fs : List Function) (f :
     pub falls : Falls types f code k after
     pub keeps : Keeps f (length s.locals) into k after
     pub gives : Q.ready w.given (length w.state.locals) after
+    pub alive : Alive f w.state after
 
   pub record Runs {A B : Type 0} (P : Gift types texts so_far fs f A) (x : A) (into : Option ℕ) (s : State) (w : Gives B) (Q : Gift types texts so_far fs f B) (code : List Tree) : Type 0 where
     pub fine : IsFine types texts so_far fs f code
@@ -53,7 +54,7 @@ module _ (types : Types) (texts : ℕ) (so_far : Bool) (fs : List Function) (f :
     runs = λ b p. record {
       fine = fine_none types texts so_far fs f;
       typed = typed b p;
-      goes = λ k alive q. record { after = k; falls = refl; keeps = keeps_all f (length s.locals) into k; gives = ready b k alive q };
+      goes = λ k alive q. record { after = k; falls = refl; keeps = keeps_all f (length s.locals) into k; gives = ready b k alive q; alive = alive };
     };
   }
 
@@ -72,7 +73,7 @@ module _ (types : Types) (texts : ℕ) (so_far : Bool) (fs : List Function) (f :
     runs = λ b p. let r = part.runs b (typed p) in record {
       fine = r.fine;
       typed = r.typed;
-      goes = λ k alive q. let g = r.goes k alive (ready (length s.locals) k q) in record { after = g.after; falls = g.falls; keeps = g.keeps; gives = g.gives };
+      goes = λ k alive q. let g = r.goes k alive (ready (length s.locals) k q) in record { after = g.after; falls = g.falls; keeps = g.keeps; gives = g.gives; alive = g.alive };
     };
   }
 
@@ -87,7 +88,7 @@ module _ (types : Types) (texts : ℕ) (so_far : Bool) (fs : List Function) (f :
     runs = λ b p. let r = part.runs b p in record {
       fine = r.fine;
       typed = typed b r.typed;
-      goes = λ k alive q. let h = r.goes k alive q in record { after = h.after; falls = h.falls; keeps = h.keeps; gives = ready (length w.state.locals) h.after h.gives };
+      goes = λ k alive q. let h = r.goes k alive q in record { after = h.after; falls = h.falls; keeps = h.keeps; gives = ready (length w.state.locals) h.after h.gives; alive = h.alive };
     };
   }
 
@@ -97,8 +98,8 @@ module _ (types : Types) (texts : ℕ) (so_far : Bool) (fs : List Function) (f :
     before : Begins types f v.state → Begins types f w.state
     before b = begins_before types f w.state v.state second.grown b
 
-    next : (k : List Known) → Alive f s k → (g : Goes None s w Q first.code k) → (r : Runs Q w.given into w.state v O second.code) → Goes into w.state v O second.code g.after
-    next k alive g r = r.goes g.after (alive_later f s w.state k g.after opened first.grown alive g.keeps) g.gives
+    next : (k : List Known) → (g : Goes None s w Q first.code k) → (r : Runs Q w.given into w.state v O second.code) → Goes into w.state v O second.code g.after
+    next k g r = r.goes g.after g.alive g.gives
 
     pub then_part : Part P x into s v O
     then_part = record {
@@ -109,11 +110,12 @@ module _ (types : Types) (texts : ℕ) (so_far : Bool) (fs : List Function) (f :
       runs = λ b p. let q = first.runs (before b) p in let r = second.runs b q.typed in record {
         fine = fine_append types texts so_far fs f first.code second.code q.fine r.fine;
         typed = r.typed;
-        goes = λ k alive given. let g = q.goes k alive given in let h = next k alive g r in record {
+        goes = λ k alive given. let g = q.goes k alive given in let h = next k g r in record {
           after = h.after;
           falls = falls_append types f first.code second.code k g.after h.after g.falls h.falls;
           keeps = keeps_then f (length s.locals) (length w.state.locals) into k g.after h.after first.grown.count g.keeps h.keeps;
           gives = h.gives;
+          alive = h.alive;
         };
       };
     }
@@ -135,6 +137,7 @@ module _ (types : Types) (texts : ℕ) (so_far : Bool) (fs : List Function) (f :
           falls = g.falls;
           keeps = g.keeps;
           gives = (Q.stays w.given (length w.state.locals) (length v.state.locals) k g.after second.grown.count q g.keeps, g.gives);
+          alive = g.alive;
         };
       };
     }

@@ -1,8 +1,7 @@
--- Where no temporaries are made, a full expression and a test end nothing.
-use Rattle.std.proofs.Common.{◌≡◌, ◌≤◌, ℕ, List, Option, Some, None, length, reverse, take, refl, ap, ◌∙◌, arith}
+-- Where no temporaries are made, a full expression ends nothing.
+use Rattle.std.proofs.Common.{◌≡◌, ◌≤◌, ℕ, List, length, reverse, take, ap, ◌∙◌, arith}
 use Rattle.std.proofs.lemmas.List.{drop_all, take_all}
 use Rattle.life_types.specs.declared.place.Place.{Place}
-use Rattle.life_writer.specs.Conditions.{end_tested}
 use Rattle.life_writer.specs.Variables.{end, end_pending}
 use Rattle.life_writer.specs.Writing.{State}
 
@@ -14,7 +13,3 @@ none_pending s n place few =
 -- .. of what was written from one state to another
 pub same_pending : (s s' : State) (place : Place) → s'.pending ≡ s.pending → end_pending (length s.pending) place s' ≡ s'
 same_pending s s' place e = none_pending s' (length s.pending) place (omega (arith, ap length e))
-
-pub same_tested : (s s' : State) (ends : Option Place) → s'.pending ≡ s.pending → end_tested (length s.pending) ends s' ≡ s'
-same_tested s s' None e = refl
-same_tested s s' (Some place) e = same_pending s s' place e

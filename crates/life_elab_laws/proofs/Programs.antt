@@ -22,8 +22,8 @@ use Rattle.life_elab.specs.ProgramForms.{all_functions, first_state, functions, 
 use Rattle.life_elab.specs.Programs.{Functions, around, texts_of, with_function}
 use Rattle.life_well_typed.specs.Names.{HasNames, is_function_named}
 use Rattle.life_well_typed.specs.Results.{HasResults, HaveResults, HasTable}
-use Rattle.life_elab_laws.proofs.Beginning.{first_locals, first_shaped, first_types}
-use Rattle.life_elab_laws.proofs.Callees.{IsBegun, IsFunctionOf, callee_from, gives_from, reached_parts, result_nameless, takes_values, type_found, values_at}
+use Rattle.life_elab_laws.proofs.Beginning.{first_locals, first_types}
+use Rattle.life_elab_laws.proofs.Callees.{IsBegun, IsFunctionOf, callee_from, gives_from, reached_parts, result_register, takes_values, type_found, values_at}
 use Rattle.life_elab_laws.proofs.Calls.{IsCallee}
 use Rattle.life_elab_laws.proofs.ExpressionKinds.{function_built}
 use Rattle.life_elab_laws.proofs.FormedLocals.{HasFormedHead, head_formed}
@@ -32,7 +32,8 @@ use Rattle.life_elab_laws.proofs.FunctionWriting.{IsProperBody, function_finishe
 use Rattle.life_elab_laws.proofs.Growing.{Begins}
 use Rattle.life_elab_laws.proofs.OrderedTypes.{KeepsOrder, order_none, order_then}
 use Rattle.life_elab_laws.proofs.Setting.{Setting}
-use Rattle.life_elab_laws.proofs.Shaped.{AreShaped, shaped_later}
+use Rattle.life_elab_laws.proofs.Shaped.{AreShaped}
+use Rattle.life_elab_laws.proofs.ShapedLocals.{written_shaped}
 use Rattle.life_elab_laws.proofs.ShortPlaces.{short_function}
 use Rattle.life_elab_laws.proofs.WrittenLocals.{AreWrittenLocals}
 use Rattle.life_typed.specs.declared.basic.TheConstants.{CHAR}
@@ -52,7 +53,6 @@ result_at types fs n f h at = there types.types f.result.0 (each_at (λ (g : Fun
 pub record FunctionGrows (so_far : Bool) (p : ProgramForm) (f : FunctionForm) (T : Types) : Type 0 where
   pub locals : IsFront (first_state (around p f) T).locals (written (around p f) T).locals
   pub table : IsFront T.types (written (around p f) T).types.types
-  pub shaped : AreShaped p.types (written (around p f) T).locals
   pub own : AreWrittenLocals so_far p.types (around p f) (written (around p f) T)
   pub order : KeepsOrder T (written (around p f) T).types
 
@@ -116,7 +116,8 @@ module _ (so_far : Bool) (p : ProgramForm) (typed : IsWellTyped p) (built : are_
     results = λ g of there. result_at p.types p.functions g of results there;
     gives = gives_from so_far p f T types core is begun;
     shaped = shaped;
-    nameless = result_nameless so_far p f T types core is begun;
+    registers = λ l there void. (result_register so_far p f T types core is begun l there void).1;
+    nameless = λ l there void. (result_register so_far p f T types core is begun l there void).0;
   }
 
   -- ---- what is written grows: shown with functions that only begin
@@ -136,7 +137,10 @@ module _ (so_far : Bool) (p : ProgramForm) (typed : IsWellTyped p) (built : are_
   begun_setting : (n : ℕ) (f : FunctionForm) → slice_get p.functions n ≡ Some f → Setting so_far (around p f) p.types (map begun p.functions) (begun f)
   begun_setting n f at =
       let is = of_program n f at in
-      setting_of p.types p.types (map begun p.functions) f (begun f) n at (begun_so f) begun_callee (first_shaped (around p f) p.types is.typed.parameters (front_itself p.types.types) is.built.any is.built.result)
+      let table = front_itself p.types.types in
+      let first = subst (λ (x : Types). IsFront x.types p.types.types) (sym (first_types (around p f) p.types is.typed.parameters table)) table in
+      setting_of p.types p.types (map begun p.functions) f (begun f) n at (begun_so f) begun_callee
+      (written_shaped so_far (around p f) (first_state (around p f) p.types) p.types table first is.built.any (first_locals (around p f) p.types is.typed.parameters table so_far p.types is.ty is.result is.built.result))
 
   pub grows : (n : ℕ) (f : FunctionForm) → slice_get p.functions n ≡ Some f → (T : Types) → IsFront p.types.types T.types → FunctionGrows so_far p f T
   grows n f at T table =
@@ -146,7 +150,6 @@ module _ (so_far : Bool) (p : ProgramForm) (typed : IsWellTyped p) (built : are_
       record {
         locals = done.does.adds.locals;
         table = subst (λ (x : Types). IsFront x.types (written (around p f) T).types.types) first done.does.adds.table;
-        shaped = done.does.adds.shaped (first_shaped (around p f) T is.typed.parameters table is.built.any is.built.result);
         own = done.does.locals (first_locals (around p f) T is.typed.parameters table so_far p.types is.ty is.result is.built.result);
         order = subst (λ (x : Types). KeepsOrder x (written (around p f) T).types) first done.does.order;
       }
@@ -180,7 +183,9 @@ module _ (so_far : Bool) (p : ProgramForm) (typed : IsWellTyped p) (built : are_
     front = front_then p.types.types w.before.types whole.types.types w.table as_begun.later
 
     shaped : AreShaped whole.types core.locals
-    shaped = shaped_later p.types whole.types front core.locals (subst (λ (c : Function). AreShaped p.types c.locals) (sym w.is) (grows n f at w.before w.table).shaped)
+    shaped =
+        subst (λ (c : Function). AreShaped whole.types c.locals) (sym w.is)
+        (written_shaped so_far (around p f) (written (around p f) w.before) whole.types front w.later (of_program n f at).built.any (grows n f at w.before w.table).own)
 
     -- the type of what it gives back
     pub written_result : slice_get whole.types.types core.result.0 ≡ Some (type_at p.types f.result)
@@ -243,7 +248,7 @@ module _ (so_far : Bool) (p : ProgramForm) (typed : IsWellTyped p) (built : are_
   program_checked = passed_by_all (is_checked whole.types) (list_all (is_checked whole.types)) refl (λ core cores. refl) (λ n f at core w. (one_body n f at core w).checked)
 
   pub program_plain : so_far ≡ true → is_plain (translated p) ≡ true
-  program_plain so = passed_by_all (λ core. is_plain_tree whole.types whole.functions core core.body) (are_plain whole.types whole.functions) refl (λ core cores. refl) (λ n f at core w. (one_body n f at core w).stated.plain so)
+  program_plain so = passed_by_all (λ core. is_plain_tree whole.types core core.body) (are_plain whole.types) refl (λ core cores. refl) (λ n f at core w. (one_body n f at core w).stated.plain so)
 
   pub program_breaks : have_own_breaks (translated p) ≡ true
   program_breaks = passed_by_all has_own_breaks (list_all has_own_breaks) refl (λ core cores. refl) (λ n f at core w. (one_body n f at core w).stated.breaks)

@@ -19,7 +19,7 @@ use Rattle.life_elab_laws.specs.Reached.{are_reached_functions, is_reached}
 use Rattle.life_elab_laws.proofs.BuiltReached.{functions_as}
 use Rattle.life_elab_laws.proofs.ProgramNames.{no_structs_there}
 use Rattle.life_elab_laws.proofs.Programs.{program_breaks, program_checked, program_plain, program_short}
-use Rattle.life_elab_laws.proofs.WellFormedTranslations.{program_formed, program_keeps, program_serves}
+use Rattle.life_elab_laws.proofs.WellFormedTranslations.{program_formed, program_keeps, program_serves, program_structs}
 use Rattle.life_elab_laws.proofs.WrittenResults.{program_writes_results}
 
 proper_parts : (so_far : Bool) (p : ProgramForm) → IsWellTyped p → HasResults p → HasTable p → HasNames p → HasIntMain p → has_no_structs p.structs ≡ true → are_reached_functions (length (texts_of p)) so_far p.types p.functions ≡ true
@@ -59,6 +59,7 @@ module _ (p : ProgramForm) (built : is_built p ≡ true) where
     given = parts.given;
     limits = parts.limits;
     so_far = record {
+      structs = program_structs true p typed reached results (λ so. absurd (true≢false so)) (no_structs_there p.structs p.types.structs none table.structs);
       by_value = plain_calls (translated p) ∙ program_plain true p typed reached results (λ so. absurd (true≢false so)) refl;
       serves = program_serves true p typed reached results (λ so. absurd (true≢false so)) refl;
     };

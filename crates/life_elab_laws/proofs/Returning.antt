@@ -37,20 +37,24 @@ use Rattle.life_writer.specs.Writing.{State, Gives, with_code, write}
 use Rattle.life_elab.specs.StatementForms.{given_back, result_by, result_given}
 use Rattle.life_elab.specs.Statements.{left}
 use Rattle.life_elab_laws.proofs.Among.{Among, among_drop, reverse_among}
-use Rattle.life_elab_laws.proofs.Doing.{Acting, Does, DoesLevel, acts_then, made_acts, made_knows}
+use Rattle.life_elab_laws.proofs.Doing.{Acting, Does, DoesLevel, acts_then, ended_then, full_acts, full_adds, full_code, full_falls, full_fine, full_follows, full_knows, full_state, full_written}
 use Rattle.life_elab_laws.proofs.Ending.{blank_beside, end_ready}
+use Rattle.life_elab_laws.proofs.EndSteps.{IsEnded, ended}
 use Rattle.life_elab_laws.proofs.Exits.{Leaves, MayKnow, MayLeave, none_leaves}
 use Rattle.life_elab_laws.proofs.ExpressionForms.{IsWhole}
 use Rattle.life_elab_laws.proofs.Expressions.{whole_expression}
 use Rattle.life_elab_laws.proofs.GivenKinds.{given_number}
 use Rattle.life_elab_laws.proofs.GivingBack.{GivesValue, fine_known, known_append, nowhere_ready}
 use Rattle.life_elab_laws.proofs.Growing.{Begins}
-use Rattle.life_elab_laws.proofs.Following.{Follows, HasRegister, IsLiving, follows_grown, grows_adds, knows_alive}
-use Rattle.life_elab_laws.proofs.Gifts.{a_number}
-use Rattle.life_elab_laws.proofs.Leaving.{IsEnded, ended, left_acts, left_does, left_level, past_fine}
+use Rattle.life_elab_laws.proofs.Following.{Follows, HasRegister, IsLiving, knows_alive}
+use Rattle.life_elab_laws.proofs.Gifts.{Gift, a_number}
+use Rattle.life_elab_laws.proofs.Leaving.{left_acts, left_does, left_level, past_fine}
 use Rattle.life_elab_laws.proofs.Nowhere.{nowhere_flows}
 use Rattle.life_elab_laws.proofs.Parts.{Makes}
-use Rattle.life_elab_laws.proofs.Pending.{same_pending}
+use Rattle.life_elab_laws.proofs.PendingTemporaries.{IsTemporary}
+use Rattle.life_elab_laws.proofs.EndedTemporaries.{behind_is, ends_spare}
+use Rattle.life_elab_laws.proofs.TemporaryEnds.{TemporariesEnd, temporary_ends}
+use Rattle.life_core.specs.Kinds.{is_object}
 use Rattle.life_elab_laws.proofs.Setting.{Setting}
 use Rattle.life_elab_laws.proofs.Values.{by_results, by_values}
 use Rattle.life_elab_laws.proofs.WrittenLocals.{locals_added}
@@ -137,8 +141,31 @@ module _ (a : Around) (types : Types) (texts : ℕ) (so_far : Bool) (fs : List F
       made : Makes types texts so_far fs f (Some (result_local a)) s w (a_number types texts so_far fs f t)
       made = whole_is.valued number token t worth (Some (result_local a)) s (register worth) h.stands
 
-      later : Follows types f a v w.state
-      later = follows_grown types f a v s w.state made.grown h
+      can : TemporariesEnd types texts fs f
+      can = temporary_ends types texts fs f setting.registers
+
+      abbrev Q : Gift types texts so_far fs f ℕ
+      Q = a_number types texts so_far fs f t
+
+      abbrev into : Option ℕ
+      into = Some (result_local a)
+
+      -- where its temporaries have ended
+      abbrev r_state : State
+      r_state = full_state types texts so_far fs f a v in_loop into s w Q h can token made
+
+      abbrev all_code : List Tree
+      all_code = full_code types texts so_far fs f a v in_loop into s w Q h can token made
+
+      later : Follows types f a v r_state
+      later = full_follows types texts so_far fs f a v in_loop into s w Q h can token made
+
+      -- the register of the result is none of them
+      no_temporary : Begins types f w.state → IsTemporary f.locals types.types (result_local a) → ⊥
+      no_temporary b is =
+          let wanted = (register worth).0 in
+          let same : is.local ≡ wanted.local = same_Some is.local wanted.local (sym is.there ∙ b.locals (result_local a) wanted.local (made.grown.locals (result_local a) wanted.local wanted.there)) in
+          false≢true (sym (ap (λ (l : Local). is_object l.kind) same ∙ ap is_object wanted.kind) ∙ ap is_object is.kind)
 
       abbrev ending : List ℕ
       ending = reverse (drop 0 w.state.living)
@@ -147,71 +174,72 @@ module _ (a : Around) (types : Types) (texts : ℕ) (so_far : Bool) (fs : List F
       not_ending : Among (result_local a) ending → ⊥
       not_ending m = named is.local (register worth).0.local is.name (same_Some is.local (register worth).0.local (sym is.there ∙ made.grown.locals (result_local a) (register worth).0.local (register worth).0.there)) is.named (register worth).0.nameless
         where
-          is : IsLiving w.state (result_local a)
+          is : IsLiving r_state (result_local a)
           is = later.living (result_local a) (among_drop 0 w.state.living (result_local a) (reverse_among (drop 0 w.state.living) (result_local a) m))
 
           named : (l u : Local) (name : NameId) → l ≡ u → l.name ≡ Some name → u.name ≡ None → ⊥
           named l u name same e n = none-some name (sym n ∙ ap (λ (x : Local). x.name) (sym same) ∙ e)
 
-      module _ (d : IsEnded types texts so_far fs f ending keyword w.state) where
+      module _ (d : IsEnded types texts so_far fs f ending keyword r_state) where
         abbrev back : List Tree
         back = d.code ++ Returns keyword ∷ []
 
         abbrev behind : State
-        behind = write (Returns keyword) (with_code (w.state.code ++ d.code) w.state)
+        behind = write (Returns keyword) (with_code (r_state.code ++ d.code) r_state)
 
         -- what is known where control returns
-        known_there : Begins types f w.state → (o : Knowing) → MayKnow f s.living o → IsKnownReady (result_local a) (flow types f (trees d.code) (flow types f (trees made.code) o).next).next
+        known_there : Begins types f w.state → (o : Knowing) → MayKnow f s.living o → IsKnownReady (result_local a) (flow types f (trees d.code) (flow types f (trees all_code) o).next).next
         known_there b None known =
-            nowhere_ready (result_local a) (flow types f (trees d.code) (flow types f (trees made.code) None).next).next
-            (nowhere_flows types f (trees d.code) (flow types f (trees made.code) None).next (nowhere_flows types f (trees made.code) None refl).next).next
+            nowhere_ready (result_local a) (flow types f (trees d.code) (flow types f (trees all_code) None).next).next
+            (nowhere_flows types f (trees d.code) (flow types f (trees all_code) None).next (nowhere_flows types f (trees all_code) None refl).next).next
         known_there b (Some k) known =
-            let g = (made.runs b tt).goes k (knows_alive types f a v s k known) tt in
-            let mid = made_knows types texts so_far fs f a v in_loop (Some (result_local a)) s w (a_number types texts so_far fs f t) h made b k known g in
-            subst (λ (q : Flow). IsKnownReady (result_local a) (flow types f (trees d.code) q.next).next) (sym g.falls)
-            (subst (λ (q : Flow). IsKnownReady (result_local a) q.next) (sym (d.falls g.after (end_ready f w.state.living 0 0 later.ascend g.after mid)))
-            (blank_beside ending g.after (result_local a) not_ending
+            let g = (made.runs b tt).goes k (knows_alive types f a v s h k known) tt in
+            let mid = full_knows types texts so_far fs f a v in_loop into s w Q h can token made k g in
+            let j : List Known = ended_then types texts so_far fs f a v in_loop into s w Q h can token made g.after in
+            subst (λ (q : Flow). IsKnownReady (result_local a) (flow types f (trees d.code) q.next).next) (sym (full_falls types texts so_far fs f a v in_loop into s w Q h can token made k g))
+            (subst (λ (q : Flow). IsKnownReady (result_local a) q.next) (sym (d.falls j (end_ready f w.state.living 0 0 later.ascend j mid)))
+            (blank_beside ending j (result_local a) not_ending
+            ∙ ends_spare types texts so_far fs f s w.state made.grown h.stands.pends token b g.after (result_local a) (no_temporary b)
             ∙ ap (known_at g.after) (sym (whole_is.lands number token t (result_local a) s))
             ∙ g.gives.1))
 
         returned_from : Does types texts so_far fs f a v in_loop s behind
         returned_from = record {
-          adds = grows_adds types f s w.state made.grown;
+          adds = full_adds types texts so_far fs f a v in_loop into s w Q h can token made;
           locals = locals_added so_far types a s w.state made.grown.types made.registers;
           order = made.registers.1;
           follows = later;
-          code = made.code ++ back;
+          code = all_code ++ back;
           written =
-              ap (λ (c : List Tree). (c ++ d.code) ++ Returns keyword ∷ []) made.written
-              ∙ append_assoc (s.code ++ made.code) d.code (Returns keyword ∷ [])
-              ∙ append_assoc s.code made.code back;
+              ap (λ (c : List Tree). (c ++ d.code) ++ Returns keyword ∷ []) (full_written types texts so_far fs f a v in_loop into s w Q h can token made)
+              ∙ append_assoc (s.code ++ all_code) d.code (Returns keyword ∷ [])
+              ∙ append_assoc s.code all_code back;
           acts = acting;
           returns = λ b gives o known.
-              let between : Knowing = (flow types f (trees made.code) o).next in
-              known_append types f (result_local a) made.code back o (fine_known types f (result_local a) texts so_far fs made.code (made.runs b tt).fine o)
-              (known_append types f (result_local a) d.code (Returns keyword ∷ []) between (fine_known types f (result_local a) texts so_far fs d.code (past_fine types texts so_far fs f a setting v w.state later b 0 keyword d) between)
+              let between : Knowing = (flow types f (trees all_code) o).next in
+              known_append types f (result_local a) all_code back o (fine_known types f (result_local a) texts so_far fs all_code (full_fine types texts so_far fs f a v in_loop into s w Q h can token made b) o)
+              (known_append types f (result_local a) d.code (Returns keyword ∷ []) between (fine_known types f (result_local a) texts so_far fs d.code (past_fine types texts so_far fs f a setting v r_state later b 0 keyword d) between)
               (known_there b o known, tt));
         }
           where
-            acting : Begins types f w.state → Acting types texts so_far fs f in_loop s behind (made.code ++ back)
+            acting : Begins types f w.state → Acting types texts so_far fs f in_loop s behind (all_code ++ back)
             acting b =
-                acts_then types texts so_far fs f in_loop s w.state behind made.code back h.outside (grows_adds types f s w.state made.grown)
-                (made_acts types texts so_far fs f a v in_loop (Some (result_local a)) s w (a_number types texts so_far fs f t) h made b)
-                (left_acts types texts so_far fs f a setting v in_loop w.state later 0 keyword (Returns keyword) (record { statement = refl; tests = refl; breaks = refl; plain = λ so. refl; given = refl; formed = refl; served = λ so. refl }) (λ k knows. return_leaves w.state keyword k) d b)
+                acts_then types texts so_far fs f in_loop s r_state behind all_code back h.outside (full_adds types texts so_far fs f a v in_loop into s w Q h can token made)
+                (full_acts types texts so_far fs f a v in_loop into s w Q h can token made b)
+                (left_acts types texts so_far fs f a setting v in_loop r_state later 0 keyword (Returns keyword) (record { statement = refl; tests = refl; breaks = refl; plain = λ so. refl; given = refl; formed = refl; served = λ so. refl }) (λ k knows. return_leaves r_state keyword k) d b)
 
-      pub value_returned : DoesLevel types texts so_far fs f a v in_loop s (left 0 keyword (Returns keyword) w.state)
+      value_returned : DoesLevel types texts so_far fs f a v in_loop s (left 0 keyword (Returns keyword) r_state)
       value_returned =
-          let d = ended types texts so_far fs f ending keyword w.state in
+          let d = ended types texts so_far fs f ending keyword r_state in
           record {
             does = subst (λ (q : State). Does types texts so_far fs f a v in_loop s (write (Returns keyword) q)) (sym d.written) (returned_from d);
-            level = left_level types texts so_far fs f w.state 0 keyword (Returns keyword) ∙ made.grown.living;
+            level = left_level types texts so_far fs f r_state 0 keyword (Returns keyword) ∙ made.grown.living;
           }
 
-      -- it makes no temporaries
       pub result_returned : DoesLevel types texts so_far fs f a v in_loop s (left 0 keyword (Returns keyword) (result_given a (Some e) keyword token s))
       result_returned =
           subst (λ (x : State). DoesLevel types texts so_far fs f a v in_loop s (left 0 keyword (Returns keyword) (end_pending (length s.pending) token x))) (sym by_value)
-          (subst (λ (x : State). DoesLevel types texts so_far fs f a v in_loop s (left 0 keyword (Returns keyword) x)) (sym (same_pending s w.state token made.grown.pending)) value_returned)
+          (subst (λ (x : State). DoesLevel types texts so_far fs f a v in_loop s (left 0 keyword (Returns keyword) x)) (sym (behind_is types texts so_far fs f s w.state made.grown h.stands.pends token)) value_returned)
         where
           by_value : given_back a e keyword token s ≡ w.state
           by_value = ap (λ (k : Class). result_by a k (uses a (whole_form e)) t keyword token s) (by_values (λ x. class (Some x) ≡ classes.Value) refl refl refl refl refl t worth)

@@ -5,11 +5,13 @@ use Rattle.life_types.specs.TypeTests.{is_iterator, is_text, is_value, is_view}
 use Rattle.life_types.specs.declared.ty.Ty.{Ty}
 use Rattle.life_types.specs.declared.ty.Ty.TheVariants as ty
 use Rattle.life_typed.specs.Operators.{added_types, answer, are_equated, are_iterators_of_one, arithmetic, concatenated, is_condition, is_joined, is_literal, is_nullable, is_text_like, moved, promoted, subtracted_types}
+use Rattle.life_typed.specs.Statements.{appended_to_text}
 use Rattle.life_typed.specs.TypedForm.{Form, typed}
 use Rattle.life_typed.specs.declared.typed_expr.BinaryOperator.{BinaryOperator}
 use Rattle.life_typed.specs.declared.typed_expr.BinaryOperator.TheVariants as operator
 use Rattle.life_typed.specs.declared.typed_expr.ExprType.{ExprType}
 use Rattle.life_typed.specs.declared.typed_expr.ExprType.TheVariants.{Of, NullPointer, TextLiteral}
+use Rattle.life_type_expr.specs.Lists.{fits_at_all}
 use Rattle.life_core.specs.declared.instr.Direction.TheVariants.{Backward, Forward}
 use Rattle.life_core.specs.declared.operation.Operator.{Operator}
 use Rattle.life_core.specs.declared.operation.Operator.TheVariants as core
@@ -74,9 +76,15 @@ pub record IsMoved (l r : ExprType) (t : Ty) : Type 0 where
   pub iterator : is_iterator t ≡ true
   pub right : is_number r ≡ true
 
+-- what may be joined with a string, a string too may gain
+abbrev pub Gains : ExprType → Type 0
+Gains t = fits_at_all (appended_to_text t) ≡ true
+
 -- texts that are joined, one of which is a string
 pub record AreTexts (l r : ExprType) (t : Ty) : Type 0 where
   pub string : (is_text (own_type l) || is_text (own_type r)) ≡ true
+  pub left : Gains l
+  pub right : Gains r
   pub answers : t ≡ ty.Text
 
 abbrev pub Fits : Row → (left right : ExprType) → Ty → Type 0
@@ -196,6 +204,15 @@ text_compared by equal a t text answers = go (is_value a) refl
 
 -- ---- sums
 
+joined_gains : (t : Ty) → is_joined t ≡ true → Gains (Of t)
+joined_gains ty.Text j = refl
+joined_gains ty.Char j = refl
+joined_gains _ j = absurd (false≢true j)
+
+text_gains : (t : Ty) → is_text t ≡ true → Gains (Of t)
+text_gains ty.Text x = refl
+text_gains _ x = absurd (false≢true x)
+
 -- of two operands with types
 sums : (a b t : Ty) → added_types a b ≡ Some t → Fits (added (Of a) (Of b)) (Of a) (Of b) t
 sums a b t e = go (is_text a || is_text b) refl (is_iterator a) refl e
@@ -205,13 +222,6 @@ sums a b t e = go (is_text a || is_text b) refl (is_iterator a) refl e
     row i is v vs fit =
         subst (λ (j : Bool). Fits (cond j (Advanced Forward) (cond (is_value a && is_value b) (Computed core.Add (promoted a b)) Concatenated)) (Of a) (Of b) t) (sym is)
         (subst (λ (w : Bool). Fits (cond i (Advanced Forward) (cond w (Computed core.Add (promoted a b)) Concatenated)) (Of a) (Of b) t) (sym vs) fit)
-
-    texts : (x : Bool) → cond x (Some ty.Text) None ≡ Some t → t ≡ ty.Text
-    texts true e = sym (clash e)
-      where
-        clash : Some ty.Text ≡ Some t → ty.Text ≡ t
-        clash e = cc
-    texts false e = absurd (none_some e)
 
     no_values : (is_text a || is_text b) ≡ true → (is_value a && is_value b) ≡ true → ⊥
     no_values text both =
@@ -236,7 +246,10 @@ sums a b t e = go (is_text a || is_text b) refl (is_iterator a) refl e
       where
         joined_texts : (v : Bool) → (is_value a && is_value b) ≡ v → Fits (added (Of a) (Of b)) (Of a) (Of b) t
         joined_texts true v = absurd (no_values text v)
-        joined_texts false v = row false is false v (record { string = text; answers = texts (is_joined a && is_joined b) e })
+        joined_texts false v =
+            let h = given_true (is_joined a && is_joined b) ty.Text t e in
+            let parts = and_parts (is_joined a) (is_joined b) h.0 in
+            row false is false v (record { string = text; left = joined_gains a parts.0; right = joined_gains b parts.1; answers = sym h.1 })
     go false text true is e =
         let h = given_true (is_value b) a t e in
         row true is (is_value a && is_value b) refl (record { left = ap Of h.1; iterator = subst (λ (u : Ty). is_iterator u ≡ true) h.1 is; right = h.0 })
@@ -249,9 +262,9 @@ sum (Of a) (Of b) t e = sums a b t e
 sum (Of a) TextLiteral t e = let h = given_true (is_text a) ty.Text t e in string a h.0 (sym h.1)
   where
     string : (a : Ty) → is_text a ≡ true → t ≡ ty.Text → Fits (added (Of a) TextLiteral) (Of a) TextLiteral t
-    string ty.Text x is = record { string = refl; answers = is }
+    string ty.Text x is = record { string = refl; left = refl; right = refl; answers = is }
     string _ x is = absurd (false≢true x)
-sum TextLiteral (Of b) t e = let h = given_true (is_text b) ty.Text t e in record { string = h.0; answers = sym h.1 }
+sum TextLiteral (Of b) t e = let h = given_true (is_text b) ty.Text t e in record { string = h.0; left = refl; right = text_gains b h.0; answers = sym h.1 }
 sum (Of a) NullPointer t e = absurd (none_some e)
 sum NullPointer (Of b) t e = absurd (none_some e)
 sum NullPointer NullPointer t e = absurd (none_some e)

@@ -22,7 +22,7 @@ use Rattle.life_writer.specs.Around.{Around, own_type}
 use Rattle.life_writer.specs.Characters.{InRegister, InString, InView, Seen, seen, seen_by, viewed}
 use Rattle.life_writer.specs.ExpressionForms.{uses}
 use Rattle.life_writer.specs.Registers.{computed, new_register}
-use Rattle.life_writer.specs.Using.{pointer, pointing, pointing_by}
+use Rattle.life_writer.specs.Using.{operand, pointer, pointing, pointing_by}
 use Rattle.life_writer.specs.Writing.{Gives, State, ◌>>◌, gives, mapped}
 use Rattle.life_elab_laws.proofs.Emitting.{new_targeted}
 use Rattle.life_elab_laws.proofs.ExpressionForms.{IsWhole, Standing, Valued}
@@ -31,9 +31,9 @@ use Rattle.life_elab_laws.proofs.Held.{place_there}
 use Rattle.life_elab_laws.proofs.Instructions.{IsIntoOf, emit_part, into_of_later, location_at, same_part}
 use Rattle.life_elab_laws.proofs.Locations.{is_seen}
 use Rattle.life_elab_laws.proofs.Making.{IsPlace, IsPointer, Keeps}
-use Rattle.life_elab_laws.proofs.ObjectForms.{IsObject}
+use Rattle.life_elab_laws.proofs.ObjectForms.{IsOwner}
 use Rattle.life_elab_laws.proofs.Parts.{Makes, Part, and_part, gives_part, keep_part, seen_part, then_part, under_part}
-use Rattle.life_elab_laws.proofs.PointerForms.{own_typed, placed_operand, seen_view, view_whole}
+use Rattle.life_elab_laws.proofs.PointerForms.{own_typed, seen_view, view_whole}
 use Rattle.life_elab_laws.proofs.Setting.{Setting}
 use Rattle.life_elab_laws.proofs.VariablePlaces.{stands_later}
 use Rattle.life_elab_laws.proofs.OwnerSteps.{whole_filling, whole_given}
@@ -96,24 +96,22 @@ module _ (a : Around) (visible : List ℕ) (types : Types) (texts : ℕ) (so_far
       (view_whole a visible types texts so_far fs f setting form is sees s stands) (λ b h. h) (λ n k h. h))
 
   -- a string
-  pub string_shows : (form : Form) → (is : IsObject a visible types texts so_far fs f setting form) → is.ty ≡ ty.Text → Shows form
+  pub string_shows : (form : Form) → (is : IsOwner a visible types texts so_far fs f setting form) → is.ty ≡ ty.Text → Shows form
   string_shows form is text s stands =
-      let w = (uses a form).at s in
+      let w = operand (uses a form) s in
       subst (λ (w : Gives Seen). Makes types texts so_far fs f None s w (a_shown types texts so_far fs f))
-      (sym (ap (λ (x : Ty). seen_by x (uses a form) s) (ap own_type (sym (own_typed a visible types texts so_far fs f setting form) ∙ is.is) ∙ text)
-      ∙ ap (λ (w : Gives Operand). mapped (InString (uses a form).place) w) (placed_operand a visible types texts so_far fs f setting form is.id is.constant s is.place)))
+      (sym (ap (λ (x : Ty). seen_by x (uses a form) s) (ap own_type (sym (own_typed a visible types texts so_far fs f setting form) ∙ is.is) ∙ text)))
       (seen_part types texts so_far fs f (no_gift types texts so_far fs f) tt None s w (a_place types texts so_far fs f is.ty is.constant) (InString (uses a form).place) (a_shown types texts so_far fs f)
       (is.names s stands)
       (λ b h. (is.wide, record { typed = h.typed ∙ text; held = refl; served = h.served })) (λ n k h. h))
 
   -- .. which gives a view the whole of it
-  pub string_points : (form : Form) → (is : IsObject a visible types texts so_far fs f setting form) → is.ty ≡ ty.Text → (s : State) → Standing a visible types texts so_far fs f setting s
+  pub string_points : (form : Form) → (is : IsOwner a visible types texts so_far fs f setting form) → is.ty ≡ ty.Text → (s : State) → Standing a visible types texts so_far fs f setting s
       → Makes types texts so_far fs f None s (pointing (uses a form) s) (a_pointing types texts so_far fs f (Of ty.View))
   string_points form is text s stands =
-      let w = (uses a form).at s in
+      let w = operand (uses a form) s in
       subst (λ (w : Gives Pointing). Makes types texts so_far fs f None s w (a_pointing types texts so_far fs f (Of ty.View)))
-      (sym (ap (λ (x : Ty). pointing_by x (uses a form) s) (ap own_type (sym (own_typed a visible types texts so_far fs f setting form) ∙ is.is) ∙ text)
-      ∙ ap (λ (w : Gives Operand). mapped (λ o. aimed (Whole o)) w) (placed_operand a visible types texts so_far fs f setting form is.id is.constant s is.place)))
+      (sym (ap (λ (x : Ty). pointing_by x (uses a form) s) (ap own_type (sym (own_typed a visible types texts so_far fs f setting form) ∙ is.is) ∙ text)))
       (seen_part types texts so_far fs f (no_gift types texts so_far fs f) tt None s w (a_place types texts so_far fs f is.ty is.constant) (λ o. aimed (Whole o)) (a_pointing types texts so_far fs f (Of ty.View))
       (is.names s stands)
       (λ b h. whole_given types texts so_far fs f w.given is.wide (h.typed ∙ text)) (λ n k h. whole_filling types texts so_far fs f w.given n k h))

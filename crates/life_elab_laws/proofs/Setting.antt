@@ -19,6 +19,7 @@ use Rattle.life_writer.specs.Around.{Around}
 use Rattle.life_elab_laws.proofs.Calls.{IsCallee}
 use Rattle.life_elab_laws.proofs.Fronts.{IsFront}
 use Rattle.life_elab_laws.proofs.Shaped.{AreShaped}
+use Rattle.life_core.specs.declared.program.LocalKind.TheVariants.{Register}
 
 pub record Setting (so_far : Bool) (a : Around) (types : Types) (fs : List Function) (f : Function) : Type 0 where
   pub front : IsFront a.program.types.types types.types
@@ -34,5 +35,6 @@ pub record Setting (so_far : Bool) (a : Around) (types : Types) (fs : List Funct
   -- the function itself gives a value back, or nothing; its locals without names are registers, and the others variables
   pub gives : class_at types f.result ≡ Value
   pub shaped : AreShaped types f.locals
-  -- .. and that of the result has none
+  -- .. and that of the result is one of these registers
+  pub registers : (l : Local) → slice_get f.locals f.parameters ≡ Some l → is_void (ty_of types f.result) ≡ false → l.kind ≡ Register
   pub nameless : (l : Local) → slice_get f.locals f.parameters ≡ Some l → is_void (ty_of types f.result) ≡ false → l.name ≡ None

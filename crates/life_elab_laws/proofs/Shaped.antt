@@ -1,5 +1,5 @@
--- The locals of a function: one without a name is a register, and one with a name has the type of a variable that is built.
-use Rattle.std.proofs.Common.{◌≡◌, inl, inr, ℕ, Bool, true, false, ◌||◌, List, [], ◌∷◌, ◌++◌, slice_get, Option, Some, None, refl, ap, ◌∙◌, unwrap_or}
+-- The locals of a function: one without a name is a register or a temporary, and what is no register without a name has the type of a variable that is reached.
+use Rattle.std.proofs.Common.{◌≡◌, inl, inr, ℕ, zero, suc, Bool, true, false, ◌||◌, List, [], ◌∷◌, ◌++◌, slice_get, Option, Some, None, refl, ap, ◌∙◌, unwrap_or, ◌&&◌, not, is_none}
 use Rattle.std.proofs.lemmas.Bool.{false≢true}
 use Rattle.life_types.specs.TypeTests.{is_value}
 use Rattle.life_types.specs.Types.{Types}
@@ -14,6 +14,7 @@ use Rattle.life_core.specs.declared.program.Local.{Local}
 use Rattle.life_proper.specs.Knowing.{is_intermediate}
 use Rattle.life_elab_laws.proofs.Fronts.{IsFront, each_at}
 use Rattle.life_elab_laws.proofs.Reaching.{IsReachedType, reaches, type_reached, variable_found}
+use Rattle.life_core.specs.Kinds.{is_object}
 
 -- ---- the type of a variable that is built is one in a table with more types too
 
@@ -53,10 +54,16 @@ module _ (few more : Types) (front : IsFront few.types more.types) where
 
 -- ---- locals
 
--- a variable or a parameter
+-- what is none of these, a local without a name that is no object, is an intermediate value or a hidden range
+abbrev pub is_passing : Local → Bool
+is_passing l = is_none l.name && not (is_object l.kind)
+
+pub named_lasts : (l : Local) (name : NameId) → l.name ≡ Some name → is_passing l ≡ false
+named_lasts l name e = ap (λ (o : Option NameId). is_none o && not (is_object l.kind)) e
+
+-- a variable, a parameter or a temporary
 pub record IsVariable (types : Types) (l : Local) : Type 0 where
-  pub name : NameId
-  pub named : l.name ≡ Some name
+  pub lasts : is_passing l ≡ false
   pub built : is_reached_variable false types l.ty ≡ true
 
 abbrev pub IsShaped : Types → Local → Type 0
@@ -67,17 +74,9 @@ AreShaped types [] = Unit {0}
 AreShaped types (l ∷ ls) = IsShaped types l × AreShaped types ls
 
 module _ (types : Types) where
-  pub shaped_more : (ls : List Local) (l : Local) → AreShaped types ls → IsShaped types l → AreShaped types (ls ++ l ∷ [])
-  shaped_more [] l h one = (one, tt)
-  shaped_more (z ∷ ls) l h one = (h.0, shaped_more ls l h.1 one)
+  pub all_shaped : (ls : List Local) → ((y : ℕ) (l : Local) → slice_get ls y ≡ Some l → IsShaped types l) → AreShaped types ls
+  all_shaped [] each = tt
+  all_shaped (l ∷ ls) each = (each zero l refl, all_shaped ls (λ y. each (suc y)))
 
   pub shaped_at : (ls : List Local) (y : ℕ) (l : Local) → AreShaped types ls → slice_get ls y ≡ Some l → IsShaped types l
   shaped_at = each_at (IsShaped types) (AreShaped types) (λ l ls h. h)
-
-  -- .. in a table with more types too
-  pub shaped_later : (more : Types) → IsFront types.types more.types → (ls : List Local) → AreShaped types ls → AreShaped more ls
-  shaped_later more front [] h = tt
-  shaped_later more front (l ∷ ls) h = (λ not. later (h.0 not), shaped_later more front ls h.1)
-    where
-      later : IsVariable types l → IsVariable more l
-      later is = record { name = is.name; named = is.named; built = variable_later types more front false l.ty is.built }

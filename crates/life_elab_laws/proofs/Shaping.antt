@@ -6,12 +6,12 @@ use Rattle.std.proofs.lemmas.List.Folds.{list_all-append}
 use Rattle.std.specs.List.{list_all}
 use Rattle.life_types.specs.Types.{Types}
 use Rattle.life_types.specs.declared.place.Place.{Place}
-use Rattle.life_core.specs.ByValue.{is_by_value}
 use Rattle.life_core.specs.Function.{Function}
 use Rattle.life_core.specs.Served.{is_served_spot, is_served_step, is_served_test}
 use Rattle.life_core.specs.Shape.{breaks_inside, is_condition, is_statement, is_straight, test_straight, tests_straight}
 use Rattle.life_core.specs.Step.{Call, Step, Test}
 use Rattle.life_core.specs.Tree.{Tree, Skip, Then, Acts, Asks, Both, Either, Negated, Choice, Turns, Breaks, Continues, Returns, Stops, Node, Action, Spot, spots, trees}
+use Rattle.life_proper.specs.ByValue.{is_by_value}
 use Rattle.life_proper.specs.GivenOver.{given_step, keeps_target}
 use Rattle.life_proper.specs.Placed.{object_at}
 use Rattle.life_proper.specs.Plain.{is_plain_tree}
@@ -81,7 +81,7 @@ module _ (types : Types) (f : Function) where
 
 module _ (types : Types) (texts : ℕ) (so_far : Bool) (fs : List Function) (f : Function) where
   abbrev is_plain : Tree → Bool
-  is_plain t = is_plain_tree types fs f t
+  is_plain t = is_plain_tree types f t
 
   abbrev is_formed : Tree → Bool
   is_formed t = is_well_formed_tree types texts fs f t
@@ -108,7 +108,7 @@ module _ (types : Types) (texts : ℕ) (so_far : Bool) (fs : List Function) (f :
     pub condition : is_condition t ≡ true
     pub straight : test_straight t ≡ true
     pub breaks : (in_loop : Bool) → breaks_inside in_loop t ≡ true
-    pub plain : so_far ≡ true → is_plain_tree types fs f t ≡ true
+    pub plain : so_far ≡ true → is_plain_tree types f t ≡ true
     pub given : tree_gives_values types f t ≡ true
     pub formed : is_well_formed_tree types texts fs f t ≡ true
     pub served : so_far ≡ true → is_served_tree t ≡ true
@@ -147,7 +147,7 @@ module _ (types : Types) (texts : ℕ) (so_far : Bool) (fs : List Function) (f :
     pub statement : is_statement t ≡ true
     pub tests : tests_straight t ≡ true
     pub breaks : breaks_inside in_loop t ≡ true
-    pub plain : so_far ≡ true → is_plain_tree types fs f t ≡ true
+    pub plain : so_far ≡ true → is_plain_tree types f t ≡ true
     pub given : tree_gives_values types f t ≡ true
     pub formed : is_well_formed_tree types texts fs f t ≡ true
     pub served : so_far ≡ true → is_served_tree t ≡ true
@@ -171,7 +171,7 @@ module _ (types : Types) (texts : ℕ) (so_far : Bool) (fs : List Function) (f :
     statement = all_append is_statement refl (λ a b. refl) c d first.statement second.statement;
     tests = all_append tests_straight refl (λ a b. refl) c d first.tests second.tests;
     breaks = all_append (breaks_inside in_loop) refl (λ a b. refl) c d first.breaks second.breaks;
-    plain = λ so. all_append (is_plain_tree types fs f) refl (λ a b. refl) c d (first.plain so) (second.plain so);
+    plain = λ so. all_append (is_plain_tree types f) refl (λ a b. refl) c d (first.plain so) (second.plain so);
     given = all_append (tree_gives_values types f) refl (λ a b. list_all-append (spot_gives_values types f) (spots a) (spots b)) c d first.given second.given;
     formed = all_append (is_well_formed_tree types texts fs f) refl (λ a b. refl) c d first.formed second.formed;
     served = λ so. all_append is_served_tree refl (λ a b. list_all-append (is_served_spot types f) (spots a) (spots b)) c d (first.served so) (second.served so);
@@ -217,7 +217,7 @@ module _ (types : Types) (texts : ℕ) (so_far : Bool) (fs : List Function) (f :
 
   -- an instruction by itself
   pub record IsFineStep (i : Step) : Type 0 where
-    pub plain : so_far ≡ true → is_by_value types fs f i ≡ true
+    pub plain : so_far ≡ true → is_by_value types f i ≡ true
     pub given : gives_values types f i ≡ true
     pub formed : is_well_formed_step types texts fs f i ≡ true
     pub served : so_far ≡ true → is_served_step types f i ≡ true

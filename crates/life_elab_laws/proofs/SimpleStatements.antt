@@ -1,5 +1,5 @@
 -- Assignments, steps, calls and output as statements.
-use Rattle.std.proofs.Common.{◌≡◌, ℕ, Bool, true, List, [], ◌∷◌, None, nat_lt, sym, subst}
+use Rattle.std.proofs.Common.{◌≡◌, ℕ, Bool, true, List, [], ◌∷◌, None, nat_lt, drop, length, reverse, ◌∙◌}
 use Rattle.std.proofs.lemmas.Bool.{and_parts}
 use Rattle.life_types.specs.Types.{Types}
 use Rattle.life_types.specs.declared.place.Place.{Place}
@@ -10,29 +10,35 @@ use Rattle.life_well_typed.specs.Statements.{AreItems, IsSimple}
 use Rattle.life_well_typed.specs.Visible.{Visible}
 use Rattle.life_writer.specs.Around.{Around}
 use Rattle.life_writer.specs.Writing.{State, gives}
-use Rattle.life_elab.specs.SimpleForms.{simple}
+use Rattle.life_elab.specs.SimpleForms.{done, simple}
 use Rattle.life_elab.specs.StatementForms.{item, items, output}
 use Rattle.life_elab.specs.Statements.{end_line}
-use Rattle.life_elab_laws.proofs.Doing.{DoesLevel, does_made}
+use Rattle.life_elab_laws.proofs.Doing.{DoesLevel, does_full}
 use Rattle.life_elab_laws.proofs.Following.{Follows}
 use Rattle.life_elab_laws.proofs.Gifts.{nothing}
 use Rattle.life_elab_laws.proofs.Parts.{leaf_part, then_part}
-use Rattle.life_elab_laws.proofs.Pending.{same_pending}
+use Rattle.life_elab_laws.proofs.EndSteps.{end_living}
+use Rattle.life_elab_laws.proofs.TemporaryEnds.{temporary_ends}
+use Rattle.life_writer.specs.Variables.{end_pending}
 use Rattle.life_elab_laws.proofs.Setting.{Setting}
 use Rattle.life_elab_laws.proofs.Outputs.{item_part}
-use Rattle.life_elab_laws.proofs.Simples.{Acts, simple_part}
+use Rattle.life_elab_laws.proofs.Simples.{Acts, done_part}
 use Rattle.life_elab_laws.proofs.VariablePlaces.{Stands, stands_later}
 
 module _ (a : Around) (types : Types) (texts : ℕ) (so_far : Bool) (fs : List Function) (f : Function) (setting : Setting so_far a types fs f) (v : Visible) (in_loop : Bool) where
-  acts_does : (s s' : State) → Follows types f a v s → Acts a v.visible types texts so_far fs f setting s s' → DoesLevel types texts so_far fs f a v in_loop s s'
-  acts_does s s' follows part = record { does = does_made types texts so_far fs f a v in_loop None s (gives tt s') (nothing types texts so_far fs f) follows part; level = part.grown.living }
+  -- its temporaries end behind it
+  acts_does : (s s' : State) (behind : Place) → Follows types f a v s → Acts a v.visible types texts so_far fs f setting s s' → DoesLevel types texts so_far fs f a v in_loop s (end_pending (length s.pending) behind s')
+  acts_does s s' behind follows part = record {
+    does = does_full types texts so_far fs f a v in_loop None s (gives tt s') (nothing types texts so_far fs f) follows (temporary_ends types texts fs f setting.registers) behind part;
+    level = end_living types texts so_far fs f (reverse (drop (length s.pending) s'.pending)) behind s' ∙ part.grown.living;
+  }
 
   pub simple_does : (it : SimpleForm) (behind : Place) (s : State) → is_reached_simple texts so_far it ≡ true → IsSimple a.program a.function.locals a.function.result v.visible it → Follows types f a v s → DoesLevel types texts so_far fs f a v in_loop s (simple a it behind s)
-  simple_does it behind s b h follows = acts_does s (simple a it behind s) follows (simple_part a v.visible types texts so_far fs f setting it behind s b h follows.stands)
+  simple_does it behind s b h follows = acts_does s (done a it behind s) behind follows (done_part a v.visible types texts so_far fs f setting it behind s b h follows.stands)
 
   pub items_do : nat_lt (end_line a) texts ≡ true → (these : List ItemForm) (behind : Place) (s : State) → are_reached_items texts so_far these ≡ true → AreItems a.program a.function.locals a.function.result v.visible these → Follows types f a v s
       → DoesLevel types texts so_far fs f a v in_loop s (output a these behind s)
-  items_do lines these behind s b h follows = acts_does s (output a these behind s) follows ended
+  items_do lines these behind s b h follows = acts_does s (items a these behind s) behind follows (go these s b h follows.stands)
     where
       go : (these : List ItemForm) (s : State) → are_reached_items texts so_far these ≡ true → AreItems a.program a.function.locals a.function.result v.visible these → Stands a v.visible s
           → Acts a v.visible types texts so_far fs f setting s (items a these behind s)
@@ -43,7 +49,3 @@ module _ (a : Around) (types : Types) (texts : ℕ) (so_far : Bool) (fs : List F
           let none = nothing types texts so_far fs f in
           then_part types texts so_far fs f none tt None s (gives tt (item a i behind s)) (gives tt (items a others behind (item a i behind s))) none none stands.opened first
           (go others (item a i behind s) parts.1 h.1 (stands_later a v.visible s (item a i behind s) first.grown stands))
-
-      -- they make no temporaries
-      ended : Acts a v.visible types texts so_far fs f setting s (output a these behind s)
-      ended = let part = go these s b h follows.stands in subst (Acts a v.visible types texts so_far fs f setting s) (sym (same_pending s (items a these behind s) behind part.grown.pending)) part

@@ -1,5 +1,5 @@
 -- Assignments, steps, and calls that stand alone.
-use Rattle.std.proofs.Common.{◌≡◌, ◌⊎◌, inl, inr, ℕ, Bool, true, false, List, [], ◌∷◌, Contains, cond, not, Some, None, refl, sym, ap, ◌∙◌, subst, arith, ◌&&◌, ◌||◌}
+use Rattle.std.proofs.Common.{◌≡◌, ◌⊎◌, inl, inr, ℕ, Bool, true, false, List, [], ◌∷◌, cond, length, not, Option, Some, None, refl, sym, ap, ◌∙◌, subst, ◌&&◌, ◌||◌}
 use Rattle.std.proofs.lemmas.Bool.{and_from, and_parts, false≢true, or_cases}
 use Rattle.std.specs.Prelude.{pos}
 use Rattle.life_types.specs.TypeTests.{is_value, is_void, is_text, is_view, is_iterator}
@@ -12,19 +12,19 @@ use Rattle.life_types.specs.declared.ty.Ty.TheVariants as ty
 use Rattle.life_tree.specs.declared.operator.CompoundOperator.{CompoundOperator}
 use Rattle.life_tree.specs.declared.operator.StepOperator.{StepOperator}
 use Rattle.life_built.specs.Built.{is_call}
-use Rattle.life_elab_laws.specs.Reached.{is_reached_expression, is_reached_simple, is_changing, is_reached_change, is_reached_form, is_reached_object, is_reached_append, is_reached_either, is_owner_of_values, is_reached_assigned, is_owner_type, is_reached_walker, is_walker_of_values, is_erased, is_walker_type}
+use Rattle.life_elab_laws.specs.Reached.{is_reached_expression, is_reached_simple, is_changing, is_reached_change, is_reached_form, is_reached_object, is_reached_owner, is_reached_append, is_reached_either, is_owner_of_values, is_reached_assigned, is_owner_type, is_reached_walker, is_walker_of_values, is_erased, is_reached_list, is_text_there, is_vector, is_walker_type}
 use Rattle.life_typed.specs.Operators.{promoted}
 use Rattle.life_typed.specs.Statements.{can_step, compounded}
-use Rattle.life_typed.specs.TypedForm.{Form, Typed, call, typed, whole as whole_form, method}
-use Rattle.life_typed.specs.TypedStatement.{SimpleForm, assign, compound, discarded, one, several, step}
+use Rattle.life_typed.specs.TypedForm.{Form, Typed, call, forms, method, text, typed, whole as whole_form}
+use Rattle.life_typed.specs.TypedStatement.{ListForm, SimpleForm, assign, compound, discarded, one, several, step}
 use Rattle.life_typed.specs.declared.typed_expr.Category.{Category}
 use Rattle.life_typed.specs.declared.typed_expr.Category.TheVariants as category
 use Rattle.life_typed.specs.declared.typed_expr.ExprType.{ExprType}
-use Rattle.life_typed.specs.declared.typed_expr.ExprType.TheVariants.{Of}
+use Rattle.life_typed.specs.declared.typed_expr.ExprType.TheVariants.{Of, TextLiteral}
 use Rattle.life_typed.specs.declared.typed_expr.Method.TheVariants as methods
 use Rattle.life_type_expr.specs.Lists.{fits_at_all}
 use Rattle.life_core.specs.Function.{Function}
-use Rattle.life_core.specs.Operands.{Operand, Location}
+use Rattle.life_core.specs.Operands.{Location, Operand, Text, object_named}
 use Rattle.life_core.specs.Step.{Save, Advance}
 use Rattle.life_core.specs.Touched.{place_uses}
 use Rattle.life_core.specs.declared.operation.Operation.TheVariants as operation
@@ -32,45 +32,47 @@ use Rattle.life_core.specs.declared.operation.Operator.{Operator}
 use Rattle.life_proper.specs.OperandTypes.{is_promoted, keeps_const, same}
 use Rattle.life_proper.specs.Placed.{is_const_place, is_number_of, type_of}
 use Rattle.life_proper.specs.ReadyKnown.{are_known, is_known}
-use Rattle.life_proper.specs.WellFormed.{answer_of}
+use Rattle.life_proper.specs.WellFormed.{answer_of, is_itself}
 use Rattle.life_proper.specs.declared.known.Known.{Known}
 use Rattle.life_proper.specs.declared.known.Known.TheVariants as known
 use Rattle.life_well_typed.specs.Expressions.{IsExpression, parameter_types, IsMadeOf, typed_in}
 use Rattle.life_well_typed.specs.Given.{is_given, is_number}
+use Rattle.life_well_typed.specs.Members.{is_listed}
 use Rattle.life_well_typed.specs.Statements.{IsSimple}
 use Rattle.life_proper.proofs.ReadyTests.{uses_ready}
 use Rattle.life_writer.specs.Around.{Around, own_type}
 use Rattle.life_writer.specs.Around as around
-use Rattle.life_writer.specs.Assigning.{assigned_by, acted, owner_by}
+use Rattle.life_writer.specs.Assigning.{acted, assigned_by, owner_by, replaced_by}
 use Rattle.life_writer.specs.Calls.{Called, called_alone, form_call}
 use Rattle.life_writer.specs.ExpressionForms.{all_uses, uses}
 use Rattle.life_writer.specs.Giving as giving
-use Rattle.life_writer.specs.Pointers.{pointed, By}
+use Rattle.life_writer.specs.Lists.{list_object, listed}
+use Rattle.life_writer.specs.Pointers.{By, aimed, located, pointed}
 use Rattle.life_writer.specs.Registers.{computed, constant as constant_step, converted}
-use Rattle.life_writer.specs.Uses.{Uses, own}
-use Rattle.life_writer.specs.Using.{operand, pointer, pointing, value}
+use Rattle.life_writer.specs.Uses.{Act, Uses, own}
+use Rattle.life_writer.specs.Using.{operand, pointer, pointing, temporary_of, value}
 use Rattle.life_writer.specs.Values.{read}
 use Rattle.life_writer.specs.Values as values
-use Rattle.life_writer.specs.Writing.{State, Gives, ◌>>◌, emit, gives}
-use Rattle.life_elab.specs.SimpleForms.{advanced, appended, assigned, combined, done, simple, stepped, target_of, thrown, thrown_by, direction}
+use Rattle.life_writer.specs.Writing.{State, Gives, ◌>>◌, emit, gives, mapped}
+use Rattle.life_elab.specs.SimpleForms.{advanced, appended, assigned, combined, done, stepped, target_of, thrown, thrown_by, direction}
+use Rattle.life_elab.specs.DeclarationForms.{built_type}
 use Rattle.life_elab.specs.Simples.{compound_operator, held, put_back, step_operator}
-use Rattle.life_elab_laws.proofs.Aiming.{pointed_fine, pointed_keeps, pointed_ready}
+use Rattle.life_elab_laws.proofs.Aiming.{literal_given, pointed_fine, pointed_keeps, pointed_ready}
 use Rattle.life_elab_laws.proofs.CallParts.{alone_fine}
 use Rattle.life_elab_laws.proofs.Calls.{alone_after, alone_ready}
 use Rattle.life_elab_laws.proofs.ExpressionTypes.{own_no_iterator, own_no_text, own_value, seen_kind}
 use Rattle.life_elab_laws.proofs.ExpressionForms.{IsCall, IsWhole}
-use Rattle.life_elab_laws.proofs.Expressions.{whole_expression, wholes, walker_expression}
+use Rattle.life_elab_laws.proofs.Expressions.{asked_expression, owner_expression, walker_expression, whole_expression, wholes}
 use Rattle.life_elab_laws.proofs.PointerForms.{placed_operand, pointer_whole, points_whole, result_later}
 use Rattle.life_elab_laws.proofs.FormedFits.{given_raw, given_seen, given_owner, given_string, given_walker, given_vector}
+use Rattle.life_elab_laws.proofs.Filling.{text_filling}
 use Rattle.life_elab_laws.proofs.Gifts.{Gift, IsPlaceOf, takes_from, a_number, a_place, a_pointer, a_pointing, arguments, both, nothing}
 use Rattle.life_elab_laws.proofs.GivenKinds.{given_number, given_pointer, given_view}
-use Rattle.life_elab_laws.proofs.Growing.{Grows}
 use Rattle.life_elab_laws.proofs.Held.{place_there, ready_there}
-use Rattle.life_elab_laws.proofs.Instructions.{acted_part, as_type_part, constant_part, converted_part, load_part, operator_part}
+use Rattle.life_elab_laws.proofs.Instructions.{acted_part, as_type_part, constant_part, converted_part, literal_located_part, load_part, operator_part}
 use Rattle.life_elab_laws.proofs.Locations.{is_location, is_pointed, seen_pointed, location_is, view_location}
-use Rattle.life_elab_laws.proofs.Making.{IsHeld, IsOpen, IsPlace, Keeps, keeps_all}
-use Rattle.life_elab_laws.proofs.Parts.{Makes, Part, and_part, gives_part, keep_part, seen_part, then_part, under_part}
-use Rattle.life_elab_laws.proofs.Pending.{same_pending}
+use Rattle.life_elab_laws.proofs.Making.{IsHeld, IsOpen, IsPlace, Keeps, keeps_all, opened_later}
+use Rattle.life_elab_laws.proofs.Parts.{Makes, Part, and_part, gives_part, keep_part, leaf_part, seen_part, then_part, under_part}
 use Rattle.life_elab_laws.proofs.RowTypes.{promoted_is}
 use Rattle.life_elab_laws.proofs.Setting.{Setting}
 use Rattle.life_elab_laws.proofs.SimpleTypes.{IsFree, compound_answer, compounded_numbers, free_place, own_counts, own_same, step_answer, step_value}
@@ -83,7 +85,11 @@ use Rattle.life_elab_laws.proofs.AppendForms.{appended_part, text_gains}
 use Rattle.life_elab_laws.proofs.ComparedForms.{IsEither}
 use Rattle.life_type_stmt.specs.Simples.{is_place}
 use Rattle.life_type_expr.specs.Operands.{is_constant}
-use Rattle.life_elab_laws.proofs.ObjectForms.{IsObject}
+use Rattle.life_elab_laws.proofs.ObjectForms.{IsObject, IsOwner}
+use Rattle.life_elab_laws.proofs.JoinedForms.{literal_builds}
+use Rattle.life_elab_laws.proofs.ListForms.{list_builds}
+use Rattle.life_elab_laws.proofs.MadeForms.{Builds, IsOwning, is_made, stands_there, temporary_dead, temporary_made}
+use Rattle.life_elab_laws.proofs.MoveSteps.{moves_part}
 use Rattle.life_elab_laws.proofs.OwnerSteps.{copies_part}
 use Rattle.life_elab_laws.proofs.SeenForms.{string_points}
 use Rattle.life_elab_laws.proofs.WalkerForms.{IsWalker, walker_pointer, walker_points, vector_points}
@@ -93,7 +99,7 @@ use Rattle.life_elab_laws.proofs.OperandsThere.{value_same}
 use Rattle.life_types.specs.Pointees.{ty_of}
 use Rattle.life_types.specs.declared.ty.TyId.{TyId}
 use Rattle.life_typed.specs.BaseTypes.{type_at}
-use Rattle.life_elab_laws.proofs.ViewForms.{gives_as}
+use Rattle.life_elab_laws.proofs.ViewForms.{AreWhole, gives_as}
 use Rattle.life_well_typed.specs.Members.{IsCalled}
 use Rattle.life_typed.specs.Conversions.{fits}
 
@@ -128,9 +134,6 @@ module _ (a : Around) (visible : List ℕ) (types : Types) (texts : ℕ) (so_far
 
   abbrev whole : (e : Typed) → is_reached_expression texts so_far e ≡ true → Whole e → IsWhole a visible types texts so_far fs f setting (whole_form e)
   whole e b h = whole_expression a visible types texts so_far fs f setting (whole_form e) b h
-
-  opened_later : (s s' : State) → IsOpen s → Grows s s' → IsOpen s'
-  opened_later s s' h g y c = omega (arith, h y (subst (λ (ys : List ℕ). Contains ys y) g.living c), g.count)
 
   -- a number is saved at a place
   saved_part : {A : Type 0} (P : Giving A) (x : A) (t : Ty) (r : ℕ) (o : Operand) (place : Place) (s : State) → (P.typed x → is_number_of types f t r ≡ true) → (P.typed x → IsPlaceOf types texts so_far fs f t false o)
@@ -242,7 +245,7 @@ module _ (a : Around) (visible : List ℕ) (types : Types) (texts : ℕ) (so_far
       let z = converted t u place y.given y.state in
       let one = under_part types texts so_far fs f N x.0 P x None s y (a_value t) (operator_part types texts so_far fs f None t t place o x.0 s p answers w tt) (λ h. h.0) (λ n k h. h.0) in
       let first = keep_part types texts so_far fs f P x s (gives x s) y P (a_value t) opened (gives_part types texts so_far fs f P x None x s P (λ b h. h) (λ b k alive h. h)) one in
-      let later = opened_later s y.state opened one.grown in
+      let later = opened_later s y.state one.grown opened in
       let second = under_part types texts so_far fs f (a_value t) y.given (both_of P (a_value t)) (x, y.given) None y.state z (a_value u) (converted_part types texts so_far fs f t u place y.given y.state v later) (λ h. h.1) (λ n k h. h.1) in
       then_part types texts so_far fs f P x None s (gives ((x, y.given), z.given) z.state) _ (both_of (both_of P (a_value t)) (a_value u)) no_gift opened
       (keep_part types texts so_far fs f P x s (gives (x, y.given) y.state) z (both_of P (a_value t)) (a_value u) opened first second)
@@ -263,9 +266,9 @@ module _ (a : Around) (visible : List ℕ) (types : Types) (texts : ℕ) (so_far
       let Q = both_of P (a_value t) in
       let R = both_of (both_of (a_value t) (a_value t)) (a_target u) in
       let pair = and_part types texts so_far fs f no_gift tt s r l (a_value t) (a_target u) stands.opened first second in
-      let later = opened_later s l.state stands.opened pair.grown in
+      let later = opened_later s l.state pair.grown stands.opened in
       let third = under_part types texts so_far fs f (a_target u) l.given P (r.given, l.given) None l.state h (a_value t) (held_part target l.given t l.state v w later) (λ q. q.1) (λ n k q. q.1) in
-      let back = put_back_part target ((h.given, r.given), l.given) t place (compound_operator o) h.state v w p (compound_answer o t) (opened_later l.state h.state later third.grown) in
+      let back = put_back_part target ((h.given, r.given), l.given) t place (compound_operator o) h.state v w p (compound_answer o t) (opened_later l.state h.state third.grown later) in
       then_part types texts so_far fs f no_gift tt None s (gives ((r.given, l.given), h.given) h.state) _ Q no_gift stands.opened
       (keep_part types texts so_far fs f no_gift tt s (gives (r.given, l.given) l.state) h P (a_value t) stands.opened pair third)
       (under_part types texts so_far fs f R ((h.given, r.given), l.given) Q ((r.given, l.given), h.given) None h.state _ no_gift back (λ q. ((q.1, q.0.0), q.0.1)) (λ n k q. ((q.1, q.0.0), q.0.1)))
@@ -280,14 +283,14 @@ module _ (a : Around) (visible : List ℕ) (types : Types) (texts : ℕ) (so_far
       let h = held target l.given t l.state in
       let r = computed None t place (constant_step (pos 1)) h.state in
       let first = free_target target at to v s stands in
-      let opened = opened_later s l.state stands.opened first.grown in
+      let opened = opened_later s l.state first.grown stands.opened in
       let second = held_part target l.given t l.state v w opened in
-      let later = opened_later l.state h.state opened second.grown in
+      let later = opened_later l.state h.state second.grown opened in
       let third = constant_part types texts so_far fs f None t place (pos 1) h.state w tt in
       let P = both_of (a_target u) (a_value t) in
       let Q = both_of P (a_value t) in
       let R = both_of (both_of (a_value t) (a_value t)) (a_target u) in
-      let back = put_back_part target ((h.given, r.given), l.given) t place (step_operator o) r.state v w p (step_answer o t) (opened_later h.state r.state later third.grown) in
+      let back = put_back_part target ((h.given, r.given), l.given) t place (step_operator o) r.state v w p (step_answer o t) (opened_later h.state r.state third.grown later) in
       then_part types texts so_far fs f no_gift tt None s (gives ((l.given, h.given), r.given) r.state) _ Q no_gift stands.opened
       (and_part types texts so_far fs f no_gift tt s (gives (l.given, h.given) h.state) r P (a_value t) stands.opened (keep_part types texts so_far fs f no_gift tt s l h (a_target u) (a_value t) stands.opened first second) third)
       (under_part types texts so_far fs f R ((h.given, r.given), l.given) Q ((l.given, h.given), r.given) None r.state _ no_gift back (λ q. ((q.0.1, q.1), q.0.0)) (λ n k q. ((q.0.1, q.1), q.0.0)))
@@ -337,6 +340,17 @@ module _ (a : Around) (visible : List ℕ) (types : Types) (texts : ℕ) (so_far
           subst (Acts s) (sym (ap (λ (k : Category). thrown k (uses a (whole_form e)) behind s) is.held ∙ value_thrown (uses a (whole_form e)) behind (own_type e.ty) s refl (own_value e.ty n)))
           (kept_part e behind s (whole e b h) n stands)
   discarded_part _ e behind s same b h calls stands = absurd (false≢true calls)
+
+  -- a number, which is computed, or a place that has one
+  number_thrown : (e : Typed) (behind : Place) (s : State) → IsWhole a visible types texts so_far fs f setting (whole_form e) → is_number e.ty ≡ true → Standing s → Acts s (thrown e.category (uses a (whole_form e)) behind s)
+  number_thrown e behind s is n stands = go e.category refl
+    where
+      go : (c : Category) → e.category ≡ c → Acts s (thrown c (uses a (whole_form e)) behind s)
+      go category.Value held = subst (Acts s) (sym (value_thrown (uses a (whole_form e)) behind (own_type e.ty) s refl (own_value e.ty n))) (kept_part e behind s is n stands)
+      go (category.Place id constant) held =
+          let t = type_at a.program.types id in
+          let worth : is_value t ≡ true = sym (ap is_number (is.kind.place id constant held)) ∙ n in
+          seen_part types texts so_far fs f no_gift tt None s ((uses a (whole_form e)).at s) (a_place types texts so_far fs f t constant) (λ (o : Operand). tt) no_gift (is.names id constant held worth s stands) (λ b h. tt) (λ n k h. tt)
 
   -- ---- changes of owners
 
@@ -391,6 +405,11 @@ module _ (a : Around) (visible : List ℕ) (types : Types) (texts : ℕ) (so_far
   to_free : (c : Category) (constant : Bool) → is_constant c ≡ constant → not (is_constant c) ≡ true → constant ≡ false
   to_free c constant is h = sym is ∙ not_true (is_constant c) h
 
+  owner_class : (t : Ty) → is_owner_of_values a.program.types t ≡ true → class (Some t) ≡ classes.Owner
+  owner_class ty.Text o = refl
+  owner_class (ty.Vector item) o = refl
+  owner_class _ o = absurd (false≢true o)
+
   -- a copy
   copied_part : (target e : Typed) (equals behind : Place) (s : State) → (to : IsObject a visible types texts so_far fs f setting (whole_form target)) → to.constant ≡ false → (from : IsObject a visible types texts so_far fs f setting (whole_form e)) → from.ty ≡ to.ty → Standing s
       → Acts s (assigned a target equals (one e) behind s)
@@ -407,11 +426,50 @@ module _ (a : Around) (visible : List ℕ) (types : Types) (texts : ℕ) (so_far
       (then_part types texts so_far fs f no_gift tt None s (gives (w.given, o.given) o.state) _ (both_of P Q) no_gift stands.opened
       (and_part types texts so_far fs f no_gift tt s w o P Q stands.opened first second)
       (copies_part types texts so_far fs f (both_of P Q) (w.given, o.given) a.program.types to.ty from.constant o.given w.given equals o.state to.wide to.owner (λ h. (h.1, h.0)) (λ n k q. (q.1, q.0))))
+
+  -- one that is made, by way of a temporary
+  made_assigned_part : (target : Typed) (u : Uses) (equals behind : Place) (s : State) → (to : IsObject a visible types texts so_far fs f setting (whole_form target)) → to.constant ≡ false → u.category ≡ category.Value → u.replacing ≡ None
+      → Builds a visible types texts so_far fs f setting to.ty s (u.object s) → Standing s → Acts s (assigned_by (class (Some (own_type target.ty))) u (own_type target.ty) (target_of (uses a (whole_form target))) equals behind s)
+  made_assigned_part target u equals behind s to free held plain builds stands =
+      let w = temporary_of u to.ty s in
+      let o = operand (uses a (whole_form target)) w.state in
+      let P = a_place types texts so_far fs f to.ty false in
+      let first = temporary_made a visible types texts so_far fs f setting to.ty u.place s (u.object s) to.wide to.owner builds stands in
+      let later = stands_later a visible s w.state first.grown stands in
+      let second = object_part a visible types texts so_far fs f setting (whole_form target) to free w.state later in
+      let apart =
+      ap (λ (g : Gives Operand). is_itself types texts fs f w.given g.given) (placed_operand a visible types texts so_far fs f setting (whole_form target) to.id to.constant w.state to.place)
+      ∙ to.apart w.state later w.given (temporary_dead a visible types texts so_far fs f setting to.ty u.place s (u.object s) to.wide to.owner builds stands) in
+      subst (Acts s)
+      (sym (ap (λ (k : Class). assigned_by k u (own_type target.ty) (target_of (uses a (whole_form target))) equals behind s) (ap (λ (t : Ty). class (Some t)) (ap own_type to.is) ∙ owner_class to.ty to.owner)
+      ∙ ap (λ (t : Ty). acted (owner_by u.category u t s) (target_of (uses a (whole_form target))) equals) (ap own_type to.is)
+      ∙ ap (λ (c : Category). acted (owner_by c u to.ty s) (target_of (uses a (whole_form target))) equals) held
+      ∙ ap (λ (r : Option (State → Gives Act)). acted (replaced_by r (temporary_of u to.ty) s) (target_of (uses a (whole_form target))) equals) plain))
+      (then_part types texts so_far fs f no_gift tt None s (gives (object_named w.given, o.given) o.state) _ (both_of P P) no_gift stands.opened
+      (and_part types texts so_far fs f no_gift tt s (mapped object_named w) o P P stands.opened first second)
+      (moves_part types texts so_far fs f setting.registers (both_of P P) (object_named w.given, o.given) a.program.types to.ty o.given w.given equals o.state to.wide to.owner (λ h. (h.1, h.0)) (λ n k q. (q.1, q.0)) apart))
+
+  -- .. of a literal
+  literal_assigned_part : (target e : Typed) (equals behind : Place) (s : State) → (to : IsObject a visible types texts so_far fs f setting (whole_form target)) → to.constant ≡ false → (form : Form) → e.form ≡ form → is_text_there texts so_far form ≡ true
+      → is_given a.program.types to.ty e ≡ true → Whole e → Standing s → Acts s (assigned a target equals (one e) behind s)
+  literal_assigned_part target e equals behind s to free (text n) same few given h stands =
+      let told : IsMadeOf a.program a.function.locals visible e (text n) = subst (IsMadeOf a.program a.function.locals visible e) same h in
+      let string = string_only to.ty to.owner (subst (λ (x : ExprType). fits_at_all (fits a.program.types to.ty x e.category) ≡ true) told.0 given) in
+      let w = located e.place ty.View (aimed (Text n)) s in
+      let made =
+      then_part types texts so_far fs f no_gift tt None s (gives (aimed (Text n)) s) w (a_pointing types texts so_far fs f TextLiteral) (a_pointer types texts so_far fs f ty.View) stands.opened
+      (leaf_part types texts so_far fs f (aimed (Text n)) s (a_pointing types texts so_far fs f TextLiteral) (λ b. literal_given types texts so_far fs f n few) (λ b k alive. text_filling f n (length s.locals) k))
+      (literal_located_part types texts so_far fs f (aimed (Text n)) e.place s) in
+      let literal = λ (g : Form). (uses a (typed e.place e.ty e.category g)) in
+      made_assigned_part target (uses a (whole_form e)) equals behind s to free told.1 (ap (λ (g : Form). (literal g).replacing) same)
+      (subst (λ (g : Form). Builds a visible types texts so_far fs f setting to.ty s ((literal g).object s)) (sym same)
+      (subst (λ (t : Ty). Builds a visible types texts so_far fs f setting t s ((literal (text n)).object s)) (sym string) (literal_builds a visible types texts so_far fs f setting s w to.wide made))) stands
     where
-      owner_class : (t : Ty) → is_owner_of_values a.program.types t ≡ true → class (Some t) ≡ classes.Owner
-      owner_class ty.Text o = refl
-      owner_class (ty.Vector item) o = refl
-      owner_class _ o = absurd (false≢true o)
+      string_only : (t : Ty) → is_owner_of_values a.program.types t ≡ true → fits_at_all (fits a.program.types t TextLiteral e.category) ≡ true → t ≡ ty.Text
+      string_only ty.Text o fit = refl
+      string_only (ty.Vector item) o fit = absurd (false≢true fit)
+      string_only _ o fit = absurd (false≢true o)
+  literal_assigned_part target e equals behind s to free _ same few given h stands = absurd (false≢true few)
 
   -- an iterator or a span
   walker_assigned_part : (target e : Typed) (equals behind : Place) (s : State) → (to : IsWalker a visible types texts so_far fs f setting (whole_form target)) → (from : IsWalker a visible types texts so_far fs f setting (whole_form e)) → is_given a.program.types to.ty e ≡ true → Standing s
@@ -428,13 +486,13 @@ module _ (a : Around) (visible : List ℕ) (types : Types) (texts : ℕ) (so_far
       walker_class _ w = absurd (false≢true w)
 
   -- a span of the whole of a vector
-  span_assigned_part : (target e : Typed) (equals behind : Place) (s : State) → (to : IsWalker a visible types texts so_far fs f setting (whole_form target)) → (from : IsObject a visible types texts so_far fs f setting (whole_form e)) → is_given a.program.types to.ty e ≡ true → Standing s
+  span_assigned_part : (target e : Typed) (equals behind : Place) (s : State) → (to : IsWalker a visible types texts so_far fs f setting (whole_form target)) → (from : IsOwner a visible types texts so_far fs f setting (whole_form e)) → is_given a.program.types to.ty e ≡ true → Standing s
       → Acts s (assigned a target equals (one e) behind s)
   span_assigned_part target e equals behind s to from given stands = go to.ty refl to.walker given
     where
       go : (t : Ty) → to.ty ≡ t → is_walker_of_values a.program.types t ≡ true → is_given a.program.types t e ≡ true → Acts s (assigned a target equals (one e) behind s)
       go (ty.Span item constant) span worth h =
-          let vector = given_vector a.program.types item constant from.constant from.id from.ty e from.owner from.is from.place h in
+          let vector = given_vector a.program.types item constant from.constant from.ty e from.owner from.is from.told h in
           let t = ty.Span item constant in
           subst (λ (k : Class). Acts s (assigned_by k (uses a (whole_form e)) (own_type target.ty) (target_of (uses a (whole_form target))) equals behind s)) (sym (ap (λ (t : Ty). class (Some t)) (ap own_type to.is ∙ span)))
           (pointer_given_part target e equals behind s t (Of t) refl
@@ -450,50 +508,96 @@ module _ (a : Around) (visible : List ℕ) (types : Types) (texts : ℕ) (so_far
           no_iterator _ o = absurd (false≢true o)
       go _ span worth h = absurd (false≢true worth)
 
-  owned_assigned_part : (target e : Typed) (equals behind : Place) (s : State)
-      → (((is_owner_type so_far target.ty && is_reached_object (whole_form target)) || (is_view (own_type target.ty) && is_reached_expression texts so_far target)) && (is_owner_type so_far e.ty && is_reached_object (whole_form e))) ≡ true → IsSimple a.program a.function.locals a.function.result visible (assign target equals (one e)) → Standing s
-      → Acts s (assigned a target equals (one e) behind s)
-  owned_assigned_part target e equals behind s b h stands =
-      let goals : Bool = is_owner_type so_far target.ty && is_reached_object (whole_form target) in
-      let views : Bool = is_view (own_type target.ty) && is_reached_expression texts so_far target in
-      let one = and_parts (goals || views) (is_owner_type so_far e.ty && is_reached_object (whole_form e)) b in
-      let source = and_parts (is_owner_type so_far e.ty) (is_reached_object (whole_form e)) one.1 in
-      let from = object_expression a visible types texts so_far fs f setting (whole_form e) source.1 source.0 h.1.1 in
-      let given : is_given a.program.types (own_type target.ty) e ≡ true = subst (λ (t : Ty). is_given a.program.types t e ≡ true) (own_same target.ty) h.1.0 in
-      elim (or_cases goals views one.0) [
+  -- an owner, by a copy of another one, or by one that is made
+  owner_assigned_part : (target e : Typed) (equals behind : Place) (s : State)
+      → ((is_owner_type so_far target.ty && is_reached_object (whole_form target)) && ((is_owner_type so_far e.ty && is_reached_owner texts so_far (whole_form e)) || (not so_far && is_text_there texts so_far e.form))) ≡ true
+      → IsSimple a.program a.function.locals a.function.result visible (assign target equals (one e)) → Standing s → Acts s (assigned a target equals (one e) behind s)
+  owner_assigned_part target e equals behind s b h stands =
+      let both = and_parts (is_owner_type so_far target.ty && is_reached_object (whole_form target)) ((is_owner_type so_far e.ty && is_reached_owner texts so_far (whole_form e)) || (not so_far && is_text_there texts so_far e.form)) b in
+      let goal = and_parts (is_owner_type so_far target.ty) (is_reached_object (whole_form target)) both.0 in
+      let to = object_expression a visible types texts so_far fs f setting (whole_form target) goal.1 goal.0 h.0.1 in
+      let free = to_free target.category to.constant (ap is_constant to.place) (and_parts (is_place target.ty target.category) (not (is_constant target.category)) h.0.0).1 in
+      let given : is_given a.program.types to.ty e ≡ true = subst (λ (t : Ty). is_given a.program.types t e ≡ true) (own_same target.ty ∙ ap own_type to.is) h.1.0 in
+      elim (or_cases (is_owner_type so_far e.ty && is_reached_owner texts so_far (whole_form e)) (not so_far && is_text_there texts so_far e.form) both.1) [
         | inl owner ↦
-            let parts = and_parts (is_owner_type so_far target.ty) (is_reached_object (whole_form target)) owner in
-            let to = object_expression a visible types texts so_far fs f setting (whole_form target) parts.1 parts.0 h.0.1 in
-            copied_part target e equals behind s to (to_free target.category to.constant (ap is_constant to.place) (and_parts (is_place target.ty target.category) (not (is_constant target.category)) h.0.0).1) from
-            (given_owner a.program.types to.ty from.ty e to.owner from.owner from.is (subst (λ (t : Ty). is_given a.program.types t e ≡ true) (ap own_type to.is) given)) stands
-        | inr view ↦
-            let parts = and_parts (is_view (own_type target.ty)) (is_reached_expression texts so_far target) view in
-            let is = whole target parts.1 h.0.1 in
-            let viewed : own_type target.ty ≡ ty.View = view_is (own_type target.ty) parts.0 in
-            let at : target.ty ≡ Of ty.View = location_is target.ty (view_location (own_type target.ty) parts.0) ∙ ap Of viewed in
-            subst (λ (k : Class). Acts s (assigned_by k (uses a (whole_form e)) (own_type target.ty) (target_of (uses a (whole_form target))) equals behind s)) (sym (ap (λ (t : Ty). class (Some t)) viewed))
-            (pointer_given_part target e equals behind s ty.View (Of ty.View) refl (λ s stands. pointer_whole a visible types texts so_far fs f setting (whole_form target) is ty.View at refl (own (uses a (whole_form target))) s stands)
-            (string_points a visible types texts so_far fs f setting (whole_form e) from (given_string a.program.types from.ty e from.owner from.is (subst (λ (t : Ty). is_given a.program.types t e ≡ true) viewed given)) s stands) refl stands)
+            let source = and_parts (is_owner_type so_far e.ty) (is_reached_owner texts so_far (whole_form e)) owner in
+            from_owner to free given (owner_expression a visible types texts so_far fs f setting (whole_form e) source.1 source.0 h.1.1)
+        | inr literal ↦ let parts = and_parts (not so_far) (is_text_there texts so_far e.form) literal in literal_assigned_part target e equals behind s to free e.form refl parts.1 given h.1.1 stands
       ]
+    where
+      from_owner : (to : IsObject a visible types texts so_far fs f setting (whole_form target)) → to.constant ≡ false → is_given a.program.types to.ty e ≡ true → IsOwning a visible types texts so_far fs f setting (whole_form e) → Acts s (assigned a target equals (one e) behind s)
+      from_owner to free given (stands_there from) = copied_part target e equals behind s to free from (given_owner a.program.types to.ty from.ty e to.owner from.owner from.is given) stands
+      from_owner to free given (is_made from) =
+          made_assigned_part target (uses a (whole_form e)) equals behind s to free from.value from.plain
+          (subst (λ (t : Ty). Builds a visible types texts so_far fs f setting t s ((uses a (whole_form e)).object s)) (given_owner a.program.types to.ty from.ty e to.owner from.owner from.is given) (from.builds s stands)) stands
+
+  -- .. of a list of its elements
+  list_assigned_part : (target : Typed) (list : ListForm) (equals behind : Place) (s : State) → is_reached_assigned texts so_far target (several list) ≡ true → IsSimple a.program a.function.locals a.function.result visible (assign target equals (several list)) → Standing s
+      → Acts s (assigned a target equals (several list) behind s)
+  list_assigned_part target list equals behind s b h stands =
+      let both = and_parts (is_owner_type so_far target.ty && is_reached_object (whole_form target)) (is_reached_list texts so_far (own_type target.ty) list) b in
+      let goal = and_parts (is_owner_type so_far target.ty) (is_reached_object (whole_form target)) both.0 in
+      let one = and_parts (is_vector texts so_far (own_type target.ty)) (not so_far && is_reached_form texts so_far (forms list.elements)) both.1 in
+      let two = and_parts (not so_far) (is_reached_form texts so_far (forms list.elements)) one.1 in
+      let to = object_expression a visible types texts so_far fs f setting (whole_form target) goal.1 goal.0 h.0.1 in
+      let free = to_free target.category to.constant (ap is_constant to.place) (and_parts (is_place target.ty target.category) (not (is_constant target.category)) h.0.0).1 in
+      go to free to.ty refl to.owner (ap (is_vector texts so_far) (sym (ap own_type to.is)) ∙ one.0) (wholes a visible types texts so_far fs f setting (forms list.elements) two.1 h.1.1) (subst (λ (t : Ty). is_listed a.program.types t (forms list.elements) ≡ true) (own_same target.ty ∙ ap own_type to.is) h.1.0)
+    where
+      go : (to : IsObject a visible types texts so_far fs f setting (whole_form target)) → to.constant ≡ false → (t : Ty) → to.ty ≡ t → is_owner_of_values a.program.types t ≡ true → is_vector texts so_far t ≡ true → AreWhole a visible types texts so_far fs f setting (forms list.elements)
+          → is_listed a.program.types t (forms list.elements) ≡ true → Acts s (assigned a target equals (several list) behind s)
+      go to free (ty.Vector item) at o v elements all =
+          let own_is : own_type target.ty ≡ ty.Vector item = ap own_type to.is ∙ at in
+          let u = listed a (built_type a (own_type target.ty)) list.opening (all_uses a (forms list.elements)) list.delimiters in
+          let builds = list_builds a visible types texts so_far fs f setting item o to.wide list.opening (forms list.elements) list.delimiters s elements all in
+          made_assigned_part target u equals behind s to free refl refl
+          (subst (λ (t : Ty). Builds a visible types texts so_far fs f setting t s (u.object s)) (sym at)
+          (subst (λ (t : Ty). Builds a visible types texts so_far fs f setting (ty.Vector item) s (gives (list_object a (built_type a t) list.opening (all_uses a (forms list.elements)) list.delimiters) s)) (sym own_is) builds)) stands
+      go to free _ at o v elements all = absurd (false≢true v)
+
+  -- a view of the whole of a string
+  view_assigned_part : (target e : Typed) (equals behind : Place) (s : State)
+      → ((is_view (own_type target.ty) && is_reached_expression texts so_far target) && (is_owner_type so_far e.ty && is_reached_owner texts so_far (whole_form e))) ≡ true → IsSimple a.program a.function.locals a.function.result visible (assign target equals (one e)) → Standing s
+      → Acts s (assigned a target equals (one e) behind s)
+  view_assigned_part target e equals behind s b h stands =
+      let both = and_parts (is_view (own_type target.ty) && is_reached_expression texts so_far target) (is_owner_type so_far e.ty && is_reached_owner texts so_far (whole_form e)) b in
+      let goal = and_parts (is_view (own_type target.ty)) (is_reached_expression texts so_far target) both.0 in
+      let source = and_parts (is_owner_type so_far e.ty) (is_reached_owner texts so_far (whole_form e)) both.1 in
+      let from = asked_expression a visible types texts so_far fs f setting (whole_form e) source.1 source.0 h.1.1 in
+      let is = whole target goal.1 h.0.1 in
+      let viewed : own_type target.ty ≡ ty.View = view_is (own_type target.ty) goal.0 in
+      let at : target.ty ≡ Of ty.View = location_is target.ty (view_location (own_type target.ty) goal.0) ∙ ap Of viewed in
+      subst (λ (k : Class). Acts s (assigned_by k (uses a (whole_form e)) (own_type target.ty) (target_of (uses a (whole_form target))) equals behind s)) (sym (ap (λ (t : Ty). class (Some t)) viewed))
+      (pointer_given_part target e equals behind s ty.View (Of ty.View) refl (λ s stands. pointer_whole a visible types texts so_far fs f setting (whole_form target) is ty.View at refl (own (uses a (whole_form target))) s stands)
+      (string_points a visible types texts so_far fs f setting (whole_form e) from (given_string a.program.types from.ty e from.owner from.is (subst (λ (t : Ty). is_given a.program.types t e ≡ true) (own_same target.ty ∙ viewed) h.1.0)) s stands) refl stands)
     where
       view_is : (t : Ty) → is_view t ≡ true → t ≡ ty.View
       view_is ty.View v = refl
       view_is _ v = absurd (false≢true v)
 
+  -- an iterator or a span
+  walker_reassigned_part : (target e : Typed) (equals behind : Place) (s : State)
+      → (is_reached_walker texts so_far (whole_form target) && (is_reached_walker texts so_far (whole_form e) || (is_owner_type so_far e.ty && is_reached_owner texts so_far (whole_form e)))) ≡ true → IsSimple a.program a.function.locals a.function.result visible (assign target equals (one e)) → Standing s
+      → Acts s (assigned a target equals (one e) behind s)
+  walker_reassigned_part target e equals behind s b h stands =
+      let owned : Bool = is_owner_type so_far e.ty && is_reached_owner texts so_far (whole_form e) in
+      let parts = and_parts (is_reached_walker texts so_far (whole_form target)) (is_reached_walker texts so_far (whole_form e) || owned) b in
+      let to = walker_expression a visible types texts so_far fs f setting (whole_form target) parts.0 h.0.1 in
+      let given : is_given a.program.types to.ty e ≡ true = subst (λ (t : Ty). is_given a.program.types t e ≡ true) (own_same target.ty ∙ ap own_type to.is) h.1.0 in
+      elim (or_cases (is_reached_walker texts so_far (whole_form e)) owned parts.1) [
+        | inl walker ↦ walker_assigned_part target e equals behind s to (walker_expression a visible types texts so_far fs f setting (whole_form e) walker h.1.1) given stands
+        | inr owner ↦
+            let source = and_parts (is_owner_type so_far e.ty) (is_reached_owner texts so_far (whole_form e)) owner in
+            span_assigned_part target e equals behind s to (asked_expression a visible types texts so_far fs f setting (whole_form e) source.1 source.0 h.1.1) given stands
+      ]
+
   reassigned_part : (target e : Typed) (equals behind : Place) (s : State) → is_reached_assigned texts so_far target (one e) ≡ true → IsSimple a.program a.function.locals a.function.result visible (assign target equals (one e)) → Standing s
       → Acts s (assigned a target equals (one e) behind s)
-  reassigned_part target e equals behind s b h stands = elim (or_cases _ (is_reached_walker texts so_far (whole_form target) && (is_reached_walker texts so_far (whole_form e) || (is_owner_type so_far e.ty && is_reached_object (whole_form e)))) b) [
-    | inl owned ↦ owned_assigned_part target e equals behind s owned h stands
-    | inr walks ↦
-        let parts = and_parts (is_reached_walker texts so_far (whole_form target)) (is_reached_walker texts so_far (whole_form e) || (is_owner_type so_far e.ty && is_reached_object (whole_form e))) walks in
-        let to = walker_expression a visible types texts so_far fs f setting (whole_form target) parts.0 h.0.1 in
-        let given : is_given a.program.types to.ty e ≡ true = subst (λ (t : Ty). is_given a.program.types t e ≡ true) (ap own_type to.is) (subst (λ (t : Ty). is_given a.program.types t e ≡ true) (own_same target.ty) h.1.0) in
-        elim (or_cases (is_reached_walker texts so_far (whole_form e)) (is_owner_type so_far e.ty && is_reached_object (whole_form e)) parts.1) [
-          | inl walker ↦ walker_assigned_part target e equals behind s to (walker_expression a visible types texts so_far fs f setting (whole_form e) walker h.1.1) given stands
-          | inr owner ↦
-              let source = and_parts (is_owner_type so_far e.ty) (is_reached_object (whole_form e)) owner in
-              span_assigned_part target e equals behind s to (object_expression a visible types texts so_far fs f setting (whole_form e) source.1 source.0 h.1.1) given stands
-        ]
+  reassigned_part target e equals behind s b h stands = elim (or_cases ((is_owner_type so_far target.ty && is_reached_object (whole_form target)) && ((is_owner_type so_far e.ty && is_reached_owner texts so_far (whole_form e)) || (not so_far && is_text_there texts so_far e.form))) _ b) [
+    | inl owners ↦ owner_assigned_part target e equals behind s owners h stands
+    | inr others ↦ elim (or_cases ((is_view (own_type target.ty) && is_reached_expression texts so_far target) && (is_owner_type so_far e.ty && is_reached_owner texts so_far (whole_form e))) _ others) [
+      | inl views ↦ view_assigned_part target e equals behind s views h stands
+      | inr walks ↦ walker_reassigned_part target e equals behind s walks h stands
+    ]
   ]
 
   -- ---- an iterator steps
@@ -542,12 +646,13 @@ module _ (a : Around) (visible : List ℕ) (types : Types) (texts : ℕ) (so_far
   gained_part : (target : Typed) (o : CompoundOperator) (place : Place) (e : Typed) (behind : Place) (s : State) → is_reached_append texts so_far target e ≡ true
       → IsSimple a.program a.function.locals a.function.result visible (compound target o place e) → Standing s → Acts s (done a (compound target o place e) behind s)
   gained_part target o place e behind s b h stands =
-      let one = and_parts (is_owner_type so_far target.ty) (is_reached_object (whole_form target) && is_reached_either so_far (whole_form e) (is_reached_expression texts so_far e)) b in
-      let two = and_parts (is_reached_object (whole_form target)) (is_reached_either so_far (whole_form e) (is_reached_expression texts so_far e)) one.1 in
+      let either : Bool = is_reached_either so_far (whole_form e) (is_reached_owner texts so_far (whole_form e)) (is_reached_expression texts so_far e) in
+      let one = and_parts (is_owner_type so_far target.ty) (is_reached_object (whole_form target) && either) b in
+      let two = and_parts (is_reached_object (whole_form target)) either one.1 in
       let to = object_expression a visible types texts so_far fs f setting (whole_form target) two.0 one.0 h.1.1 in
-      let from : IsEither a visible types texts so_far fs f setting (whole_form e) = elim (either_reached so_far (whole_form e) (is_reached_expression texts so_far e) two.1) [
+      let from : IsEither a visible types texts so_far fs f setting (whole_form e) = elim (either_reached so_far (whole_form e) (is_reached_owner texts so_far (whole_form e)) (is_reached_expression texts so_far e) two.1) [
         | inl value ↦ inl (whole e value h.2)
-        | inr owner ↦ inr (object_expression a visible types texts so_far fs f setting (whole_form e) owner.1 owner.0 h.2)
+        | inr owner ↦ inr (asked_expression a visible types texts so_far fs f setting (whole_form e) owner.1 owner.0 h.2)
       ] in
       let own_is : own_type target.ty ≡ to.ty = ap own_type to.is in
       let fits : fits_at_all (compounded o to.ty e.ty) ≡ true = subst (λ (t : Ty). fits_at_all (compounded o t e.ty) ≡ true) own_is (subst (λ (t : Ty). fits_at_all (compounded o t e.ty) ≡ true) (own_same target.ty) h.0) in
@@ -582,26 +687,28 @@ module _ (a : Around) (visible : List ℕ) (types : Types) (texts : ℕ) (so_far
 
   -- ---- any of these
 
-  done_part : (it : SimpleForm) (behind : Place) (s : State) → is_reached_simple texts so_far it ≡ true → IsSimple a.program a.function.locals a.function.result visible it → Standing s → Acts s (done a it behind s)
+  pub done_part : (it : SimpleForm) (behind : Place) (s : State) → is_reached_simple texts so_far it ≡ true → IsSimple a.program a.function.locals a.function.result visible it → Standing s → Acts s (done a it behind s)
   done_part (assign target equals (one e)) behind s b h stands =
       elim (or_cases (is_reached_expression texts so_far target && is_reached_expression texts so_far e) (is_reached_assigned texts so_far target (one e)) b) [
         | inl values ↦ let parts = and_parts (is_reached_expression texts so_far target) (is_reached_expression texts so_far e) values in assigned_part target e equals behind s parts.0 parts.1 h stands
         | inr owned ↦ reassigned_part target e equals behind s owned h stands
       ]
   done_part (assign target equals (several list)) behind s b h stands =
-      elim (or_cases (is_reached_expression texts so_far target && false) false b) [ inl values ↦ absurd (false≢true (and_parts (is_reached_expression texts so_far target) false values).1) | inr none ↦ absurd (false≢true none) ]
+      elim (or_cases (is_reached_expression texts so_far target && false) (is_reached_assigned texts so_far target (several list)) b) [
+        | inl values ↦ absurd (false≢true (and_parts (is_reached_expression texts so_far target) false values).1)
+        | inr elements ↦ list_assigned_part target list equals behind s elements h stands
+      ]
   done_part (compound target o place e) behind s b h stands =
       elim (or_cases (is_reached_expression texts so_far target && is_reached_expression texts so_far e) (is_reached_append texts so_far target e) b) [ inl values ↦ counted_part target o place e behind s values h stands | inr texts_too ↦ gained_part target o place e behind s texts_too h stands ]
   done_part (step target o place) behind s b h stands = elim (or_cases (is_reached_expression texts so_far target) (is_reached_walker texts so_far (whole_form target)) b) [ inl value ↦ number_stepped_part target o place behind s value h stands | inr walks ↦ walker_stepped_part target o place behind s walks h stands ]
   done_part (discarded e) behind s b h stands =
-      elim (or_cases ((is_call e.form && is_reached_expression texts so_far e) || is_reached_change texts so_far e.form) (is_erased texts so_far e.form && is_reached_walker texts so_far (whole_form e)) b) [
-        | inl others ↦ elim (or_cases (is_call e.form && is_reached_expression texts so_far e) (is_reached_change texts so_far e.form) others) [
-          | inl called ↦ let parts = and_parts (is_call e.form) (is_reached_expression texts so_far e) called in discarded_part e.form e behind s refl parts.1 h parts.0 stands
+      elim (or_cases (((is_call e.form || is_number e.ty) && is_reached_expression texts so_far e) || is_reached_change texts so_far e.form) (is_erased texts so_far e.form && is_reached_walker texts so_far (whole_form e)) b) [
+        | inl others ↦ elim (or_cases ((is_call e.form || is_number e.ty) && is_reached_expression texts so_far e) (is_reached_change texts so_far e.form) others) [
+          | inl value ↦ let parts = and_parts (is_call e.form || is_number e.ty) (is_reached_expression texts so_far e) value in elim (or_cases (is_call e.form) (is_number e.ty) parts.0) [
+            | inl calls ↦ discarded_part e.form e behind s refl parts.1 h calls stands
+            | inr n ↦ number_thrown e behind s (whole e parts.1 h) n stands
+          ]
           | inr changes ↦ changed_statement e.form e behind s refl changes h stands
         ]
         | inr erases ↦ let parts = and_parts (is_erased texts so_far e.form) (is_reached_walker texts so_far (whole_form e)) erases in erased_statement e.form e behind s refl parts.0 parts.1 h stands
       ]
-
-  -- .. makes no temporaries
-  pub simple_part : (it : SimpleForm) (behind : Place) (s : State) → is_reached_simple texts so_far it ≡ true → IsSimple a.program a.function.locals a.function.result visible it → Standing s → Acts s (simple a it behind s)
-  simple_part it behind s b h stands = let part = done_part it behind s b h stands in subst (Acts s) (sym (same_pending s (done a it behind s) behind part.grown.pending)) part

@@ -26,7 +26,7 @@ use Rattle.life_elab.specs.SimpleForms.{simple_if}
 use Rattle.life_elab.specs.StatementForms.{branches_of, condition_or_true, result_given, started, statement}
 use Rattle.life_elab.specs.Statements.{end_line, looped}
 use Rattle.life_elab_laws.proofs.Branching.{asserted_does, branched_does, tested_follows}
-use Rattle.life_elab_laws.proofs.Conditions.{Tests, non_zero_part}
+use Rattle.life_elab_laws.proofs.Conditions.{Tests, level_tests, non_zero_part}
 use Rattle.life_elab_laws.proofs.DeclarationWriting.{declaration_does}
 use Rattle.life_elab_laws.proofs.Doing.{Does, DoesLevel, does_nothing, does_then}
 use Rattle.life_elab_laws.proofs.Expressions.{whole_expression}
@@ -38,6 +38,7 @@ use Rattle.life_elab_laws.proofs.Returning.{break_does, continue_does, returned_
 use Rattle.life_elab_laws.proofs.Setting.{Setting}
 use Rattle.life_elab_laws.proofs.SimpleStatements.{items_do, simple_does}
 use Rattle.life_elab_laws.proofs.Stopping.{still_stops, stops, stops_end, stops_right}
+use Rattle.life_elab_laws.proofs.TemporaryEnds.{temporary_ends}
 
 module _ (a : Around) (types : Types) (texts : ℕ) (so_far : Bool) (fs : List Function) (f : Function) (setting : Setting so_far a types fs f) (lines : nat_lt (end_line a) texts ≡ true) where
   abbrev IsTyped : StmtForm → Bool → Visible → Type 0
@@ -74,13 +75,14 @@ module _ (a : Around) (types : Types) (texts : ℕ) (so_far : Bool) (fs : List F
 
   -- ---- the parts of loops
 
-  pub decided : (v : Visible) (e : Typed) (behind : Place) (s : State) → is_reached_expression texts so_far e ≡ true → Decides a.program a.function.locals a.function.result v.visible e → Follows types f a v s → Tests types texts so_far fs f s (condition (uses a (whole_form e)) (ending behind) s)
+  pub decided : (v : Visible) (e : Typed) (behind : Place) (s : State) → is_reached_expression texts so_far e ≡ true → Decides a.program a.function.locals a.function.result v.visible e → Follows types f a v s → Tests types texts so_far fs f (Some behind) s (condition (uses a (whole_form e)) (ending behind) s)
   decided v e behind s b h follows = (whole_expression a v.visible types texts so_far fs f setting (whole_form e) b h.1).conditions h.0 (ending behind) s follows.stands
 
   pub decided_or_true : (v : Visible) (keyword : Place) (e : Option Typed) (behind : Place) (s : State) → is_reached_if_any texts so_far e ≡ true → DecidesIfAny a.program a.function.locals a.function.result v.visible e → Follows types f a v s
-      → Tests types texts so_far fs f s (condition_or_true a keyword e behind s)
+      → Tests types texts so_far fs f (Some behind) s (condition_or_true a keyword e behind s)
   decided_or_true v keyword None behind s b h follows =
-      non_zero_part types texts so_far fs f keyword None ty.Bool (computed None ty.Bool keyword (constant (pos 1))) s (constant_part types texts so_far fs f None ty.Bool keyword (pos 1) (with_code [] s) refl tt)
+      level_tests types texts so_far fs f behind s (condition_or_true a keyword None behind s) refl
+      (non_zero_part types texts so_far fs f keyword None ty.Bool (computed None ty.Bool keyword (constant (pos 1))) s follows.stands.pends (temporary_ends types texts fs f setting.registers) (constant_part types texts so_far fs f None ty.Bool keyword (pos 1) (with_code [] s) refl tt))
   decided_or_true v keyword (Some e) behind s b h follows = decided v e behind s b h follows
 
   pub stepped : (v : Visible) (it : Option SimpleForm) (place : Place) (s : State) → is_reached_step texts so_far it ≡ true → IsSimpleIfAny a.program a.function.locals a.function.result v.visible it → Follows types f a v s → DoesLevel types texts so_far fs f a v false s (simple_if a it place s)
@@ -94,7 +96,7 @@ module _ (a : Around) (types : Types) (texts : ℕ) (so_far : Bool) (fs : List F
   begun v in_loop (Some (done_first it)) place s b h follows = (simple_does a types texts so_far fs f setting v in_loop it place s b h follows).does
 
   -- a loop whose body and step are done
-  pub loop_done : (v u : Visible) (in_loop : Bool) (test : State → Gives Tree) (body step : State → State) (s : State) → Follows types f a v s → HasRegister a s → (h : Tests types texts so_far fs f s (test s))
+  pub loop_done : {ends : Place} (v u : Visible) (in_loop : Bool) (test : State → Gives Tree) (body step : State → State) (s : State) → Follows types f a v s → HasRegister a s → (h : Tests types texts so_far fs f (Some ends) s (test s))
       → ((s : State) → Follows types f a v s → HasRegister a s → DoesLevel types texts so_far fs f a u true s (body s)) → ((s : State) → Follows types f a (behind v u) s → DoesLevel types texts so_far fs f a (behind v u) false s (step s))
       → DoesLevel types texts so_far fs f a (behind v u) in_loop s (looped test body step s)
   loop_done v u in_loop test body step s follows register h inner last =

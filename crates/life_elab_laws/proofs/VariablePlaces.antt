@@ -31,6 +31,7 @@ use Rattle.life_elab_laws.proofs.Reaching.{IsReachedType, variable_found}
 use Rattle.life_elab_laws.proofs.Values.{by_values}
 use Rattle.life_elab_laws.proofs.TypedKinds.{owner_named, walker_named}
 use Rattle.life_proper.specs.OperandTypes.{is_owner}
+use Rattle.life_elab_laws.proofs.PendingTemporaries.{ArePending}
 
 -- ---- what a variable is
 
@@ -102,6 +103,7 @@ IsVariableAt a s x v = IsVariableAtBare a (bare s) x v
 pub record StandsBare (a : Around) (visible : List ℕ) (s : State) : Type 0 where
   pub table : IsFront a.program.types.types s.types.types
   pub opened : IsOpen s
+  pub pends : ArePending s
   pub seen : (x : ℕ) (v : TypedLocal) → Contains visible x → slice_get a.function.locals x ≡ Some v → IsVariableAt a s x v
 
 abbrev pub Stands : Around → List ℕ → State → Type 0
@@ -111,6 +113,7 @@ pub stands_later : (a : Around) (visible : List ℕ) (s s' : State) → Grows s 
 stands_later a visible s s' g h = record {
   table = front_then a.program.types.types s.types.types s'.types.types h.table g.types;
   opened = λ y c. omega (arith, h.opened y (subst (λ (ys : List ℕ). Contains ys y) g.living c), g.count);
+  pends = g.pends h.pends;
   seen = λ x v c at. moved x v (h.seen x v c at);
 }
   where

@@ -23,7 +23,7 @@ use Rattle.life_writer.specs.Bases.{base as base_of, base_by}
 use Rattle.life_writer.specs.ExpressionForms.{uses}
 use Rattle.life_writer.specs.MethodForms.{cursor}
 use Rattle.life_writer.specs.Pointers.{As, By, Pointing, aimed}
-use Rattle.life_writer.specs.Using.{pointer, pointing, pointing_by}
+use Rattle.life_writer.specs.Using.{operand, pointer, pointing, pointing_by}
 use Rattle.life_writer.specs.Variables.{variable}
 use Rattle.life_writer.specs.Writing.{Gives, State, gives, mapped}
 use Rattle.life_elab_laws.specs.Reached.{is_walker, is_walker_of_values, is_walker_type, is_owner_of_values}
@@ -33,9 +33,9 @@ use Rattle.life_elab_laws.proofs.ExpressionKinds.{variable_built}
 use Rattle.life_elab_laws.proofs.FormedVariables.{pointer_formed, type_later}
 use Rattle.life_elab_laws.proofs.Gifts.{a_pointer, a_pointing, nothing as no_gift, a_place}
 use Rattle.life_elab_laws.proofs.Locations.{is_pointed}
-use Rattle.life_elab_laws.proofs.ObjectForms.{IsObject, owner_asked, IsAsked}
+use Rattle.life_elab_laws.proofs.ObjectForms.{IsAsked, IsOwner, owner_asked}
 use Rattle.life_elab_laws.proofs.Parts.{Makes, leaf_part, seen_part}
-use Rattle.life_elab_laws.proofs.PointerForms.{own_typed, placed_operand}
+use Rattle.life_elab_laws.proofs.PointerForms.{own_typed}
 use Rattle.life_elab_laws.proofs.Setting.{Setting}
 use Rattle.life_elab_laws.proofs.TypedKinds.{owner_named, walker_named}
 use Rattle.life_elab_laws.proofs.Values.{by_values}
@@ -160,7 +160,7 @@ module _ (a : Around) (visible : List ℕ) (types : Types) (texts : ℕ) (so_far
 
   -- ---- an end of a vector
 
-  pub cursor_walker : (base : Form) (e : Typed) (item : TyId) (end : RangeEnd) → (is : IsObject a visible types texts so_far fs f setting base) → is.ty ≡ ty.Vector item → e.ty ≡ Of (ty.Iterator item is.constant) → IsWalkerAt e (cursor (uses a base) end)
+  pub cursor_walker : (base : Form) (e : Typed) (item : TyId) (end : RangeEnd) → (is : IsOwner a visible types texts so_far fs f setting base) → is.ty ≡ ty.Vector item → e.ty ≡ Of (ty.Iterator item is.constant) → IsWalkerAt e (cursor (uses a base) end)
   cursor_walker base e item end is vector at = record {
     wide = is.wide;
     ty = ty.Iterator item is.constant;
@@ -184,12 +184,11 @@ module _ (a : Around) (visible : List ℕ) (types : Types) (texts : ℕ) (so_far
 
   -- ---- a vector as what a span is given
 
-  pub vector_points : (form : Form) → (is : IsObject a visible types texts so_far fs f setting form) → (item : TyId) (constant : Bool) → is.ty ≡ ty.Vector item → keeps_const constant is.constant ≡ true → (s : State) → Stood s → PointsTo (ty.Span item constant) s (pointing (uses a form) s)
+  pub vector_points : (form : Form) → (is : IsOwner a visible types texts so_far fs f setting form) → (item : TyId) (constant : Bool) → is.ty ≡ ty.Vector item → keeps_const constant is.constant ≡ true → (s : State) → Stood s → PointsTo (ty.Span item constant) s (pointing (uses a form) s)
   vector_points form is item constant vector kept s stands =
-      let w = (uses a form).at s in
+      let w = operand (uses a form) s in
       subst (PointsTo (ty.Span item constant) s)
-      (sym (ap (λ (x : Ty). pointing_by x (uses a form) s) (ap own_type (sym (own_typed a visible types texts so_far fs f setting form) ∙ is.is) ∙ vector)
-      ∙ ap (λ (w : Gives Operand). mapped (λ o. aimed (Whole o)) w) (placed_operand a visible types texts so_far fs f setting form is.id is.constant s is.place)))
+      (sym (ap (λ (x : Ty). pointing_by x (uses a form) s) (ap own_type (sym (own_typed a visible types texts so_far fs f setting form) ∙ is.is) ∙ vector)))
       (seen_part types texts so_far fs f (no_gift types texts so_far fs f) tt None s w (a_place types texts so_far fs f is.ty is.constant) (λ o. aimed (Whole o)) (a_pointing types texts so_far fs f (Of (ty.Span item constant)))
       (is.names s stands)
       (λ b h. span_given types texts so_far fs f item constant item w.given is.wide refl worth

@@ -1,7 +1,7 @@
 -- The core program of a well typed program that the law reaches is well formed, is served where it is one that is served so far, and leaves alone what is given over.
-use Rattle.std.proofs.Common.{◌≡◌, ◌⊎◌, inl, inr, ℕ, Bool, true, List, [], length, nat_le, slice_get, Option, Some, refl, ap, ◌∙◌, subst, Bool, false}
+use Rattle.std.proofs.Common.{◌≡◌, ◌⊎◌, inl, inr, ℕ, Bool, true, List, [], length, nat_le, slice_get, Option, Some, refl, ap, ◌∙◌, subst, Bool, false, sym}
 use Rattle.std.specs.List.{list_all}
-use Rattle.std.proofs.lemmas.Bool.{and_from}
+use Rattle.std.proofs.lemmas.Bool.{and_from, false≢true}
 use Rattle.life_types.specs.Trees.{IsOrdered}
 use Rattle.life_types.specs.Types.{HasEachOnce, Types, class}
 use Rattle.life_types.specs.declared.ty.Ty.{Ty}
@@ -58,7 +58,12 @@ module _ (so_far : Bool) (p : ProgramForm) (typed : IsWellTyped p) (built : are_
         front_is = front so_far p typed built results chars n f at core w
 
         go : IsIntermediate so_far p.types (written (around p f) w.before).types l ⊎ IsOwn (around p f) l → is_served_local types l ≡ true
-        go (inl is) = let fits = fits_later true p.types types front_is is.ty (subst (λ (b : Bool). fits_register b p.types is.ty ≡ true) so is.fits) in local_served types l Register is.ty is.kind (w.later l.ty.0 is.ty is.typed) fits (register_served types is.ty fits)
+        go (inl is) = elim is.fits [
+          | inl register ↦
+              let fits = fits_later true p.types types front_is is.ty (subst (λ (b : Bool). fits_register b p.types is.ty ≡ true) so register.1) in
+              local_served types l Register is.ty register.0 (w.later l.ty.0 is.ty is.typed) fits (register_served types is.ty fits)
+          | inr temporary ↦ absurd (false≢true (sym temporary.1 ∙ so))
+        ]
         go (inr is) =
             let found = variable_found so_far p.types is.variable.ty (variable_built so_far p.types f.locals is.number is.variable (of_program so_far p typed built results chars n f at).built.variables is.there) in
             let served = variable_served p.types so_far so found.0 found.2 in
@@ -94,13 +99,17 @@ module _ (so_far : Bool) (p : ProgramForm) (typed : IsWellTyped p) (built : are_
   pub program_serves : so_far ≡ true → is_served_program (translated p) ≡ true
   program_serves so = passed_by_all so_far p typed built results chars (is_served types) (list_all (is_served types)) refl (λ core cores. refl) (λ n f at core w. one_served n f at core w so)
 
+  -- no struct is added
+  pub program_structs : p.types.structs ≡ [] → types.structs ≡ []
+  program_structs none = (whole_order so_far p typed built results chars).structs ∙ none
+
   pub program_formed : HasNames p → IsOrdered p.types → HasEachOnce p.types → p.types.structs ≡ [] → has_no_structs p.structs ≡ true → IsWellFormedProgram (translated p)
   program_formed named ordered once structs none =
       let order = whole_order so_far p typed built results chars in
       record {
         table = order.ordered ordered;
         once = order.once once;
-        members = no_members names types.structs p.structs (order.structs ∙ structs) none;
+        members = no_members names types.structs p.structs (program_structs structs) none;
         own_names = own_names p types p.functions functions (each_written so_far p typed built results chars) ∙ named.own;
         functions =
             passed_by_all so_far p typed built results chars (is_well_formed_function types names texts functions) (list_all (is_well_formed_function types names texts functions)) refl (λ core cores. refl)

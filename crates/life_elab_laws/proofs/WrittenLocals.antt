@@ -1,5 +1,5 @@
 -- The locals of a function while it is written: registers without names, and those of its variables.
-use Rattle.std.proofs.Common.{◌≡◌, ◌<◌, ◌≤◌, ◌⊎◌, inl, inr, ℕ, zero, suc, Bool, true, ◌||◌, List, [], ◌∷◌, ◌++◌, length, slice_get, Option, Some, None, refl, subst, unwrap_or, arith, not, ◌&&◌}
+use Rattle.std.proofs.Common.{◌≡◌, ◌<◌, ◌≤◌, ◌⊎◌, inl, inr, ℕ, zero, suc, Bool, true, false, ◌||◌, List, [], ◌∷◌, ◌++◌, length, slice_get, Option, Some, None, refl, subst, unwrap_or, arith, not, ◌&&◌}
 use Rattle.std.proofs.lemmas.Bool.{false≢true, and_from, and_parts}
 use Rattle.std.proofs.lemmas.Option.{none-some, same_Some, slice_get_within}
 use Rattle.life_types.specs.Trees.{HasPartsBelow}
@@ -12,7 +12,7 @@ use Rattle.life_built.specs.Built.{is_pointing}
 use Rattle.life_typed.specs.BaseTypes.{type_at}
 use Rattle.life_typed.specs.declared.typed_program.TypedLocal.{TypedLocal}
 use Rattle.life_core.specs.declared.program.Local.{Local}
-use Rattle.life_core.specs.declared.program.LocalKind.TheVariants.{Register}
+use Rattle.life_core.specs.declared.program.LocalKind.TheVariants.{Register, Object}
 use Rattle.life_writer.specs.Around.{Around}
 use Rattle.life_writer.specs.Variables.{kind}
 use Rattle.life_writer.specs.Writing.{State}
@@ -21,6 +21,7 @@ use Rattle.life_elab_laws.proofs.OrderedTypes.{KeepsOrder, order_none, order_the
 use Rattle.life_elab_laws.proofs.Shaped.{value_later}
 use Rattle.life_elab_laws.proofs.Values.{by_values}
 use Rattle.life_elab_laws.specs.Reached.{is_owner_of_values}
+use Rattle.life_core.specs.declared.program.LocalKind.{LocalKind}
 
 -- ---- what a register without a name holds: a value, a pointer or reference to one, or a view; an iterator or a span where the program isn't served so far
 
@@ -95,16 +96,25 @@ fits_below so_far few table le (ty.Iterator target constant) h = omega (arith, l
 fits_below so_far few table le (ty.Span target constant) h = omega (arith, le, value_within few target (and_parts (not so_far) (is_value (type_at few target)) h).1)
 fits_below so_far few table le _ h = absurd (false≢true h)
 
+-- .. and so has an owner
+pub owner_below : (few table : Types) → length few.types ≤ length table.types → (t : Ty) → is_owner_of_values few t ≡ true → HasPartsBelow table (length table.types) t
+owner_below few table le ty.Text o = tt
+owner_below few table le (ty.Vector element) o = omega (arith, le, value_within few element o)
+owner_below few table le _ o = absurd (false≢true o)
+
+-- a register, or a temporary: an owner of values
+abbrev pub FitsNameless : Bool → Types → LocalKind → Ty → Type 0
+FitsNameless so_far types k t = ((k ≡ Register) × (fits_register so_far types t ≡ true)) ⊎ ((k ≡ Object) × (so_far ≡ false) × (is_owner_of_values types t ≡ true))
+
 -- its type is in the table
 pub record IsIntermediate (so_far : Bool) (types table : Types) (l : Local) : Type 0 where
   pub nameless : l.name ≡ None
-  pub kind : l.kind ≡ Register
   pub ty : Ty
   pub typed : slice_get table.types l.ty.0 ≡ Some ty
-  pub fits : fits_register so_far types ty ≡ true
+  pub fits : FitsNameless so_far types l.kind ty
 
 pub intermediate_later : (so_far : Bool) (types few more : Types) (l : Local) → IsFront few.types more.types → IsIntermediate so_far types few l → IsIntermediate so_far types more l
-intermediate_later so_far types few more l front is = record { nameless = is.nameless; kind = is.kind; ty = is.ty; typed = front l.ty.0 is.ty is.typed; fits = is.fits }
+intermediate_later so_far types few more l front is = record { nameless = is.nameless; ty = is.ty; typed = front l.ty.0 is.ty is.typed; fits = is.fits }
 
 -- ---- what a part of an expression adds
 

@@ -1,4 +1,4 @@
--- Which programs the law on translations reaches: all that are built, and with them views of characters, strings, vectors of values, and iterators and spans as variables, with what is asked of them and done to them that makes no temporary; and text literals.
+-- Which programs the law on translations reaches: all that are built, and with them views of characters, strings, vectors of values, and iterators and spans as variables, with what is asked of them and done to them; strings that are made of others; and text literals.
 use Rattle.std.specs.Prelude.{ℕ, Bool, true, false, ◌&&◌, ◌||◌, not, if◌then◌else◌, List, [], ◌∷◌, take, length, nat_lt, Option, Some, None, slice_get}
 use Rattle.life_types.specs.TypeTests.{is_value, is_view}
 use Rattle.life_types.specs.Types.{Types}
@@ -8,7 +8,7 @@ use Rattle.life_types.specs.declared.ty.TyId.{TyId}
 use Rattle.life_built.specs.Built.{are_values, has_no_structs, is_built_result, is_built_variable, is_call, is_default, needs_no_temporary}
 use Rattle.life_typed.specs.BaseTypes.{type_at}
 use Rattle.life_typed.specs.Programs.{FunctionForm, ProgramForm}
-use Rattle.life_typed.specs.TypedForm.{Form, Typed, number, character, boolean, text, null, local, call, paren, input, dereference, index, method, negate, not as negation, address_of, binary, typed, nothing, ◌⨟◌, whole, forms}
+use Rattle.life_typed.specs.TypedForm.{Form, Typed, number, character, boolean, text, null, local, call, paren, input, dereference, index, method, negate, not as negation, address_of, binary, text_of, typed, nothing, ◌⨟◌, whole, forms}
 use Rattle.life_typed.specs.TypedStatement.{StmtForm, DeclarationForm, ForStartForm, InitialForm, ItemForm, SimpleForm, one, several, assign, compound, step, discarded, declared_first, done_first, printed, line_end, block, empty, sentence, branching, while_loop, for_loop, range_loop, loop_break, loop_continue, returned, print, assertion, branch, declaration, no_more, chain, ListForm}
 use Rattle.life_typed.specs.declared.typed_expr.ExprType.{ExprType}
 use Rattle.life_typed.specs.declared.typed_expr.ExprType.TheVariants.{Of}
@@ -16,11 +16,12 @@ use Rattle.life_typed.specs.declared.typed_expr.Method.{Method}
 use Rattle.life_typed.specs.declared.typed_expr.Method.TheVariants.{Back, Begin, Clear, Empty, End, Erase, Front, PopBack, PushBack, Reserve, Size, Subspan, Substr}
 use Rattle.life_typed.specs.declared.typed_program.TypedLocal.{TypedLocal}
 use Rattle.life_proper.specs.OperandTypes.{is_owner}
+use Rattle.life_well_typed.specs.Given.{is_number}
 use Rattle.life_well_typed.specs.Members.{typed_in}
 use Rattle.life_elab.specs.Programs.{texts_of}
 use Rattle.life_writer.specs.Rows.{row_between}
 use Rattle.life_writer.specs.declared.rows.Row.{Row}
-use Rattle.life_writer.specs.declared.rows.Row.TheVariants.{Compared}
+use Rattle.life_writer.specs.declared.rows.Row.TheVariants.{Compared, Concatenated}
 use Rattle.life_writer.specs.Around.{own_type}
 
 -- ---- variables
@@ -72,9 +73,9 @@ is_reached_object (paren inner closing) = is_reached_object inner
 is_reached_object (typed place t category form) = is_reached_object form
 is_reached_object _ = false
 
--- what is asked has a value, which is reached or not, or is an owner
-abbrev pub is_reached_either : (so_far : Bool) (base : Form) (value : Bool) → Bool
-is_reached_either so_far base value = if is_owner_type so_far (typed_in base).ty then is_reached_object base else value
+-- what is asked is an owner, which is reached or not, or has a value, which is
+abbrev pub is_reached_either : (so_far : Bool) (base : Form) (owner value : Bool) → Bool
+is_reached_either so_far base owner value = if is_owner_type so_far (typed_in base).ty then owner else value
 
 -- what only asks, and gives no iterator
 abbrev pub is_reached_method : Method → Bool
@@ -98,6 +99,11 @@ is_subspan _ = false
 abbrev pub is_erase : Method → Bool
 is_erase Erase = true
 is_erase _ = false
+
+-- texts are joined
+abbrev pub concatenates : Row → Bool
+concatenates Concatenated = true
+concatenates _ = false
 
 -- texts or iterators are compared
 abbrev pub compares : Row → Bool
@@ -127,27 +133,37 @@ module _ (texts : ℕ) (so_far : Bool) where
     is_reached_form (paren inner closing) = is_reached_form inner
     is_reached_form input = true
     is_reached_form (dereference e) = is_reached_form e || is_reached_walker e
-    is_reached_form (index base position closing) = (is_reached_either so_far base (is_reached_form base) || is_reached_walker base) && is_reached_form position
+    is_reached_form (index base position closing) = (is_reached_either so_far base (is_reached_owner base) (is_reached_form base) || is_reached_walker base) && is_reached_form position
     is_reached_form (method base called arguments delimiters) =
-        is_reached_method called && ((is_reached_either so_far base (is_reached_form base) || is_reached_walker base) && is_reached_form arguments)
+        is_reached_method called && ((is_reached_either so_far base (is_reached_owner base) (is_reached_form base) || is_reached_walker base) && is_reached_form arguments)
     is_reached_form (negate e) = is_reached_form e
     is_reached_form (negation e) = is_reached_form e
     is_reached_form (address_of e) = is_reached_form e
     is_reached_form (binary operator left right) =
         (is_reached_form left && is_reached_form right)
-        || ((compares (row_between operator left right) && (is_reached_either so_far left (is_reached_form left) && is_reached_either so_far right (is_reached_form right)))
+        || ((compares (row_between operator left right) && (is_reached_either so_far left (is_reached_owner left) (is_reached_form left) && is_reached_either so_far right (is_reached_owner right) (is_reached_form right)))
         || (compares (row_between operator left right) && (is_reached_walker left && is_reached_walker right)))
     is_reached_form (typed place t category form) = is_reached_type so_far t && is_reached_form form
     is_reached_form nothing = true
     is_reached_form (e ⨟ es) = is_reached_form e && is_reached_form es
     is_reached_form _ = false
 
+    -- an owner: one that is named, or a string that is made
+    pub is_reached_owner : Form → Bool
+    is_reached_owner (local x) = true
+    is_reached_owner (paren inner closing) = is_reached_owner inner
+    is_reached_owner (binary operator left right) =
+        concatenates (row_between operator left right) && (is_reached_either so_far left (is_reached_owner left) (is_reached_form left) && is_reached_either so_far right (is_reached_owner right) (is_reached_form right))
+    is_reached_owner (text_of inner closing) = is_reached_either so_far inner (is_reached_owner inner) (is_reached_form inner)
+    is_reached_owner (typed place t category form) = is_reached_owner form
+    is_reached_owner _ = false
+
     -- an iterator or a span
     pub is_reached_walker : Form → Bool
     is_reached_walker (local x) = true
     is_reached_walker (paren inner closing) = is_reached_walker inner
     is_reached_walker (method base called arguments delimiters) =
-        (is_end called && (is_owner_type so_far (typed_in base).ty && is_reached_object base))
+        (is_end called && (is_owner_type so_far (typed_in base).ty && is_reached_owner base))
         || ((is_subspan called && (is_reached_walker base && is_reached_form arguments))
         || (is_erase called && (is_owner_type so_far (typed_in base).ty && (is_reached_object base && is_reached_walker arguments))))
     is_reached_walker (e ⨟ es) = is_reached_walker e
@@ -176,7 +192,7 @@ module _ (texts : ℕ) (so_far : Bool) where
 
   -- an owner, a view or a span is given an owner, an owner a literal, or an iterator or a span another one
   abbrev pub is_given_owner : Ty → Typed → Bool
-  is_given_owner t e = (is_owner t || (is_view t || is_span t)) && (is_owner_type so_far e.ty && is_reached_object (whole e))
+  is_given_owner t e = (is_owner t || (is_view t || is_span t)) && (is_owner_type so_far e.ty && is_reached_owner (whole e))
 
   abbrev pub is_reached_owned : Ty → Typed → Bool
   is_reached_owned t e = is_given_owner t e || ((is_owner t && (not so_far && is_text_there e.form)) || (is_walker t && is_reached_walker (whole e)))
@@ -207,13 +223,13 @@ module _ (texts : ℕ) (so_far : Bool) where
   is_reached_change (method base called arguments delimiters) = is_changing called && (is_owner_type so_far (typed_in base).ty && (is_reached_object base && is_reached_form arguments))
   is_reached_change _ = false
 
-  -- an owner is copied, a view sees a string, a span a vector, or an iterator or a span becomes another one
+  -- an owner is copied or made, also of a literal, a view sees a string, a span a vector, or an iterator or a span becomes another one
   abbrev pub is_reached_assigned : Typed → InitialForm → Bool
   is_reached_assigned target (one e) =
-      (((is_owner_type so_far target.ty && is_reached_object (whole target)) || (is_view (own_type target.ty) && is_reached_expression target))
-      && (is_owner_type so_far e.ty && is_reached_object (whole e)))
-      || (is_reached_walker (whole target) && (is_reached_walker (whole e) || (is_owner_type so_far e.ty && is_reached_object (whole e))))
-  is_reached_assigned target (several list) = false
+      ((is_owner_type so_far target.ty && is_reached_object (whole target)) && ((is_owner_type so_far e.ty && is_reached_owner (whole e)) || (not so_far && is_text_there e.form)))
+      || (((is_view (own_type target.ty) && is_reached_expression target) && (is_owner_type so_far e.ty && is_reached_owner (whole e)))
+      || (is_reached_walker (whole target) && (is_reached_walker (whole e) || (is_owner_type so_far e.ty && is_reached_owner (whole e)))))
+  is_reached_assigned target (several list) = (is_owner_type so_far target.ty && is_reached_object (whole target)) && is_reached_list (own_type target.ty) list
 
   -- an element is erased
   abbrev pub is_erased : Form → Bool
@@ -222,20 +238,20 @@ module _ (texts : ℕ) (so_far : Bool) where
 
   -- a string gains characters
   abbrev pub is_reached_append : (target e : Typed) → Bool
-  is_reached_append target e = is_owner_type so_far target.ty && (is_reached_object (whole target) && is_reached_either so_far (whole e) (is_reached_expression e))
+  is_reached_append target e = is_owner_type so_far target.ty && (is_reached_object (whole target) && is_reached_either so_far (whole e) (is_reached_owner (whole e)) (is_reached_expression e))
 
   abbrev pub is_reached_simple : SimpleForm → Bool
   is_reached_simple (assign target equals initial) = (is_reached_expression target && is_reached_value initial) || is_reached_assigned target initial
   is_reached_simple (compound target operator place e) = (is_reached_expression target && is_reached_expression e) || is_reached_append target e
   is_reached_simple (step target operator place) = is_reached_expression target || is_reached_walker (whole target)
-  is_reached_simple (discarded e) = ((is_call e.form && is_reached_expression e) || is_reached_change e.form) || (is_erased e.form && is_reached_walker (whole e))
+  is_reached_simple (discarded e) = (((is_call e.form || is_number e.ty) && is_reached_expression e) || is_reached_change e.form) || (is_erased e.form && is_reached_walker (whole e))
 
   abbrev pub is_reached_step : Option SimpleForm → Bool
   is_reached_step None = true
   is_reached_step (Some it) = is_reached_simple it
 
   abbrev pub is_reached_item : ItemForm → Bool
-  is_reached_item (printed e) = is_reached_either so_far (whole e) (is_reached_expression e)
+  is_reached_item (printed e) = is_reached_either so_far (whole e) (is_reached_owner (whole e)) (is_reached_expression e)
   is_reached_item (line_end place) = true
 
   abbrev pub are_reached_items : List ItemForm → Bool

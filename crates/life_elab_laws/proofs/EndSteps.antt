@@ -1,0 +1,43 @@
+-- The instruction that ends locals, where there are any.
+use Rattle.std.proofs.Common.{◌≡◌, ℕ, Bool, true, List, [], ◌∷◌, ◌++◌, refl, sym, ap, append-nil}
+use Rattle.std.specs.List.{list_all}
+use Rattle.life_types.specs.Types.{Types}
+use Rattle.life_types.specs.declared.place.Place.{Place}
+use Rattle.life_core.specs.Function.{Function}
+use Rattle.life_core.specs.Step.{End}
+use Rattle.life_core.specs.Touched.{touched_by}
+use Rattle.life_core.specs.Tree.{Tree, Acts}
+use Rattle.life_proper.specs.declared.known.Known.{Known}
+use Rattle.life_proper.specs.ReadyKnown.{can_leave}
+use Rattle.life_proper.specs.WellFormed.{can_end}
+use Rattle.life_proper.proofs.ReadyTests.{all_ready}
+use Rattle.life_writer.specs.Variables.{end}
+use Rattle.life_writer.specs.Writing.{State, with_code}
+use Rattle.life_elab_laws.proofs.Ending.{set_blank}
+use Rattle.life_elab_laws.proofs.Falling.{Falls, falls_acts}
+use Rattle.life_elab_laws.proofs.Shaping.{IsFine, fine_acts, fine_none}
+
+module _ (types : Types) (texts : ℕ) (so_far : Bool) (fs : List Function) (f : Function) where
+  pub record IsEnded (xs : List ℕ) (place : Place) (s : State) : Type 0 where
+    pub code : List Tree
+    pub written : end xs place s ≡ with_code (s.code ++ code) s
+    pub fine : list_all (can_end types texts fs f) xs ≡ true → IsFine types texts so_far fs f code
+    pub falls : (k : List Known) → can_leave k xs ≡ true → Falls types f code k (set_blank xs k)
+
+  pub ended : (xs : List ℕ) (place : Place) (s : State) → IsEnded xs place s
+  ended [] place s = record {
+    code = [];
+    written = ap (λ (c : List Tree). with_code c s) (sym (append-nil s.code));
+    fine = λ ends. fine_none types texts so_far fs f;
+    falls = λ k ready. refl;
+  }
+  ended (x ∷ xs) place s = record {
+    code = Acts place (End (x ∷ xs)) ∷ [];
+    written = refl;
+    fine = λ ends. fine_acts types texts so_far fs f place (End (x ∷ xs)) (record { plain = λ so. refl; given = refl; formed = ends; served = λ so. refl });
+    falls = λ k ready. falls_acts types f place (End (x ∷ xs)) k (all_ready k (touched_by f (End (x ∷ xs))) refl ready refl);
+  }
+
+  pub end_living : (xs : List ℕ) (place : Place) (s : State) → (end xs place s).living ≡ s.living
+  end_living [] place s = refl
+  end_living (x ∷ xs) place s = refl

@@ -1,0 +1,53 @@
+-- The temporaries that end with the full expression that is being written: owners without names, the last one with the highest number.
+use Rattle.std.proofs.Common.{◌≡◌, ℕ, true, List, [], Contains, slice_get, Some, None, subst, sym}
+use Rattle.life_types.specs.declared.ty.Ty.{Ty}
+use Rattle.life_core.specs.declared.program.Local.{Local}
+use Rattle.life_core.specs.declared.program.LocalKind.TheVariants.{Object}
+use Rattle.life_proper.specs.OperandTypes.{is_owner}
+use Rattle.life_writer.specs.Writing.{State}
+use Rattle.life_elab_laws.proofs.Among.{Among, Ascend}
+use Rattle.life_elab_laws.proofs.Fronts.{IsFront}
+
+-- one of them, among these locals, where the table has these types
+pub record IsTemporary (locals : List Local) (table : List Ty) (y : ℕ) : Type 0 where
+  pub local : Local
+  pub there : slice_get locals y ≡ Some local
+  pub nameless : local.name ≡ None
+  pub kind : local.kind ≡ Object
+  pub ty : Ty
+  pub typed : slice_get table local.ty.0 ≡ Some ty
+  pub owner : is_owner ty ≡ true
+
+pub temporary_later : (locals more : List Local) (table wider : List Ty) (y : ℕ) → IsFront locals more → IsFront table wider → IsTemporary locals table y → IsTemporary more wider y
+temporary_later locals more table wider y front later is = record {
+  local = is.local;
+  there = front y is.local is.there;
+  nameless = is.nameless;
+  kind = is.kind;
+  ty = is.ty;
+  typed = later is.local.ty.0 is.ty is.typed;
+  owner = is.owner;
+}
+
+-- all of them; none is a variable
+pub record ArePendingIn (locals : List Local) (table : List Ty) (living pending : List ℕ) : Type 0 where
+  pub ascend : Ascend 0 pending
+  pub each : (y : ℕ) → Among y pending → IsTemporary locals table y
+  pub beside : (y : ℕ) → Among y pending → Contains living y → ⊥
+
+abbrev pub ArePending : State → Type 0
+ArePending s = ArePendingIn s.locals s.types.types s.living s.pending
+
+pub none_pending : (locals : List Local) (table : List Ty) (living pending : List ℕ) → pending ≡ [] → ArePendingIn locals table living pending
+none_pending locals table living pending none =
+    subst (ArePendingIn locals table living) (sym none) (record { ascend = tt; each = λ y m. absurd m; beside = λ y m c. m })
+
+-- where more is written, and nothing more lives
+pub pending_later : (s s' : State) → IsFront s.locals s'.locals → IsFront s.types.types s'.types.types → s'.living ≡ s.living → s'.pending ≡ s.pending → ArePending s → ArePending s'
+pending_later s s' locals table living pending h =
+    subst (λ (xs : List ℕ). ArePendingIn s'.locals s'.types.types xs s'.pending) (sym living)
+    (subst (ArePendingIn s'.locals s'.types.types s.living) (sym pending) (record {
+      ascend = h.ascend;
+      each = λ y m. temporary_later s.locals s'.locals s.types.types s'.types.types y locals table (h.each y m);
+      beside = h.beside;
+    }))
