@@ -1,5 +1,5 @@
 -- What is initialised and handed over, and where pointers lead: what the code knows of types and categories, against the tables.
-use Rattle.std.proofs.Common.{◌≡◌, ℕ, Bool, true, List, [], None, Some, Result, refl, sym, ap, ◌∙◌}
+use Rattle.std.proofs.Common.{◌≡◌, ℕ, Bool, true, false, List, [], None, Some, Result, refl, sym, ap, ◌∙◌}
 use Rattle.std.specs.Prelude.{if◌then◌else◌}
 use Rattle.life_types.specs.Types.{class}
 use Rattle.life_types.specs.declared.memory.NoMemory.{NoMemory}
@@ -22,7 +22,7 @@ use Rattle.life_writer.specs.Around.{Around, parameter_types, type_of}
 use Rattle.life_writer.specs.Building.{Destination}
 use Rattle.life_writer.specs.Calls.{Called, call_for, called}
 use Rattle.life_writer.specs.ExpressionForms.{all_uses, target_at, uses}
-use Rattle.life_writer.specs.Giving.{aimed_at, argument, argument_by, arguments, bound, call_to, given, given_by, initial, value_by}
+use Rattle.life_writer.specs.Giving.{aimed_at, argument, argument_by, arguments, bound, call_to, consumed_by, given, given_by, given_in, given_over, initial, value_by}
 use Rattle.life_writer.specs.Pointers.{Pointing, located, pointed}
 use Rattle.life_writer.specs.Uses.{Remaining, Uses, filled, own, saved}
 use Rattle.life_writer.specs.Using.{operand, operand_by, pointer, pointing, pointing_by, register_type, temporary_of, value}
@@ -65,6 +65,22 @@ place_bound a keeps e target behind s now o is first =
     ap (λ (b : Bool). if b then mapped (aimed_at e.place) (e.at s)
     else (given e (type_of a target) behind s >> λ rest s. rest (keeps e.place (type_of a target)) s >> λ x s. gives (aimed_at e.place (object_named x)) s)) is
     ∙ ap (mapped (aimed_at e.place)) first
+
+-- .. and to a temporary
+pub temporary_bound : (a : Around) (keeps : Place → Ty → Destination) (e : Uses) (target : TyId) (t : Ty) (behind : Place) (d : Destination) (s now : State) (x : ℕ) (o : Operand)
+    → is_place_of e.category target ≡ false → t ≡ type_of a target → d ≡ keeps e.place t → given_in e t behind d s ≡ gives x now → o ≡ object_named x
+    → bound a keeps e target behind s ≡ gives (aimed_at e.place o) now
+temporary_bound a keeps e target t behind d s now x o is type_is goal_is given named =
+    ap (λ (b : Bool). if b then mapped (aimed_at e.place) (e.at s)
+    else (given_in e (type_of a target) behind (keeps e.place (type_of a target)) s >> λ x s. gives (aimed_at e.place (object_named x)) s)) is
+    ∙ ap (λ (u : Ty). given_in e u behind (keeps e.place u) s >> λ x s. gives (aimed_at e.place (object_named x)) s) (sym type_is)
+    ∙ ap (λ (y : Destination). given_in e t behind y s >> λ x s. gives (aimed_at e.place (object_named x)) s) (sym goal_is)
+    ∙ ap (λ (w : Gives ℕ). w >> λ x s. gives (aimed_at e.place (object_named x)) s) given
+    ∙ ap (λ (y : Operand). gives (aimed_at e.place y) now) (sym named)
+
+-- what is given over, by its class
+pub given_over_as : (e : Uses) (t : Ty) (behind : Place) (s : State) (k known : Class) → k ≡ class (Some t) → k ≡ known → given_over e t behind s ≡ consumed_by known e t behind s
+given_over_as e t behind s k known same is = ap (λ (x : Class). consumed_by x e t behind s) (sym same ∙ is)
 
 -- anything but a reference
 pub unbound : (a : Around) (keeps : Place → Ty → Destination) (e : Uses) (t : Ty) (behind : Place) (s : State) → ((x : TyId) (y : Bool) → t ≡ ty.Reference x y → ⊥)

@@ -25,6 +25,17 @@ first_left [] closing (suc i) = refl
 first_left (comma ∷ commas) closing zero = refl
 first_left (comma ∷ commas) closing (suc i) = first_left commas closing i
 
+-- the first two
+pub first_token : (d : DelimitersForm) (behind : Place) → behind ≡ get_or d.commas 0 d.closing → behind_first d ≡ behind
+first_token d behind is = first_left d.commas d.closing 0 ∙ sym is
+
+second_left : (commas : List Place) (closing : Place) → first_of (without_first commas) closing ≡ get_or commas 1 closing
+second_left [] closing = refl
+second_left (comma ∷ commas) closing = first_left commas closing 0
+
+pub second_token : (d : DelimitersForm) (behind : Place) → behind ≡ get_or d.commas 1 d.closing → behind_first (behind_others d) ≡ behind
+second_token d behind is = second_left d.commas d.closing ∙ sym is
+
 others_behind : (commas : List Place) (i : ℕ) → without_first (drop i commas) ≡ drop (suc i) commas
 others_behind [] zero = refl
 others_behind [] (suc i) = refl
@@ -33,6 +44,13 @@ others_behind (comma ∷ commas) (suc i) = others_behind commas i
 
 others_left : (commas : List Place) (i : ℕ) → without_first (drop i commas) ≡ drop (i + 1) commas
 others_left commas i = let next : suc i ≡ i + 1 = omega arith in others_behind commas i ∙ ap (λ (n : ℕ). drop n commas) next
+
+-- what is left of them
+pub left_token : (d : DelimitersForm) (i : ℕ) → behind_first (behind_left d i) ≡ get_or d.commas i d.closing
+left_token d i = first_left d.commas d.closing i
+
+pub left_others : (d : DelimitersForm) (i : ℕ) → behind_others (behind_left d i) ≡ behind_left d (i + 1)
+left_others d i = ap (λ (commas : List Place). record { commas = commas; closing = d.closing }) (others_left d.commas i)
 
 -- ---- arguments
 
@@ -72,7 +90,7 @@ turn a d so_far es types i e behind t wanted s x after total more is token typed
     (handed_more a left so_far e (drop (i + 1) es) t (drop (i + 1) types) s x after total as_argument here)
 
 -- no argument or no parameter is left
-none_past : {X : Type 0} (xs : List X) (i : ℕ) → None ≡ slice_get xs i → length xs ≤ i
+pub none_past : {X : Type 0} (xs : List X) (i : ℕ) → None ≡ slice_get xs i → length xs ≤ i
 none_past {X = X} xs i e = go (slice_get_cases xs i).1
   where
     go : ((x : X) × (i < length xs) × (slice_get xs i ≡ Some x) × (get_or xs i x ≡ x)) ⊎ ((length xs ≤ i) × (slice_get xs i ≡ None)) → length xs ≤ i

@@ -1,6 +1,5 @@
 -- What each step of writing keeps is kept where expressions are used whose uses keep it.
 use Rattle.std.proofs.Common.{ℕ, Option, Some, None}
-use Rattle.std.specs.Prelude.{if◌then◌else◌}
 use Rattle.life_types.specs.contracts.ty.TyPartialEq.TheImpl.{ghosts as compared}
 use Rattle.life_types.specs.declared.place.Place.{Place}
 use Rattle.life_types.specs.declared.ty.Ty.{Ty}

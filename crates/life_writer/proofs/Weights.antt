@@ -1,12 +1,25 @@
 -- How large a form is: what the recursion over expressions goes down.
-use Rattle.std.proofs.Common.{◌≡◌, ◌+◌, ◌-◌, ◌<◌, ◌≤◌, ℕ, zero, suc, List, [], ◌∷◌, drop, get_or, length, take, sym, ap, ◌∙◌, arith}
+use Rattle.std.proofs.Common.{◌≡◌, ◌+◌, ◌-◌, ◌<◌, ◌≤◌, ◌&&◌, ℕ, zero, suc, Bool, true, false, List, [], ◌∷◌, Option, None, Some, drop, get_or, length, take, sym, ap, ◌∙◌, arith}
 use Rattle.std.proofs.lemmas.List.{drop_more, take_all}
-use Rattle.life_typed.specs.TypedForm.{Form, call, construct, paren, make_unique, text_of, member, dereference, index, method, negate, not, address_of, binary, typed, ◌⨟◌, forms, typed_view, typed_views, whole}
+use Rattle.std.specs.Prelude.{if◌then◌else◌}
+use Rattle.std.specs.Prelude.{not as negated}
+use Rattle.life_types.specs.contracts.ty.TyPartialEq.TheImpl.{ghosts as compared}
+use Rattle.life_types.specs.declared.ty.Ty.{Ty}
+use Rattle.life_typed.specs.Conversions.{is_place}
+use Rattle.life_typed.specs.TypedForm.{Form, Typed, call, construct, paren, make_unique, text_of, member, dereference, index, method, negate, not, address_of, binary, typed, ◌⨟◌, forms, typed_view, typed_views, whole}
 use Rattle.life_typed.specs.declared.typed_expr.TypedExpr.{TypedExpr}
 use Rattle.life_typed.specs.declared.typed_expr.TypedOperand.{TypedOperand}
 use Rattle.life_writer.specs.Chains.{Follows, Runs}
-use Rattle.life_writer.specs.Parts.{inside}
+use Rattle.life_writer.specs.Around.{own_type}
+use Rattle.life_writer.specs.Calls.{Called, call_for, expression_call, form_call}
+use Rattle.life_writer.specs.Conditions.{on}
+use Rattle.life_writer.specs.Parts.{inside, part_form, part_view}
+use Rattle.life_writer.specs.declared.assigning.Target.{Target}
+use Rattle.life_writer.specs.declared.assigning.Target.TheVariants as target
 use Rattle.life_writer.specs.declared.chains.Chain.{Chain}
+use Rattle.life_writer.specs.declared.parts.Part.{Part}
+use Rattle.life_writer.specs.declared.rows.Side.{Side}
+use Rattle.life_writer.specs.declared.rows.Side.TheVariants.{Left, Right}
 
 abbrev pub weight : Form → ℕ
 weight (call f arguments delimiters) = suc (weight arguments)
@@ -26,6 +39,11 @@ weight (typed place t category form) = suc (weight form)
 weight (e ⨟ es) = suc (weight e + weight es)
 weight _ = 0
 
+-- .. and of what is assigned to
+abbrev pub target_weight : Target → ℕ
+target_weight (target.Part p) = weight (whole (part_view p))
+target_weight (target.Member x m) = 0
+
 -- ---- arguments
 
 rest_lighter : (es : List TypedExpr) (i : ℕ) → weight (forms (typed_views (drop i es))) ≤ weight (forms (typed_views es))
@@ -39,7 +57,36 @@ argument_lighter es i e more is =
     let sum : weight (forms (typed_views (drop i es))) ≡ suc (weight (whole (typed_view e)) + weight (forms (typed_views (drop (i + 1) es)))) = ap (λ (xs : List TypedExpr). weight (forms (typed_views xs))) first in
     let rest = rest_lighter es i in omega arith
 
+-- ---- calls
+
+abbrev call_weight : Option Called → ℕ
+call_weight None = 0
+call_weight (Some c) = suc (weight c.arguments)
+
+mutual
+  expression_call_within : (f : Form) → call_weight (expression_call f) ≤ weight f
+  expression_call_within (typed place t category form) = let inner = form_call_within form in omega arith
+  expression_call_within _ = omega arith
+
+  form_call_within : (f : Form) → call_weight (form_call f) ≤ weight f
+  form_call_within (call f arguments delimiters) = omega arith
+  form_call_within (paren inner closing) = let within = expression_call_within inner in omega arith
+  form_call_within _ = omega arith
+
+-- the arguments of the call that an expression is weigh less than it
+pub call_lighter : (e : Typed) (t : Ty) (c : Called) → call_for e t ≡ Some c → weight c.arguments < weight (whole e)
+call_lighter e t c is = go (compared.eq (own_type e.ty) t && negated (is_place e.category)) is
+  where
+    go : (b : Bool) → (if b then form_call e.form else None) ≡ Some c → weight c.arguments < weight (whole e)
+    go true h = let same : call_weight (form_call e.form) ≡ suc (weight c.arguments) = ap call_weight h in let within = form_call_within e.form in omega arith
+    go false h = absurd (let both : None ≡ Some c = h in cc)
+
 -- ---- operands
+
+-- what stands on a side weighs no more than both
+pub side_lighter : (side : Side) (left : Option Part) (right : Part) → weight (part_form (on side left (Some right))) ≤ weight (part_form left) + weight (whole (part_view right))
+side_lighter Left left right = omega arith
+side_lighter Right left right = omega arith
 
 -- an operator weighs more than what is to its left
 pub left_lighter : (which : Chain) (first second : Form) → Follows which first second → suc (weight first) < weight second

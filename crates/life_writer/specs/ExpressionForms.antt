@@ -108,13 +108,12 @@ advanced_uses direction left right place t c =
     pointing_uses (λ s. pointer left (own left) s >> λ q s. mapped (λ n. By (λ p. Advance p q n direction)) (value right place (own right) None s)) place t c
 
 -- both are found first, and then seen, the left one first
+abbrev pub compared_with : (equal : Bool) → (left right : Uses) → Place → Ty → Option ℕ → State → Gives ℕ
+compared_with equal left right place t into s =
+    seen left s >> λ x s. seen right s >> λ y s. viewed x s >> λ p s. viewed y s >> λ q s. computed into t place (λ r. Same r p q equal) s
+
 abbrev pub compared_uses : (equal : Bool) → (left right : Uses) → Place → ExprType → Category → Uses
-compared_uses equal left right place t c =
-    record (unused place t c) {
-      made = λ behind into s.
-          seen left s >> λ x s. seen right s >> λ y s. viewed x s >> λ p s. viewed y s >> λ q s.
-          computed into (own_type t) place (λ r. Same r p q equal) s;
-    }
+compared_uses equal left right place t c = record (unused place t c) { made = λ behind into s. compared_with equal left right place (own_type t) into s }
 
 abbrev pub binary_uses : Row → (left right : Uses) → Place → ExprType → Category → Uses
 binary_uses (Computed operator common) left right place t c = operated_uses operator common left right place t c

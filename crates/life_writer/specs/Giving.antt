@@ -52,6 +52,14 @@ given_by classes.Aggregate e t behind s = object_by e.category e.at e.object s
 abbrev pub given : Uses → Ty → (behind : Place) → State → Gives Remaining
 given e t behind s = given_by (class (Some t)) e t behind s
 
+-- a copy of it, or what it builds, where it goes
+abbrev pub object_given : Uses → Destination → State → Gives ℕ
+object_given e d s = object_by e.category e.at e.object s >> λ rest s. rest d s
+
+-- .. and built where it goes
+abbrev pub given_in : Uses → Ty → (behind : Place) → Destination → State → Gives ℕ
+given_in e t behind d s = given e t behind s >> λ rest s. rest d s
+
 -- ---- a reference
 
 abbrev pub aimed_at : Place → Operand → Remaining

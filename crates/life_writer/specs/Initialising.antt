@@ -9,6 +9,10 @@ use Rattle.life_writer.specs.Temporaries.{scoped}
 use Rattle.life_writer.specs.Uses.{Uses}
 use Rattle.life_writer.specs.Writing.{State, Gives, ◌>>◌}
 
--- what a reference is bound to lives as long as the reference
+-- what a reference is bound to is built by `keeps`
+abbrev pub initialised_by : Around → (keeps : Place → Ty → Destination) → Uses → Ty → (behind : Place) → Destination → State → Gives ℕ
+initialised_by a keeps e t behind d s = initial a keeps e t behind s >> λ rest s. rest d s
+
+-- .. and lives as long as the reference
 abbrev pub initialised : Around → Uses → Ty → (behind : Place) → Destination → State → Gives ℕ
-initialised a e t behind d s = initial a scoped e t behind s >> λ rest s. rest d s
+initialised a e t behind d s = initialised_by a scoped e t behind d s

@@ -19,6 +19,7 @@ pub mod Parts
 pub mod Pointers
 pub mod Registers
 pub mod Rows
+pub mod Targets
 pub mod Temporaries
 pub mod Uses
 pub mod Using

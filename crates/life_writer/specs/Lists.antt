@@ -57,6 +57,11 @@ module _ (a : Around) where
   list_object t opening [] d = lived Zero (λ place to s. s)
   list_object t opening (e ∷ es) d = lived Plain (filled_in t opening (e ∷ es) d)
 
+  -- the type that a list builds, where one of this type is wanted
+  abbrev pub built_type : Ty → Ty
+  built_type (ty.Reference target constant) = type_of a target
+  built_type t = t
+
   -- a list as an expression of the type that it builds, which stands at its brace
   abbrev pub listed : Ty → (opening : Place) → List Uses → DelimitersForm → Uses
   listed t opening es d = record (unused opening (expr_type.Of t) category.Value) { object = λ s. gives (list_object t opening es d) s }

@@ -50,9 +50,13 @@ erased e [] s = gives (aimed Null) s
 erased e (at ∷ more) s = operand e s >> λ o s. mapped (λ l. By (λ p. Changes o (Erase l p))) (pointer at (own at) s)
 
 -- from an index on, and so many, if it is said
+abbrev pub size_if : Option Uses → (behind : Place) → State → Gives (Option ℕ)
+size_if None behind s = gives None s
+size_if (Some n) behind s = mapped Some (value n behind ty.Size None s)
+
 abbrev pub count_if : List Uses → DelimitersForm → State → Gives (Option ℕ)
-count_if [] d s = gives None s
-count_if (n ∷ more) d s = mapped Some (value n (behind_first d) ty.Size None s)
+count_if [] d s = size_if None (behind_first d) s
+count_if (n ∷ more) d s = size_if (Some n) (behind_first d) s
 
 abbrev pub cut : Uses → List Uses → DelimitersForm → State → Gives Pointing
 cut e [] d s = gives (aimed Null) s

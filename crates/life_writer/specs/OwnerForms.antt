@@ -26,8 +26,11 @@ replacing_uses act place t c = record (unused place t c) { object = λ s. mapped
 -- ---- what is moved (ISO/IEC 14882:2017 [forward])
 
 -- from the variable with a number; it stands at `move`, also where it initialises
+abbrev pub moved_out_of : Place → ℕ → Act
+moved_out_of at x place to s = emit at (Move to (variable s x)) s
+
 abbrev pub moved_from : Place → ℕ → State → Gives Act
-moved_from at x s = gives (λ place to s. emit at (Move to (variable s x)) s) s
+moved_from at x s = gives (moved_out_of at x) s
 
 abbrev pub move_uses : ℕ → Place → ExprType → Category → Uses
 move_uses x place t c = replacing_uses (moved_from place x) place t c
@@ -78,6 +81,14 @@ abbrev pub string_of_string : Category → Uses → Place → ExprType → Categ
 string_of_string category.Value e place t c = record (unused place t c) { object = e.object; replacing = e.replacing }
 string_of_string (category.Place id constant) e place t c =
     record (unused place t c) { object = λ s. mapped (λ from. lived Plain (copied_at place from)) (e.at s) }
+
+-- .. and what is done to a string that it is assigned to
+abbrev pub replacing_by : Ty → Category → Option (State → Gives Act) → Option (State → Gives Act)
+replacing_by ty.Text category.Value act = act
+replacing_by _ _ act = None
+
+abbrev pub replacing_string : Uses → Option (State → Gives Act)
+replacing_string e = replacing_by (own e) e.category e.replacing
 
 abbrev pub string_of : Ty → Uses → Place → ExprType → Category → Uses
 string_of ty.Text e place t c = string_of_string e.category e place t c

@@ -1,5 +1,5 @@
 -- Expressions and the operands within them, as plain data.
-use Rattle.std.specs.Prelude.{◌≡◌, Box, List, Option, None, Some, map}
+use Rattle.std.specs.Prelude.{◌≡◌, Bool, true, false, Box, List, [], ◌∷◌, Option, None, Some, map}
 use Rattle.std.specs.declared.alloc.Global.{Global}
 use Rattle.life_typed.specs.Delimiters.{delimiters_view}
 use Rattle.life_typed.specs.TypedForm.{Form, Typed, number, character, boolean, text, null, local, call, construct, paren, move, make_unique, text_of, input, member, dereference, index, method, negate, not, address_of, binary, nothing, forms, form_view, nested, operand_view, typed_view, typed_views, whole}
@@ -25,6 +25,20 @@ part_form (Some p) = whole (part_view p)
 abbrev pub argument_form : Option (Box TypedExpr Global) → Form
 argument_form None = nothing
 argument_form (Some e) = whole (typed_view e.value)
+
+-- whether there is none
+abbrev pub has_none : List TypedExpr → Bool
+has_none [] = true
+has_none (e ∷ es) = false
+
+-- the first of some, and the second
+abbrev pub first_form : List TypedExpr → Form
+first_form [] = nothing
+first_form (e ∷ es) = whole (typed_view e)
+
+abbrev pub second_form : List TypedExpr → Form
+second_form [] = nothing
+second_form (e ∷ es) = first_form es
 
 abbrev pub shape_form : Shape → Form
 shape_form (shape.Number n) = number n

@@ -22,7 +22,11 @@ pointed (As q) p = Repoint p q
 abbrev pub aimed : Source → Pointing
 aimed source = By (λ p. Aim p source)
 
+-- a register is written by an instruction
+abbrev pub written : Place → Ty → (Location → Step) → State → Gives Location
+written place t step s = mapped whole (built (Fill place step) (wanted place None t) s)
+
 -- a variable is its own location; anything else goes to a register
 abbrev pub located : Place → Ty → Pointing → State → Gives Location
 located place t (As q) s = gives q s
-located place t (By step) s = mapped whole (built (Fill place step) (wanted place None t) s)
+located place t (By step) s = written place t step s

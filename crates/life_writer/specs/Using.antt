@@ -10,6 +10,7 @@ use Rattle.life_typed.specs.declared.typed_expr.Category.TheVariants as category
 use Rattle.life_core.specs.Operands.{Location, Operand, Name, Through, Get, Whole, object_named, whole}
 use Rattle.life_core.specs.Tree.{Tree}
 use Rattle.life_writer.specs.Behind.{lasting}
+use Rattle.life_writer.specs.Building.{Destination}
 use Rattle.life_writer.specs.Conditions.{non_zero, not_null}
 use Rattle.life_writer.specs.Pointers.{Pointing, As, aimed, located}
 use Rattle.life_writer.specs.Registers.{as_type}
@@ -35,9 +36,13 @@ value e behind to into s = as_type (own e) to e.place (own_value e behind) into 
 
 -- ---- places
 
--- an owner or a struct that is a value, as a temporary of a type
+-- an owner or a struct that is a value is built where it goes
+abbrev pub object_in : Uses → Destination → State → Gives ℕ
+object_in e d s = e.object s >> λ rest s. rest d s
+
+-- .. as a temporary of a type
 abbrev pub temporary_of : Uses → Ty → State → Gives ℕ
-temporary_of e t s = e.object s >> λ rest s. rest (temporary e.place t) s
+temporary_of e t s = object_in e (temporary e.place t) s
 
 abbrev pub operand_by : Category → (at : State → Gives Operand) → (made : State → Gives ℕ) → State → Gives Operand
 operand_by category.Value at made s = mapped object_named (made s)
@@ -64,11 +69,14 @@ abbrev pub owned_by : Category → (at : State → Gives Operand) → (made : St
 owned_by category.Value at made s = mapped (λ x. aimed (Get (whole x))) (made s)
 owned_by (category.Place t constant) at made s = mapped (λ o. As (location_in o)) (at s)
 
+abbrev pub owned : Uses → State → Gives Pointing
+owned e s = owned_by e.category e.at (temporary_of e (own e)) s
+
 -- what an expression gives a pointer: a string is seen by a view of the whole of it, and a vector by a span
 abbrev pub pointing_by : Ty → Uses → State → Gives Pointing
 pointing_by ty.Text e s = mapped (λ o. aimed (Whole o)) (operand e s)
 pointing_by (ty.Vector element) e s = mapped (λ o. aimed (Whole o)) (operand e s)
-pointing_by (ty.Unique target) e s = owned_by e.category e.at (temporary_of e (own e)) s
+pointing_by (ty.Unique target) e s = owned e s
 pointing_by _ e s = e.pointing s
 
 abbrev pub pointing : Uses → State → Gives Pointing

@@ -68,6 +68,16 @@ place_of (Some l) x = place_of_kind l.kind x
 abbrev pub variable_place : State → ℕ → Operand
 variable_place s x = place_of (slice_get s.locals (variable s x)) (variable s x)
 
+-- the object that a variable is, unless it refers to another
+abbrev pub object_of_kind : LocalKind → ℕ → Option ℕ
+object_of_kind Object x = Some x
+object_of_kind Register x = None
+object_of_kind Range x = None
+
+abbrev pub object_at : Option Local → ℕ → Option ℕ
+object_at None x = None
+object_at (Some l) x = object_of_kind l.kind x
+
 -- ---- what ends
 
 -- an End that would list nothing isn't there

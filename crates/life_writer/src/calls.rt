@@ -90,6 +90,12 @@ impl Writer {
                 )
             }
             Shape::Paren { inner, .. } => self.part_alone(a, inner),
+            Shape::Method {
+                base,
+                method,
+                arguments,
+                delimiters,
+            } => self.method_alone(a, node, method, base, arguments, delimiters),
             _ => Err(NoMemory),
         }
     }

@@ -6,10 +6,13 @@ ghost use Rattle.life_core.specs.Tree.{condition_tree};
 ghost use Rattle.life_writer.specs.Answers.{Answers};
 ghost use Rattle.life_writer.specs.PartUses.{expression_uses};
 ghost use Rattle.life_writer.specs.Using as spec;
-ghost use Rattle.life_writer.specs.Views.{around_of, pointing_of, state_of};
+ghost use Rattle.life_writer.specs.Characters as characters;
+ghost use Rattle.life_writer.specs.Views.{around_of, destination_of, pointing_of, seen_of, state_of};
 
 use crate::around::Around;
 use crate::behind::Behind;
+use crate::building::Destination;
+use crate::characters::SeenCharacters;
 use crate::parts::Part;
 use crate::pointers::Pointing;
 use crate::writer::Writer;
@@ -77,5 +80,28 @@ impl Writer {
         ensures { OnOk result (state_of self.new ≡ (expression_uses (around_of a.now) expression.now).alone (state_of self.old)) }
     {
         self.part_alone(a, Some(Part::of(expression)))
+    }
+
+    /// Where an expression's characters are found.
+    pub fn characters_of(
+        &mut self,
+        a: &Around,
+        expression: &TypedExpr,
+    ) -> Result<SeenCharacters, NoMemory>
+        ensures { Answers seen_of result (characters.seen (expression_uses (around_of a.now) expression.now) (state_of self.old)) (state_of self.new) }
+    {
+        self.seen(a, Some(Part::of(expression)))
+    }
+
+    /// An owner or a struct that is a value is built where it goes.
+    pub fn built_by(
+        &mut self,
+        a: &Around,
+        expression: &TypedExpr,
+        destination: Destination,
+    ) -> Result<u32, NoMemory>
+        ensures { Answers (λ x. x) result (spec.object_in (expression_uses (around_of a.now) expression.now) (destination_of destination) (state_of self.old)) (state_of self.new) }
+    {
+        self.part_object(a, Some(Part::of(expression)), destination)
     }
 }

@@ -5,7 +5,12 @@ ghost use Rattle.life_core.specs.Operands.{location_of, operand_of};
 use life_core::{Location, Operand};
 use life_types::NoMemory;
 
-fn copied_location(location: &Location) -> Result<Location, NoMemory>
+/// The same location.
+///
+/// # Errors
+///
+/// For want of memory.
+pub fn copied_location(location: &Location) -> Result<Location, NoMemory>
     ensures { IfOk result (λ copy. location_of copy ≡ location_of location.now) }
 {
     Ok(Location {

@@ -1,18 +1,24 @@
 // Places and pointers (ISO/IEC 14882:2017 [basic.lval], [expr.unary.op], [dcl.ptr]).
-ghost use Rattle.std.specs.Prelude.{◌≡◌};
-ghost use Rattle.life_core.specs.Operands.{location_of, operand_of};
+ghost use Rattle.std.specs.Prelude.{◌≡◌, IfOk, Some};
+ghost use Rattle.life_core.specs.Operands.{Whole, location_of, operand_of};
 ghost use Rattle.life_writer.specs.Answers.{Answers};
-ghost use Rattle.life_writer.specs.ExpressionForms.{target_at};
+ghost use Rattle.life_writer.specs.ExpressionForms.{binary_uses, member_at, target_at};
 ghost use Rattle.life_writer.specs.PartUses.{node_uses, part_uses};
+ghost use Rattle.life_writer.specs.Pointers.{aimed};
 ghost use Rattle.life_writer.specs.Using as spec;
 ghost use Rattle.life_writer.specs.Uses.{own};
 ghost use Rattle.life_writer.specs.Views.{around_of, pointing_of, state_of};
+ghost use Rattle.life_writer.specs.Writing.{mapped};
 
+use crate::acts::location_in;
 use crate::around::{Around, own_type};
+use crate::bases::reference_to;
+use crate::building::{Destination, Last};
 use crate::parts::{Node, Part, Shape};
 use crate::pointers::Pointing;
+use crate::rows::{Row, row_between};
 use crate::writer::Writer;
-use life_core::{Location, Operand, Source};
+use life_core::{Location, Operand, Source, Which};
 use life_typed::Category;
 use life_types::{NoMemory, Ty, is_pointer};
 use std::vec::Vec;
@@ -24,9 +30,28 @@ fn register_type(wanted: Ty, own: Ty) -> Ty
     if is_pointer(own) { own } else { wanted }
 }
 
+// A member of a place.
+fn with_member(place: Operand, member: u32) -> Result<Operand, NoMemory>
+    ensures { IfOk result (λ o. operand_of o ≡ spec.with_member member (operand_of place)) }
+{
+    match place {
+        Operand::Name(Location { local, mut members }) => {
+            members.push(member)?;
+            Ok(Operand::Name(Location { local, members }))
+        }
+        Operand::Through {
+            pointer,
+            mut members,
+        } => {
+            members.push(member)?;
+            Ok(Operand::Through { pointer, members })
+        }
+    }
+}
+
 impl Writer {
     /// A part where a place is wanted.
-    #[cycle(places)]
+    #[cycle(uses)]
     pub(crate) fn part_operand(
         &mut self,
         a: &Around,
@@ -34,17 +59,29 @@ impl Writer {
     ) -> Result<Operand, NoMemory>
         ensures { Answers operand_of result (spec.operand (part_uses (around_of a.now) part.entry) (state_of self.old)) (state_of self.new) }
     {
-        let Some(part) = part else {
-            return Err(NoMemory);
-        };
-        match part.category {
-            Category::Value => Err(NoMemory),
-            Category::Place { .. } => self.at(a, &part.opened()),
+        match part {
+            Some(part) => self.node_operand(a, &part.opened()),
+            None => Err(NoMemory),
+        }
+    }
+
+    // .. once it is opened.
+    #[cycle(uses)]
+    fn node_operand(&mut self, a: &Around, node: &Node<'_>) -> Result<Operand, NoMemory>
+        ensures { Answers operand_of result (spec.operand (node_uses (around_of a.now) node.now) (state_of self.old)) (state_of self.new) }
+    {
+        match node.category {
+            Category::Value => {
+                let goal = Destination::Temporary(node.place, own_type(node.ty));
+                let local = self.object(a, node, goal)?;
+                Ok(Operand::name(self.alloc, local))
+            }
+            Category::Place { .. } => self.at(a, node),
         }
     }
 
     /// The place that a part is.
-    #[cycle(places)]
+    #[cycle(uses)]
     pub(crate) fn part_at(
         &mut self,
         a: &Around,
@@ -59,7 +96,7 @@ impl Writer {
     }
 
     /// .. once it is opened.
-    #[cycle(places)]
+    #[cycle(uses)]
     pub(crate) fn at(&mut self, a: &Around, node: &Node<'_>) -> Result<Operand, NoMemory>
         ensures { Answers operand_of result ((node_uses (around_of a.now) node.now).at (state_of self.old)) (state_of self.new) }
     {
@@ -67,12 +104,35 @@ impl Writer {
             Shape::Local(number) => Ok(self.variable_place(number)),
             Shape::Paren { inner, .. } => self.part_at(a, inner),
             Shape::Dereference(operand) => self.target_of(a, node, operand),
+            Shape::Index {
+                base,
+                index,
+                closing,
+            } => self.indexed(a, node, base, index, closing),
+            Shape::Method {
+                base,
+                method,
+                arguments,
+                delimiters,
+            } => self.method_at(a, node, method, base, arguments, delimiters),
+            Shape::Call {
+                function,
+                arguments,
+                delimiters,
+            } => {
+                let arguments = self.arguments(a, arguments, delimiters, a.parameters(function))?;
+                let last = Last::Call(node.place, function, arguments);
+                let ty = reference_to(node.category);
+                let register = self.built(last, Destination::Register(node.place, None, ty))?;
+                Ok(Operand::through(self.alloc, register))
+            }
+            Shape::Member { base, member } => self.member_at(a, base, member),
             _ => Err(NoMemory),
         }
     }
 
     // What a pointer points to.
-    #[cycle(places)]
+    #[cycle(uses)]
     fn target_of(
         &mut self,
         a: &Around,
@@ -86,7 +146,10 @@ impl Writer {
         };
         let own = own_type(part.ty);
         match own {
-            Ty::Unique(_) => Err(NoMemory),
+            Ty::Unique(_) => {
+                let base = self.part_base(a, pointer)?;
+                self.element(node, base, Which::Target)
+            }
             _ => {
                 let pointer = self.part_pointer(a, pointer, own)?;
                 Ok(Operand::Through {
@@ -97,8 +160,23 @@ impl Writer {
         }
     }
 
+    // A member of a place.
+    #[cycle(uses)]
+    fn member_at(
+        &mut self,
+        a: &Around,
+        base: Option<Part<'_>>,
+        member: u32,
+    ) -> Result<Operand, NoMemory>
+        ensures { Answers operand_of result (member_at (part_uses (around_of a.now) base.entry) member (state_of self.old)) (state_of self.new) }
+    {
+        let place = self.part_operand(a, base)?;
+        let reached = with_member(place, member)?;
+        Ok(reached)
+    }
+
     /// What a part gives a pointer.
-    #[cycle(places)]
+    #[cycle(uses)]
     pub(crate) fn part_pointing(
         &mut self,
         a: &Around,
@@ -113,7 +191,7 @@ impl Writer {
     }
 
     /// .. once it is opened.
-    #[cycle(places)]
+    #[cycle(uses)]
     pub(crate) fn node_pointing(
         &mut self,
         a: &Around,
@@ -122,20 +200,50 @@ impl Writer {
         ensures { Answers pointing_of result (spec.pointing (node_uses (around_of a.now) node.now) (state_of self.old)) (state_of self.new) }
     {
         match own_type(node.ty) {
-            Ty::Text => Err(NoMemory),
-            Ty::Vector(_) => Err(NoMemory),
-            Ty::Unique(_) => Err(NoMemory),
+            Ty::Text => self.whole(a, node),
+            Ty::Vector(_) => self.whole(a, node),
+            Ty::Unique(_) => self.owned_by(a, node),
             _ => self.points_to(a, node),
         }
     }
 
+    // A unique_ptr that is a place is tested where it lies, and what a value owns is seen through its
+    // temporary.
+    #[cycle(uses)]
+    fn owned_by(&mut self, a: &Around, node: &Node<'_>) -> Result<Pointing, NoMemory>
+        ensures { Answers pointing_of result (spec.owned (node_uses (around_of a.now) node.now) (state_of self.old)) (state_of self.new) }
+    {
+        match node.category {
+            Category::Value => {
+                let goal = Destination::Temporary(node.place, own_type(node.ty));
+                let local = self.object(a, node, goal)?;
+                let owner = Location::whole(self.alloc, local);
+                Ok(Pointing::At(Source::Get(owner)))
+            }
+            Category::Place { .. } => {
+                let place = self.at(a, node)?;
+                Ok(Pointing::As(location_in(place)))
+            }
+        }
+    }
+
+    // A string is seen by a view of the whole of it, and a vector by a span.
+    #[cycle(uses)]
+    fn whole(&mut self, a: &Around, node: &Node<'_>) -> Result<Pointing, NoMemory>
+        ensures { Answers pointing_of result (mapped (λ o. aimed (Whole o)) (spec.operand (node_uses (around_of a.now) node.now) (state_of self.old))) (state_of self.new) }
+    {
+        let place = self.node_operand(a, node)?;
+        Ok(Pointing::At(Source::Whole(place)))
+    }
+
     // What a pointer points to.
-    #[cycle(places)]
+    #[cycle(uses)]
     fn points_to(&mut self, a: &Around, node: &Node<'_>) -> Result<Pointing, NoMemory>
         ensures { Answers pointing_of result ((node_uses (around_of a.now) node.now).pointing (state_of self.old)) (state_of self.new) }
     {
         match node.shape {
             Shape::Null => Ok(Pointing::At(Source::Null)),
+            Shape::Text(text) => Ok(Pointing::At(Source::Text(text))),
             Shape::Local(number) => {
                 let local = self.variable(number);
                 Ok(Pointing::As(Location::whole(self.alloc, local)))
@@ -145,11 +253,63 @@ impl Writer {
                 let place = self.part_operand(a, operand)?;
                 Ok(Pointing::At(Source::Place(place)))
             }
+            Shape::Method {
+                base,
+                method,
+                arguments,
+                delimiters,
+            } => self.method_pointing(a, node, method, base, arguments, delimiters),
+            Shape::Call {
+                function,
+                arguments,
+                delimiters,
+            } => {
+                let arguments = self.arguments(a, arguments, delimiters, a.parameters(function))?;
+                Ok(Pointing::Call(function, arguments))
+            }
+            Shape::Member { base, member } => {
+                let place = self.member_at(a, base, member)?;
+                Ok(Pointing::As(location_in(place)))
+            }
+            Shape::Binary {
+                operator,
+                left,
+                right,
+            } => {
+                let row = row_between(operator, left, right);
+                self.advanced(a, node, row, left, right)
+            }
             _ => Err(NoMemory),
         }
     }
 
-    #[cycle(places)]
+    // An iterator is moved by so many elements, by the row ([random.access.iterators]).
+    #[cycle(uses)]
+    fn advanced(
+        &mut self,
+        a: &Around,
+        node: &Node<'_>,
+        row: Row,
+        left: Option<Part<'_>>,
+        right: Part<'_>,
+    ) -> Result<Pointing, NoMemory>
+        ensures { Answers pointing_of result ((binary_uses row (part_uses (around_of a.now) left.entry) (part_uses (around_of a.now) (Some right.entry)) node.now.place node.now.ty node.now.category).pointing (state_of self.old)) (state_of self.new) }
+    {
+        let Some(found) = left else {
+            return Err(NoMemory);
+        };
+        match row {
+            Row::Advanced(direction) => {
+                let from = self.part_pointer(a, left, own_type(found.ty))?;
+                let ty = own_type(right.ty);
+                let count = self.part_value(a, Some(right), node.place, ty, None)?;
+                Ok(Pointing::Advanced(from, count, direction))
+            }
+            _ => Err(NoMemory),
+        }
+    }
+
+    #[cycle(uses)]
     fn part_points_to(&mut self, a: &Around, part: Option<Part<'_>>) -> Result<Pointing, NoMemory>
         ensures { Answers pointing_of result ((part_uses (around_of a.now) part.entry).pointing (state_of self.old)) (state_of self.new) }
     {
@@ -161,7 +321,7 @@ impl Writer {
 
     /// The location of the pointer that a part is, or that sees it where a pointer of this type is
     /// wanted.
-    #[cycle(places)]
+    #[cycle(uses)]
     pub(crate) fn part_pointer(
         &mut self,
         a: &Around,

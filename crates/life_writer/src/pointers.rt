@@ -7,9 +7,10 @@ ghost use Rattle.life_writer.specs.Pointers as spec;
 ghost use Rattle.life_writer.specs.Views.{pointing_of, state_of};
 ghost use Rattle.life_writer.specs.Writing.{emit};
 
-use crate::building::{Destination, Last};
 use crate::writer::Writer;
-use life_core::{Instr, Location, Source};
+use life_core::{
+    Argument, Base, Change, Direction, FnId, Instr, Location, Operand, RangeEnd, Source, Which,
+};
 use life_types::{NoMemory, Place, Ty};
 
 /// What an expression gives a pointer.
@@ -19,6 +20,18 @@ pub enum Pointing {
     At(Source),
     /// It points to what another pointer points to.
     As(Location),
+    /// It points to an element.
+    Element(Base, Which),
+    /// It points to an end of a range.
+    Cursor(Base, RangeEnd),
+    /// It points so many elements further than another one.
+    Advanced(Location, u32, Direction),
+    /// It sees a part of what another one sees: from this index on, and so many elements.
+    Cut(Location, u32, Option<u32>),
+    /// It points to where the element was that goes.
+    Erased(Operand, Location),
+    /// A function gives it.
+    Call(u32, Vec<Argument>),
 }
 
 /// The instruction that makes a pointer point there.
@@ -28,6 +41,33 @@ pub(crate) fn pointed(pointing: Pointing, pointer: Location) -> Instr
     match pointing {
         Pointing::At(source) => Instr::Aim { pointer, source },
         Pointing::As(from) => Instr::Repoint { pointer, from },
+        Pointing::Element(base, which) => Instr::Element {
+            pointer,
+            base,
+            which,
+        },
+        Pointing::Cursor(base, end) => Instr::Cursor { pointer, base, end },
+        Pointing::Advanced(from, count, direction) => Instr::Advance {
+            pointer,
+            from,
+            count,
+            direction,
+        },
+        Pointing::Cut(from, index, count) => Instr::Cut {
+            pointer,
+            from,
+            index,
+            count,
+        },
+        Pointing::Erased(place, at) => Instr::Change {
+            place,
+            change: Change::Erase { at, into: pointer },
+        },
+        Pointing::Call(function, arguments) => Instr::Call {
+            target: Some(pointer),
+            function: FnId(function),
+            arguments,
+        },
     }
 }
 
@@ -44,6 +84,16 @@ impl Writer {
         self.emit(place, pointed(pointing, pointer))
     }
 
+    // A new register that points there.
+    fn pointed_at(&mut self, place: Place, ty: Ty, pointing: Pointing) -> Result<Location, NoMemory>
+        ensures { Answers location_of result (spec.written place ty (spec.pointed (pointing_of pointing)) (state_of self.old)) (state_of self.new) }
+    {
+        let register = self.new_register(place, ty)?;
+        let pointer = Location::whole(self.alloc, register);
+        self.emit(place, pointed(pointing, pointer))?;
+        Ok(Location::whole(self.alloc, register))
+    }
+
     /// The location of a pointer: a variable is its own, and anything else goes to a register.
     pub(crate) fn located(
         &mut self,
@@ -55,10 +105,20 @@ impl Writer {
     {
         match pointing {
             Pointing::As(location) => Ok(location),
-            Pointing::At(source) => {
-                let last = Last::Point(place, Pointing::At(source));
-                let register = self.built(last, Destination::Register(place, None, ty))?;
-                Ok(Location::whole(self.alloc, register))
+            Pointing::At(source) => self.pointed_at(place, ty, Pointing::At(source)),
+            Pointing::Element(base, which) => {
+                self.pointed_at(place, ty, Pointing::Element(base, which))
+            }
+            Pointing::Cursor(base, end) => self.pointed_at(place, ty, Pointing::Cursor(base, end)),
+            Pointing::Advanced(from, count, direction) => {
+                self.pointed_at(place, ty, Pointing::Advanced(from, count, direction))
+            }
+            Pointing::Cut(from, index, count) => {
+                self.pointed_at(place, ty, Pointing::Cut(from, index, count))
+            }
+            Pointing::Erased(owner, at) => self.pointed_at(place, ty, Pointing::Erased(owner, at)),
+            Pointing::Call(function, arguments) => {
+                self.pointed_at(place, ty, Pointing::Call(function, arguments))
             }
         }
     }

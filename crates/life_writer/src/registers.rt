@@ -26,7 +26,7 @@ impl Writer {
 
     /// The number of a type, which the table gains if it is new.
     #[tactic(auto, unfolding(crate::specs::Views::state_of))]
-    fn type_number(&mut self, ty: Ty) -> Result<TyId, NoMemory>
+    pub fn type_number(&mut self, ty: Ty) -> Result<TyId, NoMemory>
         ensures state { OnOk result (state_of self.new ≡ spec.typed_with ty (state_of self.old)) }
         ensures number { Answers (λ x. x) result (gives (spec.type_number ty (spec.typed_with ty (state_of self.old))) (spec.typed_with ty (state_of self.old))) (state_of self.new) }
     {
@@ -106,7 +106,7 @@ impl Writer {
 }
 
 /// A local without a name.
-pub fn nameless(place: Place, ty: TyId) -> Local
+pub(crate) fn nameless(place: Place, ty: TyId) -> Local
     ensures { result ≡ spec.nameless place ty }
 {
     Local {

@@ -56,7 +56,7 @@ fn on<'a>(side: Side, left: Option<Part<'a>>, right: Part<'a>) -> Option<Part<'a
 
 impl Writer {
     /// A part as a condition. A chain of `&&` and `||` is written from its innermost operand on.
-    #[cycle(values)]
+    #[cycle(uses)]
     pub(crate) fn part_condition(
         &mut self,
         a: &Around,
@@ -85,7 +85,7 @@ impl Writer {
     }
 
     // A condition that `&&` and `||` don't join.
-    #[cycle(values)]
+    #[cycle(uses)]
     fn lone_condition(
         &mut self,
         a: &Around,
@@ -104,7 +104,7 @@ impl Writer {
     }
 
     // A condition with the one to its right.
-    #[cycle(values)]
+    #[cycle(uses)]
     fn joined(
         &mut self,
         a: &Around,
@@ -134,7 +134,7 @@ impl Writer {
     }
 
     // .. by its row.
-    #[cycle(values)]
+    #[cycle(uses)]
     fn joined_with(
         &mut self,
         a: &Around,
@@ -155,6 +155,7 @@ impl Writer {
     }
 
     // Whether a pointer or a unique_ptr isn't null.
+    #[cycle(uses)]
     fn not_null(
         &mut self,
         a: &Around,
@@ -173,6 +174,7 @@ impl Writer {
     }
 
     // The location that is tested for null.
+    #[cycle(uses)]
     fn nullable(&mut self, a: &Around, node: &Node<'_>) -> Result<Location, NoMemory>
         ensures { Answers location_of result (spec.nullable (node_uses (around_of a.now) node.now) (state_of self.old)) (state_of self.new) }
     {
@@ -181,7 +183,7 @@ impl Writer {
     }
 
     // Whether a value that isn't decided by tests isn't 0.
-    #[cycle(values)]
+    #[cycle(uses)]
     fn non_zero(
         &mut self,
         a: &Around,
@@ -196,7 +198,7 @@ impl Writer {
     }
 
     /// What is decided by tests: `!`, `&&`, `||` and comparisons with nullptr.
-    #[cycle(values)]
+    #[cycle(uses)]
     pub(crate) fn decision(
         &mut self,
         a: &Around,
@@ -221,13 +223,13 @@ impl Writer {
                 let row = row_between(operator, left, right);
                 self.decided(a, node, row, left, right, behind)
             }
-            Shape::Method { .. } => Err(NoMemory),
-            Shape::TextOf { .. } => Err(NoMemory),
+            Shape::Method { .. } => Ok(None),
+            Shape::TextOf { .. } => Ok(None),
             _ => Ok(None),
         }
     }
 
-    #[cycle(values)]
+    #[cycle(uses)]
     fn part_decision(
         &mut self,
         a: &Around,
@@ -243,7 +245,7 @@ impl Writer {
     }
 
     // .. of two operands, by the row.
-    #[cycle(values)]
+    #[cycle(uses)]
     fn decided(
         &mut self,
         a: &Around,

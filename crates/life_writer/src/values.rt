@@ -3,7 +3,8 @@
 ghost use Rattle.std.specs.Prelude.{◌≡◌, Some};
 ghost use Rattle.life_writer.specs.Answers.{Answers};
 ghost use Rattle.life_writer.specs.Chains.{converted_in, operated_on, operated_with};
-ghost use Rattle.life_writer.specs.ExpressionForms.{binary_uses};
+ghost use Rattle.life_writer.specs.Around.{own_type};
+ghost use Rattle.life_writer.specs.ExpressionForms.{binary_uses, compared_with};
 ghost use Rattle.life_writer.specs.PartUses.{node_uses, part_uses};
 ghost use Rattle.life_writer.specs.Parts.{node_form};
 ghost use Rattle.life_writer.specs.Using as spec;
@@ -31,7 +32,7 @@ fn truth(value: bool) -> i64
 impl Writer {
     /// The value of a part as one of a type, in the register that is wanted or one of its own, with the
     /// token behind it.
-    #[cycle(values)]
+    #[cycle(uses)]
     pub(crate) fn part_value(
         &mut self,
         a: &Around,
@@ -53,7 +54,7 @@ impl Writer {
     }
 
     // .. of its own type. A chain of operators is written from its innermost operand on.
-    #[cycle(values)]
+    #[cycle(uses)]
     fn own_value(
         &mut self,
         a: &Around,
@@ -81,7 +82,7 @@ impl Writer {
     }
 
     // .. which no operator computes from two others.
-    #[cycle(values)]
+    #[cycle(uses)]
     fn lone_value(
         &mut self,
         a: &Around,
@@ -99,7 +100,7 @@ impl Writer {
     }
 
     // An operator whose left operand's value is in a register.
-    #[cycle(values)]
+    #[cycle(uses)]
     fn operated(
         &mut self,
         a: &Around,
@@ -128,7 +129,7 @@ impl Writer {
     }
 
     // .. by its row.
-    #[cycle(values)]
+    #[cycle(uses)]
     fn operated_with(
         &mut self,
         a: &Around,
@@ -175,7 +176,7 @@ impl Writer {
     }
 
     /// A place is read where it stands, and any other value is made.
-    #[cycle(values)]
+    #[cycle(uses)]
     pub(crate) fn read_or_made(
         &mut self,
         a: &Around,
@@ -195,7 +196,7 @@ impl Writer {
     }
 
     // A value that is neither read from a place nor decided by tests.
-    #[cycle(values)]
+    #[cycle(uses)]
     fn made(
         &mut self,
         a: &Around,
@@ -243,12 +244,18 @@ impl Writer {
                 let row = row_between(operator, left, right);
                 self.operated_by(a, node, row, left, right, behind, into)
             }
+            Shape::Method {
+                base,
+                method,
+                arguments,
+                delimiters,
+            } => self.method_made(a, node, method, base, arguments, delimiters, behind, into),
             _ => Err(NoMemory),
         }
     }
 
     // Both operands, and then the operator, by its row.
-    #[cycle(values)]
+    #[cycle(uses)]
     fn operated_by(
         &mut self,
         a: &Around,
@@ -272,7 +279,39 @@ impl Writer {
                 };
                 self.eval(into, own_type(node.ty), node.place, operation)
             }
+            Row::Compared { equal } => self.compared(a, node, left, right, equal, into),
             _ => Err(NoMemory),
         }
+    }
+
+    // Two iterators, or two texts: both are found first, and then seen, the left one first
+    // ([string.operator==], [random.access.iterators]).
+    #[cycle(uses)]
+    fn compared(
+        &mut self,
+        a: &Around,
+        node: &Node<'_>,
+        left: Option<Part<'_>>,
+        right: Part<'_>,
+        equal: bool,
+        into: Option<u32>,
+    ) -> Result<u32, NoMemory>
+        ensures { Answers (λ x. x) result (compared_with equal (part_uses (around_of a.now) left.entry) (part_uses (around_of a.now) (Some right.entry)) node.now.place (own_type node.now.ty) into (state_of self.old)) (state_of self.new) }
+    {
+        let left = self.seen(a, left)?;
+        let right = self.seen(a, Some(right))?;
+        let left = self.viewed(left)?;
+        let right = self.viewed(right)?;
+        let into = self.target(node.place, into, own_type(node.ty))?;
+        self.emit(
+            node.place,
+            Instr::Same {
+                into,
+                left,
+                right,
+                equal,
+            },
+        )?;
+        Ok(into)
     }
 }

@@ -37,6 +37,17 @@ fn kind(class: Class) -> LocalKind
     }
 }
 
+// The object that a local of a kind is.
+fn object_of_kind(kind: LocalKind, local: u32) -> Option<u32>
+    ensures { result ≡ spec.object_of_kind kind local }
+{
+    match kind {
+        LocalKind::Object => Some(local),
+        LocalKind::Register => None,
+        LocalKind::Range => None,
+    }
+}
+
 // The last first.
 fn reversed(alloc: Global, locals: &[u32]) -> Result<Vec<u32>, NoMemory>
     ensures { IfOk result (λ reversed. reversed.items ≡ reverse locals.now) }
@@ -95,6 +106,18 @@ impl Writer {
         ensures { operand_of result ≡ spec.variable_place (state_of self.now) number }
     {
         self.place_of(self.variable(number))
+    }
+
+    /// The local of a variable, where it is an object and doesn't refer to one.
+    #[tactic(auto, unfolding(crate::specs::Views::state_of))]
+    pub fn object_of(&self, number: u32) -> Option<u32>
+        ensures { result ≡ spec.object_at (slice_get (state_of self.now).locals (spec.variable (state_of self.now) number)) (spec.variable (state_of self.now) number) }
+    {
+        let local = self.variable(number);
+        match self.locals.get(local as usize) {
+            Some(found) => object_of_kind(found.kind, local),
+            None => None,
+        }
     }
 
     /// How many parameters and variables live.
