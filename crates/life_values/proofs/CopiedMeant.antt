@@ -24,7 +24,7 @@ use Rattle.life_values.proofs.InRows.{one_more, regrouped, whole_written, with_s
 use Rattle.life_values.proofs.RegrownMeant.{same_back}
 
 -- more steps of owning are enough, too
-deeper : (types : Types) (c : Content) (a b : ℕ) → a ≤ b → (p : Parts) (ws : List ℕ) → IsCopyable types c a p ws → IsCopyable types c b p ws
+pub deeper : (types : Types) (c : Content) (a b : ℕ) → a ≤ b → (p : Parts) (ws : List ℕ) → IsCopyable types c a p ws → IsCopyable types c b p ws
 deeper types c a b le Single ws h = tt
 deeper types c a b le Raw ws h = tt
 deeper types c a b le Iterates ws h = tt

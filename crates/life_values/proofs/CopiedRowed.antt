@@ -28,7 +28,7 @@ use Rattle.life_values.proofs.Owners.{wide_put, wide_word, with_word_is}
 use Rattle.life_values.proofs.SeenAs.{seen_as, IsSeenAs}
 use Rattle.life_values.proofs.WordsCopied.{ok_word}
 
-either : (a b : ℕ) → (a ≤ b) ⊎ (b < a)
+pub either : (a b : ℕ) → (a ≤ b) ⊎ (b < a)
 either zero b = inl (omega arith)
 either (suc a) zero = inr (omega arith)
 either (suc a) (suc b) = ⊎_elim (λ le. inl (omega (arith, le))) (λ lt. inr (omega (arith, lt))) (either a b)
@@ -60,7 +60,7 @@ put_beside (s ∷ ss) zero u v (suc j) k ne = refl
 put_beside (s ∷ ss) (suc i) u v zero k ne = refl
 put_beside (s ∷ ss) (suc i) u v (suc j) k ne = put_beside ss i u v j k (λ e. ne (ap suc e))
 
-word_here : (o : Object) (i u v : ℕ) → IsWord i u o.slots → word_at (with_word i u v o) i u ≡ v
+pub word_here : (o : Object) (i u v : ℕ) → IsWord i u o.slots → word_at (with_word i u v o) i u ≡ v
 word_here o i u v has = ap (λ (x : Object). word_at x i u) (with_word_is i u v o) ∙ put_here o.slots i u v has
 
 pub word_beside : (o : Object) (i u v j k : ℕ) → (j ≡ i → u ≢ k) → word_at (with_word i u v o) j k ≡ word_at o j k

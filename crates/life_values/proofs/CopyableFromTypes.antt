@@ -71,7 +71,7 @@ module _ (types : Types) (ordered : IsOrdered types) (hand : ℕ → ℕ) (c : C
       let q = live n (omega (arith, s)) in
       object_readable (rank_of types id) id p made one n q.0 q.1 (sym (some_same (flat n q.0 refl q.1)))
 
-  copyable_from : (bound : ℕ) (p : Parts) → IsMade types ordered bound p → HasCopy p → CanCopy bound p
+  pub copyable_from : (bound : ℕ) (p : Parts) → IsMade types ordered bound p → HasCopy p → CanCopy bound p
   copyable_from bound Single made has ws flat live = tt
   copyable_from bound Raw made has ws flat live = tt
   copyable_from bound Iterates made has ws flat live = tt

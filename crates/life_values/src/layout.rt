@@ -87,7 +87,7 @@ impl Layout {
 }
 
 /// Those of a type that own. Of one that the table doesn't have there are none.
-pub(crate) fn owners_of(layouts: &[Layout], ty: TyId) -> &[u64]
+pub fn owners_of(layouts: &[Layout], ty: TyId) -> &[u64]
     ensures { result.now ≡ owners_at layouts.now ty }
 {
     match layouts.get(ty.0 as usize) {
@@ -97,7 +97,7 @@ pub(crate) fn owners_of(layouts: &[Layout], ty: TyId) -> &[u64]
 }
 
 /// The parts of a type that aren't numbers. Of one that the table doesn't have there are none.
-pub(crate) fn leaves_of(layouts: &[Layout], ty: TyId) -> &[Leaf]
+pub fn leaves_of(layouts: &[Layout], ty: TyId) -> &[Leaf]
     ensures { result.now ≡ leaves_at layouts.now ty }
 {
     match layouts.get(ty.0 as usize) {
@@ -107,7 +107,7 @@ pub(crate) fn leaves_of(layouts: &[Layout], ty: TyId) -> &[Leaf]
 }
 
 /// How many words a value of a type has: one, if the table doesn't have the type.
-pub(crate) fn width_of(layouts: &[Layout], ty: TyId) -> u64
+pub fn width_of(layouts: &[Layout], ty: TyId) -> u64
     ensures { result ≡ width_at layouts.now ty }
 {
     match layouts.get(ty.0 as usize) {

@@ -16,13 +16,7 @@ use life_types::TypeTable;
 use life_words::take_owned;
 
 /// Writes the words of a value into another place.
-pub(crate) fn copy_words<S: Store>(
-    types: &TypeTable,
-    store: &mut S,
-    from: Spot,
-    to: Spot,
-    width: u64,
-)
+pub fn copy_words<S: Store>(types: &TypeTable, store: &mut S, from: Spot, to: Spot, width: u64)
     requires can { CanCopyWords (kinds_of types.now) from to width (S.content store.old) (S.rows store.old) }
     ensures shows { Shows (kinds_of types.now) (S.content store.new) (S.rows store.new)
         (wrote_spot (place to) (spot_words (seen (kinds_of types.now) (S.content store.old) (S.rows store.old)) (place from) width) (seen (kinds_of types.now) (S.content store.old) (S.rows store.old))) }

@@ -1,0 +1,15 @@
+pub mod CarriedSteps
+pub mod CopiedInStores
+pub mod CopiedStore
+pub mod CopiedThen
+pub mod CopyingOwned
+pub mod CopyingValues
+pub mod EndedSource
+pub mod GivenMeant
+pub mod GivingOver
+pub mod GivingOwners
+pub mod Overwriting
+pub mod OwnersOver
+pub mod ReplacedInStores
+pub mod SourceStays
+pub mod Uncut

@@ -1,0 +1,2 @@
+pub mod CopiedTo
+pub mod MovedTo
