@@ -12,3 +12,4 @@ pub mod PlaceLemmas
 pub mod Ranges
 pub mod StepLemmas
 pub mod Stored
+pub mod Testing

@@ -1,3 +1,4 @@
+pub mod Asked
 pub mod Cells
 pub mod Compared
 pub mod Fits

@@ -9,7 +9,7 @@ use Rattle.life_store.specs.Cells.{at}
 use Rattle.life_store.specs.Content.{Content, Object, Slot}
 use Rattle.life_store.specs.Effects.{cell}
 use Rattle.life_store.specs.Kinds.{Kind, Owner, Plain, Pointing}
-use Rattle.life_store.specs.Parts.{local_type, word_within}
+use Rattle.life_store.specs.Parts.{Views, local_type, location_parts, word_within}
 use Rattle.life_store.specs.Places.{Here, location_cell, locate, operand_word}
 use Rattle.life_store.specs.State.{Characters, Named, Points, State, Static, Target, To}
 
@@ -48,6 +48,10 @@ HoldsOwner types f l st = (n : ℕ) → cell st l.local ≡ Some (Named n) → H
 -- the characters that a view sees
 abbrev pub SeesCharacters : Types → Function → Location → State → Type 0
 SeesCharacters types f l st = (t : Target) (o : Object) → location_cell types f l st ≡ Some (Points (To t)) → at st.world.content.objects t.object ≡ Some o → kinds_of types o.ty 0 ≡ Plain
+
+-- .. where locations of the type of one hold views, which are compared by their characters
+abbrev pub ComparesCharacters : Types → Function → (by : Location) → Location → State → Type 0
+ComparesCharacters types f by l st = location_parts types f by ≡ Views → SeesCharacters types f l st
 
 -- an iterator can be made at the end of the characters that a span sees: it sees none
 abbrev pub CanEnd : Types → Function → Location → State → Type 0

@@ -10,7 +10,7 @@ ghost use Rattle.life_cells.specs.Compared.{are_views, is_viewing};
 ghost use Rattle.life_cells.specs.Fits.{meant, IsFit};
 ghost use Rattle.life_cells.specs.Scopes.{function_in, texts_in, types_in};
 ghost use Rattle.life_cells.specs.Steps.{Comes};
-ghost use Rattle.life_cells.specs.Typed.{HoldsPointer, SeesCharacters};
+ghost use Rattle.life_cells.specs.Typed.{ComparesCharacters, HoldsPointer, SeesCharacters};
 
 use crate::cell::Cell;
 use crate::frame::put_cell;
@@ -35,8 +35,8 @@ pub fn same<S: Store>(
     requires fits { IsFit (types_in scope.now) (S.content store.now) (S.rows store.now) cells.old.items }
     requires left { HoldsPointer (types_in scope.now) (function_in scope.now) (location_of left.now) (state_in (meant (types_in scope.now) (S.content store.now) (S.rows store.now)) cells.old.items) }
     requires right { HoldsPointer (types_in scope.now) (function_in scope.now) (location_of right.now) (state_in (meant (types_in scope.now) (S.content store.now) (S.rows store.now)) cells.old.items) }
-    requires left_seen { SeesCharacters (types_in scope.now) (function_in scope.now) (location_of left.now) (state_in (meant (types_in scope.now) (S.content store.now) (S.rows store.now)) cells.old.items) }
-    requires right_seen { SeesCharacters (types_in scope.now) (function_in scope.now) (location_of right.now) (state_in (meant (types_in scope.now) (S.content store.now) (S.rows store.now)) cells.old.items) }
+    requires left_seen { ComparesCharacters (types_in scope.now) (function_in scope.now) (location_of left.now) (location_of left.now) (state_in (meant (types_in scope.now) (S.content store.now) (S.rows store.now)) cells.old.items) }
+    requires right_seen { ComparesCharacters (types_in scope.now) (function_in scope.now) (location_of left.now) (location_of right.now) (state_in (meant (types_in scope.now) (S.content store.now) (S.rows store.now)) cells.old.items) }
     ensures step { (s : Setting) → s.texts ≡ texts_in scope.now
         → Comes (spec.same_into s (types_in scope.now) (function_in scope.now) into (location_of left.now) (location_of right.now) equal) (meant (types_in scope.now) (S.content store.now) (S.rows store.now)) cells.old.items (meant (types_in scope.now) (S.content store.now) (S.rows store.now)) cells.new.items result }
     ensures fits { OnOk result (IsFit (types_in scope.now) (S.content store.now) (S.rows store.now) cells.new.items) }
@@ -63,8 +63,8 @@ fn compared<S: Store>(
     requires fits { IsFit (types_in scope.now) (S.content store.now) (S.rows store.now) cells.now }
     requires left { HoldsPointer (types_in scope.now) (function_in scope.now) (location_of left.now) (state_in (meant (types_in scope.now) (S.content store.now) (S.rows store.now)) cells.now) }
     requires right { HoldsPointer (types_in scope.now) (function_in scope.now) (location_of right.now) (state_in (meant (types_in scope.now) (S.content store.now) (S.rows store.now)) cells.now) }
-    requires left_seen { SeesCharacters (types_in scope.now) (function_in scope.now) (location_of left.now) (state_in (meant (types_in scope.now) (S.content store.now) (S.rows store.now)) cells.now) }
-    requires right_seen { SeesCharacters (types_in scope.now) (function_in scope.now) (location_of right.now) (state_in (meant (types_in scope.now) (S.content store.now) (S.rows store.now)) cells.now) }
+    requires left_seen { ComparesCharacters (types_in scope.now) (function_in scope.now) (location_of left.now) (location_of left.now) (state_in (meant (types_in scope.now) (S.content store.now) (S.rows store.now)) cells.now) }
+    requires right_seen { ComparesCharacters (types_in scope.now) (function_in scope.now) (location_of left.now) (location_of right.now) (state_in (meant (types_in scope.now) (S.content store.now) (S.rows store.now)) cells.now) }
     ensures { (s : Setting) → s.texts ≡ texts_in scope.now
         → tried itself result ≡ spec.compared s (types_in scope.now) (function_in scope.now) (parts.location_parts (types_in scope.now) (function_in scope.now) (location_of left.now)) (location_of left.now) (location_of right.now) (state_in (meant (types_in scope.now) (S.content store.now) (S.rows store.now)) cells.now) }
 {

@@ -2,6 +2,7 @@
 #![tactic(auto)]
 
 mod aiming;
+mod asking;
 mod cell;
 mod comparing;
 mod cursors;
@@ -18,6 +19,7 @@ mod sizes;
 mod stops;
 
 pub use aiming::{aim, repoint};
+pub use asking::tested;
 pub use cell::{Cell, holding, pointer_of};
 pub use comparing::same;
 pub use cursors::cursor;

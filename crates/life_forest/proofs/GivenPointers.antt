@@ -44,7 +44,7 @@ on_pointer_next (Some (Points p)) go Q each = each p refl
 
 -- for what is asked of a pointer beside that it points well, and whatever holds behind one that is given such
 module _ (types : Types) (ordered : IsOrdered types) (f : Function) (rest : ℕ → ℕ) (st : State) (stands : Stands types f rest st) (p : Location) (part : TyId) (good : Pointer → Type 0) (Q : State → Type 0)
-    (given : (v : Pointer) → PointsWell types st.world.content (seen_type types (Some part)) v → good v → OnNext (pointed types f p v st) Q) (good_at : (t : Target) → good (To t)) where
+    (given : (v : Pointer) → PointsWell types st.world.content (seen_type types (Some part)) v → good v → OnNext (pointed types f p v st) Q) (good_at : (t : Target) → t.word ≡ 0 → good (To t)) where
   abbrev c : Content
   c = st.world.content
 
@@ -112,14 +112,14 @@ module _ (types : Types) (ordered : IsOrdered types) (f : Function) (rest : ℕ 
         → OnNext (on_got (buffer_of st.world.content (record { object = n; index = i; word = w })) (λ b. element_at types f p w' (size_of st.world.content b) (pointer_to st.world.content b 0 0) st)) Q
     elements_of n i w o place w' =
         on_buffer (owned_at c (record { object = n; index = i; word = w })) (λ b. element_at types f p w' (size_of c b) (pointer_to c b 0 0) st) Q
-        (λ b is. element_gives w' (size_of c b) (pointer_to c b 0 0) (at_owned n i w o place b is 0 1 c.clock) (λ i. good_at _))
+        (λ b is. element_gives w' (size_of c b) (pointer_to c b 0 0) (at_owned n i w o place b is 0 1 c.clock) (λ i. good_at _ refl))
 
     owner_gives : (n i w : ℕ) (o : Object) → IsPlace types st.world.content whole n i w o → (w' : Which) → OnNext (owner_element types f p (record { object = n; index = i; word = w }) w' st) Q
     owner_gives n i w o place which.Target = go (owned_at c (record { object = n; index = i; word = w })) refl
       where
         go : (x : Option ℕ) → owned_at st.world.content (record { object = n; index = i; word = w }) ≡ x → OnNext (target_at types f p x st) Q
         go None e = tt
-        go (Some b) e = given (pointer_to c b 0 0) (at_owned n i w o place b e 0 1 c.clock) (good_at _)
+        go (Some b) e = given (pointer_to c b 0 0) (at_owned n i w o place b e 0 1 c.clock) (good_at _ refl)
     owner_gives n i w o place which.First = elements_of n i w o place which.First
     owner_gives n i w o place which.Last = elements_of n i w o place which.Last
     owner_gives n i w o place (which.Index r) = elements_of n i w o place (which.Index r)
@@ -131,14 +131,14 @@ module _ (types : Types) (ordered : IsOrdered types) (f : Function) (rest : ℕ 
     owned_cursors_give o end typed_whole aims =
         on_spot_next types ordered f st stands.frame o whole (λ spot. on_got (buffer_of c spot) (λ b. pointed types f p (pointer_to c b (end_index end (size_of c b)) 0) st)) Q typed_whole aims
         (λ n i k object place. on_buffer (owned_at c (record { object = n; index = i; word = k })) (λ b. pointed types f p (pointer_to c b (end_index end (size_of c b)) 0) st) Q
-        (λ b is. given (pointer_to c b (end_index end (size_of c b)) 0) (at_owned n i k object place b is (end_index end (size_of c b)) 1 c.clock) (good_at _)))
+        (λ b is. given (pointer_to c b (end_index end (size_of c b)) 0) (at_owned n i k object place b is (end_index end (size_of c b)) 1 c.clock) (good_at _ refl)))
 
     -- all that a vector or a string has
     pub wholes_give : (s : Setting) (o : Operand) → operand_type types f o ≡ Some whole → OperandAims types f st o → OnNext (aimed s types f p (source.Whole o) st) Q
     wholes_give s o typed_whole aims =
         on_spot_next types ordered f st stands.frame o whole (λ spot. on_got (buffer_of c spot) (λ b. pointed types f p (whole_of c b) st)) Q typed_whole aims
         (λ n i k object place. on_buffer (owned_at c (record { object = n; index = i; word = k })) (λ b. pointed types f p (whole_of c b) st) Q
-        (λ b is. given (whole_of c b) (at_owned n i k object place b is 0 (size_of c b) c.clock) (good_at _)))
+        (λ b is. given (whole_of c b) (at_owned n i k object place b is 0 (size_of c b) c.clock) (good_at _ refl)))
 
     -- what a unique_ptr has, or null
     pub gets_give : (s : Setting) (l : Location) → good Null → location_type types f l ≡ Some whole → OnNext (aimed s types f p (source.Get l) st) Q
@@ -148,12 +148,12 @@ module _ (types : Types) (ordered : IsOrdered types) (f : Function) (rest : ℕ 
       where
         go : (n k : ℕ) (object : Object) → IsPlace types st.world.content whole n 0 k object → (x : Option ℕ) → owned_at st.world.content (record { object = n; index = 0; word = k }) ≡ x → OnNext (pointed types f p (owned_pointer st.world.content x) st) Q
         go n k object place None e = given Null tt null
-        go n k object place (Some b) e = given (pointer_to c b 0 0) (at_owned n 0 k object place b e 0 1 c.clock) (good_at _)
+        go n k object place (Some b) e = given (pointer_to c b 0 0) (at_owned n 0 k object place b e 0 1 c.clock) (good_at _ refl)
 
   -- ---- at a place, at a text, or at nothing
 
-  pub places_give : (s : Setting) (o : Operand) (whole : TyId) → operand_type types f o ≡ Some whole → OperandAims types f st o → Retargets types (Some whole) (seen_type types (Some part)) → ((t : Characters) → locate types f o st ≡ Fixed t → good (at_index 0 t.index (Static t))) → OnNext (aimed s types f p (source.Place o) st) Q
-  places_give s o whole typed_whole aims targets fits = over (locate types f o st) refl (operand_well types ordered f st stands.frame o whole typed_whole aims)
+  pub places_give : (s : Setting) (o : Operand) (whole : TyId) → operand_type types f o ≡ Some whole → OperandAims types f st o → Retargets types (Some whole) (seen_type types (Some part)) → ((t : Target) → good (To t)) → ((t : Characters) → locate types f o st ≡ Fixed t → good (at_index 0 t.index (Static t))) → OnNext (aimed s types f p (source.Place o) st) Q
+  places_give s o whole typed_whole aims targets at_place fits = over (locate types f o st) refl (operand_well types ordered f st stands.frame o whole typed_whole aims)
     where
       over : (found : Found) → locate types f o st ≡ found → FoundWell types st.world.content whole (operand_word types f o st) found → OnNext (aimed_at s types f p o st found) Q
       over (Here n i object) is place =
@@ -162,7 +162,7 @@ module _ (types : Types) (ordered : IsOrdered types) (f : Function) (rest : ℕ 
             given = stands.store.forest.births n object place.there;
             place = λ x t there e. subst (λ (y : Object). LiesWithin types y.ty (operand_word types f o st) t) (some_same (sym place.there ∙ there)) (subst (LiesWithin types object.ty (operand_word types f o st)) (some_same e) place.within);
           }))
-          (good_at _)
+          (at_place _)
       over (Fixed t) is single =
           on_character_next s.texts t (λ z. pointed types f p (at_index 0 t.index (Static t)) st) Q
           (λ z. given (at_index 0 t.index (Static t)) (text_retargets types c (Some whole) seen targets t.text (of_text t.text)) (fits t is))

@@ -156,7 +156,7 @@ module _ (types : Types) (ordered : IsOrdered types) (once : HasEachOnce types) 
         (λ d kept b own k same_d behind well.
         let mid = held_holds types f rest st stands (put_content d st) (held_content types f st d (subst (KeepsOn types f st) (sym same_d) (erased_keeps types ordered (IsOwned types st.world.content) st.world.content b own (parts_at types id) k st.world.content (keeps_self types (IsOwned types st.world.content) st.world.content)))) held in
         on_next_holds types f rest st (put_content d st) (pointed types f into (pointer_to d b k 0) (put_content d st)) mid
-        (pointed_holds types ordered f rest (put_content d st) behind mid.well into to (pointer_to d b k 0) takes_it.0 takes_it.1 well (λ t h. tt))))
+        (pointed_holds types ordered f rest (put_content d st) behind mid.well into to (pointer_to d b k 0) takes_it.0 takes_it.1 well (λ t h view. refl))))
 
     changed_holds : (change : Change) → IsTypedChange types f st part change → OnNext (changed s types f (parts_at types part) (record { object = n; index = i; word = w }) change st) (Holds types f rest st)
     changed_holds (PushBack x) typed = by_owner typed

@@ -2,7 +2,7 @@
 use Rattle.std.proofs.Common.{◌≡◌, ℕ, Bool, true, false, ◌||◌, not, cond, List, [], ◌∷◌, Option, Some, None, refl, sym, ap, subst, ◌∙◌, ⊎_elim}
 use Rattle.std.proofs.lemmas.Bool.{and_parts, false≢true}
 use Rattle.std.specs.Prelude.{ℤ, slice_get, slice_set}
-use Rattle.life_types.specs.TypeTests.{is_constant, is_pointer, is_raw, is_value}
+use Rattle.life_types.specs.TypeTests.{is_constant, is_pointer, is_raw, is_value, is_view}
 use Rattle.life_types.specs.Types.{Types}
 use Rattle.life_types.specs.declared.ty.Ty.{Ty}
 use Rattle.life_core.specs.Function.{Function}
@@ -24,7 +24,7 @@ use Rattle.life_store.specs.declared.run.FaultKind.{FaultKind}
 use Rattle.life_store.specs.declared.run.FaultKind.TheVariants as fault
 use Rattle.life_store.proofs.CellLemmas.{cell_cases, ready_set}
 use Rattle.life_forest.specs.Settled.{IsPoised, KindsFit, Settles}
-use Rattle.life_forest.specs.Sorted.{AreSorted, Fits, PointerFits, StaticFits, sort_at, sort_if}
+use Rattle.life_forest.specs.Sorted.{AreSorted, Fits, PointerFits, SeesFirst, StaticFits, sort_at, sort_if}
 use Rattle.life_forest.proofs.ReadyCells.{PlaceWell, member_is_object, object_cell, pointer_no_object, value_points}
 use Rattle.life_forest.proofs.SeenTypes.{pointer_solid}
 use Rattle.life_forest.proofs.Slots.{register_only}
@@ -51,12 +51,12 @@ pub well_or : {A : Type 0} (o : Option A) (kind : FaultKind) → Well (got_or o 
 well_or None kind = tt
 well_or (Some a) kind = tt
 
--- ---- a pointer that is used isn't null, and sees characters of a text where its type is const
+-- ---- a pointer that is used isn't null, and is as its type says
 
 abbrev pub IsUsed : Ty → Pointer → Type 0
 IsUsed t Null = ⊥
 IsUsed t Wild = ⊥
-IsUsed t (To target) = Unit {0}
+IsUsed t (To target) = SeesFirst t target
 IsUsed t (Static s) = StaticFits t s.text
 
 pub static_kept : (t u : Ty) (n : Option ℕ) → keeps_const (is_constant u) (is_constant t) ≡ true → StaticFits t n → StaticFits u n
@@ -67,36 +67,36 @@ static_kept t u (Some n) keeps fits = go (is_constant u) (is_constant t) fits ke
     go true b e h = refl
     go false b e h = absurd (false≢true (sym (ap not e) ∙ h))
 
-pub used_fits : (t u : Ty) (p : Pointer) → keeps_const (is_constant u) (is_constant t) ≡ true → IsUsed t p → PointerFits u p
-used_fits t u Null keeps is = absurd is
-used_fits t u Wild keeps is = tt
-used_fits t u (To target) keeps is = tt
-used_fits t u (Static s) keeps is = static_kept t u s.text keeps is
+pub used_fits : (t u : Ty) (p : Pointer) → keeps_const (is_constant u) (is_constant t) ≡ true → (is_view u ≡ true → is_view t ≡ true) → IsUsed t p → PointerFits u p
+used_fits t u Null keeps views is = absurd is
+used_fits t u Wild keeps views is = tt
+used_fits t u (To target) keeps views is = λ e. is (views e)
+used_fits t u (Static s) keeps views is = static_kept t u s.text keeps is
 
 -- .. and so is one at another position, or a part of it
 pub index_used : (t : Ty) (now i : ℕ) (p : Pointer) → IsUsed t p → IsUsed t (at_index now i p)
 index_used t now i Null is = is
 index_used t now i Wild is = is
-index_used t now i (To target) is = tt
+index_used t now i (To target) is = is
 index_used t now i (Static s) is = is
 
 pub part_used : (t : Ty) (now i n : ℕ) (p : Pointer) → IsUsed t p → IsUsed t (part_of now i n p)
 part_used t now i n Null is = is
 part_used t now i n Wild is = is
-part_used t now i n (To target) is = tt
+part_used t now i n (To target) is = is
 part_used t now i n (Static s) is = is
 
 module _ (c : Content) (t : Ty) (other : is_raw t ≡ false) where
   pub used_well : (p : Pointer) → PointerFits t p → Well (usable c p) (IsUsed t)
   used_well Null fits = absurd (false≢true (sym other ∙ fits))
   used_well Wild fits = tt
-  used_well (To target) fits = well_if (is_valid_range c target) (Got (To target)) (GotFault fault.Dangling) (IsUsed t) tt tt
+  used_well (To target) fits = well_if (is_valid_range c target) (Got (To target)) (GotFault fault.Dangling) (IsUsed t) fits tt
   used_well (Static s) fits = fits
 
   pub standing_well : (p : Pointer) → PointerFits t p → Well (standing c p) (IsUsed t)
   standing_well Null fits = absurd (false≢true (sym other ∙ fits))
   standing_well Wild fits = tt
-  standing_well (To target) fits = well_if (is_valid c target) (Got (To target)) (GotFault fault.Dangling) (IsUsed t) tt tt
+  standing_well (To target) fits = well_if (is_valid c target) (Got (To target)) (GotFault fault.Dangling) (IsUsed t) fits tt
   standing_well (Static s) fits = fits
 
 module _ (types : Types) (f : Function) (bits : Ready) where

@@ -235,7 +235,7 @@ module _ (types : Types) (ordered : IsOrdered types) (once : HasEachOnce types) 
       (λ v h. settle_got types f bits (buffer_of c spot) (λ b. on_got (erasable c b v) (λ i. pointed types f into (pointer_to (erased (parts_at types element) b i c) b i 0) (put_content (erased (parts_at types element) b i c) st))) (λ b. Unit {0})
       (well_or (owned_at c spot) fault.Moved)
       (λ b k. settle_got types f bits (erasable c b v) (λ i. pointed types f into (pointer_to (erased (parts_at types element) b i c) b i 0) (put_content (erased (parts_at types element) b i c) st)) (λ i. Unit {0}) (erasable_comes c b v)
-      (λ i m. ready_pointed types f st at_point (erased (parts_at types element) b i c) into (pointer_to (erased (parts_at types element) b i c) b i 0) (walker (type_in types f into) walks_into).0 tt uses.1)))
+      (λ i m. ready_pointed types f st at_point (erased (parts_at types element) b i c) into (pointer_to (erased (parts_at types element) b i c) b i 0) (walker (type_in types f into) walks_into).0 (λ view. refl) uses.1)))
     where
       walker : (t : Ty) → walks types t (ty_of types element) ≡ true → (is_pointer t ≡ true) × (is_raw t ≡ false)
       walker (ty.Iterator target constant) h = (refl, refl)

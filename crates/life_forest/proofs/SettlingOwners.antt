@@ -43,7 +43,7 @@ use Rattle.life_forest.proofs.ReadyCells.{PlaceWell, location_is_object, number_
 use Rattle.life_forest.proofs.SeenTypes.{parts_typed, range_points, raw_points, view_is}
 use Rattle.life_forest.proofs.Settling.{IsUsed, Well, number_settles, settle_got, settle_place, well_or}
 use Rattle.life_forest.proofs.SettlingNumbers.{text_settles}
-use Rattle.life_forest.proofs.SettlingPointers.{aims_points, aims_solid, element_settles, given, indexed, seen_range, used_at, walks_points, walks_solid}
+use Rattle.life_forest.proofs.SettlingPointers.{aims_points, aims_solid, aims_unviewed, element_settles, given, indexed, seen_range, used_at, walks_points, walks_solid}
 use Rattle.life_forest.proofs.Shaped.{IsShaped}
 use Rattle.life_forest.proofs.TypedSteps.{PointersAim, if_there, operand_with}
 
@@ -186,7 +186,7 @@ module _ (types : Types) (ordered : IsOrdered types) (once : HasEachOnce types) 
       let last = bits_right true (ready_of st) (place_uses o) (part_uses p) uses in
       settle_place types f (behind p) o (locate types f o st) (λ n i object. pointed types f p (pointer_to st.world.content n i (operand_word types f o st)) st) (λ c. on_character s.texts c (λ z. pointed types f p (at_index 0 c.index (Static c)) st))
       (place_well types f st at_point o (aimed_there p o e) (bits_left true (ready_of st) (place_uses o) (part_uses p) uses))
-      (λ n i object. given types f st at_point p (pointer_to st.world.content n i (operand_word types f o st)) pointer tt last)
+      (λ n i object. given types f st at_point p (pointer_to st.world.content n i (operand_word types f o st)) pointer (λ view. absurd (aims_unviewed types (type_in types f p) (type_of types f o) e view)) last)
       (λ c const. text_settles types f (behind p) s.texts c (λ z. pointed types f p (at_index 0 c.index (Static c)) st) (λ z. given types f st at_point p (at_index 0 c.index (Static c)) pointer (const_fits p o keeps c.text const) last))
 
   pub aims_settle : (s : Setting) (p : Location) (sr : Source) → is_source_of types texts fs f (type_in types f p) sr ≡ true → AreBits true (ready_of st) (source_uses sr ++ part_uses p) → Settles types f (behind p) (aimed s types f p sr st)
@@ -203,7 +203,7 @@ module _ (types : Types) (ordered : IsOrdered types) (once : HasEachOnce types) 
       owner_settles (behind p) o (λ spot. on_got (buffer_of st.world.content spot) (λ b. pointed types f p (whole_of st.world.content b) st)) kinds.1 (bits_left true (ready_of st) (place_uses o) (part_uses p) uses)
       (λ n i. settle_got types f (behind p) (buffer_of st.world.content (record { object = n; index = i; word = operand_word types f o st })) (λ b. pointed types f p (whole_of st.world.content b) st) (λ b. Unit {0})
       (well_or (owned_at st.world.content (record { object = n; index = i; word = operand_word types f o st })) fault.Moved)
-      (λ b h. given types f st at_point p (whole_of st.world.content b) kinds.0 tt (bits_right true (ready_of st) (place_uses o) (part_uses p) uses)))
+      (λ b h. given types f st at_point p (whole_of st.world.content b) kinds.0 (λ view. refl) (bits_right true (ready_of st) (place_uses o) (part_uses p) uses)))
   aims_settle s p (source.Get l) e uses =
       let raw = gets_raw types (type_in types f p) (owned_target types (type_in types f l)) e in
       let composed = target_composed types (type_in types f l) (λ void. gets_solid types (type_in types f p) (subst (λ (u : Ty). gets types (type_in types f p) u ≡ true) void e)) in
@@ -212,7 +212,7 @@ module _ (types : Types) (ordered : IsOrdered types) (once : HasEachOnce types) 
     where
       fits : is_raw (type_in types f p) ≡ true → (x : Option ℕ) → PointerFits (type_in types f p) (owned_pointer st.world.content x)
       fits raw None = raw
-      fits raw (Some n) = tt
+      fits raw (Some n) = λ view. refl
 
   -- ---- at an element, a target, or an end
 
@@ -226,11 +226,11 @@ module _ (types : Types) (ordered : IsOrdered types) (once : HasEachOnce types) 
           → Settles types f (behind p) (on_got (buffer_of st.world.content spot) (λ b. element_at types f p w (size_of st.world.content b) (pointer_to st.world.content b 0 0) st))
       by_index spot w some number uses =
           settle_got types f (behind p) (buffer_of st.world.content spot) (λ b. element_at types f p w (size_of st.world.content b) (pointer_to st.world.content b 0 0) st) (λ b. Unit {0}) (well_or (owned_at st.world.content spot) fault.Moved)
-          (λ b h. element_settles types f st at_point p (type_in types f p) w (size_of st.world.content b) (pointer_to st.world.content b 0 0) pointer (keeps_self (is_constant (type_in types f p))) tt some number uses)
+          (λ b h. element_settles types f st at_point p (type_in types f p) w (size_of st.world.content b) (pointer_to st.world.content b 0 0) pointer (keeps_self (is_constant (type_in types f p))) (λ view. view) (λ view. refl) some number uses)
 
       at_target : (x : Option ℕ) → AreBits true (ready_of st) (part_uses p) → Settles types f (behind p) (target_at types f p x st)
       at_target None uses = tt
-      at_target (Some n) uses = given types f st at_point p (pointer_to st.world.content n 0 0) pointer tt uses
+      at_target (Some n) uses = given types f st at_point p (pointer_to st.world.content n 0 0) pointer (λ view. refl) uses
 
       at_spot : (spot : Spot) (w : Which) → ((r : ℕ) → w ≡ which.Index r → is_number_of types f ty.Size r ≡ true) → AreBits true (ready_of st) (which_uses w ++ part_uses p) → Settles types f (behind p) (owner_element types f p spot w st)
       at_spot spot which.Target number uses = at_target (owned_at st.world.content spot) uses
@@ -272,7 +272,7 @@ module _ (types : Types) (ordered : IsOrdered types) (once : HasEachOnce types) 
       (element_owner types (type_of types f o) (λ void. walks_solid types (type_in types f p) (subst (λ (u : Ty). walks types (type_in types f p) u ≡ true) void e))) (bits_left true (ready_of st) (place_uses o) (part_uses p) uses)
       (λ n i. settle_got types f (behind p) (buffer_of st.world.content (record { object = n; index = i; word = operand_word types f o st })) (λ b. pointed types f p (pointer_to st.world.content b (end_index end (size_of st.world.content b)) 0) st) (λ b. Unit {0})
       (well_or (owned_at st.world.content (record { object = n; index = i; word = operand_word types f o st })) fault.Moved)
-      (λ b h. given types f st at_point p (pointer_to st.world.content b (end_index end (size_of st.world.content b)) 0) (walks_points types (type_in types f p) (owned_element types (type_of types f o)) e) tt (bits_right true (ready_of st) (place_uses o) (part_uses p) uses)))
+      (λ b h. given types f st at_point p (pointer_to st.world.content b (end_index end (size_of st.world.content b)) 0) (walks_points types (type_in types f p) (owned_element types (type_of types f o)) e) (λ view. refl) (bits_right true (ready_of st) (place_uses o) (part_uses p) uses)))
 
   -- ---- sizes
 

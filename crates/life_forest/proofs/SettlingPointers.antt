@@ -3,7 +3,7 @@ use Rattle.std.proofs.Common.{◌≡◌, ℕ, zero, suc, ◌+◌, Bool, true, fa
 use Rattle.std.proofs.lemmas.Bool.{and_parts, false≢true}
 use Rattle.std.specs.Prelude.{ℤ, pos, negsuc, ◌+ℤ◌, nat_le, nat_lt}
 use Rattle.life_types.specs.Pointees.{ty_of}
-use Rattle.life_types.specs.TypeTests.{is_constant, is_iterator, is_pointer, is_raw}
+use Rattle.life_types.specs.TypeTests.{is_constant, is_iterator, is_pointer, is_raw, is_view}
 use Rattle.life_types.specs.Types.{Types}
 use Rattle.life_types.specs.declared.ty.Ty.{Ty}
 use Rattle.life_types.specs.declared.ty.Ty.TheVariants as ty
@@ -80,10 +80,19 @@ alike_points types (ty.Span t c) (ty.Span u d) e = (refl, refl)
 alike_points types ty.View ty.View e = (refl, refl)
 alike_points types _ _ e = absurd (false≢true e)
 
+-- .. and what a view takes
+pub alike_view : (types : Types) (t u : Ty) → are_alike types t u ≡ true → is_view t ≡ true → is_view u ≡ true
+alike_view types ty.View ty.View e view = refl
+alike_view types (ty.Raw t c) (ty.Raw u d) e view = absurd (false≢true view)
+alike_view types (ty.Reference t c) (ty.Reference u d) e view = absurd (false≢true view)
+alike_view types (ty.Iterator t c) (ty.Iterator u d) e view = absurd (false≢true view)
+alike_view types (ty.Span t c) (ty.Span u d) e view = absurd (false≢true view)
+alike_view types _ _ e view = absurd (false≢true e)
+
 pub alike_fits : (types : Types) (t u : Ty) (p : Pointer) → are_alike types t u ≡ true → keeps_const (is_constant t) (is_constant u) ≡ true → PointerFits u p → PointerFits t p
 alike_fits types t u Null alike keeps fits = sym (alike_raw types t u alike) ∙ fits
 alike_fits types t u Wild alike keeps fits = tt
-alike_fits types t u (To target) alike keeps fits = tt
+alike_fits types t u (To target) alike keeps fits = λ e. fits (alike_view types t u alike e)
 alike_fits types t u (Static s) alike keeps fits = static_kept u t s.text keeps fits
 
 pub iterator_other : (t : Ty) → is_iterator t ≡ true → is_raw t ≡ false
@@ -105,6 +114,12 @@ aims_solid types (ty.Raw target constant) e = same_void (ty_of types target) e
 aims_solid types (ty.Reference target constant) e = same_void (ty_of types target) e
 aims_solid types _ e = false≢true e
 
+-- .. and is no view
+pub aims_unviewed : (types : Types) (t u : Ty) → aims_at types t u ≡ true → is_view t ≡ true → ⊥
+aims_unviewed types (ty.Raw target constant) u e view = false≢true view
+aims_unviewed types (ty.Reference target constant) u e view = false≢true view
+aims_unviewed types _ u e view = false≢true e
+
 pub walks_points : (types : Types) (t u : Ty) → walks types t u ≡ true → is_pointer t ≡ true
 walks_points types (ty.Iterator target constant) u e = refl
 walks_points types _ u e = absurd (false≢true e)
@@ -112,6 +127,10 @@ walks_points types _ u e = absurd (false≢true e)
 pub walks_solid : (types : Types) (t : Ty) → walks types t ty.Void ≡ true → ⊥
 walks_solid types (ty.Iterator target constant) e = same_void (ty_of types target) e
 walks_solid types _ e = false≢true e
+
+pub walks_unviewed : (types : Types) (t u : Ty) → walks types t u ≡ true → is_view t ≡ true → ⊥
+walks_unviewed types (ty.Iterator target constant) u e view = false≢true view
+walks_unviewed types _ u e view = false≢true e
 
 -- what has elements that are seen is a span or a view
 pub seen_range : (types : Types) (t : Ty) → (seen_element types t ≡ ty.Void → ⊥) → (is_pointer t ≡ true) × (is_raw t ≡ false)
@@ -163,7 +182,7 @@ module _ (types : Types) (f : Function) (st : State) (at_point : IsPoised types 
       (λ v h. settle_number types f (behind p) (cell st r) (λ z. on_got (stepped s.texts st.world.content v (directed way (count_of (type_of types f r) z))) (λ i. pointed types f p (at_index st.world.content.clock i v) st)) z.0 z.1
       (settle_got types f (behind p) (stepped s.texts st.world.content v (directed way (count_of (type_of types f r) z.0))) (λ i. pointed types f p (at_index st.world.content.clock i v) st) (λ i. Unit {0})
       (stepped_well (type_in types f q) s st v (directed way (count_of (type_of types f r) z.0)) h)
-      (λ i k. given p (at_index st.world.content.clock i v) points.0 (used_fits (type_in types f q) (type_in types f p) (at_index st.world.content.clock i v) both.1 (index_used (type_in types f q) st.world.content.clock i v h)) uses.1.1)))
+      (λ i k. given p (at_index st.world.content.clock i v) points.0 (used_fits (type_in types f q) (type_in types f p) (at_index st.world.content.clock i v) both.1 (alike_view types (type_in types f p) (type_in types f q) both.0) (index_used (type_in types f q) st.world.content.clock i v h)) uses.1.1)))
 
   count_well : (count : Option ℕ) → is_number_of_if types f ty.Size count ≡ true → AreBits true (ready_of st) (count_uses count) → Well (count_in st count) (λ n. Unit {0})
   count_well None e uses = tt
@@ -187,7 +206,7 @@ module _ (types : Types) (f : Function) (st : State) (at_point : IsPoised types 
       (count_well count counted (bits_left true (ready_of st) (count_uses count) (part_uses p) uses.1.1))
       (λ n m. settle_got types f (behind p) (part_count (is_span (type_if types (location_type types f q))) i n (seen_count v)) (λ k. pointed types f p (part_of st.world.content.clock i k v) st) (λ k. Unit {0})
       (part_well (is_span (type_if types (location_type types f q))) i n (seen_count v))
-      (λ k x. given p (part_of st.world.content.clock i k v) points.0 (used_fits (type_in types f q) (type_in types f p) (part_of st.world.content.clock i k v) both.1 (part_used (type_in types f q) st.world.content.clock i k v h)) last))))
+      (λ k x. given p (part_of st.world.content.clock i k v) points.0 (used_fits (type_in types f q) (type_in types f p) (part_of st.world.content.clock i k v) both.1 (alike_view types (type_in types f p) (type_in types f q) both.0) (part_used (type_in types f q) st.world.content.clock i k v h)) last))))
 
   -- ---- at an element, or one of two ends
 
@@ -200,12 +219,12 @@ module _ (types : Types) (f : Function) (st : State) (at_point : IsPoised types 
   chosen_well which.Target size some uses number = absurd (some refl)
 
   -- .. of what is used, or of a new pointer to a buffer
-  pub element_settles : (p : Location) (t : Ty) (w : Which) (size : ℕ) (base : Pointer) → is_pointer (type_in types f p) ≡ true → keeps_const (is_constant (type_in types f p)) (is_constant t) ≡ true → IsUsed t base → (w ≡ which.Target → ⊥)
+  pub element_settles : (p : Location) (t : Ty) (w : Which) (size : ℕ) (base : Pointer) → is_pointer (type_in types f p) ≡ true → keeps_const (is_constant (type_in types f p)) (is_constant t) ≡ true → (is_view (type_in types f p) ≡ true → is_view t ≡ true) → IsUsed t base → (w ≡ which.Target → ⊥)
       → ((r : ℕ) → w ≡ which.Index r → is_number_of types f ty.Size r ≡ true) → AreBits true (ready_of st) (which_uses w ++ part_uses p) → Settles types f (behind p) (element_at types f p w size base st)
-  element_settles p t w size base pointer keeps is some number uses =
+  element_settles p t w size base pointer keeps views is some number uses =
       settle_got types f (behind p) (chosen st w size) (λ i. pointed types f p (element_of st.world.content.clock i base) st) (λ i. Unit {0})
       (chosen_well w size some (bits_left true (ready_of st) (which_uses w) (part_uses p) uses) number)
-      (λ i h. given p (element_of st.world.content.clock i base) pointer (used_fits t (type_in types f p) (element_of st.world.content.clock i base) keeps (index_used t st.world.content.clock (start_of base + i) base is)) (bits_right true (ready_of st) (which_uses w) (part_uses p) uses))
+      (λ i h. given p (element_of st.world.content.clock i base) pointer (used_fits t (type_in types f p) (element_of st.world.content.clock i base) keeps views (index_used t st.world.content.clock (start_of base + i) base is)) (bits_right true (ready_of st) (which_uses w) (part_uses p) uses))
 
   pub indexed : (p : Location) (b : Base) (w : Which) → aims_at types (type_in types f p) (type_of_element types f b w) ≡ true → (r : ℕ) → w ≡ which.Index r → is_number_of types f ty.Size r ≡ true
   indexed p b (which.Index q) e r is = subst (λ x. is_number_of types f ty.Size x ≡ true) (same_index q r is) (go (is_number_of types f ty.Size q) e)
@@ -251,7 +270,7 @@ module _ (types : Types) (f : Function) (st : State) (at_point : IsPoised types 
   seen_elements_settle p l w e keeps uses =
       let range = seen_element_range p l w e in
       settle_got types f (behind p) (used st.world.content (location_cell types f l st)) (λ v. element_at types f p w (seen_count v) v st) (IsUsed (type_in types f l)) (used_at l (type_in types f l) refl range.0 range.1 uses.0)
-      (λ v h. element_settles p (type_in types f l) w (seen_count v) v (aims_points types (type_in types f p) (type_of_element types f (source.Pointer l) w) e) keeps h (λ target. no_target w e target) (indexed p (source.Pointer l) w e) uses.1)
+      (λ v h. element_settles p (type_in types f l) w (seen_count v) v (aims_points types (type_in types f p) (type_of_element types f (source.Pointer l) w) e) keeps (λ view. absurd (aims_unviewed types (type_in types f p) (type_of_element types f (source.Pointer l) w) e view)) h (λ target. no_target w e target) (indexed p (source.Pointer l) w e) uses.1)
     where
       no_target : (w : Which) → aims_at types (type_in types f p) (type_of_element types f (source.Pointer l) w) ≡ true → w ≡ which.Target → ⊥
       no_target w h target = aims_solid types (type_in types f p) (subst (λ (x : Which). aims_at types (type_in types f p) (type_of_element types f (source.Pointer l) x) ≡ true) target h)
@@ -262,4 +281,4 @@ module _ (types : Types) (f : Function) (st : State) (at_point : IsPoised types 
       let range = seen_range types (type_in types f l) (λ void. walks_solid types (type_in types f p) (subst (λ (u : Ty). walks types (type_in types f p) u ≡ true) void e)) in
       settle_got types f (behind p) (used st.world.content (location_cell types f l st)) (λ v. pointed types f p (element_of st.world.content.clock (end_index end (seen_count v)) v) st) (IsUsed (type_in types f l)) (used_at l (type_in types f l) refl range.0 range.1 uses.0)
       (λ v h. given p (element_of st.world.content.clock (end_index end (seen_count v)) v) (walks_points types (type_in types f p) (seen_element types (type_in types f l)) e)
-      (used_fits (type_in types f l) (type_in types f p) (element_of st.world.content.clock (end_index end (seen_count v)) v) keeps (index_used (type_in types f l) st.world.content.clock (start_of v + end_index end (seen_count v)) v h)) uses.1)
+      (used_fits (type_in types f l) (type_in types f p) (element_of st.world.content.clock (end_index end (seen_count v)) v) keeps (λ view. absurd (walks_unviewed types (type_in types f p) (seen_element types (type_in types f l)) e view)) (index_used (type_in types f l) st.world.content.clock (start_of v + end_index end (seen_count v)) v h)) uses.1)

@@ -169,12 +169,12 @@ module _ (types : Types) (ordered : IsOrdered types) (f : Function) (rest : ℕ 
   any_used q = got_any (used st.world.content (location_cell types f q st)) (λ v. (i : ℕ) → AnyPointer (at_index st.world.content.clock i v)) (λ v i. tt)
 
   source_stands : (p : Location) (part : TyId) → TakesPointer types f st p part → (sr : Source) → IsTypedSource types f st part sr → OnNext (does s types f (Aim p sr) st) (Stands types f rest)
-  source_stands p part into source.Null typed = nulls_give types ordered f rest st stands p part AnyPointer (Stands types f rest) (stood p part into) (λ t. tt) s tt
-  source_stands p part into (source.Text n) typed = texts_give types ordered f rest st stands p part AnyPointer (Stands types f rest) (stood p part into) (λ t. tt) s n tt typed
-  source_stands p part into source.Empty typed = empties_give types ordered f rest st stands p part AnyPointer (Stands types f rest) (stood p part into) (λ t. tt) s tt
-  source_stands p part into (source.Place o) typed = places_give types ordered f rest st stands p part AnyPointer (Stands types f rest) (stood p part into) (λ t. tt) s o typed.0 typed.1.0 typed.1.1 typed.2 (λ t e. tt)
-  source_stands p part into (source.Whole o) typed = wholes_give types ordered f rest st stands p part AnyPointer (Stands types f rest) (stood p part into) (λ t. tt) typed.0 typed.2.0 typed.2.1 typed.2.2 s o typed.1.0 typed.1.1
-  source_stands p part into (source.Get l) typed = gets_give types ordered f rest st stands p part AnyPointer (Stands types f rest) (stood p part into) (λ t. tt) typed.0 typed.2.0 typed.2.1 typed.2.2 s l tt typed.1
+  source_stands p part into source.Null typed = nulls_give types ordered f rest st stands p part AnyPointer (Stands types f rest) (stood p part into) (λ t e. tt) s tt
+  source_stands p part into (source.Text n) typed = texts_give types ordered f rest st stands p part AnyPointer (Stands types f rest) (stood p part into) (λ t e. tt) s n tt typed
+  source_stands p part into source.Empty typed = empties_give types ordered f rest st stands p part AnyPointer (Stands types f rest) (stood p part into) (λ t e. tt) s tt
+  source_stands p part into (source.Place o) typed = places_give types ordered f rest st stands p part AnyPointer (Stands types f rest) (stood p part into) (λ t e. tt) s o typed.0 typed.1.0 typed.1.1 typed.2 (λ t. tt) (λ t e. tt)
+  source_stands p part into (source.Whole o) typed = wholes_give types ordered f rest st stands p part AnyPointer (Stands types f rest) (stood p part into) (λ t e. tt) typed.0 typed.2.0 typed.2.1 typed.2.2 s o typed.1.0 typed.1.1
+  source_stands p part into (source.Get l) typed = gets_give types ordered f rest st stands p part AnyPointer (Stands types f rest) (stood p part into) (λ t e. tt) typed.0 typed.2.0 typed.2.1 typed.2.2 s l tt typed.1
 
   -- ---- changes
 
@@ -274,15 +274,15 @@ module _ (types : Types) (ordered : IsOrdered types) (f : Function) (rest : ℕ 
   step_stands (Copy to from) typed = copies_stand types ordered f rest st stands s to from typed.0 typed.1 typed.2.0 typed.3.0 typed.4 typed.2.1 typed.3.1
   step_stands (Move to y) typed = moves_stand types ordered f rest st stands to y typed.0 typed.1.0 typed.1.1 typed.2 typed.3
   step_stands (Aim p sr) typed = source_stands p typed.0 typed.1 sr typed.2
-  step_stands (Repoint p q) typed = repoints_give types ordered f rest st stands p typed.0 AnyPointer (Stands types f rest) (stood p typed.0 typed.1) (λ t. tt) q typed.2.0 typed.2.1 (λ v e. tt)
+  step_stands (Repoint p q) typed = repoints_give types ordered f rest st stands p typed.0 AnyPointer (Stands types f rest) (stood p typed.0 typed.1) (λ t e. tt) q typed.2.0 typed.2.1 (λ v e. tt)
   step_stands (Element p (source.Owner o) w) typed =
-      let t = typed.2 in owned_elements_give types ordered f rest st stands p typed.0 AnyPointer (Stands types f rest) (stood p typed.0 typed.1) (λ t. tt) t.0 t.2.0 t.2.1 t.2.2 o w t.1.0 t.1.1
-  step_stands (Element p (source.Pointer l) w) typed = seen_elements_give types ordered f rest st stands p typed.0 AnyPointer (Stands types f rest) (stood p typed.0 typed.1) (λ t. tt) l w typed.2.0 typed.2.1 (any_used l)
+      let t = typed.2 in owned_elements_give types ordered f rest st stands p typed.0 AnyPointer (Stands types f rest) (stood p typed.0 typed.1) (λ t e. tt) t.0 t.2.0 t.2.1 t.2.2 o w t.1.0 t.1.1
+  step_stands (Element p (source.Pointer l) w) typed = seen_elements_give types ordered f rest st stands p typed.0 AnyPointer (Stands types f rest) (stood p typed.0 typed.1) (λ t e. tt) l w typed.2.0 typed.2.1 (any_used l)
   step_stands (Cursor p (source.Owner o) end) typed =
-      let t = typed.2 in owned_cursors_give types ordered f rest st stands p typed.0 AnyPointer (Stands types f rest) (stood p typed.0 typed.1) (λ t. tt) t.0 t.2.0 t.2.1 t.2.2 o end t.1.0 t.1.1
-  step_stands (Cursor p (source.Pointer l) end) typed = seen_cursors_give types ordered f rest st stands p typed.0 AnyPointer (Stands types f rest) (stood p typed.0 typed.1) (λ t. tt) l end typed.2.0 typed.2.1 (any_used l)
-  step_stands (Advance p q r way) typed = advances_give types ordered f rest st stands p typed.0 AnyPointer (Stands types f rest) (stood p typed.0 typed.1) (λ t. tt) s q r way typed.2.0 typed.2.1 (any_iterator q)
-  step_stands (Cut p q r count) typed = cuts_give types ordered f rest st stands p typed.0 AnyPointer (Stands types f rest) (stood p typed.0 typed.1) (λ t. tt) q r count typed.2.0 typed.2.1 (got_any (used st.world.content (location_cell types f q st)) (λ v. (i k : ℕ) → AnyPointer (part_of st.world.content.clock i k v)) (λ v i k. tt))
+      let t = typed.2 in owned_cursors_give types ordered f rest st stands p typed.0 AnyPointer (Stands types f rest) (stood p typed.0 typed.1) (λ t e. tt) t.0 t.2.0 t.2.1 t.2.2 o end t.1.0 t.1.1
+  step_stands (Cursor p (source.Pointer l) end) typed = seen_cursors_give types ordered f rest st stands p typed.0 AnyPointer (Stands types f rest) (stood p typed.0 typed.1) (λ t e. tt) l end typed.2.0 typed.2.1 (any_used l)
+  step_stands (Advance p q r way) typed = advances_give types ordered f rest st stands p typed.0 AnyPointer (Stands types f rest) (stood p typed.0 typed.1) (λ t e. tt) s q r way typed.2.0 typed.2.1 (any_iterator q)
+  step_stands (Cut p q r count) typed = cuts_give types ordered f rest st stands p typed.0 AnyPointer (Stands types f rest) (stood p typed.0 typed.1) (λ t e. tt) q r count typed.2.0 typed.2.1 (got_any (used st.world.content (location_cell types f q st)) (λ v. (i k : ℕ) → AnyPointer (part_of st.world.content.clock i k v)) (λ v i k. tt))
   step_stands (Size r base) typed = sizes_give types f st (Stands types f rest) (number_stands types ordered f rest st stands) r base
   step_stands (Same r a b equal) typed = sames_give types f st (Stands types f rest) (number_stands types ordered f rest st stands) s r a b equal
   step_stands (Changes o change) typed =

@@ -1,11 +1,11 @@
 -- What a cell of a frame holds, by its local's kind and type: an object's cell names it, and what lies in no memory is a pointer or a number.
 use Rattle.std.specs.Prelude.{◌≡◌, ℕ, Bool, true, false, List, Option, Some, None, slice_get}
-use Rattle.life_types.specs.TypeTests.{is_constant, is_pointer, is_raw}
+use Rattle.life_types.specs.TypeTests.{is_constant, is_pointer, is_raw, is_view}
 use Rattle.life_types.specs.Types.{Types}
 use Rattle.life_types.specs.declared.ty.Ty.{Ty}
 use Rattle.life_core.specs.Function.{Function}
 use Rattle.life_proper.specs.Placed.{object_at, type_at}
-use Rattle.life_store.specs.State.{Pointer, Null, Wild, To, Static, Cell, Empty, Named, Number, Points}
+use Rattle.life_store.specs.State.{Target, Pointer, Null, Wild, To, Static, Cell, Empty, Named, Number, Points}
 
 pub data Sort : Type 0 where
   Names : Sort
@@ -25,10 +25,14 @@ abbrev pub StaticFits : Ty → Option ℕ → Type 0
 StaticFits t None = Unit {0}
 StaticFits t (Some n) = is_constant t ≡ true
 
+-- .. and a view sees the first word of each position, where a character lies
+abbrev pub SeesFirst : Ty → Target → Type 0
+SeesFirst t target = is_view t ≡ true → target.word ≡ 0
+
 abbrev pub PointerFits : Ty → Pointer → Type 0
 PointerFits t Null = is_raw t ≡ true
 PointerFits t Wild = Unit {0}
-PointerFits t (To target) = Unit {0}
+PointerFits t (To target) = SeesFirst t target
 PointerFits t (Static s) = StaticFits t s.text
 
 -- where the local is there

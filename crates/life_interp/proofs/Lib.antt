@@ -1,3 +1,4 @@
+pub mod AskLemmas
 pub mod BackLemmas
 pub mod BirthLemmas
 pub mod CallLemmas
@@ -31,6 +32,8 @@ pub mod SoundPlaces
 pub mod SoundPrograms
 pub mod SoundSteps
 pub mod StepLemmas
+pub mod TestedPlaces
+pub mod ViewPlaces
 pub mod WalkLemmas
 pub mod Walks
 pub mod WholeWalks

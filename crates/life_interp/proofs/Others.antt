@@ -1,5 +1,5 @@
 -- Which instructions reach what lies in a store, and which are served later.
-use Rattle.std.proofs.Common.{◌≡◌, ℕ, Option, refl}
+use Rattle.std.proofs.Common.{◌≡◌, ℕ, Bool, Option, refl}
 use Rattle.std.specs.declared.alloc.Global.{Global}
 use Rattle.std.specs.declared.vec.Vec.{Vec}
 use Rattle.life_types.specs.Types.{Types}
@@ -31,26 +31,27 @@ module _ (s : Setting) (types : Types) (f : Function) (st : State) where
       → ((p q : Location) (r : ℕ) (direction : Direction) → i ≡ instrs.Advance p q r direction → ⊥)
       → ((p q : Location) (r : ℕ) (count : Option ℕ) → i ≡ instrs.Cut p q r count → ⊥)
       → ((r : ℕ) (b : Base) → i ≡ instrs.Size r b → ⊥)
+      → ((r : ℕ) (a b : Location) (equal : Bool) → i ≡ instrs.Same r a b equal → ⊥)
       → does s types f (step_of i) st ≡ Strays
-  others_stray (instrs.Live x form) access load save aim repoint element advance cut size = absurd access
-  others_stray (instrs.End xs) access load save aim repoint element advance cut size = absurd access
-  others_stray (instrs.Eval r operation) access load save aim repoint element advance cut size = absurd access
-  others_stray (instrs.Load r o) access load save aim repoint element advance cut size = absurd (load r o refl)
-  others_stray (instrs.Save o r) access load save aim repoint element advance cut size = absurd (save o r refl)
-  others_stray (instrs.Copy to from) access load save aim repoint element advance cut size = refl
-  others_stray (instrs.Move to y) access load save aim repoint element advance cut size = refl
-  others_stray (instrs.Aim p x) access load save aim repoint element advance cut size = absurd (aim p x refl)
-  others_stray (instrs.Repoint p q) access load save aim repoint element advance cut size = absurd (repoint p q refl)
-  others_stray (instrs.Element p b which) access load save aim repoint element advance cut size = absurd (element p b which refl)
-  others_stray (instrs.Cursor p b end) access load save aim repoint element advance cut size = refl
-  others_stray (instrs.Advance p q r direction) access load save aim repoint element advance cut size = absurd (advance p q r direction refl)
-  others_stray (instrs.Cut p q r count) access load save aim repoint element advance cut size = absurd (cut p q r count refl)
-  others_stray (instrs.Size r b) access load save aim repoint element advance cut size = absurd (size r b refl)
-  others_stray (instrs.Same r a b equal) access load save aim repoint element advance cut size = refl
-  others_stray (instrs.Change o change) access load save aim repoint element advance cut size = refl
-  others_stray (instrs.Make u made) access load save aim repoint element advance cut size = refl
-  others_stray (instrs.Call target g xs) access load save aim repoint element advance cut size = refl
-  others_stray (instrs.Port port) access load save aim repoint element advance cut size = absurd access
+  others_stray (instrs.Live x form) access load save aim repoint element advance cut size same = absurd access
+  others_stray (instrs.End xs) access load save aim repoint element advance cut size same = absurd access
+  others_stray (instrs.Eval r operation) access load save aim repoint element advance cut size same = absurd access
+  others_stray (instrs.Load r o) access load save aim repoint element advance cut size same = absurd (load r o refl)
+  others_stray (instrs.Save o r) access load save aim repoint element advance cut size same = absurd (save o r refl)
+  others_stray (instrs.Copy to from) access load save aim repoint element advance cut size same = refl
+  others_stray (instrs.Move to y) access load save aim repoint element advance cut size same = refl
+  others_stray (instrs.Aim p x) access load save aim repoint element advance cut size same = absurd (aim p x refl)
+  others_stray (instrs.Repoint p q) access load save aim repoint element advance cut size same = absurd (repoint p q refl)
+  others_stray (instrs.Element p b which) access load save aim repoint element advance cut size same = absurd (element p b which refl)
+  others_stray (instrs.Cursor p b end) access load save aim repoint element advance cut size same = refl
+  others_stray (instrs.Advance p q r direction) access load save aim repoint element advance cut size same = absurd (advance p q r direction refl)
+  others_stray (instrs.Cut p q r count) access load save aim repoint element advance cut size same = absurd (cut p q r count refl)
+  others_stray (instrs.Size r b) access load save aim repoint element advance cut size same = absurd (size r b refl)
+  others_stray (instrs.Same r a b equal) access load save aim repoint element advance cut size same = absurd (same r a b equal refl)
+  others_stray (instrs.Change o change) access load save aim repoint element advance cut size same = refl
+  others_stray (instrs.Make u made) access load save aim repoint element advance cut size same = refl
+  others_stray (instrs.Call target g xs) access load save aim repoint element advance cut size same = refl
+  others_stray (instrs.Port port) access load save aim repoint element advance cut size same = absurd access
 
 -- what the machine does by a function of its own
 pub access_else : (i : Instr) → ((x : ℕ) (form : Form) → i ≡ instrs.Live x form → ⊥) → ((xs : Vec ℕ Global) → i ≡ instrs.End xs → ⊥) → ((r : ℕ) (operation : Operation) → i ≡ instrs.Eval r operation → ⊥) → ((port : Port) → i ≡ instrs.Port port → ⊥) → IsAccess (step_of i)

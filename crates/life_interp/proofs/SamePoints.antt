@@ -12,14 +12,14 @@ use Rattle.life_core.specs.Holdings.{held_by, parameter_sorts, result_sort}
 use Rattle.life_core.specs.Linked.{Linked, code_of, enter, no_exits, numbered}
 use Rattle.life_core.specs.Operands.{Argument, Location}
 use Rattle.life_core.specs.Served.{is_served_as, is_served_local, is_served_spot}
-use Rattle.life_core.specs.Step.{Step, Call, Test}
+use Rattle.life_core.specs.Step.{Step, Call}
 use Rattle.life_core.specs.Tree.{Node, Action, Question, Return, Stop, spots}
 use Rattle.life_proper.proofs.Sorted.{IsCallSorted, IsNodeSorted}
 use Rattle.life_proper.proofs.SpotTests.{all_at}
 use Rattle.life_store.specs.Calls as whole
 use Rattle.life_store.specs.Content.{Content}
 use Rattle.life_store.specs.Doing.{Setting, cell, does}
-use Rattle.life_store.specs.Meaning.{Back, Quit, Trapped, frame, test_at}
+use Rattle.life_store.specs.Meaning.{Back, Quit, Trapped, frame}
 use Rattle.life_store.specs.State.{Cell, State, ready_of}
 use Rattle.life_store.specs.declared.run.TrapKind.TheVariants as trap
 use Rattle.life_store.proofs.Handing as handing
@@ -30,11 +30,11 @@ use Rattle.life_interp.specs.PointsSoFar as points
 use Rattle.life_interp.specs.SoFar as so_far
 use Rattle.life_interp.specs.Sound.{AreSound}
 use Rattle.life_interp.specs.Walk as walk
-use Rattle.life_interp.specs.Walk.{Go, Waiting, chosen, first_way, let_in, moved, second_way}
+use Rattle.life_interp.specs.Walk.{Go, Waiting, chosen, first_way, let_in, moved}
 use Rattle.life_interp.specs.Walking.{IsOwn, IsSoundWalk, means, passes}
 use Rattle.life_interp.specs.declared.frames.Frames.{Frames}
 use Rattle.life_interp.proofs.SameCalls.{alone_same, handed_same, parameters_same, result_same, taken_same}
-use Rattle.life_interp.proofs.SameSteps.{does_same, test_same}
+use Rattle.life_interp.proofs.SameSteps.{does_same}
 use Rattle.life_interp.proofs.SoundCalls.{left_sorted, lent_so, result_given, sorted_call, waiting_call, waiting_cells}
 use Rattle.life_interp.proofs.SoundPrograms.{functions, own_plain}
 use Rattle.life_interp.proofs.SoundSteps.{asked, with_ports}
@@ -97,14 +97,6 @@ module _ (s : Setting) (p : Program) (go : Go) (n : ℕ) (ws : List Waiting) (f 
   action_same (Call target g xs) is = call_same target g xs is (slice_get p.functions g.0) refl
   action_same i is = own_same i is tt
 
-  -- ---- a test
-
-  question_same : (t : Test) → l.spot.node ≡ Question t
-      → chosen (go ws f) (first_way l.leads) (second_way l.leads) (test_at p.types f t n st) ≡ chosen (go ws f) (first_way l.leads) (second_way l.leads) (so_far.test_at t n st)
-  question_same t is =
-      ap (chosen (go ws f) (first_way l.leads) (second_way l.leads))
-      (test_same p.types f t n st sound.stands.sorted (subst (IsNodeSorted p.types f p.functions (ready_of st)) is (asked p ws f q st sound l here)))
-
 -- ---- a function is left
 
 module _ (p : Program) (v : Waiting) (vs : List Waiting) (f : Function) (q : ℕ) (st : State) (sound : AreSound p (v ∷ vs) f (Some q) st) (l : Linked) (here : numbered (code_of f) q ≡ Some l) (is : l.spot.node ≡ Return) (s : Setting) where
@@ -132,7 +124,7 @@ module _ (s : Setting) (p : Program) (go : Go) (n : ℕ) (f : Function) (q : ℕ
 module _ (s : Setting) (p : Program) (go : Go) (n : ℕ) (ws : List Waiting) (f : Function) (q : ℕ) (st : State) (sound : AreSound p ws f (Some q) st) where
   node_same : (l : Linked) → numbered (code_of f) q ≡ Some l → (node : Node) → l.spot.node ≡ node → walk.at_node s p go ws f node l.spot.place l.leads n st ≡ points.at_node s p go ws f node l.spot.place l.leads n st
   node_same l here (Action i) is = action_same s p go n ws f q st sound l here i is
-  node_same l here (Question t) is = question_same s p go n ws f q st sound l here t is
+  node_same l here (Question t) is = refl
   node_same l here Return is = return_same s p go n f q st l here is ws sound
   node_same l here Stop is = refl
 

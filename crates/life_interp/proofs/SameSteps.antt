@@ -2,14 +2,12 @@
 use Rattle.std.proofs.Common.{◌≡◌, ℕ, List, refl, sym, ap, ◌∙◌}
 use Rattle.life_types.specs.Types.{Types}
 use Rattle.life_core.specs.Function.{Function}
-use Rattle.life_core.specs.Step.{Step, Live, End, Eval, Load, Save, Copy, Move, Aim, Repoint, Element, Cursor, Advance, Cut, Size, Same, Changes, Make, Call, Port, Ports, Writes, WritesView, Takes, Test, NonZero, NotNull}
-use Rattle.life_proper.proofs.Sorted.{IsPortSorted, IsStepSorted, IsTestSorted}
+use Rattle.life_core.specs.Step.{Step, Live, End, Eval, Load, Save, Copy, Move, Aim, Repoint, Element, Cursor, Advance, Cut, Size, Same, Changes, Make, Call, Port, Ports, Writes, WritesView, Takes}
+use Rattle.life_proper.proofs.Sorted.{IsPortSorted, IsStepSorted}
 use Rattle.life_store.specs.Doing as doing
 use Rattle.life_store.specs.Doing.{Setting, Effect, Next, Traps, Faults, Strays, cell, on_next}
-use Rattle.life_store.specs.Meaning as meaning
-use Rattle.life_store.specs.Meaning.{pointer_test, tested, whole_tested}
 use Rattle.life_store.specs.State.{State, ready_of}
-use Rattle.life_store.proofs.CellLemmas.{pointer_cell, view_cell}
+use Rattle.life_store.proofs.CellLemmas.{view_cell}
 use Rattle.life_store.proofs.Settling.{IsPlain}
 use Rattle.life_store.proofs.Sorts.{IsSorted}
 use Rattle.life_store.proofs.WholeLocals.{whole_cell}
@@ -39,7 +37,6 @@ module _ (s : Setting) (types : Types) (fs : List Function) (f : Function) (st :
   does_same (Copy to from) plain ready = absurd ready
   does_same (Move to y) plain ready = absurd ready
   does_same (Cursor p b end) plain ready = absurd ready
-  does_same (Same r a b equal) plain ready = absurd ready
   does_same (Changes o c) plain ready = absurd ready
   does_same (Make u made) plain ready = absurd ready
   does_same (Live x form) plain ready = refl
@@ -53,12 +50,5 @@ module _ (s : Setting) (types : Types) (fs : List Function) (f : Function) (st :
   does_same (Advance p q r direction) plain ready = refl
   does_same (Cut p q r count) plain ready = refl
   does_same (Size r b) plain ready = refl
+  does_same (Same r a b equal) plain ready = refl
   does_same (Call target g xs) plain ready = refl
-
--- ---- tests
-
-pub test_same : (types : Types) (f : Function) (t : Test) (n : ℕ) (st : State) → IsSorted types f st.cells → IsTestSorted types f (ready_of st) t → meaning.test_at types f t n st ≡ so_far.test_at t n st
-test_same types f (NonZero r) n st sorted ready = refl
-test_same types f (NotNull p) n st sorted ready =
-    let v = pointer_cell types f st.cells sorted p.local ready.1 in
-    ap (λ o. pointer_test o n st) (ap (λ ms. tested types f p ms (cell st p.local) st.world.content) ready.0 ∙ ap (λ o. whole_tested o st.world.content) v.1 ∙ sym v.1)

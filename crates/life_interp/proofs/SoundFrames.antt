@@ -23,7 +23,7 @@ use Rattle.life_cells.specs.Cells.{cells_seen, state_of}
 use Rattle.life_interp.specs.Cells.{one_seen, world_of}
 use Rattle.life_interp.specs.Frames.{function_at, point_at, stack_seen, waiting_seen, AllBegin}
 use Rattle.life_interp.specs.SoFar as so_far
-use Rattle.life_interp.specs.Sound.{AreSound, IsAt}
+use Rattle.life_interp.specs.Sound.{AreSound, IsAsking, IsAt}
 use Rattle.life_interp.specs.Walk as walk
 use Rattle.life_interp.specs.Walk.{first_way, second_way}
 use Rattle.life_interp.specs.Walking.{IsOwn, IsSoundWalk, StandsHere}
@@ -87,6 +87,13 @@ module _ (p : Program) (frames : Frames) (c : Content) (sound : IsSoundWalk p fr
       let h = is_here place (Action i) (goes to) stands in
       subst (λ (g : Function). IsAt p g i (state_of c frames.cells.items [] [])) is
       (record { behind = stack; point = h.point; linked = record { spot = spot_at place (Action i); leads = goes to }; here = h.here; is = refl; sound = h.known [] })
+
+  -- .. or a test
+  pub test_here : (place : Place) (t : Test) (ls : List Lead) → StandsHere p frames place (Question t) ls → (f : Function) → function_at p.functions frames.function ≡ f → IsAsking p f t (state_of c frames.cells.items [] [])
+  test_here place t ls stands f is =
+      let h = is_here place (Question t) ls stands in
+      subst (λ (g : Function). IsAsking p g t (state_of c frames.cells.items [] [])) is
+      (record { behind = stack; point = h.point; linked = record { spot = spot_at place (Question t); leads = ls }; here = h.here; is = refl; sound = h.known [] })
 
   -- behind an instruction
   pub own_sound : (place : Place) (i : Step) (to : Option ℕ) → StandsHere p frames place (Action i) (goes to) → IsOwn i → (f : Function) → function_at p.functions frames.function ≡ f → (s : Setting) (ins rest : List ℤ) (text : List ℕ) (d : Content) (new : List Cell)

@@ -39,6 +39,7 @@ use Rattle.life_interp.specs.Walk.{Waiting}
 use Rattle.life_interp.specs.declared.layouts.Layouts.{Layouts}
 use Rattle.life_interp.proofs.HeldPlaces.{IsOwning, number_placed, owner_held, owner_placed, placed, pointer_held}
 use Rattle.life_interp.proofs.SoundPrograms.{goes_well, members}
+use Rattle.life_interp.proofs.ViewPlaces.{compared_see}
 use Rattle.life_interp.proofs.WideTypes.{are_wide}
 
 -- ---- an instruction
@@ -58,7 +59,7 @@ module _ (p : Program) (ws : List Waiting) (f : Function) (q : ℕ) (st : State)
 
 -- ---- the places that it names
 
-owns_owning : (types : Types) (part id : TyId) → OwnsType (parts_at types part) id → IsOwning (parts_at types part)
+pub owns_owning : (types : Types) (part id : TyId) → OwnsType (parts_at types part) id → IsOwning (parts_at types part)
 owns_owning types part id owns = let one = owns.one in record { wide = omega (arith, one); owner = owns.owner }
 
 not_false : (b : Bool) → not b ≡ true → b ≡ false
@@ -182,8 +183,12 @@ module _ (p : Program) (f : Function) (st : State) (layouts : Layouts) (ready : 
   has_places (Cut l m r count) at = both_alike (Cut l m r count) at l m (and_parts (takes p.types (type_in p.types f l) (type_in p.types f m)) _ (and_parts (is_range (type_in p.types f l)) _ (formed_at p f st (Cut l m r count) at ready.narrow)).1).0
   has_places (Size r b) at = counted_here p f st (Size r b) at ready.narrow b (not_false (is_void (element_of p.types f b)) (and_parts (is_number_of p.types f ty.Size r) (not (is_void (element_of p.types f b))) (formed_at p f st (Size r b) at ready.narrow)).1)
   has_places (Same r l m equal) at =
-      let both = compared_points p.types (type_in p.types f l) (type_in p.types f m) (and_parts (is_number_of p.types f ty.Bool r) (are_compared p.types (type_in p.types f l) (type_in p.types f m)) (formed_at p f st (Same r l m equal) at ready.narrow)).1 in
-      (held_pointer p f st (Same r l m equal) at ready.narrow l both.0, held_pointer p f st (Same r l m equal) at ready.narrow m both.1)
+      let table = at.sound.proper.well_formed.table in
+      let are = (and_parts (is_number_of p.types f ty.Bool r) (are_compared p.types (type_in p.types f l) (type_in p.types f m)) (formed_at p f st (Same r l m equal) at ready.narrow)).1 in
+      let both = compared_points p.types (type_in p.types f l) (type_in p.types f m) are in
+      let see = compared_see p.types table at.sound.proper.well_formed.once (length p.texts) p.functions f (shaped p f st (Same r l m equal) at ready.narrow) st (aims p f st (Same r l m equal) at ready.narrow) at.sound.sound.sorted
+      (at_point p f st (Same r l m equal) at ready.narrow).pointers l m (type_in p.types f l) (type_in p.types f m) refl refl are in
+      (held_pointer p f st (Same r l m equal) at ready.narrow l both.0, held_pointer p f st (Same r l m equal) at ready.narrow m both.1, λ views. (see views).0, λ views. (see views).1)
   has_places (Live x form) at = tt
   has_places (End xs) at = tt
   has_places (Eval r operation) at = tt

@@ -1,15 +1,16 @@
 -- What is asked of the places that an instruction names. At each point of a walk it is had of the frame at hand.
-use Rattle.std.specs.Prelude.{◌≡◌, ℕ}
+use Rattle.std.specs.Prelude.{◌≡◌, ℕ, Bool, true, false}
 use Rattle.life_types.specs.Types.{Types}
 use Rattle.life_core.specs.Function.{Function}
 use Rattle.life_core.specs.Operands.{Operand}
-use Rattle.life_core.specs.Step.{Step, Live, End, Eval, Load, Save, Aim, Repoint, Element, Cursor, Advance, Cut, Size, Same, Ports}
+use Rattle.life_core.specs.Step.{Step, Live, End, Eval, Load, Save, Aim, Repoint, Element, Cursor, Advance, Cut, Size, Same, Ports, Test, NonZero, NotNull}
 use Rattle.life_seen.specs.Kinds.{kinds_of}
 use Rattle.life_store.specs.Content.{Object}
 use Rattle.life_store.specs.Kinds.{Plain}
 use Rattle.life_store.specs.Places.{Here, locate, operand_word}
-use Rattle.life_store.specs.State.{State}
-use Rattle.life_cells.specs.Typed.{HoldsPointer, IsBase, IsPlaced, IsSource}
+use Rattle.life_store.specs.State.{Pointer, Null, State}
+use Rattle.life_cells.specs.Asked.{IsTestable}
+use Rattle.life_cells.specs.Typed.{ComparesCharacters, HoldsPointer, IsBase, IsPlaced, IsSource}
 
 -- what a place names is a number
 pub record IsNumberPlace (types : Types) (f : Function) (o : Operand) (st : State) : Type 0 where
@@ -27,8 +28,18 @@ HasPlaces types f st (Cursor p b end) = HoldsPointer types f p st × IsBase type
 HasPlaces types f st (Advance p q r direction) = HoldsPointer types f p st × HoldsPointer types f q st
 HasPlaces types f st (Cut p q r count) = HoldsPointer types f p st × HoldsPointer types f q st
 HasPlaces types f st (Size r b) = IsBase types f b st
-HasPlaces types f st (Same r a b equal) = HoldsPointer types f a st × HoldsPointer types f b st
+HasPlaces types f st (Same r a b equal) = HoldsPointer types f a st × HoldsPointer types f b st × ComparesCharacters types f a a st × ComparesCharacters types f a b st
 HasPlaces types f st _ = Unit {0}
+
+-- a pointer that isn't null
+abbrev pub is_leading : Pointer → Bool
+is_leading Null = false
+is_leading _ = true
+
+-- what the test asks is there
+abbrev pub HasTested : Types → Function → State → Test → Type 0
+HasTested types f st (NonZero r) = Unit {0}
+HasTested types f st (NotNull l) = IsTestable types f l st
 
 -- it names places, and nothing comes to life or ends: what the machine does by the cells' own steps
 abbrev pub IsAccess : Step → Type 0

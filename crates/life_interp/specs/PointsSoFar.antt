@@ -6,10 +6,10 @@ use Rattle.life_core.specs.Linked.{Lead, Linked, enter, no_exits}
 use Rattle.life_core.specs.Step.{Step, Call}
 use Rattle.life_core.specs.Tree.{Node, Action, Question, Return, Stop}
 use Rattle.life_store.specs.Doing.{Setting}
-use Rattle.life_store.specs.Meaning.{Trapped, Stray, Called, Back, Quit, frame}
+use Rattle.life_store.specs.Meaning.{Trapped, Stray, Called, Back, Quit, frame, test_at}
 use Rattle.life_store.specs.State.{Cell, World, State}
 use Rattle.life_store.specs.declared.run.TrapKind.TheVariants as trap
-use Rattle.life_interp.specs.SoFar.{test_at, all_handed, parameters_given, results, target_given, does}
+use Rattle.life_interp.specs.SoFar.{all_handed, parameters_given, results, target_given, does}
 use Rattle.life_interp.specs.Walk.{Go, Waiting, chosen, first_way, let_in, moved, second_way}
 
 module _ (s : Setting) (p : Program) where
@@ -36,7 +36,7 @@ module _ (s : Setting) (p : Program) where
 
   abbrev pub at_node : Go → List Waiting → Function → Node → Place → List Lead → ℕ → State → Called
   at_node go ws f (Action i) place leads n st = at_action go ws f i place (first_way leads) st
-  at_node go ws f (Question t) place leads n st = chosen (go ws f) (first_way leads) (second_way leads) (test_at t n st)
+  at_node go ws f (Question t) place leads n st = chosen (go ws f) (first_way leads) (second_way leads) (test_at p.types f t n st)
   at_node go ws f Return place leads n st = back go ws n st.world (results p.types f st)
   at_node go ws f Stop place leads n st = Quit (Trapped trap.Assert place) st.world
 

@@ -6,11 +6,10 @@ use Rattle.life_core.specs.declared.program.Local.{Local}
 use Rattle.life_core.specs.Function.{Function}
 use Rattle.life_core.specs.Operands.{Argument, Location, Value, GivenOver, PointerOf, Slot}
 use Rattle.life_core.specs.Holdings.{Holding, AnObject, ANumber, APointer, AView, result_sort, sort_of}
-use Rattle.life_core.specs.Step.{Step, Copy, Move, Cursor, Same, Changes, Make, Port, Ports, Writes, WritesView, Takes, Test, NonZero, NotNull}
+use Rattle.life_core.specs.Step.{Step, Copy, Move, Cursor, Changes, Make, Port, Ports, Writes, WritesView, Takes}
 use Rattle.life_store.specs.Calls.{number_handed, pointer_handed, with_handed, number_or_zero, pointer_back}
 use Rattle.life_store.specs.Doing as doing
 use Rattle.life_store.specs.Doing.{Setting, Effect, Next, Strays, cell, put_cell, type_of, on_number, on_next, born_object, characters_in, found_at, on_found, saved, with_output, number_text, input_taken}
-use Rattle.life_store.specs.Meaning.{Verdict, number_test, pointer_test}
 use Rattle.life_store.specs.State.{Characters, Static, Cell, Empty, Named, Number, Points, State}
 
 -- ---- what goes out and comes in
@@ -32,15 +31,10 @@ abbrev pub does : Setting → Types → Function → Step → State → Effect
 does s types f (Copy to from) st = Strays
 does s types f (Move to y) st = Strays
 does s types f (Cursor p base end) st = Strays
-does s types f (Same r a b equal) st = Strays
 does s types f (Changes o change) st = Strays
 does s types f (Make u m) st = Strays
 does s types f (Ports p) st = port s types f p st
 does s types f i st = doing.does s types f i st
-
-abbrev pub test_at : Test → ℕ → State → Verdict
-test_at (NonZero r) n st = number_test (cell st r) n st
-test_at (NotNull p) n st = pointer_test (cell st p.local) n st
 
 -- ---- calls
 

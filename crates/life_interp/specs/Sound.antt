@@ -2,8 +2,8 @@
 use Rattle.std.specs.Prelude.{◌≡◌, ℕ, ◌+◌, List, [], ◌∷◌, ◌++◌, Option, Some, slice_get}
 use Rattle.life_core.specs.Function.{Function, Program}
 use Rattle.life_core.specs.Linked.{Linked, code_of, goes, numbered, spot_at}
-use Rattle.life_core.specs.Step.{Call, Step}
-use Rattle.life_core.specs.Tree.{Action}
+use Rattle.life_core.specs.Step.{Call, Step, Test}
+use Rattle.life_core.specs.Tree.{Action, Question}
 use Rattle.life_core.specs.declared.program.FnId.{FnId}
 use Rattle.life_proper.specs.ProperPrograms.{IsProperProgram}
 use Rattle.life_store.specs.Calls.{lent}
@@ -62,4 +62,13 @@ pub record IsAt (p : Program) (f : Function) (i : Step) (st : State) : Type 0 wh
   pub linked : Linked
   pub here : numbered (code_of f) point ≡ Some linked
   pub is : linked.spot.node ≡ Action i
+  pub sound : AreSound p behind f (Some point) st
+
+-- .. or a test
+pub record IsAsking (p : Program) (f : Function) (t : Test) (st : State) : Type 0 where
+  pub behind : List Waiting
+  pub point : ℕ
+  pub linked : Linked
+  pub here : numbered (code_of f) point ≡ Some linked
+  pub is : linked.spot.node ≡ Question t
   pub sound : AreSound p behind f (Some point) st

@@ -1,5 +1,5 @@
 -- A machine that goes from point to point, each of which pays a step, with a stack of frames that wait.
-use Rattle.std.specs.Prelude.{ℕ, zero, suc, cond, nat_lt, List, [], ◌∷◌, Option, Some, None, length, slice_get}
+use Rattle.std.specs.Prelude.{ℕ, zero, suc, Bool, true, false, cond, nat_lt, List, [], ◌∷◌, Option, Some, None, length, slice_get}
 use Rattle.life_types.specs.declared.place.Place.{Place}
 use Rattle.life_core.specs.Function.{Function, Program}
 use Rattle.life_core.specs.Linked.{Lead, Linked, code_of, enter, no_exits, numbered}
@@ -21,6 +21,11 @@ first_way (l ∷ ls) = l.to
 abbrev pub second_way : List Lead → Option ℕ
 second_way [] = None
 second_way (l ∷ ls) = first_way ls
+
+-- .. by whether it did
+abbrev pub way_on : Bool → List Lead → Option ℕ
+way_on true ls = first_way ls
+way_on false ls = second_way ls
 
 -- a frame that waits for a call that stands at a place: where it goes on, what is given the result, and what was handed over
 pub record Waiting : Type 0 where

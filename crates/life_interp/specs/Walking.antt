@@ -9,11 +9,12 @@ use Rattle.life_core.specs.Function.{Function, Program}
 use Rattle.life_core.specs.Linked.{Lead, enter, no_exits, spot_at}
 use Rattle.life_core.specs.Step.{Step, Call, Ports, Test}
 use Rattle.life_core.specs.Tree.{Node}
+use Rattle.life_types.specs.Types.{Types}
 use Rattle.life_types.specs.declared.place.Place.{Place}
 use Rattle.life_store.specs.Doing.{Setting, Effect, Next}
-use Rattle.life_interp.specs.SoFar.{test_at, results}
+use Rattle.life_interp.specs.SoFar.{results}
 use Rattle.life_store.specs.Content.{Content}
-use Rattle.life_store.specs.Meaning.{Trapped, Faulted, Stray, Exhausted, Verdict, Holds, Fails, Cut, Called, Back, Barred, Quit, value_in}
+use Rattle.life_store.specs.Meaning.{Trapped, Faulted, Stray, Exhausted, Verdict, Holds, Fails, Cut, Called, Back, Barred, Quit, test_at, value_in}
 use Rattle.life_store.specs.State as state
 use Rattle.life_store.specs.State.{World, State}
 use Rattle.life_cells.specs.Cells.{state_of}
@@ -99,12 +100,12 @@ abbrev pub verdict : Bool → ℕ → State → Verdict
 verdict true n st = Holds n st
 verdict false n st = Fails n st
 
--- what a test answers of a frame's cells
-abbrev pub Asks : Test → List Cell → Option Bool → Type 0
-Asks t cells result =
+-- what a test answers of a frame
+abbrev pub Asks : Types → Function → Test → Content → List Cell → Option Bool → Type 0
+Asks types f t c cells result =
     MatchOption result
-    ((c : Content) (n : ℕ) (output : List ℕ) (input : List ℤ) → test_at t n (state_of c cells output input) ≡ Cut Stray (world_of c output input))
-    (λ b. (c : Content) (n : ℕ) (output : List ℕ) (input : List ℤ) → test_at t n (state_of c cells output input) ≡ verdict b n (state_of c cells output input))
+    ((n : ℕ) (output : List ℕ) (input : List ℤ) → test_at types f t n (state_of c cells output input) ≡ Cut Stray (world_of c output input))
+    (λ b. (n : ℕ) (output : List ℕ) (input : List ℤ) → test_at types f t n (state_of c cells output input) ≡ verdict b n (state_of c cells output input))
 
 -- ---- points
 
@@ -204,7 +205,7 @@ module _ (s : Setting) (p : Program) (frames : Frames) (c : Content) (ins : List
   acts i place to go n output = at_action s p go stack function i place to (here output)
 
   abbrev pub asks : Test → List Lead → Doing
-  asks t leads go n output = chosen (go stack function) (first_way leads) (second_way leads) (test_at t n (here output))
+  asks t leads go n output = chosen (go stack function) (first_way leads) (second_way leads) (test_at p.types function t n (here output))
 
   abbrev pub returns : Doing
   returns go n output = back s p go stack n (world_of c output ins) (results p.types function (here output))

@@ -1,26 +1,65 @@
 // Single tests.
-ghost use Rattle.life_core.specs.Step.{asked_of};
+ghost use Rattle.std.specs.Prelude.{◌≡◌};
+ghost use Rattle.life_core.specs.Operands.{location_of};
+ghost use Rattle.life_core.specs.Step.{asked_of, NotNull};
+ghost use Rattle.life_pointers.specs.Pointers.{pointer_seen};
+ghost use Rattle.life_cells.specs.Asked.{IsTestable};
+ghost use Rattle.life_cells.specs.Cells.{state_in};
+ghost use Rattle.life_cells.specs.Fits.{meant, IsFit};
+ghost use Rattle.life_cells.specs.Scopes.{function_in, types_in};
+ghost use Rattle.life_interp.specs.Accessed.{is_leading, HasTested};
 ghost use Rattle.life_interp.specs.Walking.{Asks};
 
-use life_cells::{Cell, number_at, own_pointer};
-use life_core::Test;
+use life_cells::{Cell, Scope, number_at, tested};
+use life_core::{Location, Test};
 use life_pointers::Pointer;
+use life_store::Store;
 
-/// Whether the test holds, if its local holds what is tested.
-pub(crate) fn ask(cells: &[Cell], test: &Test) -> Option<bool>
-    ensures { Asks (asked_of test.now) cells.now result }
+/// Whether the test holds, if there is what it asks.
+pub(crate) fn ask<S: Store>(
+    scope: &Scope<'_>,
+    store: &S,
+    cells: &[Cell],
+    test: &Test,
+) -> Option<bool>
+    requires fits { IsFit (types_in scope.now) (S.content store.now) (S.rows store.now) cells.now }
+    requires tested { HasTested (types_in scope.now) (function_in scope.now) (state_in (meant (types_in scope.now) (S.content store.now) (S.rows store.now)) cells.now) (asked_of test.now) }
+    ensures { Asks (types_in scope.now) (function_in scope.now) (asked_of test.now) (meant (types_in scope.now) (S.content store.now) (S.rows store.now)) cells.now result }
 {
     match test {
         Test::NonZero(register) => match number_at(cells, *register) {
             None => None,
             Some(value) => Some(value != 0),
         },
-        Test::NotNull(pointer) => match own_pointer(cells, pointer.local) {
-            None => None,
-            Some(Pointer::Null) => Some(false),
-            Some(Pointer::Wild) => Some(true),
-            Some(Pointer::To { .. }) => Some(true),
-            Some(Pointer::Static(_)) => Some(true),
-        },
+        Test::NotNull(location) => ask_pointer(scope, store, cells, location),
+    }
+}
+
+// Whether a pointer or a `std::unique_ptr` isn't null.
+fn ask_pointer<S: Store>(
+    scope: &Scope<'_>,
+    store: &S,
+    cells: &[Cell],
+    location: &Location,
+) -> Option<bool>
+    requires fits { IsFit (types_in scope.now) (S.content store.now) (S.rows store.now) cells.now }
+    requires testable { IsTestable (types_in scope.now) (function_in scope.now) (location_of location.now) (state_in (meant (types_in scope.now) (S.content store.now) (S.rows store.now)) cells.now) }
+    ensures { Asks (types_in scope.now) (function_in scope.now) (NotNull (location_of location.now)) (meant (types_in scope.now) (S.content store.now) (S.rows store.now)) cells.now result }
+{
+    match tested(scope, store, cells, location) {
+        None => None,
+        Some(pointer) => Some(is_leading(pointer)),
+    }
+}
+
+// Whether it isn't null.
+fn is_leading(pointer: Pointer) -> bool
+    ensures { result ≡ is_leading (pointer_seen pointer) }
+{
+    match pointer {
+        Pointer::Null => false,
+        Pointer::Wild => true,
+        Pointer::To { .. } => true,
+        Pointer::Static(_) => true,
     }
 }

@@ -1,20 +1,20 @@
 // One point.
 ghost use Rattle.std.specs.Prelude.{◌≡◌, ◌<◌, ◌⊎◌, drop, map, List, OnOk, ℤ};
-ghost use Rattle.life_core.specs.Function.{program_of, Program};
+ghost use Rattle.life_core.specs.Function.{program_of};
 ghost use Rattle.life_core.specs.Link.{leads_seen};
 ghost use Rattle.life_core.specs.Linked.{code_of, goes};
 ghost use Rattle.life_core.specs.Step.{asked_of, step_of};
-ghost use Rattle.life_core.specs.Tree.{Action};
+ghost use Rattle.life_core.specs.Tree.{Action, Question};
 ghost use Rattle.life_cells.specs.Fits.{meant, IsFit};
 ghost use Rattle.life_interp.specs.Fits.{most_births, CanStep, Grows};
 ghost use Rattle.life_interp.specs.Frames.{all_cells, AllBegin, AreFrames};
 ghost use Rattle.life_interp.specs.Layouts.{AreReady};
 ghost use Rattle.life_interp.specs.Runs.{links_seen};
 ghost use Rattle.life_interp.specs.Steps.{IsSet};
-ghost use Rattle.life_interp.specs.Walk.{first_way, second_way};
+ghost use Rattle.life_interp.specs.Walk.{first_way, second_way, way_on};
 ghost use Rattle.life_interp.specs.Walking.{acts, asks, passes, IsSoundWalk, Moves, PointLeads, StandsHere};
-ghost use Rattle.life_store.specs.Content.{Content};
 ghost use Rattle.life_store.specs.Doing.{Setting};
+ghost use Rattle.life_types.specs.declared.place.Place.{Place as AnyPlace};
 
 use crate::ask::ask;
 use crate::calls::{back, call};
@@ -24,6 +24,7 @@ use crate::layouts::Layouts;
 use crate::links::link_at;
 use crate::steps::perform;
 use life_base::Sink;
+use life_cells::Scope;
 use life_core::{CoreProgram, Instr, Leads, LinkRef, NodeRef, Test};
 use life_store::{Store, TrapKind};
 use life_types::Place;
@@ -77,7 +78,7 @@ pub(crate) fn pass<'p, S: Store, O: Sink>(
                 taken,
                 out,
             ),
-            NodeRef::Question(test) => choose(test, link.leads, frames),
+            NodeRef::Question(test) => choose(program, layouts, store, test, link.leads, frames),
             NodeRef::Return => back(program, store, frames),
             NodeRef::Stop => Err(Halt::Trap(TrapKind::Assert, link.spot.place)),
         },
@@ -150,23 +151,49 @@ fn act<'p, S: Store, O: Sink>(
 }
 
 // Goes on by whether a test holds.
-fn choose(test: &Test, leads: Leads, frames: &mut Frames) -> Result<(), Halt>
-    ensures step { (s : Setting) (p : Program) (c : Content) (ins : List ℤ) → Moves (asks s p frames.old c ins (asked_of test.now) (leads_seen leads)) p.functions c frames.new c ins result }
+fn choose<S: Store>(
+    program: &CoreProgram,
+    layouts: &Layouts,
+    store: &S,
+    test: &Test,
+    leads: Leads,
+    frames: &mut Frames,
+) -> Result<(), Halt>
+    requires layouts { AreReady (program_of program.now).types layouts.now }
+    requires frames { AreFrames (program_of program.now).functions frames.old }
+    requires fits { IsFit (program_of program.now).types (S.content store.now) (S.rows store.now) (all_cells frames.old) }
+    requires sound { IsSoundWalk (program_of program.now) frames.old (meant (program_of program.now).types (S.content store.now) (S.rows store.now)) }
+    requires here { (place : AnyPlace) × StandsHere (program_of program.now) frames.old place (Question (asked_of test.now)) (leads_seen leads) }
+    ensures step { (s : Setting) (ins : List ℤ) → Moves (asks s (program_of program.now) frames.old (meant (program_of program.now).types (S.content store.now) (S.rows store.now)) ins (asked_of test.now) (leads_seen leads)) (program_of program.now).functions (meant (program_of program.now).types (S.content store.now) (S.rows store.now)) frames.new (meant (program_of program.now).types (S.content store.now) (S.rows store.now)) ins result }
     ensures point { OnOk result ((frames.new.point ≡ first_way (leads_seen leads)) ⊎ (frames.new.point ≡ second_way (leads_seen leads))) }
     ensures function { frames.new.function ≡ frames.old.function }
     ensures cells { frames.new.cells ≡ frames.old.cells }
     ensures waiting { frames.new.waiting ≡ frames.old.waiting }
 {
-    match ask(&frames.cells, test) {
+    let f = &program.functions[frames.function as usize];
+    let scope = Scope {
+        types: &program.types,
+        layouts: &layouts.all,
+        texts: &program.texts,
+        function: f,
+    };
+    match ask(&scope, store, &frames.cells, test) {
         None => Err(Halt::Stray),
-        Some(true) => {
-            frames.point = first_way(leads);
+        Some(holds) => {
+            frames.point = way_on(leads, holds);
             Ok(())
         }
-        Some(false) => {
-            frames.point = second_way(leads);
-            Ok(())
-        }
+    }
+}
+
+// The way on from a test.
+fn way_on(leads: Leads, holds: bool) -> Option<u32>
+    ensures { result ≡ way_on holds (leads_seen leads) }
+{
+    if holds {
+        first_way(leads)
+    } else {
+        second_way(leads)
     }
 }
 

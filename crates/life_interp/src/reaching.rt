@@ -12,12 +12,12 @@ ghost use Rattle.life_store.specs.Doing.{Setting};
 
 use crate::ending::Ending;
 use crate::values::{load, save};
-use life_cells::{Cell, Scope, advance, aim, cut, element, repoint, size};
+use life_cells::{Cell, Scope, advance, aim, cut, element, repoint, same, size};
 use life_core::Instr;
 use life_pointers::Stop;
 use life_store::Store;
 
-/// Reads or writes a value, makes a pointer, or counts what one sees.
+/// Reads or writes a value, makes a pointer, counts what one sees, or compares two.
 pub(crate) fn reach<S: Store>(
     scope: &Scope<'_>,
     store: &mut S,
@@ -56,6 +56,12 @@ pub(crate) fn reach<S: Store>(
             count,
         } => cut(scope, store, cells, pointer, from, *index, *count),
         Instr::Size { into, base } => size(scope, store, cells, *into, base),
+        Instr::Same {
+            into,
+            left,
+            right,
+            equal,
+        } => same(scope, store, cells, *into, left, right, *equal),
         // A later stage serves the others.
         _ => Err(Stop::Lost),
     }

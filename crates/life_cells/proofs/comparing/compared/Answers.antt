@@ -27,3 +27,9 @@ returns-else-are_views g c = λ s texts.
     let m = meant types content rows in
     let st = state_in m c.args.cells.now in
     c.iterators_alike.ensures s ∙ sym (other_parts s types f (location_parts types f (location_of c.args.left.now)) (location_of c.args.left.now) (location_of c.args.right.now) st (sym c.are_views.ensures ∙ c.if-are_views.false))
+
+pub views_alike-requires-clause-left_seen : goal.views_alike-requires-clause-left_seen
+views_alike-requires-clause-left_seen g c = c.requires.left_seen (view_parts (location_parts (types_in c.args.scope.now) (function_in c.args.scope.now) (location_of c.args.left.now)) (sym c.are_views.ensures ∙ c.if-are_views.true))
+
+pub views_alike-requires-clause-right_seen : goal.views_alike-requires-clause-right_seen
+views_alike-requires-clause-right_seen g c = c.requires.right_seen (view_parts (location_parts (types_in c.args.scope.now) (function_in c.args.scope.now) (location_of c.args.left.now)) (sym c.are_views.ensures ∙ c.if-are_views.true))

@@ -71,7 +71,7 @@ returns-in-Question-clause-step g c = λ s set depth.
     let alone = untouched (g.O.Sink.taken c.args.out.now) (g.O.Sink.faults c.args.out.now) in
     leads_as _ (asks s p frames content ins (asked_of c.in-Question.test.now) (leads_seen c.in-Some.link.leads)) p.functions content ins c.choose.new.frames content ins k c.choose.result
     (λ go n output. passes_node s p frames content ins l (Question (asked_of c.in-Question.test.now)) at (ap node_seen c.in-Question.is) go n output)
-    (leads_quiet _ p.functions content ins c.choose.new.frames content k c.choose.result alone (c.choose.ensures.step s p content ins))
+    (leads_quiet _ p.functions content ins c.choose.new.frames content k c.choose.result alone (c.choose.ensures.step s ins))
 
 pub returns-in-Return-clause-step : goal.returns-in-Return-clause-step
 returns-in-Return-clause-step g c = λ s set depth.
@@ -126,6 +126,19 @@ act-requires-clause-here g c =
     let l = link_seen c.in-Some.link in
     subst (λ to. StandsHere p frames c.in-Some.link.spot.place (Action (step_of c.in-Action.instr.now)) (goes to)) (sym c.first_way.ensures)
     (action_there p frames l at (step_of c.in-Action.instr.now) (ap node_seen c.in-Action.is))
+
+pub choose-requires-clause-here : goal.choose-requires-clause-here
+choose-requires-clause-here g c =
+    let p = program_of c.args.program.now in
+    let functions = c.args.program.now.functions.items in
+    let frames = c.args.frames.now in
+    let codes = c.args.code.now in
+    let lt = c.requires.frames.here in
+    let v = c.index-code-frames.result in
+    let there = slice_get_read codes _ frames.function v refl (omega (arith, lt, codes_length codes functions c.requires.linked, length-map functions function_of)) c.index-code-frames.is in
+    let point = point_seen p frames codes functions c.requires.linked refl lt v there c.deref.result.now c.deref.ensures.value c.link_at.result c.link_at.ensures in
+    let at = point ∙ ap (option_map link_seen) c.in-Some.is in
+    (c.in-Some.link.spot.place, at ∙ ap (λ (n : Node). Some (record { spot = spot_at c.in-Some.link.spot.place n; leads = leads_seen c.in-Some.link.leads })) (ap node_seen c.in-Question.is))
 
 pub returns-in-Question-clause-sound : goal.returns-in-Question-clause-sound
 returns-in-Question-clause-sound g c =

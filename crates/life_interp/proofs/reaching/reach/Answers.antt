@@ -239,10 +239,64 @@ returns-in-Size-clause-step g c = λ s texts.
 pub returns-in-Size-clause-keeps : goal.returns-in-Size-clause-keeps
 returns-in-Size-clause-keeps g c = keeps_itself (g.S.Store.content c.args.store.now) (g.S.Store.rows c.args.store.now)
 
+pub same-requires-clause-left : goal.same-requires-clause-left
+same-requires-clause-left g c =
+    let types = types_in c.args.scope.now in
+    let f = function_in c.args.scope.now in
+    let content = g.S.Store.content c.args.store.now in
+    let rows = g.S.Store.rows c.args.store.now in
+    let m = meant types content rows in
+    let cells = c.args.cells.now.items in
+    (subst (λ (i : Instr). HasPlaces types f (state_in m cells) (step_of i)) c.in-Same.is c.requires.places).0
+
+pub same-requires-clause-right : goal.same-requires-clause-right
+same-requires-clause-right g c =
+    let types = types_in c.args.scope.now in
+    let f = function_in c.args.scope.now in
+    let content = g.S.Store.content c.args.store.now in
+    let rows = g.S.Store.rows c.args.store.now in
+    let m = meant types content rows in
+    let cells = c.args.cells.now.items in
+    (subst (λ (i : Instr). HasPlaces types f (state_in m cells) (step_of i)) c.in-Same.is c.requires.places).1
+
+pub same-requires-clause-left_seen : goal.same-requires-clause-left_seen
+same-requires-clause-left_seen g c =
+    let types = types_in c.args.scope.now in
+    let f = function_in c.args.scope.now in
+    let content = g.S.Store.content c.args.store.now in
+    let rows = g.S.Store.rows c.args.store.now in
+    let m = meant types content rows in
+    let cells = c.args.cells.now.items in
+    (subst (λ (i : Instr). HasPlaces types f (state_in m cells) (step_of i)) c.in-Same.is c.requires.places).2
+
+pub same-requires-clause-right_seen : goal.same-requires-clause-right_seen
+same-requires-clause-right_seen g c =
+    let types = types_in c.args.scope.now in
+    let f = function_in c.args.scope.now in
+    let content = g.S.Store.content c.args.store.now in
+    let rows = g.S.Store.rows c.args.store.now in
+    let m = meant types content rows in
+    let cells = c.args.cells.now.items in
+    (subst (λ (i : Instr). HasPlaces types f (state_in m cells) (step_of i)) c.in-Same.is c.requires.places).3
+
+pub returns-in-Same-clause-step : goal.returns-in-Same-clause-step
+returns-in-Same-clause-step g c = λ s texts.
+    let types = types_in c.args.scope.now in
+    let f = function_in c.args.scope.now in
+    let content = g.S.Store.content c.args.store.now in
+    let rows = g.S.Store.rows c.args.store.now in
+    let m = meant types content rows in
+    let cells = c.args.cells.now.items in
+    subst (λ (i : Instr). Comes (does s types f (step_of i)) m cells (meant types content rows) c.same.new.cells.items c.same.result) (sym c.in-Same.is)
+    (c.same.ensures.step s texts)
+
+pub returns-in-Same-clause-keeps : goal.returns-in-Same-clause-keeps
+returns-in-Same-clause-keeps g c = keeps_itself (g.S.Store.content c.args.store.now) (g.S.Store.rows c.args.store.now)
+
 pub returns-in_default-clause-step : goal.returns-in_default-clause-step
 returns-in_default-clause-step g c = λ s texts output input.
     others_stray s (types_in c.args.scope.now) (function_in c.args.scope.now) (state_of (meant (types_in c.args.scope.now) (g.S.Store.content c.args.store.now) (g.S.Store.rows c.args.store.now)) c.args.cells.now.items output input) c.args.instr.now c.requires.access
-    (λ r o e. c.in_default.not-Load r o e) (λ o r e. c.in_default.not-Save o r e) (λ p x e. c.in_default.not-Aim p x e) (λ p q e. c.in_default.not-Repoint p q e) (λ p b which e. c.in_default.not-Element p b which e) (λ p q r direction e. c.in_default.not-Advance p q r direction e) (λ p q r count e. c.in_default.not-Cut p q r count e) (λ r b e. c.in_default.not-Size r b e)
+    (λ r o e. c.in_default.not-Load r o e) (λ o r e. c.in_default.not-Save o r e) (λ p x e. c.in_default.not-Aim p x e) (λ p q e. c.in_default.not-Repoint p q e) (λ p b which e. c.in_default.not-Element p b which e) (λ p q r direction e. c.in_default.not-Advance p q r direction e) (λ p q r count e. c.in_default.not-Cut p q r count e) (λ r b e. c.in_default.not-Size r b e) (λ r a b equal e. c.in_default.not-Same r a b equal e)
 
 pub returns-in_default-clause-keeps : goal.returns-in_default-clause-keeps
 returns-in_default-clause-keeps g c = keeps_itself (g.S.Store.content c.args.store.now) (g.S.Store.rows c.args.store.now)
