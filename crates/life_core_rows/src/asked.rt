@@ -24,8 +24,6 @@ pub enum Ask {
     Report,
     /// Whether the program is proper.
     Proper,
-    /// Whether the program is plain.
-    Plain,
     /// Two rows of pairs, joined.
     Join,
 }
@@ -36,7 +34,7 @@ pub const PROGRAM: u32 = u32::MAX;
 impl Ask {
     /// Whether it asks something of the whole program.
     pub fn is_of_program(self) -> bool {
-        matches!(self, Ask::Report | Ask::Proper | Ask::Plain | Ask::Join)
+        matches!(self, Ask::Report | Ask::Proper | Ask::Join)
     }
 }
 

@@ -12,7 +12,7 @@ use crate::show::{
 };
 use life_contract::Signatures;
 use life_core::{CoreFn, FnId, Point, edges, links, points};
-use life_proper::{is_plain_program, is_proper};
+use life_proper::is_proper;
 use life_pset::{elements, is_within_limits, locations};
 use life_report::text_report;
 use life_row_text::{Refusal, index, say};
@@ -79,15 +79,6 @@ fn compare_program(
     if count_of(&row.asked, PROGRAM, Ask::Proper) > 0 {
         let proper = is_proper(alloc, &row.written.program)?;
         compare_answer(alloc, row, Ask::Proper, proper, said)?;
-    }
-    if count_of(&row.asked, PROGRAM, Ask::Plain) > 0 {
-        compare_answer(
-            alloc,
-            row,
-            Ask::Plain,
-            is_plain_program(&row.written.program),
-            said,
-        )?;
     }
     compare_joined(alloc, &row.asked, said)
 }

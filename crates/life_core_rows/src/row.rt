@@ -21,7 +21,7 @@ impl Drop for AskedRow {
     }
 }
 
-const FORMS: [(&str, Ask); 12] = [
+const FORMS: [(&str, Ask); 11] = [
     ("fact ..", Ask::Fact),
     ("wrong ..", Ask::Wrong),
     ("carry ..", Ask::Carry),
@@ -32,7 +32,6 @@ const FORMS: [(&str, Ask); 12] = [
     ("no-facts", Ask::NoFacts),
     ("report ..", Ask::Report),
     ("proper ..", Ask::Proper),
-    ("plain ..", Ask::Plain),
     ("join ..", Ask::Join),
 ];
 

@@ -4,7 +4,6 @@ pub mod Joining
 pub mod Lists
 pub mod Loops
 pub mod Meeting
-pub mod PlainPrograms
 pub mod PointsAsked
 pub mod ProperFunctions
 pub mod Readiness

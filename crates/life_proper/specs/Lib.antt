@@ -1,10 +1,8 @@
-pub mod ByValue
 pub mod Checking
 pub mod GivenOver
 pub mod Knowing
 pub mod OperandTypes
 pub mod Placed
-pub mod Plain
 pub mod ProperFunctions
 pub mod ProperPrograms
 pub mod ReadyKnown

@@ -6,7 +6,6 @@ use Rattle.life_core.specs.Proper.{IsReadyProgram}
 use Rattle.life_core.specs.Served.{is_served_program}
 use Rattle.life_core.specs.Shape.{breaks_inside}
 use Rattle.life_pset.specs.Limits.{IsProgramWithinLimits}
-use Rattle.life_proper.specs.ByValue.{calls_by_value}
 use Rattle.life_proper.specs.GivenOver.{keeps_all_given}
 use Rattle.life_proper.specs.ResultsWritten.{WritesResults}
 use Rattle.life_proper.specs.WellFormedPrograms.{IsWellFormedProgram}
@@ -18,10 +17,9 @@ has_own_breaks f = breaks_inside false f.body
 abbrev pub have_own_breaks : Program → Bool
 have_own_breaks p = list_all has_own_breaks p.functions
 
--- what isn't proved for every program so far: no struct is there, calls hand over and give back values alone, and no step is one that is served later
+-- what isn't proved for every program so far: no struct is there, and no step is one that is served later
 pub record IsBuiltSoFar (p : Program) : Type 0 where
   pub structs : p.types.structs ≡ []
-  pub by_value : calls_by_value p ≡ true
   pub serves : is_served_program p ≡ true
 
 pub record IsProperProgram (p : Program) : Type 0 where

@@ -1,7 +1,6 @@
 //! What a proper core program is, and a checker of the part of it that hangs on the ways through its text.
 #![tactic(auto)]
 
-mod by_value;
 mod checker;
 mod entry;
 mod flow;
@@ -9,7 +8,6 @@ mod knowing;
 mod known;
 mod laws;
 mod passing;
-mod plain;
 mod scope;
 mod shape;
 mod uses;
@@ -18,4 +16,3 @@ mod walk;
 pub use checker::is_proper;
 pub use known::Known;
 pub use laws::{checked_functions_are_ready, checked_programs_are_ready};
-pub use plain::is_plain_program;

@@ -20,7 +20,7 @@ use crate::results::{are_results_written, both};
 use crate::scope::Scope;
 use crate::served::{is_served_local, is_served_node};
 use life_core::{CoreFn, CoreProgram, SpotRef, spots};
-use life_proper::{is_plain_program, is_proper};
+use life_proper::is_proper;
 use life_pset::is_within_limits;
 use life_types::{NoMemory, Ty, TyId, TypeTable};
 use std::alloc::Global;
@@ -32,8 +32,6 @@ pub enum Part {
     Served,
     /// It has a struct.
     Structs,
-    /// A call hands over a pointer or a slot, or gives a pointer back.
-    ByValue,
     /// A number names nothing, a type doesn't fit, or what is const is written.
     WellFormed,
     /// A break or a continue stands in no loop.
@@ -87,7 +85,6 @@ fn first_unmet(alloc: Global, p: &CoreProgram) -> Result<Option<Part>, NoMemory>
     Ok(first_of(Met {
         served,
         no_structs: has_no_structs(p),
-        by_value: is_plain_program(p),
         typed: has_types(&p.types),
         once,
         formed,
@@ -102,7 +99,6 @@ fn first_unmet(alloc: Global, p: &CoreProgram) -> Result<Option<Part>, NoMemory>
 struct Met {
     served: bool,
     no_structs: bool,
-    by_value: bool,
     typed: bool,
     once: bool,
     formed: bool,
@@ -112,14 +108,12 @@ struct Met {
 }
 
 fn first_of(met: Met) -> Option<Part>
-    ensures { result ≡ None → (met.served ≡ true) × ((met.no_structs ≡ true) × ((met.by_value ≡ true) × ((met.typed ≡ true) × ((met.once ≡ true) × ((met.formed ≡ true) × ((met.breaks ≡ true) × ((met.limits ≡ true) × (met.ready ≡ true)))))))) }
+    ensures { result ≡ None → (met.served ≡ true) × ((met.no_structs ≡ true) × ((met.typed ≡ true) × ((met.once ≡ true) × ((met.formed ≡ true) × ((met.breaks ≡ true) × ((met.limits ≡ true) × (met.ready ≡ true))))))) }
 {
     if !met.served {
         Some(Part::Served)
     } else if !met.no_structs {
         Some(Part::Structs)
-    } else if !met.by_value {
-        Some(Part::ByValue)
     } else if !met.typed || !met.once || !met.formed {
         Some(Part::WellFormed)
     } else if !met.breaks {

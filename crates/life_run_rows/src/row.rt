@@ -152,7 +152,6 @@ fn part_name(part: Part) -> &'static str {
     match part {
         Part::Served => "served",
         Part::Structs => "structs",
-        Part::ByValue => "by-value",
         Part::WellFormed => "well-formed",
         Part::Breaks => "breaks",
         Part::Limits => "limits",
