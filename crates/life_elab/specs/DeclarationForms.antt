@@ -11,11 +11,11 @@ use Rattle.life_writer.specs.Around.{Around, type_of}
 use Rattle.life_writer.specs.Building.{Destination, Fill, built, live}
 use Rattle.life_writer.specs.ExpressionForms.{all_uses, uses}
 use Rattle.life_writer.specs.Initialising.{initialised}
-use Rattle.life_writer.specs.Lists.{listed}
+use Rattle.life_writer.specs.Lists.{built_type, listed}
 use Rattle.life_writer.specs.Pointers.{aimed, pointed}
 use Rattle.life_writer.specs.Uses.{Uses}
 use Rattle.life_writer.specs.Variables.{full}
-use Rattle.life_writer.specs.Writing.{State, Gives, ◌>>◌}
+use Rattle.life_writer.specs.Writing.{State, Gives}
 use Rattle.life_elab.specs.Declarations.{variable}
 
 -- a view or a span without an initialiser is empty, and anything else comes to life by itself
@@ -28,15 +28,10 @@ default_to (ty.Span target constant) d s = empty d s
 default_to t d s = live d s
 
 module _ (a : Around) where
-  -- the type that a list builds, where one of this type is wanted
-  abbrev pub built_type : Ty → Ty
-  built_type (ty.Reference target constant) = type_of a target
-  built_type t = t
-
   -- what is given, by its uses
   abbrev pub initial_uses : (wanted : Ty) → InitialForm → Uses
   initial_uses t (one e) = uses a (whole e)
-  initial_uses t (several l) = listed a (built_type t) l.opening (all_uses a (forms l.elements)) l.delimiters
+  initial_uses t (several l) = listed a (built_type a t) l.opening (all_uses a (forms l.elements)) l.delimiters
 
   abbrev pub given_initial : TypedLocal → Option InitialForm → (behind : Place) → State → State
   given_initial v None behind s = (default_to (type_of a v.ty) (variable a v) s).state

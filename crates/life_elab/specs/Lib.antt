@@ -3,6 +3,8 @@ pub mod DeclarationForms
 pub mod Declarations
 pub mod Elaborated
 pub mod Functions
+pub mod IteratorViews
+pub mod Last
 pub mod LastTokens
 pub mod LimitForms
 pub mod OpenedViews

@@ -27,7 +27,7 @@ use Rattle.life_writer.specs.Conditions.{non_zero}
 use Rattle.life_writer.specs.Giving.{initial}
 use Rattle.life_writer.specs.OwnerForms.{copied_at}
 use Rattle.life_writer.specs.Pointers.{As, aimed, pointed}
-use Rattle.life_writer.specs.Registers.{computed, constant, type_number}
+use Rattle.life_writer.specs.Registers.{computed, constant, converted, load, type_number, typed_with}
 use Rattle.life_writer.specs.Temporaries.{hidden, scoped}
 use Rattle.life_writer.specs.Uses.{Uses, lived, own, unused}
 use Rattle.life_writer.specs.Using.{pointer}
@@ -43,15 +43,15 @@ abbrev pub owner_range : Category → Uses → State → Gives Operand
 owner_range (category.Place id constant) e s = e.at s
 owner_range category.Value e s = e.object s >> λ rest s. mapped object_named (rest (scoped e.place (own e)) s)
 
-abbrev pub range_type : Category → Ty → State → Ty
-range_type (category.Place id constant) t s = ty.Reference id constant
-range_type category.Value t s = ty.Reference (type_number t s) false
+abbrev pub range_type : Category → Ty → State → Gives Ty
+range_type (category.Place id constant) t s = gives (ty.Reference id constant) s
+range_type category.Value t s = gives (ty.Reference (type_number t (typed_with t s)) false) (typed_with t s)
 
 -- .. and is referred to
 abbrev pub hidden_owner : (colon : Place) → Uses → State → Gives Base
 hidden_owner colon e s =
-    owner_range e.category e s >> λ o s.
-    mapped (λ r. Owner (behind r)) (built (Fill colon (pointed (aimed (Aimed o)))) (hidden colon (range_type e.category (own e) s)) s)
+    owner_range e.category e s >> λ o s. range_type e.category (own e) s >> λ t s.
+    mapped (λ r. Owner (behind r)) (built (Fill colon (pointed (aimed (Aimed o)))) (hidden colon t) s)
 
 -- a span or a view is what it is
 abbrev pub hidden_pointer : (colon : Place) → Uses → State → Gives Base
@@ -97,6 +97,16 @@ goes_on colon it s = non_zero colon None (λ s. computed None ty.Bool colon (λ 
 
 abbrev pub next : (colon : Place) → Iterators → State → State
 next colon it s = computed None ty.Int colon (constant (pos 1)) s >> λ r s. emit colon (Advance (whole it.first) (whole it.first) r Forward) s
+
+-- the value that an iterator stands at, as one of a type
+abbrev pub element_value : (own : Ty) → (colon : Place) → ℕ → Ty → State → Gives ℕ
+element_value own colon it t s = computed None own colon (load (behind it)) s >> λ r s. converted own t colon r s
+
+-- a string or a vector
+abbrev pub IsSeenWhole : Ty → Type 0
+IsSeenWhole ty.Text = Unit {0}
+IsSeenWhole (ty.Vector t) = Unit {0}
+IsSeenWhole _ = ⊥
 
 -- the element that an iterator stands at
 abbrev pub element_at : Types → (colon : Place) → ℕ → Option (TyId × Bool) → Uses

@@ -10,7 +10,6 @@ use Rattle.life_typed.specs.TypedForm.{Typed}
 use Rattle.life_core.specs.Operands.{Operand}
 use Rattle.life_core.specs.Step.{Save}
 use Rattle.life_core.specs.declared.operation.Operation.{Operation}
-use Rattle.life_core.specs.declared.operation.Operation.TheVariants as operation
 use Rattle.life_core.specs.declared.operation.Operator.{Operator}
 use Rattle.life_core.specs.declared.operation.Operator.TheVariants as core
 use Rattle.life_writer.specs.Around.{own_type}

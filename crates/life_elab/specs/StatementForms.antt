@@ -13,9 +13,6 @@ use Rattle.life_typed.specs.TypedStatement.{StmtForm, ForStartForm, ItemForm, de
 use Rattle.life_core.specs.Step.{Ports, Writes, WritesView}
 use Rattle.life_core.specs.Tree.{Tree, Breaks, Continues, Returns}
 use Rattle.life_core.specs.declared.instr.Form.TheVariants.{Plain}
-use Rattle.life_core.specs.declared.program.Local.{Local}
-use Rattle.life_core.specs.declared.program.LocalKind.TheVariants.{Object, Range, Register}
-use Rattle.life_core.specs.declared.program.LocalKind.{LocalKind}
 use Rattle.life_writer.specs.Around.{Around, result_local, type_of}
 use Rattle.life_writer.specs.Assigning.{moved}
 use Rattle.life_writer.specs.Behind.{ending}
@@ -28,7 +25,7 @@ use Rattle.life_writer.specs.Registers.{computed, constant}
 use Rattle.life_writer.specs.Temporaries.{temporary}
 use Rattle.life_writer.specs.Uses.{Remaining, Uses, lived, own}
 use Rattle.life_writer.specs.Using.{condition, value}
-use Rattle.life_writer.specs.Variables.{end_since, full, variable}
+use Rattle.life_writer.specs.Variables.{end_since, full, object_at, variable}
 use Rattle.life_writer.specs.Writing.{State, Gives, gives, ◌>>◌, emit, mapped}
 use Rattle.life_elab.specs.DeclarationForms.{declared}
 use Rattle.life_elab.specs.LastTokens.{last_token}
@@ -38,16 +35,7 @@ use Rattle.life_elab.specs.Statements.{Opened, asserted, branched, left, line, l
 
 -- ---- what a function returns
 
--- the object that a variable is, unless it refers to another
-abbrev pub object_of_kind : LocalKind → ℕ → Option ℕ
-object_of_kind Object x = Some x
-object_of_kind Register x = None
-object_of_kind Range x = None
-
-abbrev pub object_at : Option Local → ℕ → Option ℕ
-object_at None x = None
-object_at (Some l) x = object_of_kind l.kind x
-
+-- the object that is named, unless that refers to another
 abbrev pub object_named : Option ℕ → State → Option ℕ
 object_named None s = None
 object_named (Some x) s = object_at (slice_get s.locals (variable s x)) (variable s x)

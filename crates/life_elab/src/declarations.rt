@@ -1,5 +1,5 @@
 // Declarations of variables (ISO/IEC 14882:2017 [dcl.init], [stmt.dcl]).
-ghost use Rattle.std.specs.Prelude.{◌≡◌, OnOk, slice_get};
+ghost use Rattle.std.specs.Prelude.{◌≡◌, OnOk, Some, slice_get};
 ghost use Rattle.life_typed.specs.TypedStatement.{declaration_view, initial_view, optional_view};
 ghost use Rattle.life_writer.specs.Around.{type_of};
 ghost use Rattle.life_writer.specs.Answers.{Answers};
@@ -10,10 +10,10 @@ ghost use Rattle.life_writer.specs.Views.{around_of, destination_of, state_of};
 use life_core::Source;
 use life_typed::{TypedDeclaration, TypedInitial, TypedLocal};
 use life_types::{NoMemory, Place, Ty};
-use life_writer::{Around, Destination, Last, Pointing, Writer, variable_local};
+use life_writer::{Around, Destination, Keeping, Last, Pointing, Writer, variable_local};
 
-// Where a variable comes to life: it isn't visible in what it is given.
-fn home(a: &Around, variable: &TypedLocal) -> Destination
+/// Where a variable comes to life: it isn't visible in what it is given.
+pub(crate) fn home(a: &Around, variable: &TypedLocal) -> Destination
     ensures { destination_of result ≡ declarations.variable (around_of a.now) variable.now }
 {
     Destination::Variable(variable_local(a, variable), variable.place)
@@ -38,6 +38,39 @@ fn default(writer: &mut Writer, a: &Around, variable: &TypedLocal) -> Result<u32
     }
 }
 
+// A variable that is given an expression or a list.
+fn given_value(
+    writer: &mut Writer,
+    a: &Around,
+    variable: &TypedLocal,
+    value: &TypedInitial,
+    behind: Place,
+) -> Result<(), NoMemory>
+    ensures { OnOk result (state_of writer.new ≡ spec.given_initial (around_of a.now) variable.now (Some (initial_view value.now)) behind (state_of writer.old)) }
+{
+    let ty = a.type_of(variable.ty);
+    let goal = home(a, variable);
+    match value {
+        TypedInitial::Expr(expression) => {
+            writer.initialised(a, Keeping::Scope, ty, expression, behind, goal)?;
+            Ok(())
+        }
+        TypedInitial::List(list) => {
+            writer.list_initialised(
+                a,
+                ty,
+                list.opening,
+                &list.elements,
+                &list.delimiters,
+                behind,
+                goal,
+            )?;
+            Ok(())
+        }
+    }
+}
+
+// .. or nothing.
 fn given_initial(
     writer: &mut Writer,
     a: &Around,
@@ -52,12 +85,7 @@ fn given_initial(
             default(writer, a, variable)?;
             Ok(())
         }
-        Some(TypedInitial::Expr(value)) => {
-            let ty = a.type_of(variable.ty);
-            writer.initialised(a, ty, value, behind, home(a, variable))?;
-            Ok(())
-        }
-        Some(TypedInitial::List(_)) => Err(NoMemory),
+        Some(value) => given_value(writer, a, variable, value, behind),
     }
 }
 

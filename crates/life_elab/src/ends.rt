@@ -3,7 +3,7 @@ ghost use Rattle.std.specs.Prelude.{◌≡◌, map};
 ghost use Rattle.life_typed.specs.Ends as spec;
 ghost use Rattle.life_typed.specs.TypedStatement.{block_view, block_item_view, branch_view, stmt_forms, stmt_view};
 ghost use Rattle.life_elab.specs.LastTokens as tokens;
-ghost use Rattle.life_built.specs.Last.{last_view};
+ghost use Rattle.life_elab.specs.Last.{last_view};
 
 use life_typed::{TypedBlock, TypedBlockItem, TypedBranch, TypedStmt};
 use life_types::Place;

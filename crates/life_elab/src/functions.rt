@@ -15,7 +15,7 @@ use crate::statements::{leave, write_block_items};
 use life_core::{CoreFn, Local, LocalKind, Promise, Stmt};
 use life_typed::{ParameterPromise, ResultPromise, TypedBlock, TypedFunction, TypedLocal};
 use life_types::{Class, NoMemory, Ty, TypeTable};
-use life_writer::{Around, Writer, class, nameless, number, variable_local};
+use life_writer::{Around, Writer, class, nameless_of, number, variable_local};
 use std::alloc::Global;
 
 // A parameter: a variable that lives from the start, with what its attributes say.
@@ -60,11 +60,7 @@ fn result_kind(class: Class) -> LocalKind
 fn result_local(a: &Around, ty: Ty) -> Local
     ensures { result ≡ nameless_of (spec.result_kind (types.class (Some ty))) (around_of a.now).function.place (around_of a.now).function.result }
 {
-    let local = nameless(a.function.place, a.function.result);
-    Local {
-        kind: result_kind(class(ty)),
-        ..local
-    }
+    nameless_of(result_kind(class(ty)), a.function.place, a.function.result)
 }
 
 // The result is a local where it isn't void, which stands where the function's name does.

@@ -10,9 +10,9 @@ mod functions;
 mod limits;
 mod points;
 mod programs;
+mod ranges;
 mod simples;
 mod statements;
 
 pub use fault::ElabFault;
-pub use life_built::is_built;
 pub use programs::elaborate;

@@ -1,9 +1,8 @@
 // The core program of a typed one.
-ghost use Rattle.std.specs.Prelude.{◌≡◌, IfOk, IsTrue, map};
+ghost use Rattle.std.specs.Prelude.{◌≡◌, IfOk, map};
 ghost use Rattle.life_core.specs.Function.{function_of, member_names, name_bytes, program_of};
 ghost use Rattle.life_elab.specs.Bounds.{HaveNumberedLocals};
 ghost use Rattle.life_elab.specs.Elaborated.{Elaborates};
-ghost use Rattle.life_built.specs.Built.{is_built};
 ghost use Rattle.life_elab.specs.ProgramForms.{all_functions};
 ghost use Rattle.life_elab.specs.Programs as spec;
 ghost use Rattle.life_typed.specs.Programs.{program_view, struct_view, text_view};
@@ -85,7 +84,7 @@ fn functions(alloc: Global, typed: &Typed) -> Result<(Vec<CoreFn>, TypeTable), N
     Ok((written, types))
 }
 
-/// The core program of a typed one that is built: what each construct does, in the order of
+/// The core program of a typed one, whatever its forms are: what each construct does, in the order of
 /// evaluation (ISO/IEC 14882:2017 [intro.execution]; arguments are evaluated from left to right). The
 /// locals of each function have numbers of 32 bits.
 ///
@@ -93,9 +92,9 @@ fn functions(alloc: Global, typed: &Typed) -> Result<(Vec<CoreFn>, TypeTable), N
 ///
 /// `Limit` exactly where the program passes a limit, with the first: 1,024 functions, and of each
 /// function in the order of the file 256 locations, 1,024 points and 2,048 elements. `NoMemory` for
-/// want of memory, which more locals or types than 32 bits number count as.
+/// want of memory, which more locals or types than 32 bits number count as, and so do trees that no
+/// source has.
 pub fn elaborate(alloc: Global, typed: &Typed) -> Result<CoreProgram, ElabFault>
-    requires { IsTrue (is_built (program_view typed.now)) }
     ensures program { Elaborates (program_view typed.now) result }
     ensures numbered { IfOk result (λ core. HaveNumberedLocals (program_of core).functions) }
 {

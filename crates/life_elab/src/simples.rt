@@ -5,71 +5,21 @@ ghost use Rattle.life_typed.specs.Operators.{promoted};
 ghost use Rattle.life_typed.specs.TypedForm.{typed_view};
 ghost use Rattle.life_typed.specs.TypedStatement.{initial_view, optional_view, simple_view};
 ghost use Rattle.life_types.specs.Types.{class};
-ghost use Rattle.life_types.specs.declared.ty.Class.TheVariants.{Pointer, Value};
 ghost use Rattle.life_writer.specs.Answers.{Answers};
-ghost use Rattle.life_writer.specs.Assigning.{assigned, assigned_by};
 ghost use Rattle.life_writer.specs.PartUses.{expression_uses};
 ghost use Rattle.life_writer.specs.Uses.{own};
+ghost use Rattle.life_writer.specs.Using.{temporary_of};
 ghost use Rattle.life_writer.specs.Views.{around_of, state_of};
 ghost use Rattle.life_elab.specs.SimpleForms as spec;
 ghost use Rattle.life_elab.specs.Simples as shared;
 
-use life_core::{Instr, Operand, Operation, Operator};
+use life_core::{Direction, Instr, Operand, Operation, Operator};
 use life_tree::{CompoundOperator, StepOperator};
 use life_typed::{Category, TypedExpr, TypedInitial, TypedSimple, promoted};
 use life_types::{Class, NoMemory, Place, Ty, is_iterator, is_text, is_void};
-use life_writer::{Around, Writer, class, copied_operand, own_type};
+use life_writer::{Around, Destination, Writer, class, copied_location, copied_operand, own_type};
 
 // The right side, and then the place (ISO/IEC 14882:2017 [expr.ass]/1).
-fn value_assigned(
-    writer: &mut Writer,
-    a: &Around,
-    target: &TypedExpr,
-    equals: Place,
-    value: &TypedExpr,
-    behind: Place,
-) -> Result<(), NoMemory>
-    ensures { OnOk result (state_of writer.new ≡ assigned_by Value (expression_uses (around_of a.now) value.now) (shared.type_in (typed_view target.now)) (spec.target_of (expression_uses (around_of a.now) target.now)) equals behind (state_of writer.old)) }
-{
-    let from = writer.value(a, value, behind, own_type(target.ty), None)?;
-    let to = writer.operand(a, target)?;
-    writer.emit(equals, Instr::Save { to, from })
-}
-
-fn pointer_assigned(
-    writer: &mut Writer,
-    a: &Around,
-    target: &TypedExpr,
-    equals: Place,
-    value: &TypedExpr,
-    behind: Place,
-) -> Result<(), NoMemory>
-    ensures { OnOk result (state_of writer.new ≡ assigned_by Pointer (expression_uses (around_of a.now) value.now) (shared.type_in (typed_view target.now)) (spec.target_of (expression_uses (around_of a.now) target.now)) equals behind (state_of writer.old)) }
-{
-    let pointing = writer.pointing(a, value)?;
-    let pointer = writer.pointer(a, target, own_type(target.ty))?;
-    writer.point(value.place, pointer, pointing)
-}
-
-// .. by the class of the target.
-fn expression_assigned(
-    writer: &mut Writer,
-    a: &Around,
-    target: &TypedExpr,
-    equals: Place,
-    value: &TypedExpr,
-    behind: Place,
-) -> Result<(), NoMemory>
-    ensures { OnOk result (state_of writer.new ≡ assigned (expression_uses (around_of a.now) value.now) (shared.type_in (typed_view target.now)) (spec.target_of (expression_uses (around_of a.now) target.now)) equals behind (state_of writer.old)) }
-{
-    match class(own_type(target.ty)) {
-        Class::Value => value_assigned(writer, a, target, equals, value, behind),
-        Class::Pointer => pointer_assigned(writer, a, target, equals, value, behind),
-        Class::Owner => Err(NoMemory),
-        Class::Aggregate => Err(NoMemory),
-    }
-}
-
 fn assigned(
     writer: &mut Writer,
     a: &Around,
@@ -81,8 +31,16 @@ fn assigned(
     ensures { OnOk result (state_of writer.new ≡ spec.assigned (around_of a.now) (typed_view target.now) equals (initial_view value.now) behind (state_of writer.old)) }
 {
     match value {
-        TypedInitial::Expr(value) => expression_assigned(writer, a, target, equals, value, behind),
-        TypedInitial::List(_) => Err(NoMemory),
+        TypedInitial::Expr(value) => writer.assigned(a, value, target, equals, behind),
+        TypedInitial::List(list) => writer.list_assigned(
+            a,
+            list.opening,
+            &list.elements,
+            &list.delimiters,
+            target,
+            equals,
+            behind,
+        ),
     }
 }
 
@@ -160,6 +118,45 @@ fn stepped(
     put_back(writer, target, to, common, place, operation)
 }
 
+// A string gains characters at its end ([string.op+=]).
+fn appended(
+    writer: &mut Writer,
+    a: &Around,
+    target: &TypedExpr,
+    place: Place,
+    value: &TypedExpr,
+) -> Result<(), NoMemory>
+    ensures { OnOk result (state_of writer.new ≡ spec.appended (around_of a.now) (typed_view target.now) place (typed_view value.now) (state_of writer.old)) }
+{
+    let characters = writer.characters_of(a, value)?;
+    let to = writer.operand(a, target)?;
+    writer.append(place, characters, to)
+}
+
+// An iterator is moved by 1.
+fn advanced(
+    writer: &mut Writer,
+    a: &Around,
+    target: &TypedExpr,
+    operator: StepOperator,
+    place: Place,
+) -> Result<(), NoMemory>
+    ensures { OnOk result (state_of writer.new ≡ spec.advanced (expression_uses (around_of a.now) target.now) operator place (state_of writer.old)) }
+{
+    let pointer = writer.pointer(a, target, own_type(target.ty))?;
+    let from = copied_location(&pointer)?;
+    let count = writer.eval(None, Ty::Int, place, Operation::Number(1))?;
+    writer.emit(
+        place,
+        Instr::Advance {
+            pointer,
+            from,
+            count,
+            direction: direction(operator),
+        },
+    )
+}
+
 // .. but a string gains characters, and an iterator is moved.
 fn compounded(
     writer: &mut Writer,
@@ -173,7 +170,7 @@ fn compounded(
     ensures { OnOk result (state_of writer.new ≡ spec.compounded (around_of a.now) (typed_view target.now) operator place (typed_view value.now) behind (state_of writer.old)) }
 {
     if is_text(own_type(target.ty)) {
-        Err(NoMemory)
+        appended(writer, a, target, place, value)
     } else {
         combined(writer, a, target, operator, place, value, behind)
     }
@@ -189,13 +186,13 @@ fn moved_on(
     ensures { OnOk result (state_of writer.new ≡ spec.moved_on (around_of a.now) (typed_view target.now) operator place (state_of writer.old)) }
 {
     if is_iterator(own_type(target.ty)) {
-        Err(NoMemory)
+        advanced(writer, a, target, operator, place)
     } else {
         stepped(writer, a, target, operator, place)
     }
 }
 
-// A value or a pointer that is thrown away goes to a register.
+// A value or a pointer that is thrown away goes to a register, and an owner or a struct to a temporary.
 fn thrown_by(
     writer: &mut Writer,
     a: &Around,
@@ -214,9 +211,21 @@ fn thrown_by(
             writer.pointer(a, expression, ty)?;
             Ok(())
         }
-        Class::Owner => Err(NoMemory),
-        Class::Aggregate => Err(NoMemory),
+        Class::Owner => thrown_object(writer, a, expression, ty),
+        Class::Aggregate => thrown_object(writer, a, expression, ty),
     }
+}
+
+fn thrown_object(
+    writer: &mut Writer,
+    a: &Around,
+    expression: &TypedExpr,
+    ty: Ty,
+) -> Result<(), NoMemory>
+    ensures { OnOk result (state_of writer.new ≡ (temporary_of (expression_uses (around_of a.now) expression.now) ty (state_of writer.old)).state) }
+{
+    writer.built_by(a, expression, Destination::Temporary(expression.place, ty))?;
+    Ok(())
 }
 
 // What is done alone ([stmt.expr]): a place isn't read, and a call may have no result.
@@ -306,6 +315,15 @@ fn compound_operator(operator: CompoundOperator) -> Operator
         CompoundOperator::Multiply => Operator::Multiply,
         CompoundOperator::Divide => Operator::Divide,
         CompoundOperator::Remainder => Operator::Remainder,
+    }
+}
+
+fn direction(operator: StepOperator) -> Direction
+    ensures { result ≡ spec.direction operator }
+{
+    match operator {
+        StepOperator::Increment => Direction::Forward,
+        StepOperator::Decrement => Direction::Backward,
     }
 }
 

@@ -1,5 +1,5 @@
 // Statements (ISO/IEC 14882:2017 [stmt.stmt]).
-ghost use Rattle.std.specs.Prelude.{◌≡◌, OnOk, Some, map};
+ghost use Rattle.std.specs.Prelude.{◌≡◌, IfOk, OnOk, Some, map, slice_get};
 ghost use Rattle.life_core.specs.Tree.{Turns, condition_tree, tree_of};
 ghost use Rattle.life_typed.specs.TypedForm.{typed_view};
 ghost use Rattle.life_typed.specs.TypedStatement.{block_item_view, block_view, branch_view, for_of, for_start_view, item_view, optional_view, simple_view, stmt_forms, stmt_view};
@@ -7,17 +7,24 @@ ghost use Rattle.life_writer.specs.Answers.{Answers};
 ghost use Rattle.life_writer.specs.Around.{result_local};
 ghost use Rattle.life_writer.specs.PartUses.{expression_uses};
 ghost use Rattle.life_writer.specs.Using as using;
+ghost use Rattle.life_writer.specs.Initialising.{initialised_by};
+ghost use Rattle.life_writer.specs.Temporaries.{temporary};
+ghost use Rattle.life_types.specs.declared.ty.Class.TheVariants.{Owner};
+ghost use Rattle.life_elab.specs.LastTokens.{last_token};
 ghost use Rattle.life_elab.specs.OpenedViews.{opened_of};
+ghost use Rattle.life_elab.specs.RangeForms as ranges;
+ghost use Rattle.life_elab.specs.RangeForms.{ranged};
 ghost use Rattle.life_elab.specs.SimpleForms.{simple_if};
 ghost use Rattle.life_elab.specs.StatementForms as spec;
 ghost use Rattle.life_elab.specs.Statements as shared;
-ghost use Rattle.life_writer.specs.Views.{around_of, state_of};
-ghost use Rattle.life_built.specs.Last.{last_view};
+ghost use Rattle.life_writer.specs.Views.{around_of, destination_of, state_of};
+ghost use Rattle.life_elab.specs.Last.{last_view};
 ghost use Rattle.life_writer.specs.Writing.{apart, write};
 
 use crate::branches::{Opened, close_branches, nothing, write_branch};
 use crate::declarations::declared;
 use crate::ends::last_token;
+use crate::ranges::{declared_from, goes_on, next_in_list, open_range};
 use crate::simples::{write_simple, write_simple_if};
 use life_core::{Condition, Instr, Location, Operation, Port, Source, Stmt, Test};
 use life_typed::{
@@ -25,7 +32,10 @@ use life_typed::{
     TypedSimple, TypedStmt,
 };
 use life_types::{Class, NoMemory, Place, Ty, is_value};
-use life_writer::{Around, Behind, Destination, Last, Pointing, Writer, class, number, own_type};
+use life_writer::{
+    Act, Around, Behind, Destination, Keeping, Last, Pointing, Writer, class, named, number,
+    own_type,
+};
 
 // A loop: while the condition holds, the body and then the step.
 fn write_loop(
@@ -144,7 +154,63 @@ fn given_back(
     let ty = a.type_of(a.function.result);
     match class(ty) {
         Class::Value => value_given_back(writer, a, value, ty, behind),
-        _ => Err(NoMemory),
+        Class::Pointer => built_back(writer, a, value, ty, keyword, behind),
+        Class::Owner => owner_given_back(writer, a, value, ty, keyword, behind),
+        Class::Aggregate => built_back(writer, a, value, ty, keyword, behind),
+    }
+}
+
+// Where a result is built that no value is: what is built there comes to life at the keyword.
+fn result_goal(a: &Around, keyword: Place, ty: Ty) -> Result<Destination, NoMemory>
+    ensures { IfOk result (λ d. destination_of d ≡ spec.result (around_of a.now) keyword) }
+{
+    Ok(Destination::Register(keyword, Some(a.result_local()?), ty))
+}
+
+// A pointer, an owner or a struct is built into the result.
+fn built_back(
+    writer: &mut Writer,
+    a: &Around,
+    value: &TypedExpr,
+    ty: Ty,
+    keyword: Place,
+    behind: Place,
+) -> Result<(), NoMemory>
+    ensures { OnOk result (state_of writer.new ≡ (initialised_by (around_of a.now) temporary (expression_uses (around_of a.now) value.now) ty behind (spec.result (around_of a.now) keyword) (state_of writer.old)).state) }
+{
+    let goal = result_goal(a, keyword, ty)?;
+    writer.initialised(a, Keeping::Full, ty, value, behind, goal)?;
+    Ok(())
+}
+
+// The object that a variable is, unless it refers to another.
+fn object_named(writer: &Writer, a: &Around, value: &TypedExpr) -> Option<u32>
+    ensures { result ≡ spec.object_named (expression_uses (around_of a.now) value.now).named (state_of writer.now) }
+{
+    match named(a, value) {
+        Some(number) => writer.object_of(number),
+        None => None,
+    }
+}
+
+// An owner is moved out of what is named ([class.copy.elision]).
+fn owner_given_back(
+    writer: &mut Writer,
+    a: &Around,
+    value: &TypedExpr,
+    ty: Ty,
+    keyword: Place,
+    behind: Place,
+) -> Result<(), NoMemory>
+    ensures { OnOk result (state_of writer.new ≡ spec.result_by (around_of a.now) Owner (expression_uses (around_of a.now) value.now) ty keyword behind (state_of writer.old)) }
+{
+    match object_named(writer, a, value) {
+        Some(local) => {
+            let goal = result_goal(a, keyword, ty)?;
+            writer.built(Last::Lived(Act::Moved(local)), goal)?;
+            Ok(())
+        }
+        None => built_back(writer, a, value, ty, keyword, behind),
     }
 }
 
@@ -182,7 +248,9 @@ fn write_value(
         let register = writer.value(a, value, behind, own, None)?;
         writer.emit(value.place, Instr::Port(Port::Value(register)))
     } else {
-        Err(NoMemory)
+        let characters = writer.characters_of(a, value)?;
+        let view = writer.viewed(characters)?;
+        writer.emit(value.place, Instr::Port(Port::View(view)))
     }
 }
 
@@ -294,7 +362,14 @@ pub(crate) fn write_statement(
             closing,
             body,
         } => write_for(writer, a, *keyword, head, *closing, body),
-        TypedStmt::RangeFor { .. } => Err(NoMemory),
+        TypedStmt::RangeFor {
+            local,
+            colon,
+            range,
+            closing,
+            body,
+            ..
+        } => write_range(writer, a, body, *local, *colon, range, *closing),
         TypedStmt::Break { keyword, .. } => leave_loop(writer, *keyword, Stmt::Break),
         TypedStmt::Continue { keyword, .. } => leave_loop(writer, *keyword, Stmt::Continue),
         TypedStmt::Return {
@@ -334,6 +409,54 @@ fn write_for(
     let step = step_of_loop(writer, a, &head.step, closing)?;
     write_loop(writer, condition, repeated, step)?;
     writer.end_since(outside, last_token(body, closing))
+}
+
+// A loop over a range: a range that is a temporary ends behind it ([stmt.ranged]).
+#[cycle(statements)]
+fn write_range(
+    writer: &mut Writer,
+    a: &Around,
+    body: &TypedStmt,
+    local: u32,
+    colon: Place,
+    range: &TypedExpr,
+    closing: Place,
+) -> Result<(), NoMemory>
+    ensures { OnOk result (state_of writer.new ≡ ranged (around_of a.now) (slice_get (around_of a.now).function.locals local) colon closing (last_token (stmt_view body.now) closing) (expression_uses (around_of a.now) range.now) (spec.statement (around_of a.now) (stmt_view body.now)) (state_of writer.old)) }
+{
+    let outside = writer.living_count();
+    let last = last_token(body, closing);
+    let iterators = open_range(writer, a, colon, closing, range)?;
+    let condition = goes_on(writer, colon, iterators)?;
+    let repeated = write_turns(writer, a, body, local, colon, range, last, iterators.first)?;
+    let step = next_in_list(writer, colon, iterators)?;
+    write_loop(writer, condition, repeated, step)?;
+    writer.end_since(outside, last)
+}
+
+// What each turn does, in a list of its own. The variable ends in each turn where the body does.
+#[cycle(statements)]
+fn write_turns(
+    writer: &mut Writer,
+    a: &Around,
+    body: &TypedStmt,
+    local: u32,
+    colon: Place,
+    range: &TypedExpr,
+    last: Place,
+    iterator: u32,
+) -> Result<Stmt, NoMemory>
+    ensures { Answers tree_of result (apart (shared.body_of_loop (ranges.turn (around_of a.now) (slice_get (around_of a.now).function.locals local) colon last iterator (ranges.element_at (around_of a.now).program.types colon iterator (ranges.element_of (expression_uses (around_of a.now) range.now))) (spec.statement (around_of a.now) (stmt_view body.now)))) (state_of writer.old)) (state_of writer.new) }
+{
+    let around = writer.begin_loop();
+    let before = writer.begin_list();
+    let outside = writer.living_count();
+    declared_from(writer, a, local, colon, range, iterator)?;
+    write_statement(writer, a, body)?;
+    writer.end_since(outside, last)?;
+    let turns = writer.end_list(before);
+    writer.end_loop(around);
+    Ok(turns)
 }
 
 // A block: what is declared in it ends with it ([stmt.block]).
