@@ -2,7 +2,7 @@
 use Rattle.std.proofs.Common.{List}
 use Rattle.life_type_expr.specs.Members.{answered}
 use Rattle.life_type_stmt.specs.Statements.{in_loop}
-use Rattle.life_typing.specs.Attributes.{parameter_points}
+use Rattle.life_typing.specs.Attributes.{fits_function_as, parameter_points}
 use Rattle.life_typing.specs.Functions.{sound_header}
 use Rattle.life_typing.specs.Names.{pieces_agree}
 use Rattle.life_typing.specs.Pointing.{pointing_of_both}
@@ -36,3 +36,7 @@ Reach = ElementOf parameter_points
 -- a piece of what a declaration says beside its types
 abbrev pub Piece : Type 0
 Piece = ElementOf pieces_agree
+
+-- an attribute of the namespace `life`
+abbrev pub LifeAttribute : Type 0
+LifeAttribute = DomainOf fits_function_as

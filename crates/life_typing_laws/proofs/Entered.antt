@@ -11,7 +11,6 @@ use Rattle.life_types.specs.declared.ty.NameId.{NameId}
 use Rattle.life_types.specs.declared.ty.TyId.{TyId}
 use Rattle.life_types.proofs.TreeLemmas.{IsThere, in_more, last_in, stays_in, within}
 use Rattle.life_tree.specs.declared.function.Function.{Function}
-use Rattle.life_tree.specs.declared.function.Parameter.{Parameter}
 use Rattle.life_typed.specs.declared.basic.TheConstants.{INT}
 use Rattle.life_names.specs.Environment.{Scope, SignatureView, meaning, seen_as, with_function}
 use Rattle.life_names.specs.declared.environment.Entity.{Entity}
@@ -21,7 +20,6 @@ use Rattle.life_typing.specs.Functions as functions
 use Rattle.life_typing.specs.Headers.{function_seen, seen_unless}
 use Rattle.life_typing.specs.Names.{DeclaredView, fits_main, gets_body, has_body, is_main, may_declare}
 use Rattle.life_typing.specs.Progress.{ProgressView}
-use Rattle.life_typing.specs.Promises.{parameter_promises}
 use Rattle.life_well_typed.specs.Expressions.{type_of}
 use Rattle.life_well_typed.specs.Results.{HaveMembers}
 use Rattle.life_well_typed.specs.Visible.{Visible, with_parameters}
@@ -31,6 +29,7 @@ use Rattle.life_typing_laws.proofs.Known.{AreKnown, KnownAt, known_grown, known_
 use Rattle.life_typing_laws.proofs.FunctionNames.{AreNamed, NamedAt}
 use Rattle.life_typing_laws.proofs.Parameters.{names_of}
 use Rattle.life_typing_laws.proofs.Pieces.{CountIs, parameter_piece, pieces_count, same_count}
+use Rattle.life_typing_laws.proofs.Promises.{promise_lists, promises_count}
 use Rattle.life_typing_laws.proofs.Scopes.{IsFree, IsIn, KeepsFunctions, set_at, set_else, set_length, set_other, set_there}
 use Rattle.life_typing_laws.proofs.Steps.{same_some, not_both}
 use Rattle.life_typing_laws.proofs.Visible.{AreVisible, IsUnderway, header_visible, seen_sound}
@@ -96,10 +95,6 @@ means scope name number e = of (slice_get scope.visible name.0) e
     of (Some m) e = ap (λ (z : Entity). Some z) e
 
 -- ---- what the first declaration of a function adds
-
-promised : (scope : Scope) (ps : List Parameter) → length (parameter_promises scope ps) ≡ length ps
-promised scope [] = refl
-promised scope (q ∷ ps) = ap suc (promised scope ps)
 
 signature_sound : (s : SignatureView) (v : Visible) (scope : Scope) (types : Types) → IsSound v scope types → HasType types s.result → HasTypes types s.parameters → IsSound v (with_function s scope) types
 signature_sound s v scope types sound result parameters = record {
@@ -192,7 +187,8 @@ module _ (bodies : List Bool) (f : Function) (p : ProgressView) (under : IsUnder
   begun_known : AreKnown h.scope.names h.types (h.scope.functions ++ signature h ∷ []) (p.functions ++ without_body f h.returned.ty h.scope ∷ []) (p.declared ++ noted h ∷ [])
   begun_known = known_more h.scope.names h.types h.scope.functions p.functions p.declared still_known (without_body f h.returned.ty h.scope) (noted h) (signature h) (record {
     result = refl;
-    promises = promised h.scope f.parameters.items ∙ sym visible.count;
+    promises = promises_count h.scope f.parameters.items ∙ sym visible.count;
+    promise = promise_lists h.scope f.attributes.items f.parameters.items;
     said = λ g. subst (CountIs (parameter_piece g) (said h)) (sym visible.count) (pieces_count g h.scope f);
     main = int_result;
     body = λ has. not_both false has refl;

@@ -8,7 +8,7 @@ use Rattle.life_typed.specs.declared.basic.TheConstants.{INT}
 use Rattle.life_names.specs.Environment.{SignatureView}
 use Rattle.life_typing.specs.Names.{DeclaredView}
 use Rattle.life_well_typed.specs.Expressions.{parameter_types}
-use Rattle.life_well_typed.specs.Functions.{IsWellTypedFunction}
+use Rattle.life_well_typed.specs.Functions.{IsWellTypedFunction, lists_parameters}
 use Rattle.life_typing_laws.proofs.Steps.{same_some}
 use Rattle.life_typing_laws.proofs.Growing.{grows_not, grows_on}
 use Rattle.life_typing_laws.proofs.Pieces.{CountIs, parameter_piece}
@@ -31,6 +31,7 @@ pub record HasBody (names : List (List ℕ)) (types : Types) (signatures : List 
 pub record IsKnown (names : List (List ℕ)) (types : Types) (signatures : List SignatureView) (form : FunctionForm) (d : DeclaredView) (s : SignatureView) : Type 0 where
   pub result : form.result ≡ s.result
   pub promises : length form.parameters ≡ length s.parameters
+  pub promise : lists_parameters (length form.parameters) form.promise ≡ true
   pub said : (f : Function) → CountIs (parameter_piece f) d.pieces (length s.parameters)
   pub main : is_main names form.name ≡ true → form.result ≡ INT
   pub body : d.has_body ≡ true → HasBody names types signatures form s
@@ -39,6 +40,7 @@ known_on : (names : List (List ℕ)) (a b : Types) (before after : List Signatur
 known_on names a b before after form d s grows keeps known = record {
   result = known.result;
   promises = known.promises;
+  promise = known.promise;
   said = known.said;
   main = known.main;
   body = λ has. record {

@@ -30,11 +30,10 @@ use Rattle.life_tree.specs.declared.primary.PostfixPart.TheOpen as open_expr
 use Rattle.life_typed.specs.BaseTypes.{type_at}
 use Rattle.life_typed.specs.Programs.{ProgramForm}
 use Rattle.life_typed.specs.TypedForm.{Typed, boolean, call, character, construct, forms, input, make_unique, null, number, optional_form, paren, text, text_of, whole}
-use Rattle.life_typed.specs.declared.typed_expr.BinaryOperator.TheVariants as operators
 use Rattle.life_typed.specs.declared.typed_expr.Category.TheVariants as category
 use Rattle.life_typed.specs.declared.typed_expr.ExprType.TheVariants as expr_type
 use Rattle.life_type_expr.specs.Expressions.{PartMeaning, additive_operator, first_of, multiplicative_operator}
-use Rattle.life_type_expr.specs.Expressions.{part_step, primary_step, unary_step, additive_part, multiplicative_part, equality_part, relational_part, and_part, or_part}
+use Rattle.life_type_expr.specs.Expressions.{part_step, primary_step, unary_step}
 use Rattle.life_type_expr.specs.Expressions.{part_meaning, primary_meaning, unary_meaning, additive_meaning, additive_part_meaning, multiplicative_meaning, multiplicative_part_meaning, equality_meaning, equality_part_meaning, relational_meaning, relational_part_meaning, and_part_meaning, arguments_meaning, expr_meaning, init_list_meaning, logical_and_meaning, or_part_meaning, postfix_meaning}
 use Rattle.life_typed.specs.declared.typed_program.TypedLocal.{TypedLocal}
 use Rattle.life_names.specs.Environment.{Scope}

@@ -40,6 +40,7 @@ pub mod Parameters
 pub mod Pieces
 pub mod Prefixes
 pub mod ProgramLaws
+pub mod Promises
 pub mod Ranges
 pub mod Reading
 pub mod Scopes

@@ -204,6 +204,7 @@ module _ (bodies : List Bool) (f : Function) (p : ProgressView) (h : PartsView) 
       well_typed : HasInEnd P w.0.1.names w.1 w.0.1.functions → IsWellTypedFunction P form
       well_typed final = record {
         parameters = subst (λ (n : ℕ). n ≤ length w.0.1.locals) (sym locals_count) (kept_count y.1.scope.locals w.0.1.locals part.moves.locals);
+        promise = at.is.promise;
         body = block_is w.0.0 (body_block h.returned main b y.1.scope y.1.types w checked)
             (subst (λ (t : TyId). IsStatement P w.0.1.locals t w.0.0 false (with_parameters (length at.form.parameters))) result_is
             (subst (λ (n : ℕ). IsStatement P w.0.1.locals h.returned w.0.0 false (with_parameters n)) promises_count
@@ -217,6 +218,7 @@ module _ (bodies : List Bool) (f : Function) (p : ProgressView) (h : PartsView) 
         (record {
           result = at.is.result;
           promises = at.is.promises;
+          promise = at.is.promise;
           said = at.is.said;
           main = λ is. at.is.main (ap (λ (ns : List (List ℕ)). programs.is_main ns at.form.name) (sym part.moves.texts) ∙ is);
           body = λ has. record { parameters = types_are; is = well_typed };
