@@ -1,6 +1,6 @@
 -- From what a part of the check finds to what the text comes to.
 use Rattle.std.proofs.Common.{◌≡◌, ℕ, true, false, List, Option, None, Some, Result, Ok, Err, refl, sym, subst}
-use Rattle.life_built.specs.Built.{is_built}
+use Rattle.life_served.specs.Served.{is_served}
 use Rattle.life_core.specs.Function.{Program}
 use Rattle.life_elab.specs.Elaborated.{Elaborates}
 use Rattle.life_elab.specs.Over.{over}
@@ -18,7 +18,7 @@ use Rattle.life_typed.specs.Programs.{ProgramForm}
 use Rattle.life_typing.specs.Answers.{Tells}
 use Rattle.life_typing.specs.Resolves.{resolved}
 use Rattle.life_check.proofs.OneFinding.{comes_only}
-use Rattle.life_check.specs.CheckedText.{BuiltComesTo, ComesOnlyTo, Faulty, Finding, IsListed, LimitedComesTo, ResolvedComesTo, TypedComesTo}
+use Rattle.life_check.specs.CheckedText.{ServedComesTo, ComesOnlyTo, Faulty, Finding, IsListed, LimitedComesTo, ResolvedComesTo, TypedComesTo}
 use Rattle.life_check.specs.Faults.{limit_fault, tree_fault, type_fault, unsupported}
 use Rattle.life_check.specs.Findings.{Finds, finding_of}
 use Rattle.life_check.specs.declared.checked.Checked.{Checked}
@@ -37,13 +37,13 @@ finds_as P Q (Err fault.NoMemory) to found = tt
 -- ---- texts whose tree has types
 
 module _ (typed : ProgramForm) where
-  pub unbuilt_finds : is_built typed ≡ false → Finds (TypedComesTo typed) (Err unsupported)
-  unbuilt_finds not = subst (λ b. BuiltComesTo b typed (Faulty unsupported)) (sym not) refl
+  pub unserved_finds : is_served typed ≡ false → Finds (TypedComesTo typed) (Err unsupported)
+  unserved_finds not = subst (λ b. ServedComesTo b typed (Faulty unsupported)) (sym not) refl
 
-  module _ (built : is_built typed ≡ true) where
+  module _ (served : is_served typed ≡ true) where
     of_limits : (limit : Option LimitFault) → over typed (translated typed) ≡ limit → (f : Finding) → LimitedComesTo limit (translated typed) f → TypedComesTo typed f
     of_limits limit passed f is =
-        subst (λ b. BuiltComesTo b typed f) (sym built) (subst (λ o. LimitedComesTo o (translated typed) f) (sym passed) is)
+        subst (λ b. ServedComesTo b typed f) (sym served) (subst (λ o. LimitedComesTo o (translated typed) f) (sym passed) is)
 
     pub core_finds : (core : Program) (result : Result Checked CheckFault) → core ≡ translated typed → over typed (translated typed) ≡ None
         → Finds (IsListed core) result → Finds (TypedComesTo typed) result

@@ -1,6 +1,6 @@
 -- What a text comes to beside its diagnostics is the program of its bytes.
 use Rattle.std.proofs.Common.{◌≡◌, ℕ, Bool, true, false, List, Option, None, Some, Result, Ok, Err, refl}
-use Rattle.life_built.specs.Built.{is_built}
+use Rattle.life_served.specs.Served.{is_served}
 use Rattle.life_core.specs.Function.{Program}
 use Rattle.life_elab.specs.Over.{over}
 use Rattle.life_elab.specs.ProgramForms.{translated}
@@ -12,7 +12,7 @@ use Rattle.life_tree.specs.declared.limit.LimitFault.{LimitFault}
 use Rattle.life_tree.specs.declared.program.Program.{Program as Parsed}
 use Rattle.life_typed.specs.Programs.{ProgramForm}
 use Rattle.life_typing.specs.Resolves.{resolved}
-use Rattle.life_check.specs.CheckedText.{BuiltComesTo, ComesTo, Faulty, IsProgramOf, LimitedComesTo, Listed, ParsingComesTo, ResolvedComesTo}
+use Rattle.life_check.specs.CheckedText.{ServedComesTo, ComesTo, Faulty, IsProgramOf, LimitedComesTo, Listed, ParsingComesTo, ResolvedComesTo}
 use Rattle.life_check.specs.declared.fault.CheckFault.{CheckFault}
 
 -- a program with its diagnostics is no fault
@@ -29,13 +29,13 @@ of_limits : (passed : Option LimitFault) (core p : Program) (ds : List Diag) →
 of_limits None core p ds is = the_program p core ds is.diagnostics is.is
 of_limits (Some fault) core p ds is = no_fault p ds _ is
 
-of_built : (built : Bool) (typed : ProgramForm) (p : Program) (ds : List Diag) → BuiltComesTo built typed (Listed p ds) → p ≡ translated typed
-of_built true typed p ds is = of_limits (over typed (translated typed)) (translated typed) p ds is
-of_built false typed p ds is = no_fault p ds _ is
+of_served : (served : Bool) (typed : ProgramForm) (p : Program) (ds : List Diag) → ServedComesTo served typed (Listed p ds) → p ≡ translated typed
+of_served true typed p ds is = of_limits (over typed (translated typed)) (translated typed) p ds is
+of_served false typed p ds is = no_fault p ds _ is
 
 of_resolved : (bytes : List ℕ) (tree : Parsed) → Parses bytes (Ok tree) → (r : Result ProgramForm Broken) → resolved tree ≡ r → (p : Program) (ds : List Diag) → ResolvedComesTo r (Listed p ds) → IsProgramOf bytes p
 of_resolved bytes tree parsed (Ok typed) same p ds is =
-    record { tree = tree; typed = typed; parsed = parsed; has_types = same; is = of_built (is_built typed) typed p ds is }
+    record { tree = tree; typed = typed; parsed = parsed; has_types = same; is = of_served (is_served typed) typed p ds is }
 of_resolved bytes tree parsed (Err e) same p ds is = no_fault p ds _ is
 
 of_reason : (bytes : List ℕ) (reason : Option ParseFault) (p : Program) (ds : List Diag) → ParsingComesTo bytes reason (Listed p ds) → IsProgramOf bytes p

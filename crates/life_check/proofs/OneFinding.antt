@@ -1,6 +1,6 @@
 -- A text comes to one thing.
 use Rattle.std.proofs.Common.{◌≡◌, ℕ, Bool, true, false, List, Option, None, Some, Result, Ok, Err, refl, sym, ◌∙◌, ap, subst}
-use Rattle.life_built.specs.Built.{is_built}
+use Rattle.life_served.specs.Served.{is_served}
 use Rattle.life_core.specs.Function.{Program}
 use Rattle.life_elab.specs.Over.{over}
 use Rattle.life_elab.specs.ProgramForms.{translated}
@@ -18,7 +18,7 @@ use Rattle.life_tree.specs.declared.program.Program.{Program as Parsed}
 use Rattle.life_typed.specs.Programs.{ProgramForm}
 use Rattle.life_typing.proofs.BlindPrograms.{types_of_trees}
 use Rattle.life_typing.specs.Resolves.{resolved}
-use Rattle.life_check.specs.CheckedText.{BuiltComesTo, ComesOnlyTo, ComesTo, Faulty, Finding, HasNoTreeFor, IsListed, LimitedComesTo, Listed, ParsingComesTo, ResolvedComesTo, TreeComesTo}
+use Rattle.life_check.specs.CheckedText.{ServedComesTo, ComesOnlyTo, ComesTo, Faulty, Finding, HasNoTreeFor, IsListed, LimitedComesTo, Listed, ParsingComesTo, ResolvedComesTo, TreeComesTo}
 use Rattle.life_check.specs.Faults.{tree_fault}
 
 one_program : (p : Program) (a b : Finding) → IsListed p a → IsListed p b → a ≡ b
@@ -30,12 +30,12 @@ one_of_limits : (passed : Option LimitFault) (core : Program) (a b : Finding) �
 one_of_limits None core a b p q = one_program core a b p q
 one_of_limits (Some fault) core a b p q = p ∙ sym q
 
-one_built : (built : Bool) (typed : ProgramForm) (a b : Finding) → BuiltComesTo built typed a → BuiltComesTo built typed b → a ≡ b
-one_built true typed a b p q = one_of_limits (over typed (translated typed)) (translated typed) a b p q
-one_built false typed a b p q = p ∙ sym q
+one_served : (served : Bool) (typed : ProgramForm) (a b : Finding) → ServedComesTo served typed a → ServedComesTo served typed b → a ≡ b
+one_served true typed a b p q = one_of_limits (over typed (translated typed)) (translated typed) a b p q
+one_served false typed a b p q = p ∙ sym q
 
 one_resolved : (r : Result ProgramForm Broken) (a b : Finding) → ResolvedComesTo r a → ResolvedComesTo r b → a ≡ b
-one_resolved (Ok typed) a b p q = one_built (is_built typed) typed a b p q
+one_resolved (Ok typed) a b p q = one_served (is_served typed) typed a b p q
 one_resolved (Err e) a b p q = p ∙ sym q
 
 -- the types of a text hang on its tokens alone

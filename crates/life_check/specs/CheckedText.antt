@@ -1,6 +1,6 @@
 -- What the text of a file comes to.
 use Rattle.std.specs.Prelude.{◌≡◌, ◌≢◌, ℕ, Bool, true, false, List, Option, None, Some, Result, Ok, Err}
-use Rattle.life_built.specs.Built.{is_built}
+use Rattle.life_served.specs.Served.{is_served}
 use Rattle.life_core.specs.Function.{Program}
 use Rattle.life_elab.specs.Over.{over}
 use Rattle.life_elab.specs.ProgramForms.{translated}
@@ -34,13 +34,13 @@ abbrev pub LimitedComesTo : Option LimitFault → Program → Finding → Type 0
 LimitedComesTo None core finding = IsListed core finding
 LimitedComesTo (Some fault) core finding = finding ≡ Faulty (Limit fault)
 
--- the core program of a typed one that is built
-abbrev pub BuiltComesTo : Bool → ProgramForm → Finding → Type 0
-BuiltComesTo true typed finding = LimitedComesTo (over typed (translated typed)) (translated typed) finding
-BuiltComesTo false typed finding = finding ≡ Faulty unsupported
+-- the core program of a typed one that is served
+abbrev pub ServedComesTo : Bool → ProgramForm → Finding → Type 0
+ServedComesTo true typed finding = LimitedComesTo (over typed (translated typed)) (translated typed) finding
+ServedComesTo false typed finding = finding ≡ Faulty unsupported
 
 abbrev pub TypedComesTo : ProgramForm → Finding → Type 0
-TypedComesTo typed finding = BuiltComesTo (is_built typed) typed finding
+TypedComesTo typed finding = ServedComesTo (is_served typed) typed finding
 
 -- the typed program of a tree that has types; else it is the first rule that the tree breaks
 abbrev pub ResolvedComesTo : Result ProgramForm Broken → Finding → Type 0

@@ -26,6 +26,6 @@ abbrev pub limit_fault : ElabFault → CheckFault
 limit_fault (elab.Limit fault) = Limit fault
 limit_fault elab.NoMemory = NoMemory
 
--- what isn't built so far, at line 1, column 1
+-- what isn't served so far, at line 1, column 1
 abbrev pub unsupported : CheckFault
 unsupported = Ill Unsupported (record { line = 1; column = 1 })

@@ -1,7 +1,7 @@
 // The check of the text of a file.
-ghost use Rattle.std.specs.Prelude.{◌≡◌, ◌<◌, ◌^◌, IfOk, IsTrue, length, map};
+ghost use Rattle.std.specs.Prelude.{◌≡◌, ◌<◌, ◌^◌, IfOk, length, map};
 ghost use Rattle.life_core.specs.Function.{program_of};
-ghost use Rattle.life_built.specs.Built.{is_built};
+ghost use Rattle.life_served.specs.Served.{is_served};
 ghost use Rattle.life_elab.specs.Bounds.{HaveNumberedLocals};
 ghost use Rattle.life_elab.specs.Elaborated.{Elaborates};
 ghost use Rattle.life_proper.specs.ProperPrograms.{IsProperProgram};
@@ -19,12 +19,13 @@ use crate::checked::Checked;
 use crate::fault::CheckFault;
 use life_base::Steps;
 use life_core::CoreProgram;
-use life_elab::{ElabFault, elaborate, is_built};
+use life_elab::{ElabFault, elaborate};
 use life_elab_laws::{translations_are_proper, translations_have_short_places};
 use life_fix::program_diagnostics;
 use life_parse::parse;
 use life_parse_laws::trees_have_names;
 use life_rules::ListedDiag;
+use life_served::is_served;
 use life_sound::accept;
 use life_tree::Program;
 use life_typed::Typed;
@@ -80,7 +81,7 @@ fn typed_of(alloc: Global, tree: Program) -> Result<Typed, IllFault>
     resolve(alloc, &tree)
 }
 
-// A text whose tree has types: it is built and passes no limit, or not.
+// A text whose tree has types: it is served and passes no limit, or not.
 fn check_typed<L: Ledger>(
     alloc: Global,
     typed: Typed,
@@ -90,7 +91,7 @@ fn check_typed<L: Ledger>(
     ensures finds { Finds (TypedComesTo (program_view typed)) result }
     ensures ticks { TakesFew (TypedComesTo (program_view typed)) steps.old steps.new }
 {
-    if !is_built(&typed) {
+    if !is_served(&typed) {
         return Err(unsupported());
     }
     let program = core_of(alloc, typed)?;
@@ -101,7 +102,6 @@ fn check_typed<L: Ledger>(
 
 // The core program of a typed one, which is let go.
 fn core_of(alloc: Global, typed: Typed) -> Result<CoreProgram, ElabFault>
-    requires { IsTrue (is_built (program_view typed)) }
     ensures program { Elaborates (program_view typed) result }
     ensures numbered { IfOk result (λ core. HaveNumberedLocals (program_of core).functions) }
 {

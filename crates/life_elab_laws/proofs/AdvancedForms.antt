@@ -174,7 +174,6 @@ module _ (a : Around) (visible : List ℕ) (types : Types) (texts : ℕ) (so_far
       (record {
         fills = λ r n k e p. record { ready = uses_ready k (x.0.local ∷ x.1.local ∷ []) (r ∷ []) (two_there k x.0.local x.1.local (pointer_held x.0 n k p.0) (pointer_held x.1 n k p.1)); after = refl };
         fine = λ r e h. record {
-          plain = λ so. refl;
           given = refl;
           formed =
               and_from (is_number_of types f ty.Bool r) (are_compared types (type_in types f x.0) (type_in types f x.1)) (subst (λ (u : Ty). is_number_of types f u r ≡ true) bool e)

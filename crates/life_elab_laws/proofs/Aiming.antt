@@ -9,6 +9,7 @@ use Rattle.life_types.specs.declared.ty.Ty.TheVariants as ty
 use Rattle.life_typed.specs.declared.typed_expr.ExprType.{ExprType}
 use Rattle.life_typed.specs.declared.typed_expr.ExprType.TheVariants.{NullPointer, Of, TextLiteral}
 use Rattle.life_core.specs.Function.{Function}
+use Rattle.life_core.specs.Kinds.{is_register_at}
 use Rattle.life_core.specs.Operands.{Location, Null, Operand, Place as Aimed, Text, whole}
 use Rattle.life_core.specs.Served.{is_served_location, is_served_operand}
 use Rattle.life_core.specs.Touched.{touched_by}
@@ -39,16 +40,19 @@ keeps_further false false e h g = g
 -- ---- what it is given is there, and it is a pointer still
 
 module _ (f : Function) where
-  pub pointed_fills : (x n : ℕ) (p : Pointing) (k : List Known) → IsPointing f p n k → Fills f k (pointed p (whole x)) x
-  pointed_fills x n (By step) k h = filling_fills f step n k h x
-  pointed_fills x n (As q) k h = record { ready = uses_ready k (q.local ∷ []) (x ∷ []) (one_there k q.local (ap (λ (l : Location). known_at k l.local) h.is ∙ h.held)); after = refl }
+  pub pointed_fills : (x n : ℕ) (p : Pointing) (k : List Known) → IsPointing f p n k → is_register_at f x ≡ true → Fills f k (pointed p (whole x)) x
+  pointed_fills x n (By step) k h e = filling_fills f step n k h x e
+  pointed_fills x n (As q) k h e = record { ready = uses_ready k (q.local ∷ []) (x ∷ []) (one_there k q.local (ap (λ (l : Location). known_at k l.local) h.is ∙ h.held)); after = refl }
 
-  pub pointed_ready : (l : Location) (n m : ℕ) (p : Pointing) (k : List Known) → IsPointer l n k → IsPointing f p m k → are_ready k (touched_by f (pointed p l)) ≡ true
-  pointed_ready l n m p k h g = ap (λ (q : Location). are_ready k (touched_by f (pointed p q))) h.is ∙ (pointed_fills h.local m p k g).ready
+  register_is : (l : Location) (n : ℕ) (k : List Known) → (h : IsPointer l n k) → is_register_at f l.local ≡ true → is_register_at f h.local ≡ true
+  register_is l n k h e = sym (ap (λ (q : Location). is_register_at f q.local) h.is) ∙ e
 
-  pub pointed_keeps : (l : Location) (n m z : ℕ) (p : Pointing) (k : List Known) → IsPointer l n k → IsPointing f p m k → Keeps f z None k (known_after (touched_by f (pointed p l)) k)
-  pointed_keeps l n m z p k h g =
-      subst (Keeps f z None k) (sym (ap (λ (q : Location). known_after (touched_by f (pointed p q)) k) h.is ∙ (pointed_fills h.local m p k g).after)) (record {
+  pub pointed_ready : (l : Location) (n m : ℕ) (p : Pointing) (k : List Known) → IsPointer l n k → IsPointing f p m k → is_register_at f l.local ≡ true → are_ready k (touched_by f (pointed p l)) ≡ true
+  pointed_ready l n m p k h g e = ap (λ (q : Location). are_ready k (touched_by f (pointed p q))) h.is ∙ (pointed_fills h.local m p k g (register_is l n k h e)).ready
+
+  pub pointed_keeps : (l : Location) (n m z : ℕ) (p : Pointing) (k : List Known) → IsPointer l n k → IsPointing f p m k → is_register_at f l.local ≡ true → Keeps f z None k (known_after (touched_by f (pointed p l)) k)
+  pointed_keeps l n m z p k h g e =
+      subst (Keeps f z None k) (sym (ap (λ (q : Location). known_after (touched_by f (pointed p q)) k) h.is ∙ (pointed_fills h.local m p k g (register_is l n k h e)).after)) (record {
         sized = set_length k h.local known.Ready;
         below = λ y lt b. set_same k h.local known.Ready y h.held;
       })
@@ -75,7 +79,7 @@ module _ (types : Types) (texts : ℕ) (so_far : Bool) (fs : List Function) (f :
 
   -- nullptr is taken by each raw pointer
   pub null_given : IsGivenAs types texts so_far fs f NullPointer (aimed Null)
-  null_given = λ u l loc at taken. record { plain = λ so. refl; given = refl; formed = ap is_raw at.typed ∙ raw u taken; served = λ so. and_from (is_served_location l) true (at.served so) refl }
+  null_given = λ u l loc at taken. record { given = refl; formed = ap is_raw at.typed ∙ raw u taken; served = λ so. and_from (is_served_location l) true (at.served so) refl }
     where
       clash : (u : Ty) → NullPointer ≡ Of u → ⊥
       clash u e = cc
@@ -87,7 +91,6 @@ module _ (types : Types) (texts : ℕ) (so_far : Bool) (fs : List Function) (f :
   -- a literal by each view
   pub literal_given : (n : ℕ) → nat_lt n texts ≡ true → IsGivenAs types texts so_far fs f TextLiteral (aimed (Text n))
   literal_given n few = λ u l loc at taken. record {
-    plain = λ so. refl;
     given = refl;
     formed = and_from (is_view (type_in types f l)) (nat_lt n texts) (ap is_view at.typed ∙ view u taken) few;
     served = λ so. and_from (is_served_location l) true (at.served so) refl;
@@ -103,7 +106,6 @@ module _ (types : Types) (texts : ℕ) (so_far : Bool) (fs : List Function) (f :
   -- a place by each that takes its address
   pub place_given : (t : Ty) (o : Operand) → (aims_at types t (type_of types f o) && keeps_const (is_constant t) (is_const_place types f o)) ≡ true → (so_far ≡ true → is_served_operand o ≡ true) → IsGivenAs types texts so_far fs f (Of t) (aimed (Aimed o))
   place_given t o fits served = λ u l raw at taken. record {
-    plain = λ so. refl;
     given = refl;
     formed = ap (λ (w : Ty). is_source_of types texts fs f w (Aimed o)) at.typed ∙ go u raw taken;
     served = λ so. and_from (is_served_location l) (is_served_operand o) (at.served so) (served so);
@@ -119,7 +121,6 @@ module _ (types : Types) (texts : ℕ) (so_far : Bool) (fs : List Function) (f :
   pub pointed_fine : (l : Location) (u : Ty) (t : ExprType) (p : Pointing) → is_location u ≡ true → IsAt types texts so_far fs f u l → takes_from types u t ≡ true → IsGivenAs types texts so_far fs f t p → IsFineStep types texts so_far fs f (pointed p l)
   pointed_fine l u t (By step) raw at taken given = given u l raw at (inr taken)
   pointed_fine l u (Of v) (As q) raw at taken given = record {
-    plain = λ so. refl;
     given = refl;
     formed = ap (λ (w : Ty). takes types w (type_in types f q)) at.typed ∙ ap (takes types u) given.typed ∙ taken;
     served = λ so. and_from (is_served_location l) (is_served_location q) (at.served so) (given.served so);

@@ -11,6 +11,7 @@ use Rattle.life_types.specs.declared.ty.TyId.{TyId}
 use Rattle.life_typed.specs.BaseTypes.{type_at}
 use Rattle.life_typed.specs.declared.typed_expr.Category.TheVariants as category
 use Rattle.life_core.specs.Function.{Function}
+use Rattle.life_core.specs.Kinds.{is_register_at}
 use Rattle.life_core.specs.Operands.{Base, behind, whole}
 use Rattle.life_core.specs.Step.{Element, Size}
 use Rattle.life_core.specs.Touched.{base_uses, which_uses}
@@ -35,7 +36,7 @@ use Rattle.life_elab_laws.proofs.Growing.{Begins, added}
 use Rattle.life_elab_laws.proofs.Held.{one_there}
 use Rattle.life_elab_laws.proofs.Instructions.{IsIntoOf, computed_part, emit_part, evaluates}
 use Rattle.life_elab_laws.proofs.Making.{IsHeld, Keeps}
-use Rattle.life_elab_laws.proofs.OperandsThere.{number_any, type_either, value_same}
+use Rattle.life_elab_laws.proofs.OperandsThere.{number_any, register_there, type_either, value_same}
 use Rattle.life_elab_laws.proofs.Parts.{Part}
 use Rattle.life_elab_laws.proofs.Types.{type_added}
 use Rattle.life_elab_laws.proofs.WrittenLocals.{fits_below, fits_register}
@@ -98,7 +99,6 @@ module _ (types : Types) (texts : ℕ) (so_far : Bool) (fs : List Function) (f :
       (record {
         fills = λ r n k e p. record { ready = uses_ready k (base_uses b) (r ∷ []) (base_there b n k p); after = refl };
         fine = λ r e h. record {
-          plain = λ so. refl;
           given = refl;
           formed = and_from (is_number_of types f ty.Size r) (not (is_void (element_of types f b))) e (ap (λ (u : Ty). not (is_void u)) h.element ∙ value_no_void t v);
           served = λ so. absurd (false≢true (sym wide ∙ so));
@@ -128,7 +128,6 @@ module _ (types : Types) (texts : ℕ) (so_far : Bool) (fs : List Function) (f :
       (new_targeted so_far types f place reference s fits (fits_below so_far few s.types (front_length few.types s.types.types table) reference (ap is_value here ∙ v)))
       (λ b h. let at = at_reference b in (
         record {
-          plain = λ so. refl;
           given = refl;
           formed =
               and_from (aims_at types (type_in types f (whole w.given)) (type_of_element types f x.0 x.1)) _
@@ -136,7 +135,7 @@ module _ (types : Types) (texts : ℕ) (so_far : Bool) (fs : List Function) (f :
               (ap (λ (u : Ty). keeps_const (is_constant u) (is_const_base types f x.0)) at ∙ h.0.held);
           served = λ so. absurd (false≢true (sym wide ∙ so));
         },
-        behind_place types texts so_far fs f (whole w.given) reference id constant t (record { typed = at; served = λ so. refl }) refl refl refl later v,
+        behind_place types texts so_far fs f (whole w.given) reference id constant t (record { typed = at; kept = kept_reference b; served = λ so. refl }) refl refl refl later v,
       ))
       (λ r n k e p. record { ready = uses_ready k (base_uses x.0 ++ (which_uses x.1 ++ [])) (r ∷ []) (both_known known.Ready k (base_uses x.0) (which_uses x.1 ++ []) (base_there x.0 n k p.0) (which_there x.1 n k p.1)); after = refl })
       (λ k lt e. record { local = w.given; uses = refl; below = lt; held = e })
@@ -157,3 +156,6 @@ module _ (types : Types) (texts : ℕ) (so_far : Bool) (fs : List Function) (f :
       at_reference b =
           let l = added place (ty.Reference id constant) s in
           reference_there types f (length s.locals) l id constant (b.locals (length s.locals) l (last_there s.locals l)) (b.table l.ty.0 (ty.Reference id constant) (type_added s.types.types (ty.Reference id constant))) (ap is_value later ∙ v)
+
+      kept_reference : Begins types f (new_register place (ty.Reference id constant) s).state → is_register_at f (length s.locals) ≡ true
+      kept_reference b = let l = added place (ty.Reference id constant) s in register_there types f (length s.locals) l (b.locals (length s.locals) l (last_there s.locals l)) refl

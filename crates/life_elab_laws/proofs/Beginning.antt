@@ -1,13 +1,13 @@
 -- Where the body of a function begins: its parameters live, and no other variable does.
 use Rattle.std.proofs.Common.{◌≡◌, ◌<◌, ◌≤◌, ◌⊎◌, inl, inr, ℕ, zero, suc, Bool, true, false, ◌||◌, List, [], ◌∷◌, ◌++◌, length, map, slice_get, Option, Some, option_map, refl, sym, ap, ◌∙◌, subst, unwrap_or, arith, length-append, append_assoc, append-nil}
-use Rattle.std.proofs.lemmas.Bool.{and_parts, cases_eq, cases_lt, false≢true}
+use Rattle.std.proofs.lemmas.Bool.{cases_eq, cases_lt, false≢true}
 use Rattle.std.proofs.lemmas.Option.{none-some, slice_get-map}
 use Rattle.life_types.specs.TypeTests.{is_value, is_void}
 use Rattle.life_types.specs.Types.{Types}
 use Rattle.life_types.specs.declared.ty.Ty.{Ty}
 use Rattle.life_types.specs.declared.ty.Ty.TheVariants as ty
-use Rattle.life_built.specs.Built.{is_built_result}
-use Rattle.life_elab_laws.specs.Reached.{are_reached_variables, is_reached_variable}
+use Rattle.life_served.specs.Served.{is_pointing, is_served_result}
+use Rattle.life_elab_laws.specs.Reached.{are_reached_variables}
 use Rattle.life_typed.specs.BaseTypes.{type_at}
 use Rattle.life_typed.specs.declared.typed_program.ParameterPromise.{ParameterPromise}
 use Rattle.life_typed.specs.declared.typed_program.TypedLocal.{TypedLocal}
@@ -32,8 +32,10 @@ use Rattle.life_elab_laws.proofs.Following.{Follows, HasRegister, follows_below,
 use Rattle.life_elab_laws.proofs.Fronts.{IsFront, front_append, front_itself, last_there}
 use Rattle.life_elab_laws.proofs.Growing.{Grows, grows_none}
 use Rattle.life_elab_laws.proofs.OrderedTypes.{order_none}
-use Rattle.life_elab_laws.proofs.WrittenLocals.{AddsRegisters, AreWrittenLocals, IsIntermediate, locals_added, own_added, register_pushed, registers_none, value_fits}
+use Rattle.life_elab_laws.proofs.WrittenLocals.{AddsRegisters, AreWrittenLocals, IsIntermediate, fits_register, locals_added, own_added, register_pushed, pointing_fits, registers_none}
 use Rattle.life_elab_laws.proofs.PendingTemporaries.{none_pending, pending_later}
+use Rattle.life_elab_laws.proofs.ResultTypes.{IsResultType, gives_nothing, gives_raw, gives_reference, gives_value, result_is}
+use Rattle.life_elab_laws.proofs.Values.{by_values}
 
 -- ---- what is there at the entry
 
@@ -133,10 +135,10 @@ module _ (a : Around) where
 
   -- ---- the result behind them
 
-  one_register : (so_far : Bool) (types : Types) (t : Ty) (s : State) → is_value t ≡ true → slice_get s.types.types a.function.result.0 ≡ Some t
-      → (y : ℕ) (l : Local) → slice_get (s.locals ++ nameless a.function.place a.function.result ∷ []) y ≡ Some l → (slice_get s.locals y ≡ Some l) ⊎ IsIntermediate so_far types s.types l
-  one_register so_far types t s v at =
-      register_pushed so_far types s.types s.locals (nameless a.function.place a.function.result) (record { nameless = refl; ty = t; typed = at; fits = inl (refl, value_fits so_far types t v) })
+  one_register : (so_far : Bool) (t : Ty) (s : State) → fits_register so_far a.program.types t ≡ true → slice_get s.types.types a.function.result.0 ≡ Some t
+      → (y : ℕ) (l : Local) → slice_get (s.locals ++ nameless a.function.place a.function.result ∷ []) y ≡ Some l → (slice_get s.locals y ≡ Some l) ⊎ IsIntermediate so_far a.program.types s.types l
+  one_register so_far t s fits at =
+      register_pushed so_far a.program.types s.types s.locals (nameless a.function.place a.function.result) (record { nameless = refl; ty = t; typed = at; fits = inl (refl, fits) })
 
   one_register_grows : (s : State) → Grows s (record s { locals = s.locals ++ nameless a.function.place a.function.result ∷ [] })
   one_register_grows s = record {
@@ -151,32 +153,24 @@ module _ (a : Around) where
     outside = refl;
   }
 
-  pub result_grows : (t : Ty) (s : State) → (is_void t || is_value t) ≡ true → Grows s (with_result a t s)
-  result_grows ty.Void s b = grows_none s
-  result_grows ty.Bool s b = one_register_grows s
-  result_grows ty.Char s b = one_register_grows s
-  result_grows ty.Int s b = one_register_grows s
-  result_grows ty.Long s b = one_register_grows s
-  result_grows ty.Size s b = one_register_grows s
-  result_grows _ s b = absurd (false≢true b)
+  -- what is so of one register more, and where nothing is given back, is so of the result
+  by_result : (s : State) (P : Ty → State → Type 0) → P ty.Void s → ((t : Ty) → (is_value t || is_pointing a.program.types t) ≡ true → P t (record s { locals = s.locals ++ nameless a.function.place a.function.result ∷ [] })) → (t : Ty) → IsResultType a.program.types t → P t (with_result a t s)
+  by_result s P none one t (gives_nothing void) = subst (λ (u : Ty). P u (with_result a u s)) (sym void) none
+  by_result s P none one t (gives_value v) = by_values (λ u. P u (with_result a u s)) (one ty.Bool refl) (one ty.Char refl) (one ty.Int refl) (one ty.Long refl) (one ty.Size refl) t v
+  by_result s P none one t (gives_raw target constant raw w) = subst (λ (u : Ty). P u (with_result a u s)) (sym raw) (one (ty.Raw target constant) w)
+  by_result s P none one t (gives_reference target constant refers w) = subst (λ (u : Ty). P u (with_result a u s)) (sym refers) (one (ty.Reference target constant) w)
+
+  pub result_grows : (t : Ty) (s : State) → IsResultType a.program.types t → Grows s (with_result a t s)
+  result_grows t s kind = by_result s (λ t r. Grows s r) (grows_none s) (λ t fits. one_register_grows s) t kind
 
   -- .. a register
-  result_registers : (so_far : Bool) (types : Types) (t : Ty) (s : State) → (is_void t || is_value t) ≡ true → slice_get s.types.types a.function.result.0 ≡ Some t → AddsRegisters so_far types s (with_result a t s)
-  result_registers so_far types ty.Void s b at = registers_none so_far types s
-  result_registers so_far types ty.Bool s b at = (one_register so_far types ty.Bool s refl at, order_none s.types)
-  result_registers so_far types ty.Char s b at = (one_register so_far types ty.Char s refl at, order_none s.types)
-  result_registers so_far types ty.Int s b at = (one_register so_far types ty.Int s refl at, order_none s.types)
-  result_registers so_far types ty.Long s b at = (one_register so_far types ty.Long s refl at, order_none s.types)
-  result_registers so_far types ty.Size s b at = (one_register so_far types ty.Size s refl at, order_none s.types)
-  result_registers so_far types _ s b at = absurd (false≢true b)
+  result_registers : (so_far : Bool) (t : Ty) (s : State) → IsResultType a.program.types t → slice_get s.types.types a.function.result.0 ≡ Some t → AddsRegisters so_far a.program.types s (with_result a t s)
+  result_registers so_far t s kind at =
+      by_result s (λ t r. slice_get s.types.types a.function.result.0 ≡ Some t → AddsRegisters so_far a.program.types s r) (λ at. registers_none so_far a.program.types s) (λ t fits at. (one_register so_far t s (pointing_fits so_far a.program.types t fits) at, order_none s.types)) t kind at
 
-  result_there : (t : Ty) (s : State) → is_value t ≡ true → slice_get (with_result a t s).locals (length s.locals) ≡ Some (nameless a.function.place a.function.result)
-  result_there ty.Bool s w = last_there s.locals (nameless a.function.place a.function.result)
-  result_there ty.Char s w = last_there s.locals (nameless a.function.place a.function.result)
-  result_there ty.Int s w = last_there s.locals (nameless a.function.place a.function.result)
-  result_there ty.Long s w = last_there s.locals (nameless a.function.place a.function.result)
-  result_there ty.Size s w = last_there s.locals (nameless a.function.place a.function.result)
-  result_there _ s w = absurd (false≢true w)
+  result_there : (t : Ty) (s : State) → IsResultType a.program.types t → is_void t ≡ false → slice_get (with_result a t s).locals (length s.locals) ≡ Some (nameless a.function.place a.function.result)
+  result_there t s kind some =
+      by_result s (λ t r. is_void t ≡ false → slice_get r.locals (length s.locals) ≡ Some (nameless a.function.place a.function.result)) (λ void. absurd (false≢true (sym void))) (λ t fits some. last_there s.locals (nameless a.function.place a.function.result)) t kind some
 
   result_code : (t : Ty) (s : State) → (with_result a t s).code ≡ s.code
   result_code ty.Void s = refl
@@ -205,37 +199,38 @@ module _ (a : Around) where
     pub first_types : (first_state a T).types ≡ T
     first_types = result_types (type_at a.program.types a.function.result) given ∙ types_same a.function.parameters a.function.locals (nothing_written T)
 
+    kind_of : is_served_result a.program.types a.function.result ≡ true → IsResultType a.program.types (type_at a.program.types a.function.result)
+    kind_of b = result_is a.program.types (type_at a.program.types a.function.result) b
+
     -- the parameters, and the register of the result
-    pub first_locals : (so_far : Bool) (types : Types) (t : Ty) → slice_get a.program.types.types a.function.result.0 ≡ Some t → is_built_result a.program.types a.function.result ≡ true → AreWrittenLocals so_far types a (first_state a T)
-    first_locals so_far types t at b =
+    pub first_locals : (so_far : Bool) (t : Ty) → slice_get a.program.types.types a.function.result.0 ≡ Some t → is_served_result a.program.types a.function.result ≡ true → AreWrittenLocals so_far a.program.types a (first_state a T)
+    first_locals so_far t at b =
         let found : type_at a.program.types a.function.result ≡ t = ap (λ (o : Option Ty). unwrap_or o ty.Void) at in
         let there : slice_get given.types.types a.function.result.0 ≡ Some t =
         ap (λ (x : Types). slice_get x.types a.function.result.0) (types_same a.function.parameters a.function.locals (nothing_written T)) ∙ table a.function.result.0 t at in
-        locals_added so_far types a given (first_state a T) (result_grows (type_at a.program.types a.function.result) given b).types
-        (result_registers so_far types (type_at a.program.types a.function.result) given b (there ∙ ap Some (sym found)))
-        (own_parameters so_far types a.function.parameters [] a.function.locals (nothing_written T) refl (λ y l none. absurd (none-some l none)))
+        locals_added so_far a.program.types a given (first_state a T) (result_grows (type_at a.program.types a.function.result) given (kind_of b)).types
+        (result_registers so_far (type_at a.program.types a.function.result) given (kind_of b) (there ∙ ap Some (sym found)))
+        (own_parameters so_far a.program.types a.function.parameters [] a.function.locals (nothing_written T) refl (λ y l none. absurd (none-some l none)))
 
-    pub result_first : is_value (type_at a.program.types a.function.result) ≡ true → slice_get (first_state a T).locals (length a.function.parameters) ≡ Some (nameless a.function.place a.function.result)
-    result_first worth = ap (slice_get (first_state a T).locals) (sym given_count) ∙ result_there (type_at a.program.types a.function.result) given worth
+    pub result_first : is_served_result a.program.types a.function.result ≡ true → is_void (type_at a.program.types a.function.result) ≡ false
+        → slice_get (first_state a T).locals (length a.function.parameters) ≡ Some (nameless a.function.place a.function.result)
+    result_first b some = ap (slice_get (first_state a T).locals) (sym given_count) ∙ result_there (type_at a.program.types a.function.result) given (kind_of b) some
 
-    pub parameters_front : is_built_result a.program.types a.function.result ≡ true → IsFront (parameter_locals a.function.parameters a.function.locals) (first_state a T).locals
+    pub parameters_front : is_served_result a.program.types a.function.result ≡ true → IsFront (parameter_locals a.function.parameters a.function.locals) (first_state a T).locals
     parameters_front result y l at =
-        (result_grows (type_at a.program.types a.function.result) given result).locals y l
+        (result_grows (type_at a.program.types a.function.result) given (kind_of result)).locals y l
         (subst (λ (ls : List Local). slice_get ls y ≡ Some l) (sym (locals_written a.function.parameters a.function.locals (nothing_written T))) at)
 
-    pub register_there : (t : Ty) → slice_get a.program.types.types a.function.result.0 ≡ Some t → HasRegister a (first_state a T)
-    register_there t at worth = (
-      record {
-        local = nameless a.function.place a.function.result;
-        there = result_first worth;
-        nameless = refl;
-        kind = refl;
-        ty = t;
-        typed = ap (λ (x : Types). slice_get x.types a.function.result.0) first_types ∙ table a.function.result.0 t at;
-        value = subst (λ (o : Option Ty). is_value (unwrap_or o ty.Void) ≡ true) at worth;
-      },
-      sym (ap (λ (o : Option Ty). unwrap_or o ty.Void) at),
-    )
+    pub register_there : (t : Ty) → slice_get a.program.types.types a.function.result.0 ≡ Some t → is_served_result a.program.types a.function.result ≡ true → HasRegister a (first_state a T)
+    register_there t at b some = record {
+      local = nameless a.function.place a.function.result;
+      there = result_first b some;
+      nameless = refl;
+      kind = refl;
+      typed =
+          ap (λ (x : Types). slice_get x.types a.function.result.0) first_types ∙ table a.function.result.0 t at
+          ∙ ap Some (sym (ap (λ (o : Option Ty). unwrap_or o ty.Void) at));
+    }
 
     module _ (types : Types) (f : Function) (front : IsFront a.program.types.types types.types) (variables : are_reached_variables false a.program.types a.function.locals ≡ true) where
       nothing_follows : Follows types f a (with_parameters 0) (nothing_written T)
@@ -264,11 +259,11 @@ module _ (a : Around) where
           subst (λ (v : Visible). Follows types f a v given) (all_visible a.function.parameters)
           (each_follows a.function.parameters [] a.function.locals (with_parameters 0) (nothing_written T) refl refl fits nothing_follows)
 
-      pub first_follows : is_built_result a.program.types a.function.result ≡ true → Follows types f a (with_parameters (length a.function.parameters)) (first_state a T)
-      first_follows result = follows_grown types f a (with_parameters (length a.function.parameters)) given (first_state a T) (result_pending (type_at a.program.types a.function.result) given) (result_grows (type_at a.program.types a.function.result) given result) given_follows
+      pub first_follows : is_served_result a.program.types a.function.result ≡ true → Follows types f a (with_parameters (length a.function.parameters)) (first_state a T)
+      first_follows result = follows_grown types f a (with_parameters (length a.function.parameters)) given (first_state a T) (result_pending (type_at a.program.types a.function.result) given) (result_grows (type_at a.program.types a.function.result) given (kind_of result)) given_follows
 
       -- the parameters are known, and all else that has a name is blank
-      pub entry_knows : is_built_result a.program.types a.function.result ≡ true → f.parameters ≡ length a.function.parameters → IsFront (first_state a T).locals f.locals → Knows f (first_state a T).living (entry_known f)
+      pub entry_knows : is_served_result a.program.types a.function.result ≡ true → f.parameters ≡ length a.function.parameters → IsFront (first_state a T).locals f.locals → Knows f (first_state a T).living (entry_known f)
       entry_knows result count locals = record {
         sized = map_length (given_ready f.parameters f.locals) ∙ given_length f.parameters f.locals;
         alive = λ y m. alive y (subst (Among y) same m);
@@ -276,7 +271,7 @@ module _ (a : Around) where
       }
         where
           grows : Grows given (first_state a T)
-          grows = result_grows (type_at a.program.types a.function.result) given result
+          grows = result_grows (type_at a.program.types a.function.result) given (kind_of result)
 
           same : (first_state a T).living ≡ given.living
           same = grows.living

@@ -15,7 +15,7 @@ use Rattle.life_writer.specs.Writing.{State, Gives, with_code, write}
 use Rattle.life_elab_laws.proofs.Doing.{Acting, DoesLevel}
 use Rattle.life_elab_laws.proofs.Exits.{Knows, Leaves, MayKnow, leaves_falling, leaves_joined, leaves_may, leaves_same}
 use Rattle.life_elab_laws.proofs.Following.{alive_knows, Adds, Follows, adds_then, begins_added, follows_grown, grows_adds, knows_alive}
-use Rattle.life_elab_laws.proofs.GivingBack.{GivesValue, asks_known, known_may}
+use Rattle.life_elab_laws.proofs.GivingBack.{GivesResult, asks_known, known_may}
 use Rattle.life_elab_laws.proofs.Growing.{Begins}
 use Rattle.life_elab_laws.proofs.OrderedTypes.{order_then}
 use Rattle.life_elab_laws.proofs.Conditions.{Asked, AsksAll, Tests}
@@ -100,7 +100,7 @@ module _ (types : Types) (texts : ℕ) (so_far : Bool) (fs : List Function) (f :
               ∙ ap (λ (q : Flow). joined (before_both q) (joined (flow types f (trees first.does.code) q.on_true) (flow types f (trees second.does.code) q.on_false))) g.decides))
               after
 
-          returned : GivesValue a → ReturnsKnown types f (result_local a) (trees (chosen ∷ [])) (Some k)
+          returned : GivesResult a → ReturnsKnown types f (result_local a) (trees (chosen ∷ [])) (Some k)
           returned gives =
               let behind = subst (λ (q : Flow). ReturnsKnown types f (result_local a) (trees first.does.code) q.on_true × ReturnsKnown types f (result_local a) (trees second.does.code) q.on_false) (sym g.decides)
               (first.does.returns begun gives (Some g.on) known_on, second.does.returns b gives (Some g.off) known_off) in
@@ -113,7 +113,7 @@ module _ (types : Types) (texts : ℕ) (so_far : Bool) (fs : List Function) (f :
           ways = leaves_may types f in_loop s.living r.living (take s.outside s.living) (trees (chosen ∷ [])) went;
         }
 
-        branched_returns : GivesValue a → (o : Knowing) → MayKnow f s.living o → ReturnsKnown types f (result_local a) (trees (chosen ∷ [])) o
+        branched_returns : GivesResult a → (o : Knowing) → MayKnow f s.living o → ReturnsKnown types f (result_local a) (trees (chosen ∷ [])) o
         branched_returns gives = known_may types f (result_local a) s.living (trees (chosen ∷ [])) (λ k knows. returned k knows gives)
 
       pub branched_does : DoesLevel types texts so_far fs f a x in_loop s both
@@ -141,7 +141,7 @@ module _ (types : Types) (texts : ℕ) (so_far : Bool) (fs : List Function) (f :
       stated =
           stated_alone types texts so_far fs f in_loop (Choice w.given Skip (Stops keyword))
           (stated_choice types texts so_far fs f in_loop w.given Skip (Stops keyword) asks.fine (stated_none types texts so_far fs f in_loop)
-          (record { statement = refl; tests = refl; breaks = refl; plain = λ so. refl; given = refl; formed = refl; served = λ so. refl }));
+          (record { statement = refl; tests = refl; breaks = refl; given = refl; formed = refl; served = λ so. refl }));
       ways = leaves_may types f in_loop s.living w.state.living (take s.outside s.living) (trees (Choice w.given Skip (Stops keyword) ∷ [])) went;
     }
       where

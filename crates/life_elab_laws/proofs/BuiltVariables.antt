@@ -40,7 +40,7 @@ use Rattle.life_elab_laws.proofs.GivingBack.{fine_known}
 use Rattle.life_elab_laws.proofs.Growing.{Begins, begins_before}
 use Rattle.life_elab_laws.proofs.Held.{blank_there}
 use Rattle.life_elab_laws.proofs.Knowledge.{at_set, beside_set, set_length}
-use Rattle.life_elab_laws.proofs.Making.{Alive, IsOpen, IsPlace, opened_later}
+use Rattle.life_elab_laws.proofs.Making.{Alive, IsOpen, opened_later}
 use Rattle.life_elab_laws.proofs.OrderedTypes.{order_then}
 use Rattle.life_elab_laws.proofs.Parts.{Goes, Makes, Part, Runs}
 use Rattle.life_elab_laws.proofs.PendingTemporaries.{ArePending, temporary_later}
@@ -188,7 +188,7 @@ module _ (a : Around) (types : Types) (texts : ℕ) (so_far : Bool) (fs : List F
         all_fine =
             fine_append types texts so_far fs f made.code (comes ++ (part.code ++ e.code)) first.fine
             (fine_append types texts so_far fs f comes (part.code ++ e.code)
-            (fine_acts types texts so_far fs f u.place (Live x form) (record { plain = λ so. refl; given = refl; formed = lives begins; served = λ so. absurd (false≢true (sym wide ∙ so)) }))
+            (fine_acts types texts so_far fs f u.place (Live x form) (record { given = refl; formed = lives begins; served = λ so. absurd (false≢true (sym wide ∙ so)) }))
             (fine_append types texts so_far fs f part.code e.code second.fine ends_fine))
 
         -- ---- on a way

@@ -1,7 +1,7 @@
--- Calls: each argument is a number of the parameter's type in a register, and the result goes to a register of its type.
-use Rattle.std.proofs.Common.{◌≡◌, ℕ, Bool, true, false, ◌&&◌, ◌||◌, if◌then◌else◌, List, [], ◌∷◌, flat_map, slice_get, Option, Some, None, refl, sym, ap, ◌∙◌}
+-- Calls: each argument is a number of the parameter's type in a register, or a pointer, and the result goes to a register of its type.
+use Rattle.std.proofs.Common.{◌≡◌, ℕ, Bool, true, false, ◌&&◌, ◌||◌, not, if◌then◌else◌, nat_eq, List, [], ◌∷◌, flat_map, slice_get, Option, Some, None, refl, ap, ◌∙◌}
 use Rattle.std.proofs.lemmas.Bool.{and_from, and_parts, or_left, or_right}
-use Rattle.std.specs.List.{list_all}
+use Rattle.std.specs.List.{list_all, list_any}
 use Rattle.life_types.specs.Pointees.{ty_of}
 use Rattle.life_types.specs.TypeTests.{is_pointer, is_value}
 use Rattle.life_types.specs.Types.{Types}
@@ -12,6 +12,9 @@ use Rattle.life_types.specs.declared.ty.TyId.{TyId}
 use Rattle.life_typed.specs.Programs.{FunctionForm}
 use Rattle.life_core.specs.Function.{Function}
 use Rattle.life_core.specs.Operands.{Argument, Location, Value, whole}
+use Rattle.life_core.specs.Served.{is_served_argument, is_served_location}
+use Rattle.life_core.specs.Step.{Call}
+use Rattle.life_core.specs.Touched.{target_uses}
 use Rattle.life_proper.specs.GivenOver.{given_argument}
 use Rattle.life_proper.specs.OperandTypes.{same}
 use Rattle.life_proper.specs.OperandTypes as operands
@@ -22,13 +25,13 @@ use Rattle.life_well_typed.specs.Expressions.{parameter_types}
 use Rattle.life_writer.specs.Calls.{called, called_alone, handed}
 use Rattle.life_writer.specs.Registers.{computed}
 use Rattle.life_writer.specs.Writing.{Gives, State, gives}
-use Rattle.life_elab_laws.proofs.Calls.{IsCallee, alone_plain, call_plain, written_fills}
+use Rattle.life_elab_laws.proofs.Calls.{IsCallee, written_fills}
 use Rattle.life_elab_laws.proofs.Gifts.{AreHanded, a_number, arguments, both, nothing}
 use Rattle.life_elab_laws.proofs.Instructions.{Computes, IsIntoOf, computed_part, into_of_later}
 use Rattle.life_elab_laws.proofs.Making.{IsOpen}
-use Rattle.life_elab_laws.proofs.OperandsThere.{number_any, same_is, value_same}
+use Rattle.life_elab_laws.proofs.OperandsThere.{number_any, value_same}
 use Rattle.life_elab_laws.proofs.Parts.{Makes, and_part, leaf_part, seen_part, then_part}
-use Rattle.life_elab_laws.proofs.Shaping.{IsFineStep, is_no_object}
+use Rattle.life_elab_laws.proofs.Shaping.{IsFineStep, gives_values, is_no_object}
 use Rattle.life_elab_laws.proofs.Values.{by_values}
 
 value_no_pointer : (t : Ty) → is_value t ≡ true → is_pointer t ≡ false
@@ -38,7 +41,7 @@ module _ (types : Types) (texts : ℕ) (so_far : Bool) (fs : List Function) (f :
   -- ---- arguments
 
   pub none_handed : (s : State) → Makes types texts so_far fs f None s (gives [] s) (arguments types texts so_far fs f [])
-  none_handed s = leaf_part types texts so_far fs f [] s (arguments types texts so_far fs f []) (λ b. record { fit = refl; own = refl; given = refl; served = λ so. refl; values = λ so. refl }) (λ b k alive. tt)
+  none_handed s = leaf_part types texts so_far fs f [] s (arguments types texts so_far fs f []) (λ b. record { fit = refl; own = refl; given = refl; served = λ so. refl }) (λ b k alive. tt)
 
   -- one before the others
   pub handed_part : (id : TyId) (t : Ty) (ids : List TyId) (first : State → Gives ℕ) (others : State → Gives (List Argument)) (s : State) → ty_of types id ≡ t → IsOpen s
@@ -55,7 +58,6 @@ module _ (types : Types) (texts : ℕ) (so_far : Bool) (fs : List Function) (f :
         own = h.1.own;
         given = h.1.given;
         served = h.1.served;
-        values = h.1.values;
       })
       (λ n k h. h)
 
@@ -74,13 +76,6 @@ module _ (types : Types) (texts : ℕ) (so_far : Bool) (fs : List Function) (f :
       ap (λ (b : Bool). if b then operands.takes types (type_in types f (whole x)) t else (same t (type_in types f (whole x)) && (object_at types f x || is_number types f x))) (value_no_pointer t v)
       ∙ and_from (same t (placed.type_at types f x)) (object_at types f x || is_number types f x) (ap (same t) typed ∙ value_same t v) (or_left (object_at types f x) (is_number types f x) there)
 
-  -- a local to which a value goes is no pointer
-  takes_value : (t : Ty) (x : ℕ) → is_value t ≡ true → goes_to types texts fs f t (Some (whole x)) ≡ true → is_pointer (placed.type_at types f x) ≡ false
-  takes_value t x v goes =
-      let into : (same t (placed.type_at types f x) && (object_at types f x || is_number types f x)) ≡ true =
-      ap (λ (b : Bool). if b then operands.takes types (type_in types f (whole x)) t else (same t (type_in types f (whole x)) && (object_at types f x || is_number types f x))) (sym (value_no_pointer t v)) ∙ goes in
-      ap is_pointer (sym (same_is t (placed.type_at types f x) (and_parts (same t (placed.type_at types f x)) (object_at types f x || is_number types f x) into).0)) ∙ value_no_pointer t v
-
   pub called_formed : (g : ℕ) (xs : List Argument) (of : FunctionForm) (target : Option Location) → IsCallee types fs g of → AreHanded types texts so_far fs f (parameter_types (Some of)) xs
       → goes_to types texts fs f (ty_of types of.result) target ≡ true → is_call types texts fs f (slice_get fs g) target xs ≡ true
   called_formed g xs of target callee given goes =
@@ -90,24 +85,36 @@ module _ (types : Types) (texts : ℕ) (so_far : Bool) (fs : List Function) (f :
       (and_from (have_own_slots types texts fs f xs) (goes_to types texts fs f (ty_of types callee.core.result) target) given.own
       (ap (λ (id : TyId). goes_to types texts fs f (ty_of types id) target) callee.gives ∙ goes))
 
+  -- nothing is given over
+  none_in : (zs : List ℕ) → list_any (λ (x : ℕ). list_any (nat_eq x) []) zs ≡ false
+  none_in [] = refl
+  none_in (z ∷ zs) = none_in zs
+
+  keeps_values : (target : Option Location) (g : ℕ) (xs : List Argument) → flat_map given_argument xs ≡ [] → gives_values types f (Call target (record { 0 = g }) xs) ≡ true
+  keeps_values target g xs none =
+      ap (λ (ys : List ℕ). list_all (is_no_object types f) ys && not (list_any (λ (x : ℕ). list_any (nat_eq x) ys) (target_uses target))) none ∙ ap not (none_in (target_uses target))
+
   pub alone_fine : (g : ℕ) (xs : List Argument) (of : FunctionForm) → IsCallee types fs g of → AreHanded types texts so_far fs f (parameter_types (Some of)) xs → ty_of types of.result ≡ ty.Void
       → IsFineStep types texts so_far fs f (called_alone g xs)
   alone_fine g xs of callee h void = record {
-    plain = λ so. alone_plain types f g xs (h.values so);
-    given = and_from (list_all (is_no_object types f) (flat_map given_argument xs)) true h.given refl;
+    given = keeps_values None g xs h.given;
     formed = called_formed g xs of None callee h (ap (λ (u : Ty). goes_to types texts fs f u None) void);
     served = h.served;
   }
 
-  -- a call that gives a value
-  pub called_fine : (g : ℕ) (xs : List Argument) (of : FunctionForm) (x : ℕ) → IsCallee types fs g of → AreHanded types texts so_far fs f (parameter_types (Some of)) xs → is_value (ty_of types of.result) ≡ true
-      → goes_to types texts fs f (ty_of types of.result) (Some (whole x)) ≡ true → IsFineStep types texts so_far fs f (called g xs (whole x))
-  called_fine g xs of x callee h value goes = record {
-    plain = λ so. call_plain types f g xs (h.values so) x (takes_value (ty_of types of.result) x value goes);
-    given = and_from (list_all (is_no_object types f) (flat_map given_argument xs)) true h.given refl;
-    formed = called_formed g xs of (Some (whole x)) callee h goes;
-    served = h.served;
+  -- a call that gives something
+  pub called_at_fine : (g : ℕ) (xs : List Argument) (of : FunctionForm) (l : Location) → IsCallee types fs g of → AreHanded types texts so_far fs f (parameter_types (Some of)) xs
+      → goes_to types texts fs f (ty_of types of.result) (Some l) ≡ true → (so_far ≡ true → is_served_location l ≡ true) → IsFineStep types texts so_far fs f (called g xs l)
+  called_at_fine g xs of l callee h goes served = record {
+    given = keeps_values (Some l) g xs h.given;
+    formed = called_formed g xs of (Some l) callee h goes;
+    served = λ so. and_from (is_served_location l) (list_all is_served_argument xs) (served so) (h.served so);
   }
+
+  -- .. to a local
+  pub called_fine : (g : ℕ) (xs : List Argument) (of : FunctionForm) (x : ℕ) → IsCallee types fs g of → AreHanded types texts so_far fs f (parameter_types (Some of)) xs
+      → goes_to types texts fs f (ty_of types of.result) (Some (whole x)) ≡ true → IsFineStep types texts so_far fs f (called g xs (whole x))
+  called_fine g xs of x callee h goes = called_at_fine g xs of (whole x) callee h goes (λ so. refl)
 
   -- ---- a call that gives a number
 
@@ -115,7 +122,7 @@ module _ (types : Types) (texts : ℕ) (so_far : Bool) (fs : List Function) (f :
       → Computes types texts so_far fs f (arguments types texts so_far fs f (parameter_types (Some of))) xs t (λ r. called g xs (whole r))
   call_computes g xs of t callee own v = record {
     fills = λ r n k e p. written_fills f g (parameter_types (Some of)) xs n k p r e;
-    fine = λ r e h. called_fine g xs of r callee h (ap is_value own ∙ v) (ap (λ (u : Ty). goes_to types texts fs f u (Some (whole r))) own ∙ goes_value t r v e);
+    fine = λ r e h. called_fine g xs of r callee h (ap (λ (u : Ty). goes_to types texts fs f u (Some (whole r))) own ∙ goes_value t r v e);
   }
 
   pub call_part : (g : ℕ) (of : FunctionForm) (into : Option ℕ) (t : Ty) (place : Place) (s : State) (w : Gives (List Argument)) → IsCallee types fs g of → ty_of types of.result ≡ t

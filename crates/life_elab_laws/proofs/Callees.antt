@@ -1,18 +1,18 @@
--- What the core functions of a built program take and give: values.
-use Rattle.std.proofs.Common.{◌≡◌, ◌<◌, ◌≤◌, ◌⊎◌, inl, inr, ℕ, zero, suc, Bool, true, false, ◌||◌, List, [], ◌∷◌, ◌++◌, length, map, slice_get, take, Option, Some, None, refl, sym, ap, ◌∙◌, subst, unwrap_or, arith}
-use Rattle.std.proofs.lemmas.Bool.{and_parts, false≢true, or_cases}
+-- What the core functions of a program that is reached take and give.
+use Rattle.std.proofs.Common.{◌≡◌, ◌<◌, ◌≤◌, ℕ, zero, suc, Bool, true, false, List, [], ◌∷◌, ◌++◌, length, map, slice_get, take, Option, Some, None, refl, sym, ap, ◌∙◌, subst, unwrap_or, arith}
+use Rattle.std.proofs.lemmas.Bool.{and_parts}
 use Rattle.std.proofs.lemmas.Option.{none-some, same_Some}
 use Rattle.life_types.specs.Pointees.{or_void, ty_of}
-use Rattle.life_types.specs.TypeTests.{is_value, is_void}
+use Rattle.life_types.specs.TypeTests.{is_void}
 use Rattle.life_types.specs.Types.{Types, class, class_at}
-use Rattle.life_types.specs.declared.ty.Class.TheVariants.{Value}
 use Rattle.life_types.specs.declared.ty.Ty.{Ty}
 use Rattle.life_types.specs.declared.ty.Ty.TheVariants as ty
 use Rattle.life_types.specs.declared.ty.TyId.{TyId}
-use Rattle.life_built.specs.Built.{are_values, is_built_result, is_default}
-use Rattle.life_elab_laws.specs.Reached.{are_reached_variables, is_reached_function, is_reached_statement}
+use Rattle.life_served.specs.Served.{is_served_result}
+use Rattle.life_elab_laws.specs.Reached.{are_reached_parameters, are_reached_variables, is_reached_function, is_reached_parameter, is_reached_statement}
 use Rattle.life_typed.specs.BaseTypes.{type_at}
-use Rattle.life_typed.specs.Programs.{FunctionForm, ProgramForm}
+use Rattle.life_typed.specs.Ends.{ends}
+use Rattle.life_typed.specs.Programs.{FunctionForm, ProgramForm, is_main}
 use Rattle.life_typed.specs.declared.typed_program.ParameterPromise.{ParameterPromise}
 use Rattle.life_typed.specs.declared.typed_program.TypedLocal.{TypedLocal}
 use Rattle.life_core.specs.Function.{Function}
@@ -27,43 +27,38 @@ use Rattle.life_elab.specs.Programs.{around, texts_of}
 use Rattle.life_elab_laws.proofs.Beginning.{parameter_locals, parameters_front, register_there}
 use Rattle.life_elab_laws.proofs.Calls.{IsCallee}
 use Rattle.life_elab_laws.proofs.Fronts.{IsFront, front_cut, front_then}
+use Rattle.life_elab_laws.proofs.HandedTypes.{IsHandedType, handed_later, handed_type}
 use Rattle.life_elab_laws.proofs.Reaching.{variables_any}
-use Rattle.life_elab_laws.proofs.Shaped.{value_later}
+use Rattle.life_elab_laws.proofs.ResultTypes.{IsResultType, gives_nothing, gives_raw, gives_reference, gives_value, past_end, result_is}
+use Rattle.life_elab_laws.proofs.Setting.{GivesBack, asked, unasked}
 use Rattle.life_elab_laws.proofs.Types.{value_class}
-use Rattle.life_elab_laws.proofs.Values.{by_results}
 use Rattle.life_core.specs.declared.program.LocalKind.TheVariants.{Register}
 
 -- what stands in a table is the type there
 pub type_found : (types : Types) (id : TyId) (t : Ty) → slice_get types.types id.0 ≡ Some t → type_at types id ≡ t
 type_found types id t at = ap (λ (o : Option Ty). unwrap_or o ty.Void) at
 
--- a value, or nothing
-value_or_void : (t : Ty) → (is_void t || is_value t) ≡ true → class (Some t) ≡ Value
-value_or_void = by_results (λ t. class (Some t) ≡ Value) refl (λ t v. value_class t v)
-
 -- ---- what is reached
 
 pub record IsReachedFunction (texts : ℕ) (so_far : Bool) (types : Types) (f : FunctionForm) : Type 0 where
-  pub result : is_built_result types f.result ≡ true
-  pub parameters : are_values types (take (length f.parameters) f.locals) ≡ true
+  pub result : is_served_result types f.result ≡ true
+  pub parameters : are_reached_parameters so_far types (take (length f.parameters) f.locals) ≡ true
   pub variables : are_reached_variables so_far types f.locals ≡ true
-  pub promise : is_default f.promise ≡ true
-  pub body : is_reached_statement texts so_far types f.locals f.body ≡ true
+  pub body : is_reached_statement texts so_far types f.locals f.result f.body ≡ true
   -- whatever is served so far
   pub any : are_reached_variables false types f.locals ≡ true
 
 pub reached_parts : (texts : ℕ) (so_far : Bool) (types : Types) (f : FunctionForm) → is_reached_function texts so_far types f ≡ true → IsReachedFunction texts so_far types f
 reached_parts texts so_far types f b =
-    let one = and_parts (is_built_result types f.result) _ b in
-    let two = and_parts (are_values types (take (length f.parameters) f.locals)) _ one.1 in
-    let three = and_parts (are_reached_variables so_far types f.locals) _ two.1 in
-    let four = and_parts (is_default f.promise) (is_reached_statement texts so_far types f.locals f.body) three.1 in
-    record { result = one.0; parameters = two.0; variables = three.0; promise = four.0; body = four.1; any = variables_any so_far types f.locals three.0 }
+    let one = and_parts (is_served_result types f.result) _ b in
+    let two = and_parts (are_reached_parameters so_far types (take (length f.parameters) f.locals)) _ one.1 in
+    let three = and_parts (are_reached_variables so_far types f.locals) (is_reached_statement texts so_far types f.locals f.result f.body) two.1 in
+    record { result = one.0; parameters = two.0; variables = three.0; body = three.1; any = variables_any so_far types f.locals three.0 }
 
-pub values_at : (types : Types) (us : List TypedLocal) → are_values types us ≡ true → (n : ℕ) (id : TyId) → slice_get (map type_of us) n ≡ Some id → is_value (type_at types id) ≡ true
-values_at types [] b n id at = absurd (none-some id at)
-values_at types (u ∷ us) b zero id at = subst (λ (i : TyId). is_value (type_at types i) ≡ true) (same_Some u.ty id at) (and_parts (is_value (type_at types u.ty)) (are_values types us) b).0
-values_at types (u ∷ us) b (suc n) id at = values_at types us (and_parts (is_value (type_at types u.ty)) (are_values types us) b).1 n id at
+pub handed_at : (so_far : Bool) (types : Types) (us : List TypedLocal) → are_reached_parameters so_far types us ≡ true → (n : ℕ) (id : TyId) → slice_get (map type_of us) n ≡ Some id → IsHandedType so_far types id
+handed_at so_far types [] b n id at = absurd (none-some id at)
+handed_at so_far types (u ∷ us) b zero id at = subst (IsHandedType so_far types) (same_Some u.ty id at) (handed_type so_far types u.ty (and_parts (is_reached_parameter so_far types u.ty) (are_reached_parameters so_far types us) b).0)
+handed_at so_far types (u ∷ us) b (suc n) id at = handed_at so_far types us (and_parts (is_reached_parameter so_far types u.ty) (are_reached_parameters so_far types us) b).1 n id at
 
 -- ---- what a function takes
 
@@ -74,16 +69,16 @@ types_cut a [] us rest few = refl
 types_cut a (p ∷ ps) [] rest few = absurd (omega (arith, few))
 types_cut a (p ∷ ps) (u ∷ us) rest few = ap (λ (ids : List TyId). u.ty ∷ ids) (types_cut a ps us rest (omega (arith, few)))
 
-value_taken : (a : Around) (ps : List ParameterPromise) (us : List TypedLocal) (y : ℕ) → length ps ≤ length us → are_values a.program.types (take (length ps) us) ≡ true → y < length ps
-    → (l : Local) × (slice_get (parameter_locals a ps us) y ≡ Some l) × (is_value (type_at a.program.types l.ty) ≡ true)
-value_taken a [] us y few b lt = absurd (omega (arith, lt))
-value_taken a (p ∷ ps) [] y few b lt = absurd (omega (arith, few))
-value_taken a (p ∷ ps) (u ∷ us) zero few b lt =
-    let parts = and_parts (is_value (type_at a.program.types u.ty)) (are_values a.program.types (take (length ps) us)) b in
-    (parameter_local a p u, refl, parts.0)
-value_taken a (p ∷ ps) (u ∷ us) (suc y) few b lt =
-    let parts = and_parts (is_value (type_at a.program.types u.ty)) (are_values a.program.types (take (length ps) us)) b in
-    value_taken a ps us y (omega (arith, few)) parts.1 (omega (arith, lt))
+parameter_taken : (so_far : Bool) (a : Around) (ps : List ParameterPromise) (us : List TypedLocal) (y : ℕ) → length ps ≤ length us → are_reached_parameters so_far a.program.types (take (length ps) us) ≡ true → y < length ps
+    → (l : Local) × (slice_get (parameter_locals a ps us) y ≡ Some l) × IsHandedType so_far a.program.types l.ty
+parameter_taken so_far a [] us y few b lt = absurd (omega (arith, lt))
+parameter_taken so_far a (p ∷ ps) [] y few b lt = absurd (omega (arith, few))
+parameter_taken so_far a (p ∷ ps) (u ∷ us) zero few b lt =
+    let parts = and_parts (is_reached_parameter so_far a.program.types u.ty) (are_reached_parameters so_far a.program.types (take (length ps) us)) b in
+    (parameter_local a p u, refl, handed_type so_far a.program.types u.ty parts.0)
+parameter_taken so_far a (p ∷ ps) (u ∷ us) (suc y) few b lt =
+    let parts = and_parts (is_reached_parameter so_far a.program.types u.ty) (are_reached_parameters so_far a.program.types (take (length ps) us)) b in
+    parameter_taken so_far a ps us y (omega (arith, few)) parts.1 (omega (arith, lt))
 
 -- ---- what its core function takes and gives, where it begins as it is written
 
@@ -118,11 +113,11 @@ module _ (so_far : Bool) (p : ProgramForm) (of : FunctionForm) (T types : Types)
       ∙ ap (λ (ls : List Local). map local_type (take (length of.parameters) ls)) cut.1
       ∙ types_cut (around p of) of.parameters of.locals cut.0 is.typed.parameters
 
-  pub takes_values : (y : ℕ) (l : Local) → slice_get core.locals y ≡ Some l → y < core.parameters → is_value (type_at types l.ty) ≡ true
-  takes_values y l at lt =
-      let taken = value_taken (around p of) of.parameters of.locals y is.typed.parameters is.built.parameters (omega (arith, lt, begun.count)) in
+  pub takes_handed : (y : ℕ) (l : Local) → slice_get core.locals y ≡ Some l → y < core.parameters → IsHandedType so_far types l.ty
+  takes_handed y l at lt =
+      let taken = parameter_taken so_far (around p of) of.parameters of.locals y is.typed.parameters is.built.parameters (omega (arith, lt, begun.count)) in
       let there : slice_get core.locals y ≡ Some taken.0 = begun.locals y taken.0 (parameters_front (around p of) T is.typed.parameters begun.table is.built.result y taken.0 taken.1) in
-      value_later p.types types front l.ty (subst (λ (u : Local). is_value (type_at p.types u.ty) ≡ true) (same_Some taken.0 l (sym there ∙ at)) taken.2)
+      handed_later so_far p.types types front l.ty (subst (λ (u : Local). IsHandedType so_far p.types u.ty) (same_Some taken.0 l (sym there ∙ at)) taken.2)
 
   result_type : slice_get types.types core.result.0 ≡ Some is.ty
   result_type = ap (λ (id : TyId). slice_get types.types id.0) begun.same ∙ front of.result.0 is.ty is.result
@@ -130,21 +125,32 @@ module _ (so_far : Bool) (p : ProgramForm) (of : FunctionForm) (T types : Types)
   pub callee_from : (fs : List Function) (g : ℕ) → slice_get fs g ≡ Some core → IsCallee types fs g of
   callee_from fs g there = record { core = core; there = there; typed = takes_types; gives = begun.same }
 
-  pub gives_from : class_at types core.result ≡ Value
-  gives_from =
-      ap class result_type
-      ∙ value_or_void is.ty (subst (λ (t : Ty). (is_void t || is_value t) ≡ true) (type_found p.types of.result is.ty is.result) is.built.result)
+  -- what a pointer is given back by has an end that control doesn't come to, since main gives back an int
+  pub gives_from : (is_main p.names of.name ≡ true → type_at p.types of.result ≡ ty.Int) → GivesBack (around p of) types core
+  gives_from mains = go (result_is p.types (type_at p.types of.result) is.built.result)
+    where
+      class_is : class_at types core.result ≡ class (Some (type_at p.types of.result))
+      class_is = ap class result_type ∙ ap (λ (t : Ty). class (Some t)) (sym (type_found p.types of.result is.ty is.result))
+
+      pointing : is_void (type_at p.types of.result) ≡ false → (type_at p.types of.result ≡ ty.Int → ⊥) → GivesBack (around p of) types core
+      pointing some other = asked begun.count some (past_end (is_main p.names of.name) (is_void (type_at p.types of.result)) (ends of.body) some (λ main. other (mains main)) is.typed.ending)
+
+      go : IsResultType p.types (type_at p.types of.result) → GivesBack (around p of) types core
+      go (gives_nothing void) = unasked (class_is ∙ ap (λ (t : Ty). class (Some t)) void)
+      go (gives_value v) = unasked (class_is ∙ value_class (type_at p.types of.result) v)
+      go (gives_raw target constant raw w) = pointing (ap is_void raw) (λ int. clash (sym int ∙ raw))
+        where
+          clash : ty.Int ≡ ty.Raw target constant → ⊥
+          clash e = cc
+      go (gives_reference target constant refers w) = pointing (ap is_void refers) (λ int. clash (sym int ∙ refers))
+        where
+          clash : ty.Int ≡ ty.Reference target constant → ⊥
+          clash e = cc
 
   -- the local of its result is a register, and has no name
   pub result_register : (l : Local) → slice_get core.locals core.parameters ≡ Some l → is_void (ty_of types core.result) ≡ false → (l.name ≡ None) × (l.kind ≡ Register)
-  result_register l at void = go (or_cases (is_void (type_at p.types of.result)) (is_value (type_at p.types of.result)) is.built.result)
-    where
-      type_is : ty_of types core.result ≡ type_at p.types of.result
-      type_is = ap or_void result_type ∙ sym (type_found p.types of.result is.ty is.result)
-
-      go : (is_void (type_at p.types of.result) ≡ true) ⊎ (is_value (type_at p.types of.result) ≡ true) → (l.name ≡ None) × (l.kind ≡ Register)
-      go (inl e) = absurd (false≢true (sym void ∙ ap is_void type_is ∙ e))
-      go (inr e) =
-          let register = (register_there (around p of) T is.typed.parameters begun.table is.ty is.result e).0 in
-          let same : l ≡ register.local = same_Some l register.local (sym at ∙ ap (slice_get core.locals) begun.count ∙ begun.locals (length of.parameters) register.local register.there) in
-          (ap (λ (x : Local). x.name) same ∙ register.nameless, ap (λ (x : Local). x.kind) same ∙ register.kind)
+  result_register l at some =
+      let type_is : ty_of types core.result ≡ type_at p.types of.result = ap or_void result_type ∙ sym (type_found p.types of.result is.ty is.result) in
+      let register = register_there (around p of) T is.typed.parameters begun.table is.ty is.result is.built.result (sym (ap is_void type_is) ∙ some) in
+      let same : l ≡ register.local = same_Some l register.local (sym at ∙ ap (slice_get core.locals) begun.count ∙ begun.locals (length of.parameters) register.local register.there) in
+      (ap (λ (x : Local). x.name) same ∙ register.nameless, ap (λ (x : Local). x.kind) same ∙ register.kind)

@@ -1,23 +1,19 @@
 -- Calls: arguments in registers, and what a function that is called takes and gives.
-use Rattle.std.proofs.Common.{◌≡◌, ℕ, Bool, true, false, not, List, [], ◌∷◌, ◌++◌, cond, flat_map, slice_get, Option, Some, None, refl, ap, ◌∙◌}
-use Rattle.std.specs.List.{list_all}
+use Rattle.std.proofs.Common.{◌≡◌, ℕ, Bool, true, false, List, [], ◌∷◌, ◌++◌, cond, flat_map, slice_get, Option, Some, None, refl, ap, ◌∙◌}
 use Rattle.std.proofs.lemmas.Bool.{and_from, false≢true}
-use Rattle.life_types.specs.TypeTests.{is_pointer}
 use Rattle.life_types.specs.Types.{Types}
 use Rattle.life_types.specs.declared.ty.TyId.{TyId}
 use Rattle.life_typed.specs.Programs.{FunctionForm}
 use Rattle.life_core.specs.Function.{Function}
 use Rattle.life_core.specs.Kinds.{has_kind, is_object, is_object_at, is_register, is_register_at}
-use Rattle.life_core.specs.Operands.{Argument, Value, whole}
-use Rattle.life_core.specs.Touched.{argument_leaves, argument_uses, if_object, touched_by, unless_object}
+use Rattle.life_core.specs.Operands.{Argument, Location, PointerOf, Value, whole}
+use Rattle.life_core.specs.Touched.{argument_leaves, argument_uses, if_object, nothing, touched_by, unless_object}
 use Rattle.life_core.specs.declared.program.Local.{Local}
 use Rattle.life_core.specs.declared.program.LocalKind.{LocalKind}
 use Rattle.life_core.specs.declared.program.LocalKind.TheVariants.{Object, Range, Register}
 use Rattle.life_proper.specs.declared.known.Known.{Known}
 use Rattle.life_proper.specs.declared.known.Known.TheVariants as known
-use Rattle.life_proper.specs.ByValue.{is_by_value, is_value_argument}
 use Rattle.life_proper.specs.Knowing.{known_at}
-use Rattle.life_proper.specs.Placed.{type_at}
 use Rattle.life_proper.specs.ReadyKnown.{are_known, are_ready, can_leave, is_known, known_after, set_known}
 use Rattle.life_proper.specs.WellFormed.{types_taken}
 use Rattle.life_proper.proofs.ReadyTests.{all_ready, both_known, one_known}
@@ -26,6 +22,8 @@ use Rattle.life_well_typed.specs.Expressions.{parameter_types}
 use Rattle.life_elab_laws.proofs.Falling.{Fills}
 use Rattle.life_elab_laws.proofs.Gifts.{AreNumbersFor}
 use Rattle.life_elab_laws.proofs.Held.{blank_there, ready_there}
+use Rattle.life_elab_laws.proofs.Making.{AreHeld, IsFilling}
+use Rattle.life_elab_laws.proofs.ViewSteps.{pointer_is_held}
 
 -- ---- functions
 
@@ -35,15 +33,6 @@ pub record IsCallee (types : Types) (fs : List Function) (g : ℕ) (of : Functio
   pub there : slice_get fs g ≡ Some core
   pub typed : types_taken core ≡ parameter_types (Some of)
   pub gives : core.result ≡ of.result
-
--- ---- no pointer goes into a call, or comes out of it
-
-module _ (types : Types) (f : Function) (g : ℕ) (xs : List Argument) (values : list_all is_value_argument xs ≡ true) where
-  pub call_plain : (x : ℕ) → is_pointer (type_at types f x) ≡ false → is_by_value types f (called g xs (whole x)) ≡ true
-  call_plain x e = and_from (list_all is_value_argument xs) (not (is_pointer (type_at types f x))) values (ap not e)
-
-  pub alone_plain : is_by_value types f (called_alone g xs) ≡ true
-  alone_plain = and_from (list_all is_value_argument xs) true values refl
 
 -- ---- a call is ready where its arguments are there
 
@@ -66,12 +55,21 @@ module _ (f : Function) where
   numbers_there [] [] n k h = refl
   numbers_there (id ∷ ids) (Value r ∷ xs) n k h =
       and_from (is_known known.Ready k r) (are_known known.Ready k (flat_map (argument_uses f) xs)) (ready_there k r h.0.1) (numbers_there ids xs n k h.1)
+  numbers_there (id ∷ ids) (PointerOf l ∷ xs) n k h =
+      and_from (is_known known.Ready k l.local) (are_known known.Ready k (flat_map (argument_uses f) xs)) (ready_there k l.local (ap (λ (q : Location). known_at k q.local) h.0.is ∙ h.0.held)) (numbers_there ids xs n k h.1)
   numbers_there _ _ n k h = absurd h
+
+  numbers_held : (ids : List TyId) (xs : List Argument) (n : ℕ) (k : List Known) → AreNumbersFor ids xs n k → AreHeld (flat_map (argument_uses f) xs ++ []) n k
+  numbers_held [] [] n k h = tt
+  numbers_held (id ∷ ids) (Value r ∷ xs) n k h = (h.0, numbers_held ids xs n k h.1)
+  numbers_held (id ∷ ids) (PointerOf l ∷ xs) n k h = (pointer_is_held l n k h.0, numbers_held ids xs n k h.1)
+  numbers_held _ _ n k h = absurd h
 
   -- nothing is given over
   numbers_stay : (ids : List TyId) (xs : List Argument) (n : ℕ) (k : List Known) → AreNumbersFor ids xs n k → flat_map (argument_leaves f) xs ≡ []
   numbers_stay [] [] n k h = refl
   numbers_stay (id ∷ ids) (Value r ∷ xs) n k h = numbers_stay ids xs n k h.1
+  numbers_stay (id ∷ ids) (PointerOf l ∷ xs) n k h = numbers_stay ids xs n k h.1
   numbers_stay _ _ n k h = absurd h
 
   module _ (g : ℕ) (ids : List TyId) (xs : List Argument) (n : ℕ) (k : List Known) (numbers : AreNumbersFor ids xs n k) where
@@ -92,6 +90,16 @@ module _ (f : Function) where
     -- its result goes to a register
     pub written_fills : (r : ℕ) → is_register_at f r ≡ true → Fills f k (called g xs (whole r)) r
     written_fills r e = call_fills r (ap (λ (object : Bool). are_known known.Blank k (cond object (r ∷ []) [])) (no_object (slice_get f.locals r) e))
+
+    -- .. whichever it is
+    pub called_filling : IsFilling f (called g xs) n k
+    called_filling = record {
+      uses = flat_map (argument_uses f) xs ++ [];
+      held = numbers_held ids xs n k numbers;
+      touches = λ x e.
+          ap (λ (gone : List ℕ). record nothing { uses = flat_map (argument_uses f) xs ++ []; leaves = gone; births = if_object f x; writes = unless_object f x }) stay
+          ∙ ap (λ (object : Bool). record nothing { uses = flat_map (argument_uses f) xs ++ []; births = cond object (x ∷ []) []; writes = cond object [] (x ∷ []) }) (no_object (slice_get f.locals x) e);
+    }
 
     -- .. or brings to life what isn't there
     pub born_fills : (x : ℕ) → known_at k x ≡ known.Blank → Fills f k (called g xs (whole x)) x

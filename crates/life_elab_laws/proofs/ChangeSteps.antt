@@ -59,7 +59,6 @@ module _ (types : Types) (texts : ℕ) (so_far : Bool) (fs : List Function) (f :
       acted_typed_part types texts so_far fs f P x place (Changes o c) s
       (λ p. let is = typed p in (
         record {
-          plain = λ so. refl;
           given = and_from (list_all (is_no_object types f) (given_change c)) true is.2.given refl;
           formed = and_from (is_change_of types texts fs f (type_of types f o) c) (not (is_const_place types f o)) (ap (λ (u : Ty). is_change_of types texts fs f u c) is.0.typed ∙ is.1) is.0.held;
           served = λ so. absurd (false≢true (sym wide ∙ so));

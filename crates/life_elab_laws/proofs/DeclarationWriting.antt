@@ -9,7 +9,7 @@ use Rattle.life_types.specs.declared.place.Place.{Place}
 use Rattle.life_types.specs.declared.ty.Ty.{Ty}
 use Rattle.life_types.specs.declared.ty.Ty.TheVariants as ty
 use Rattle.life_types.specs.declared.ty.TyId.{TyId}
-use Rattle.life_built.specs.Built.{needs_no_temporary}
+use Rattle.life_served.specs.Served.{needs_no_temporary}
 use Rattle.life_elab_laws.specs.Reached.{is_owner_of_values, is_reached_declaration, is_reached_declared, is_reached_expression, is_reached_initial, is_reached_variable, is_given_owner, is_reached_owner, is_reached_owned, is_text_there, is_owner_type, is_walker, is_reached_walker, is_span, is_walker_of_values, is_vector, is_reached_list, is_reached_form}
 use Rattle.life_typed.specs.BaseTypes.{type_at}
 use Rattle.life_typed.specs.Conversions.{is_place, fits}
@@ -49,7 +49,7 @@ use Rattle.life_writer.specs.Using.{pointing, value}
 use Rattle.life_writer.specs.Variables.{end_pending, variable_local}
 use Rattle.life_writer.specs.Uses.{Remaining}
 use Rattle.life_writer.specs.Writing.{State, Gives, ◌>>◌, emit, gives, mapped, with_code}
-use Rattle.life_elab.specs.DeclarationForms.{declared, declared_as, default_to, empty, given_initial, built_type}
+use Rattle.life_elab.specs.DeclarationForms.{declared, declared_as, default_to, empty, given_initial}
 use Rattle.life_elab.specs.Declarations.{variable as home}
 use Rattle.life_writer.proofs.Called.{call_for_seen, calling}
 use Rattle.life_elab_laws.proofs.Aiming.{pointed_fills, pointed_fine, literal_given}
@@ -59,7 +59,7 @@ use Rattle.life_elab_laws.proofs.Declaring.{declared_does, its_local, new_below,
 use Rattle.life_elab_laws.proofs.Doing.{Does}
 use Rattle.life_elab_laws.proofs.ExpressionKinds.{variable_built}
 use Rattle.life_elab_laws.proofs.ExpressionForms.{IsWhole}
-use Rattle.life_elab_laws.proofs.ExpressionTypes.{seen_kind}
+use Rattle.life_elab_laws.proofs.ExpressionTypes.{IsAnswered, answers_nothing, answers_place, answers_raw, answers_value, seen_kind}
 use Rattle.life_elab_laws.proofs.Expressions.{owner_expression, walker_expression, whole_expression, wholes}
 use Rattle.life_elab_laws.proofs.PointerForms.{points_whole, result_later}
 use Rattle.life_elab_laws.proofs.GivenKinds.{given_number, given_pointer, given_view}
@@ -72,7 +72,7 @@ use Rattle.life_elab_laws.proofs.Growing.{Begins, Grows, grows_none}
 use Rattle.life_elab_laws.proofs.Held.{blank_there, two_there}
 use Rattle.life_elab_laws.proofs.Knowledge.{at_set, beside_set}
 use Rattle.life_elab_laws.proofs.Locations.{is_location, is_pointed, seen_pointed}
-use Rattle.life_elab_laws.proofs.NewVariables.{bound_given, location_declared, owner_lives, raw_lives, reference_declared, value_goes, value_lives, value_saved, owner_declared, location_lives}
+use Rattle.life_elab_laws.proofs.NewVariables.{bound_given, location_declared, owner_lives, raw_lives, reference_declared, reference_kept, value_goes, value_lives, value_saved, owner_declared, location_lives}
 use Rattle.life_elab_laws.proofs.Parts.{Makes, leaf_part, then_part}
 use Rattle.life_elab_laws.proofs.Reaching.{variable_any}
 use Rattle.life_elab_laws.proofs.Setting.{Setting}
@@ -102,7 +102,7 @@ use Rattle.life_elab_laws.proofs.OperandsThere.{value_same}
 use Rattle.life_elab_laws.proofs.ListForms.{list_builds}
 use Rattle.life_well_typed.specs.Members.{is_listed}
 use Rattle.life_writer.specs.Initialising.{initialised}
-use Rattle.life_writer.specs.Lists.{list_object, listed}
+use Rattle.life_writer.specs.Lists.{built_type, list_object, listed}
 use Rattle.life_elab_laws.proofs.ViewForms.{AreWhole}
 use Rattle.life_elab_laws.proofs.TemporaryEnds.{TemporariesEnd, temporary_ends}
 
@@ -143,7 +143,7 @@ module _ (a : Around) (types : Types) (texts : ℕ) (so_far : Bool) (fs : List F
     live_fills x k e = record { ready = one_known known.Blank k x (blank_there k x e); after = refl }
 
     live_fine : (s' : State) → can_live types texts fs f (length s'.locals) ≡ true → (so_far ≡ true → is_served_birth (sort_of types f (length s'.locals)) ≡ true) → IsFineStep types texts so_far fs f (Live (length s'.locals) Plain)
-    live_fine s' lives born = record { plain = λ so. refl; given = refl; formed = lives; served = born }
+    live_fine s' lives born = record { given = refl; formed = lives; served = born }
 
     value_born : (t : Ty) → slice_get a.program.types.types u.ty.0 ≡ Some t → is_value t ≡ true → (s' : State) → Grows s s' → New s' → is_served_birth (sort_of types f (length s'.locals)) ≡ true
     value_born t is w s' g b = ap is_served_birth (object_sort t is w s' g b)
@@ -215,7 +215,7 @@ module _ (a : Around) (types : Types) (texts : ℕ) (so_far : Bool) (fs : List F
         let callee = setting.callees g of there in
         filled_does place w (arguments types texts so_far fs f (parameter_types (Some of))) (called g) made
         (λ b q.
-        called_fine types texts so_far fs f g w.given of x callee q (ap is_value (same ∙ type_is t is) ∙ worth)
+        called_fine types texts so_far fs f g w.given of x callee q
         (ap (λ (r : Ty). goes_to types texts fs f r (Some (whole x))) same ∙ value_goes a types texts so_far fs f setting.front u w.state b (ap is_value (type_is t is) ∙ worth)))
         (λ b k q blank. born_fills f g (parameter_types (Some of)) w.given x k q x blank)
 
@@ -224,6 +224,13 @@ module _ (a : Around) (types : Types) (texts : ℕ) (so_far : Bool) (fs : List F
     module _ (e : Typed) (b : is_reached_expression texts so_far e ≡ true) (he : Whole e) (behind : Place) where
       whole_is : IsWhole a v.visible types texts so_far fs f setting (whole_form e)
       whole_is = whole_expression a v.visible types texts so_far fs f setting (whole_form e) b he
+
+      -- what a call gives that is no place
+      own_answer : (result : Ty) → IsAnswered a.program.types result e.ty e.category → not (is_place e.category) ≡ true → result ≡ own_type e.ty
+      own_answer result (answers_nothing void own held) plain = void ∙ sym (ap own_type own)
+      own_answer result (answers_value w own held) plain = sym (ap own_type own)
+      own_answer result (answers_raw target constant raw w own held) plain = raw ∙ sym (ap own_type own)
+      own_answer result (answers_place target constant refers w own held) plain = absurd (false≢true (sym (ap (λ (c : Category). not (is_place c)) held) ∙ plain))
 
       abbrev GivenOne : Ty → State
       GivenOne t = (initial a scoped (uses a (whole_form e)) t behind s >> λ rest s. rest (home a u) s).state
@@ -236,25 +243,25 @@ module _ (a : Around) (types : Types) (texts : ℕ) (so_far : Bool) (fs : List F
         by_value_does : Born (By None)
         by_value_does = valued_does t is worth (value (uses a (whole_form e)) behind t None s) (whole_is.valued n behind t worth None s tt h.stands)
 
-        by_call_does : (c : Called) → form_call e.form ≡ Some c → compared.eq (own_type e.ty) t ≡ true → Born (By (Some c))
-        by_call_does c found same =
+        by_call_does : (c : Called) → form_call e.form ≡ Some c → compared.eq (own_type e.ty) t ≡ true → not (is_place e.category) ≡ true → Born (By (Some c))
+        by_call_does c found same plain =
             let k = whole_is.calls c found in
             called_does t is worth c.function k.of e.place k.there
-            (result_later a v.visible types texts so_far fs f setting c.function k.of k.there ∙ sym (ap own_type k.own) ∙ same_types (own_type e.ty) t same ∙ sym (type_is t is))
+            (result_later a v.visible types texts so_far fs f setting c.function k.of k.there ∙ own_answer (type_at a.program.types k.of.result) k.answers plain ∙ same_types (own_type e.ty) t same ∙ sym (type_is t is))
             (giving.arguments a (all_uses a c.arguments) c.delimiters (around.parameter_types a c.function) s) (k.hands s h.stands)
 
-        -- a call is one where it needs no conversion
+        -- a call is one where it needs no conversion and gives no reference
         chosen_does : Born (By (call_for e t))
-        chosen_does = go (compared.eq (own_type e.ty) t) refl (not (is_place e.category))
+        chosen_does = go (compared.eq (own_type e.ty) t) refl (not (is_place e.category)) refl
           where
-            found : (o : Option Called) → form_call e.form ≡ o → compared.eq (own_type e.ty) t ≡ true → Born (By o)
-            found None at same = by_value_does
-            found (Some c) at same = by_call_does c at same
+            found : (o : Option Called) → form_call e.form ≡ o → compared.eq (own_type e.ty) t ≡ true → not (is_place e.category) ≡ true → Born (By o)
+            found None at same plain = by_value_does
+            found (Some c) at same plain = by_call_does c at same plain
 
-            go : (b : Bool) → compared.eq (own_type e.ty) t ≡ b → (c : Bool) → Born (By (cond (b && c) (form_call e.form) None))
-            go true same true = found (form_call e.form) refl same
-            go true same false = by_value_does
-            go false same c = by_value_does
+            go : (b : Bool) → compared.eq (own_type e.ty) t ≡ b → (c : Bool) → not (is_place e.category) ≡ c → Born (By (cond (b && c) (form_call e.form) None))
+            go true same true plain = found (form_call e.form) refl same plain
+            go true same false plain = by_value_does
+            go false same c plain = by_value_does
 
         object_does : Born (GivenOne t)
         object_does =
@@ -267,7 +274,7 @@ module _ (a : Around) (types : Types) (texts : ℕ) (so_far : Bool) (fs : List F
           let w = pointing (uses a (whole_form e)) s in
           filled_does e.place w (a_pointing types texts so_far fs f e.ty) (λ p l. pointed p l) (points_whole a v.visible types texts so_far fs f setting (whole_form e) whole_is pointed_one s h.stands)
           (λ b q. pointed_fine types texts so_far fs f (whole (length w.state.locals)) t e.ty w.given loc (location_declared a types texts so_far fs f setting.front u w.state b t loc is) taken q)
-          (λ b k q blank. pointed_fills f (length w.state.locals) (length w.state.locals) w.given k q)
+          (λ b k q blank. pointed_fills f (length w.state.locals) (length w.state.locals) w.given k q (location_declared a types texts so_far fs f setting.front u w.state b t loc is).kept)
 
       raw_does : (target : TyId) (constant : Bool) → slice_get a.program.types.types u.ty.0 ≡ Some (ty.Raw target constant) → is_value (type_at a.program.types target) ≡ true → is_given a.program.types (ty.Raw target constant) e ≡ true
           → Born (GivenOne (ty.Raw target constant))
@@ -291,14 +298,13 @@ module _ (a : Around) (types : Types) (texts : ℕ) (so_far : Bool) (fs : List F
           subst (λ (c : Bool). Born ((cond c (mapped (aimed_at e.place) w) (kept_object target) >> λ rest s. rest (home a u) s).state)) (sym bound.here)
           (filled_does e.place w (a_place types texts so_far fs f (type_at a.program.types target) bound.held) (λ o l. pointed (aimed (Aimed o)) l) (whole_is.names target bound.held bound.place worth s h.stands)
           (λ b q. record {
-            plain = λ so. refl;
             given = refl;
             formed =
                 ap (λ (t : Ty). is_source_of types texts fs f t (Aimed w.given)) (reference_declared a types texts so_far fs f setting.front u w.state b target constant is worth)
                 ∙ bound_given a types texts so_far fs f setting.front target constant bound.held w.given worth bound.kept q;
             served = q.served;
           })
-          (λ b k q blank. filling_fills f (λ p. Aim p (Aimed w.given)) (length w.state.locals) k (aimed_filling f w.given (length w.state.locals) k q) (length w.state.locals)))
+          (λ b k q blank. filling_fills f (λ p. Aim p (Aimed w.given)) (length w.state.locals) k (aimed_filling f w.given (length w.state.locals) k q) (length w.state.locals) (reference_kept a types texts so_far fs f setting.front u w.state b target constant is worth)))
 
       one_does : (so_far || not (is_owner (type_of a u.ty) || is_walker (type_of a u.ty))) ≡ true → needs_no_temporary (type_of a u.ty) e ≡ true → is_given a.program.types (type_of a u.ty) e ≡ true → Born (GivenOne (type_of a u.ty))
       one_does plain temporary given = go (variable_type so_far a.program.types u.ty built)
@@ -339,7 +345,7 @@ module _ (a : Around) (types : Types) (texts : ℕ) (so_far : Bool) (fs : List F
           let w = pointing (uses a (whole_form e)) s in
           filled_does e.place w (a_pointing types texts so_far fs f source) (λ p l. pointed p l) made
           (λ b q. pointed_fine types texts so_far fs f (whole (length w.state.locals)) t source w.given loc (location_declared a types texts so_far fs f setting.front u w.state b t loc is) taken q)
-          (λ b k q blank. pointed_fills f (length w.state.locals) (length w.state.locals) w.given k q)
+          (λ b k q blank. pointed_fills f (length w.state.locals) (length w.state.locals) w.given k q (location_declared a types texts so_far fs f setting.front u w.state b t loc is).kept)
 
       -- a copy
       module _ (from : IsObject a v.visible types texts so_far fs f setting (whole_form e)) where
@@ -401,7 +407,6 @@ module _ (a : Around) (types : Types) (texts : ℕ) (so_far : Bool) (fs : List F
           (λ n k q. (pointer_is_held w.given n k q, tt)) wide
           (λ b. owner_lives a types texts so_far fs f setting.front u w.state b ty.Text is refl)
           (λ b q. let at = owner_declared a types texts so_far fs f setting.front u w.state b ty.Text is refl in record {
-            plain = λ so. refl;
             given = refl;
             formed =
                 and_from (is_change_of types texts fs f (type_of_place types f (object_named (length w.state.locals))) (Set (View w.given))) (not (is_const_place types f (object_named (length w.state.locals))))
@@ -490,7 +495,6 @@ module _ (a : Around) (types : Types) (texts : ℕ) (so_far : Bool) (fs : List F
     empty_does wide t range loc is =
         filled_does u.place (gives tt s) (nothing types texts so_far fs f) (λ x l. Aim l Empty) (leaf_part types texts so_far fs f tt s (nothing types texts so_far fs f) (λ b. tt) (λ b k alive. tt))
         (λ b q. record {
-          plain = λ so. refl;
           given = refl;
           formed = ap is_range (location_declared a types texts so_far fs f setting.front u s b t loc is).typed ∙ range;
           served = λ so. absurd (false≢true (sym wide ∙ so));

@@ -13,7 +13,7 @@ use Rattle.life_writer.specs.Writing.{State, Gives}
 use Rattle.life_elab_laws.proofs.Exits.{Knows, Leaves, MayKnow, leaves_falling, leaves_may, leaves_then, none_leaves}
 use Rattle.life_elab_laws.proofs.Falling.{Falls, falls_append, flow_append}
 use Rattle.life_elab_laws.proofs.Following.{Adds, Follows, adds_none, adds_then, begins_added, alive_knows, follows_grown, grows_adds, knows_alive, take_front, take_itself}
-use Rattle.life_elab_laws.proofs.GivingBack.{GivesValue, fine_known, known_append}
+use Rattle.life_elab_laws.proofs.GivingBack.{GivesResult, fine_known, known_append}
 use Rattle.life_elab_laws.proofs.Growing.{Begins, Grows}
 use Rattle.life_elab_laws.proofs.Gifts.{Gift}
 use Rattle.life_elab_laws.proofs.Parts.{Goes, Makes}
@@ -39,8 +39,8 @@ module _ (types : Types) (texts : ℕ) (so_far : Bool) (fs : List Function) (f :
     pub code : List Tree
     pub written : s'.code ≡ s.code ++ code
     pub acts : Begins types f s' → Acting in_loop s s' code
-    -- where a value must be given back, each return stands behind it
-    pub returns : Begins types f s' → GivesValue a → (o : Knowing) → MayKnow f s.living o → ReturnsKnown types f (result_local a) (trees code) o
+    -- where something must be given back, each return stands behind it
+    pub returns : Begins types f s' → GivesResult a → (o : Knowing) → MayKnow f s.living o → ReturnsKnown types f (result_local a) (trees code) o
 
   -- what stays outside of the innermost loop is the same
   take_less : (n m : ℕ) (xs ys : List ℕ) → n ≤ m → take m ys ≡ take m xs → take n ys ≡ take n xs

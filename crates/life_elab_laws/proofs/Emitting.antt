@@ -12,7 +12,7 @@ use Rattle.life_core.specs.declared.program.Local.{Local}
 use Rattle.life_core.specs.declared.program.LocalKind.TheVariants.{Register}
 use Rattle.life_proper.specs.declared.known.Known.{Known}
 use Rattle.life_writer.specs.Registers.{new_register, target}
-use Rattle.life_writer.specs.Writing.{State, Gives}
+use Rattle.life_writer.specs.Writing.{State, Gives, gives}
 use Rattle.life_elab_laws.proofs.Fronts.{last_there}
 use Rattle.life_elab_laws.proofs.Growing.{Begins, Grows, added, grows_none, register_below, register_grows}
 use Rattle.life_elab_laws.proofs.Knowledge.{beside_set, set_length}
@@ -77,14 +77,18 @@ module _ (so_far : Bool) (types : Types) (f : Function) where
     beside = λ y lt b e. omega (arith, lt, e);
   }
 
-  pub targeted : (place : Place) (t : Ty) (s : State) (into : Option ℕ) → is_value t ≡ true → IsInto s into → Targets into s (target place into t s)
-  targeted place t s None e h = new_targeted place t s (value_fits so_far types t e) (fits_below so_far s.types s.types (omega arith) t (value_fits so_far s.types t e))
-  targeted place t s (Some r) e h = record {
+  -- .. that is there already
+  pub kept_targeted : (s : State) (r : ℕ) (l : Local) → slice_get s.locals r ≡ Some l → l.name ≡ None → l.kind ≡ Register → Targets (Some r) s (gives r s)
+  kept_targeted s r l at nameless kind = record {
     grown = grows_none s;
     registers = registers_none so_far types s;
     unwritten = refl;
     level = refl;
-    below = slice_get_within s.locals r h.local h.there;
-    there = λ b. record { local = h.local; there = b.locals r h.local h.there; nameless = h.nameless; kind = h.kind };
+    below = slice_get_within s.locals r l at;
+    there = λ b. record { local = l; there = b.locals r l at; nameless = nameless; kind = kind };
     beside = λ y lt b. b;
   }
+
+  pub targeted : (place : Place) (t : Ty) (s : State) (into : Option ℕ) → is_value t ≡ true → IsInto s into → Targets into s (target place into t s)
+  targeted place t s None e h = new_targeted place t s (value_fits so_far types t e) (fits_below so_far s.types s.types (omega arith) t (value_fits so_far s.types t e))
+  targeted place t s (Some r) e h = kept_targeted s r h.local h.there h.nameless h.kind

@@ -34,7 +34,7 @@ module _ (types : Types) (texts : ℕ) (so_far : Bool) (fs : List Function) (f :
   ended (x ∷ xs) place s = record {
     code = Acts place (End (x ∷ xs)) ∷ [];
     written = refl;
-    fine = λ ends. fine_acts types texts so_far fs f place (End (x ∷ xs)) (record { plain = λ so. refl; given = refl; formed = ends; served = λ so. refl });
+    fine = λ ends. fine_acts types texts so_far fs f place (End (x ∷ xs)) (record { given = refl; formed = ends; served = λ so. refl });
     falls = λ k ready. falls_acts types f place (End (x ∷ xs)) k (all_ready k (touched_by f (End (x ∷ xs))) refl ready refl);
   }
 

@@ -57,7 +57,6 @@ module _ (types : Types) (texts : ℕ) (so_far : Bool) (fs : List Function) (f :
       let typed : type_in types f l ≡ ty.Iterator to.target to.held = at.typed ∙ to.is in
       let itself = value_same (ty_of types item) v in
       record {
-        plain = λ so. refl;
         given = refl;
         formed =
             and_from (is_change_of types texts fs f (type_of types f o) (Erase q l)) (not (is_const_place types f o))
@@ -72,7 +71,7 @@ module _ (types : Types) (texts : ℕ) (so_far : Bool) (fs : List Function) (f :
   erase_filling o q n k place lies = record {
     uses = place_uses o ++ (q.local ∷ []);
     held = subst (λ (xs : List ℕ). AreHeld (xs ++ (q.local ∷ [])) n k) (sym place.uses) ((place.below, place.held), (pointer_is_held q n k lies, tt));
-    touches = λ x. refl;
+    touches = λ x e. refl;
   }
 
 module _ (a : Around) (visible : List ℕ) (types : Types) (texts : ℕ) (so_far : Bool) (fs : List Function) (f : Function) (setting : Setting so_far a types fs f) where

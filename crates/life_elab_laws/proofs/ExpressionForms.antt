@@ -1,5 +1,5 @@
 -- What all laws ask of an expression and of what it is made by, and the ways to make a form: as a value, by tests, as a pointer, as a place, in parentheses.
-use Rattle.std.proofs.Common.{◌≡◌, ◌⊎◌, ℕ, Bool, true, false, cond, List, [], slice_get, Option, Some, None, refl, sym, ap, ◌∙◌, subst}
+use Rattle.std.proofs.Common.{◌≡◌, ℕ, Bool, true, false, cond, List, [], slice_get, Option, Some, None, refl, sym, ap, ◌∙◌, subst}
 use Rattle.std.proofs.lemmas.Bool.{false≢true}
 use Rattle.life_types.specs.TypeTests.{is_raw, is_value}
 use Rattle.life_types.specs.Types.{Types}
@@ -36,7 +36,7 @@ use Rattle.life_writer.specs.Values as values
 use Rattle.life_writer.specs.Writing.{Gives, State, ◌>>◌, with_code}
 use Rattle.life_writer.specs.declared.behind.Behind.{Behind}
 use Rattle.life_elab_laws.proofs.Conditions.{Tests, by_branch_part, condition_part}
-use Rattle.life_elab_laws.proofs.ExpressionTypes.{condition_number, own_no_unique, own_value, pointer_fits}
+use Rattle.life_elab_laws.proofs.ExpressionTypes.{IsAnswered, condition_number, own_no_unique, own_value, pointer_fits}
 use Rattle.life_elab_laws.proofs.Fronts.{front_length, front_then}
 use Rattle.life_elab_laws.proofs.Gifts.{a_number, a_place, a_pointer, a_pointing, arguments}
 use Rattle.life_elab_laws.proofs.Gifts as gifts
@@ -80,9 +80,7 @@ module _ (a : Around) (visible : List ℕ) (types : Types) (texts : ℕ) (so_far
   pub record IsCall (c : Called) (t : ExprType) (k : Category) : Type 0 where
     pub of : FunctionForm
     pub there : slice_get a.program.functions c.function ≡ Some of
-    pub kind : (t ≡ Of ty.Void) ⊎ (is_number t ≡ true)
-    pub own : t ≡ Of (type_at a.program.types of.result)
-    pub held : k ≡ category.Value
+    pub answers : IsAnswered a.program.types (type_at a.program.types of.result) t k
     pub hands : (s : State) → Standing s → Hands of s (giving.arguments a (all_uses a c.arguments) c.delimiters (around.parameter_types a c.function) s)
 
   -- of what an expression is made by, wherever it stands

@@ -1,23 +1,27 @@
 -- The types of expressions that are built.
-use Rattle.std.proofs.Common.{◌≡◌, ◌⊎◌, inl, inr, Bool, true, false, ◌||◌, refl, sym, ap, ◌∙◌, subst, true≢false, Ok}
+use Rattle.std.proofs.Common.{◌≡◌, Bool, true, false, refl, sym, ap, ◌∙◌, subst, true≢false, Ok}
 use Rattle.std.proofs.lemmas.Bool.{false≢true}
-use Rattle.life_types.specs.TypeTests.{is_iterator, is_raw, is_text, is_unique, is_value, is_view, is_void}
+use Rattle.life_types.specs.TypeTests.{is_iterator, is_raw, is_text, is_unique, is_value, is_view}
 use Rattle.life_types.specs.Types.{Types}
 use Rattle.life_types.specs.declared.ty.Ty.{Ty}
 use Rattle.life_types.specs.declared.ty.Ty.TheVariants as ty
+use Rattle.life_types.specs.declared.ty.TyId.{TyId}
+use Rattle.life_typed.specs.BaseTypes.{type_at}
 use Rattle.life_typed.specs.Operators.{is_condition, is_literal, is_nullable, negated, negated_type, promoted}
 use Rattle.life_typed.specs.TypedForm.{Typed}
+use Rattle.life_typed.specs.declared.typed_expr.Category.{Category}
 use Rattle.life_typed.specs.declared.typed_expr.Category.TheVariants as category
 use Rattle.life_typed.specs.declared.typed_expr.ExprType.{ExprType}
 use Rattle.life_typed.specs.declared.typed_expr.ExprType.TheVariants.{NullPointer, Of, TextLiteral}
-use Rattle.life_type_expr.specs.Operands.{answer_of, negated_to}
+use Rattle.life_type_expr.specs.Operands.{answer_of, negated_to, value as value_typed}
 use Rattle.life_proper.specs.OperandTypes.{is_promoted}
 use Rattle.life_well_typed.specs.Given.{is_number}
 use Rattle.life_writer.specs.Around.{own_type}
 use Rattle.life_elab_laws.proofs.Locations.{is_location, is_seen}
 use Rattle.life_elab_laws.proofs.RowTypes.{no_text, promoted_is, sees}
 use Rattle.life_elab_laws.proofs.TypedKinds.{HasKind, IsKind, a_null, a_number, a_pointer, a_text, a_view, err_ok, no_value, ok_same, value_simple}
-use Rattle.life_elab_laws.proofs.Values.{by_results, by_values}
+use Rattle.life_elab_laws.proofs.ResultTypes.{IsResultType, gives_nothing, gives_raw, gives_reference, gives_value}
+use Rattle.life_elab_laws.proofs.Values.{by_values}
 use Rattle.life_elab_laws.proofs.WrittenLocals.{fits_register, value_fits}
 
 -- ---- types of expressions
@@ -54,10 +58,6 @@ pointer_fits so_far types e (a_text is v) r = absurd (false≢true (sym (ap (λ 
 pointer_fits so_far types e (no_value is v) r = absurd (false≢true (sym (ap (λ (x : ExprType). is_location (own_type x)) is) ∙ r))
 pointer_fits so_far types e (a_null is v) r = absurd (false≢true (sym (ap (λ (x : ExprType). is_location (own_type x)) is) ∙ r))
 
--- what a call gives is no place
-pub result_value : (t : Ty) (types : Types) (e : Typed) → (is_void t || is_value t) ≡ true → e ≡ answer_of t types e.place e.form → e.category ≡ category.Value
-result_value t types e b is = ap (λ (x : Typed). x.category) is ∙ by_results (λ t. (answer_of t types e.place e.form).category ≡ category.Value) refl (by_values (λ t. (answer_of t types e.place e.form).category ≡ category.Value) refl refl refl refl refl) t b
-
 -- minus gives what the operand is promoted to
 pub negated_promoted : (so_far : Bool) (types : Types) (inner e : Typed) → IsKind so_far types inner → negated_to (negated inner.ty) e.place inner ≡ Ok e → is_promoted (own_type e.ty) ≡ true
 negated_promoted so_far types inner e k h = go k.kind
@@ -73,16 +73,32 @@ negated_promoted so_far types inner e k h = go k.kind
     go (no_value is v) = absurd (err_ok (sym (ap (λ t. negated_to (negated t) e.place inner) is) ∙ h))
     go (a_null is v) = absurd (err_ok (sym (ap (λ t. negated_to (negated t) e.place inner) is) ∙ h))
 
--- what a call gives
-pub result_kind : (t : Ty) (types : Types) (e : Typed) → (is_void t || is_value t) ≡ true → e ≡ answer_of t types e.place e.form
-    → ((e.ty ≡ Of ty.Void) ⊎ (is_number e.ty ≡ true)) × (is_number e.ty ≡ true → is_value t ≡ true) × (e.ty ≡ Of t)
-result_kind ty.Void types e b is = (inl (ap (λ (x : Typed). x.ty) is), (λ n. absurd (false≢true (sym (ap (λ (x : Typed). is_number x.ty) is) ∙ n))), ap (λ (x : Typed). x.ty) is)
-result_kind ty.Bool types e b is = (inr (ap (λ (x : Typed). is_number x.ty) is), (λ n. refl), ap (λ (x : Typed). x.ty) is)
-result_kind ty.Char types e b is = (inr (ap (λ (x : Typed). is_number x.ty) is), (λ n. refl), ap (λ (x : Typed). x.ty) is)
-result_kind ty.Int types e b is = (inr (ap (λ (x : Typed). is_number x.ty) is), (λ n. refl), ap (λ (x : Typed). x.ty) is)
-result_kind ty.Long types e b is = (inr (ap (λ (x : Typed). is_number x.ty) is), (λ n. refl), ap (λ (x : Typed). x.ty) is)
-result_kind ty.Size types e b is = (inr (ap (λ (x : Typed). is_number x.ty) is), (λ n. refl), ap (λ (x : Typed). x.ty) is)
-result_kind _ types e b is = absurd (false≢true b)
+-- ---- what a call gives
+
+-- nothing, a value, a raw pointer, or the place that a reference refers to
+pub data IsAnswered (types : Types) (result : Ty) (t : ExprType) (k : Category) : Type 0 where
+  answers_nothing : result ≡ ty.Void → t ≡ Of ty.Void → k ≡ category.Value → IsAnswered types result t k
+  answers_value : is_value result ≡ true → t ≡ Of result → k ≡ category.Value → IsAnswered types result t k
+  answers_raw : (target : TyId) (constant : Bool) → result ≡ ty.Raw target constant → is_value (type_at types target) ≡ true → t ≡ Of (ty.Raw target constant) → k ≡ category.Value → IsAnswered types result t k
+  answers_place : (target : TyId) (constant : Bool) → result ≡ ty.Reference target constant → is_value (type_at types target) ≡ true → t ≡ Of (type_at types target) → k ≡ category.Place target constant → IsAnswered types result t k
+
+pub answered_as : (types : Types) (e : Typed) (t : Ty) → IsResultType types t → e ≡ answer_of t types e.place e.form → IsAnswered types t e.ty e.category
+answered_as types e t kind is = go kind
+  where
+    as_type : (u : Ty) → t ≡ u → e ≡ answer_of u types e.place e.form
+    as_type u same = is ∙ ap (λ (u : Ty). answer_of u types e.place e.form) same
+
+    go : IsResultType types t → IsAnswered types t e.ty e.category
+    go (gives_nothing void) = let here = as_type ty.Void void in answers_nothing void (ap (λ (x : Typed). x.ty) here) (ap (λ (x : Typed). x.category) here)
+    go (gives_value v) =
+        let here = is ∙ by_values (λ u. answer_of u types e.place e.form ≡ value_typed e.place u e.form) refl refl refl refl refl t v in
+        answers_value v (ap (λ (x : Typed). x.ty) here) (ap (λ (x : Typed). x.category) here)
+    go (gives_raw target constant raw w) =
+        let here = as_type (ty.Raw target constant) raw in
+        answers_raw target constant raw w (ap (λ (x : Typed). x.ty) here) (ap (λ (x : Typed). x.category) here)
+    go (gives_reference target constant refers w) =
+        let here = as_type (ty.Reference target constant) refers in
+        answers_place target constant refers w (ap (λ (x : Typed). x.ty) here) (ap (λ (x : Typed). x.category) here)
 
 -- what may be null and isn't a unique_ptr is a raw pointer
 pub nullable_raw : (u : Ty) → is_nullable u ≡ true → is_unique u ≡ false → is_raw u ≡ true

@@ -1,50 +1,45 @@
 -- What is written for a well typed expression, by one recursion: each form says by one way how it is written, and has all laws by that.
-use Rattle.std.proofs.Common.{◌≡◌, inl, inr, ℕ, zero, suc, Bool, true, List, [], ◌∷◌, slice_get, Option, Some, None, refl, sym, ap, ◌∙◌, subst, ◌⊎◌, ◌&&◌, ◌||◌}
+use Rattle.std.proofs.Common.{◌≡◌, inl, inr, ℕ, zero, suc, Bool, true, List, [], ◌∷◌, slice_get, Option, Some, None, refl, sym, ap, ◌∙◌, subst, ◌&&◌, ◌||◌}
 use Rattle.std.proofs.lemmas.Bool.{and_parts, false≢true, or_cases}
 use Rattle.std.specs.Prelude.{pos}
-use Rattle.life_types.specs.TypeTests.{is_value}
 use Rattle.life_types.specs.Types.{Types}
 use Rattle.life_types.specs.declared.place.Place.{Place}
-use Rattle.life_types.specs.declared.ty.Ty.{Ty}
 use Rattle.life_types.specs.declared.ty.Ty.TheVariants as ty
 use Rattle.life_types.specs.declared.ty.TyId.{TyId}
 use Rattle.life_elab_laws.specs.Reached.{is_reached_either, is_reached_form, is_reached_method, is_reached_type, compares, concatenates, is_reached_object, is_reached_owner, is_owner_type, is_end, is_reached_walker, is_walker_type, is_erase, is_subspan}
 use Rattle.life_typed.specs.BaseTypes.{type_at}
 use Rattle.life_typed.specs.Programs.{FunctionForm}
-use Rattle.life_typed.specs.Delimiters.{DelimitersForm, behind_first, behind_others}
+use Rattle.life_typed.specs.Delimiters.{DelimitersForm, behind_others}
 use Rattle.life_typed.specs.TypedForm.{Form, Typed, number, character, boolean, text, null, local, call, construct, paren, move, make_unique, text_of, input, member, dereference, index, method, negate, not, address_of, binary, typed, nothing, ◌⨟◌}
 use Rattle.life_typed.specs.declared.typed_expr.ExprType.{ExprType}
 use Rattle.life_typed.specs.declared.typed_expr.ExprType.TheVariants.{Of}
 use Rattle.life_typed.specs.declared.typed_expr.Method.TheVariants as methods
 use Rattle.life_type_expr.specs.Operands.{number_type}
 use Rattle.life_core.specs.Function.{Function}
-use Rattle.life_core.specs.Operands.{Argument, Value}
 use Rattle.life_core.specs.Tree.{Tree}
 use Rattle.life_proper.specs.OperandTypes as operands
 use Rattle.life_well_typed.specs.Expressions.{AreExpressions, IsExpression, IsMadeOf, are_given, parameter_types, typed_in}
 use Rattle.life_well_typed.specs.Given.{is_given}
 use Rattle.life_writer.specs.Around.{Around, own_type}
-use Rattle.life_writer.specs.Calls.{handed as handed_first}
 use Rattle.life_writer.specs.ExpressionForms.{all_uses, uses, form_uses}
 use Rattle.life_writer.specs.Giving as giving
 use Rattle.life_writer.specs.Uses.{Uses}
 use Rattle.life_writer.specs.Using.{condition, value}
 use Rattle.life_writer.specs.Values as values
-use Rattle.life_writer.specs.Writing.{Gives, State, ◌>>◌, mapped}
-use Rattle.life_elab_laws.proofs.CallParts.{handed_part, none_handed}
+use Rattle.life_writer.specs.Writing.{Gives, State}
+use Rattle.life_elab_laws.proofs.CallParts.{none_handed}
 use Rattle.life_elab_laws.proofs.Conditions.{Tests, negation_part}
 use Rattle.life_elab_laws.proofs.ExpressionForms.{IsForm, IsWhole, decided_form, literal, paren_form, value_form, whole_of}
 use Rattle.life_elab_laws.proofs.ExpressionKinds.{addressed_as, dereferenced_as, inverted_as, negated_as, number_value}
 use Rattle.life_elab_laws.proofs.ExpressionTypes.{negated_promoted}
-use Rattle.life_elab_laws.proofs.FormedVariables.{type_later}
 use Rattle.life_elab_laws.proofs.Gifts.{arguments}
-use Rattle.life_elab_laws.proofs.GivenKinds.{given_number}
+use Rattle.life_elab_laws.proofs.HandedForms.{first_handed}
+use Rattle.life_elab_laws.proofs.HandedTypes.{IsHandedType}
 use Rattle.life_elab_laws.proofs.Instructions.{constant_part, input_part, negated_part}
 use Rattle.life_elab_laws.proofs.Parts.{Makes}
 use Rattle.life_elab_laws.proofs.Setting.{Setting}
 use Rattle.life_elab_laws.proofs.TypedKinds.{combined_as, none_some, ok_same, some_same}
-use Rattle.life_elab_laws.proofs.Values.{by_values}
-use Rattle.life_elab_laws.proofs.VariablePlaces.{Stands, stands_later}
+use Rattle.life_elab_laws.proofs.VariablePlaces.{Stands}
 use Rattle.life_elab_laws.proofs.OperatorForms.{binary_form}
 use Rattle.life_elab_laws.proofs.PointerForms.{address_form, call_form, dereference_form, null_form, text_form, variable_form}
 use Rattle.life_elab_laws.proofs.ElementForms.{either_reached, object_expression, owner_index_form, owner_method_form, view_index_form}
@@ -68,14 +63,6 @@ module _ (a : Around) (visible : List ℕ) (types : Types) (texts : ℕ) (so_far
 
   abbrev Decided : Option Place → State → Gives Tree → Type 0
   Decided ends s w = Tests types texts so_far fs f ends s w
-
-  -- ---- arguments by value
-
-  argument_handed : (e : Uses) (t : Ty) (behind : Place) (others : State → Gives (List Argument)) (s : State) → is_value t ≡ true
-      → (giving.argument a e t behind s >> λ x s. mapped (λ xs. x ∷ xs) (others s)) ≡ handed_first (value e behind t None) others s
-  argument_handed e t behind others s worth =
-      ap (λ (w : Gives Argument). w >> λ x s. mapped (λ xs. x ∷ xs) (others s))
-      (by_values (λ x. giving.argument a e x behind s ≡ mapped Value (value e behind x None s)) refl refl refl refl refl t worth)
 
   -- one with a value, or an owner
   either_of : (form : Form) → is_reached_either so_far form (is_reached_owner texts so_far form) (is_reached_form texts so_far form) ≡ true → (is_reached_form texts so_far form ≡ true → IsWhole a visible types texts so_far fs f setting form)
@@ -261,7 +248,7 @@ module _ (a : Around) (visible : List ℕ) (types : Types) (texts : ℕ) (so_far
 
     -- arguments
     pub handed : (d : DelimitersForm) (form : Form) → is_reached_form texts so_far form ≡ true → AreExpressions a.program a.function.locals visible form → (ids : List TyId) → are_given a.program.types ids form ≡ true
-        → ((n : ℕ) (id : TyId) → slice_get ids n ≡ Some id → is_value (type_at a.program.types id) ≡ true) → (s : State) → Standing s
+        → ((n : ℕ) (id : TyId) → slice_get ids n ≡ Some id → IsHandedType so_far a.program.types id) → (s : State) → Standing s
         → Makes types texts so_far fs f None s (giving.arguments a (all_uses a form) d ids s) (arguments types texts so_far fs f ids)
     handed d nothing b h [] g v s stands = none_handed types texts so_far fs f s
     handed d nothing b h (id ∷ ids) g v s stands = absurd (false≢true g)
@@ -269,13 +256,7 @@ module _ (a : Around) (visible : List ℕ) (types : Types) (texts : ℕ) (so_far
     handed d (e ⨟ es) b h (id ∷ ids) g v s stands =
         let parts = and_parts (is_reached_form texts so_far e) (is_reached_form texts so_far es) b in
         let given = and_parts (is_given a.program.types (type_at a.program.types id) (typed_in e)) (are_given a.program.types ids es) g in
-        let t = type_at a.program.types id in
-        let worth = v zero id refl in
-        let first = (whole_expression e parts.0 h.0).valued (given_number a.program.types t (typed_in e) worth given.0) (behind_first d) t worth None s tt stands in
-        subst (λ (w : Gives (List Argument)). Makes types texts so_far fs f None s w (arguments types texts so_far fs f (id ∷ ids)))
-        (sym (argument_handed (uses a e) t (behind_first d) (giving.arguments a (all_uses a es) (behind_others d) ids) s worth))
-        (handed_part types texts so_far fs f id t ids (value (uses a e) (behind_first d) t None) (giving.arguments a (all_uses a es) (behind_others d) ids) s (type_later a.program.types types setting.front id worth) stands.opened first
-        (handed (behind_others d) es parts.1 h.1 ids given.1 (λ n. v (suc n)) (value (uses a e) (behind_first d) t None s).state (stands_later a visible s (value (uses a e) (behind_first d) t None s).state first.grown stands)))
+        first_handed a visible types texts so_far fs f setting e es d id ids (whole_expression e parts.0 h.0) (λ s stands. handed (behind_others d) es parts.1 h.1 ids given.1 (λ n. v (suc n)) s stands) (v zero id refl) given.0 s stands
     handed d _ b h ids g v s stands = absurd h
 
   -- ---- an owner that is asked something

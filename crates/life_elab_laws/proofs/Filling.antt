@@ -2,6 +2,7 @@
 use Rattle.std.proofs.Common.{◌≡◌, ℕ, true, List, [], ◌∷◌, ◌++◌, refl, sym, ap, ◌∙◌, subst}
 use Rattle.std.proofs.lemmas.Bool.{and_from}
 use Rattle.life_core.specs.Function.{Function}
+use Rattle.life_core.specs.Kinds.{is_register_at}
 use Rattle.life_core.specs.Operands.{Location, Null, Operand, Place as Aimed, Text, whole}
 use Rattle.life_core.specs.Step.{Aim, Step}
 use Rattle.life_core.specs.Touched.{Touched, place_uses}
@@ -18,10 +19,10 @@ all_there [] n k h = refl
 all_there (x ∷ xs) n k h = and_from (is_known known.Ready k x) (are_known known.Ready k xs) (ready_there k x h.0.1) (all_there xs n k h.1)
 
 module _ (f : Function) where
-  pub filling_fills : (step : Location → Step) (n : ℕ) (k : List Known) → IsFilling f step n k → (x : ℕ) → Fills f k (step (whole x)) x
-  filling_fills step n k h x = record {
-    ready = ap (are_ready k) (h.touches x) ∙ uses_ready k h.uses (x ∷ []) (all_there h.uses n k h.held);
-    after = ap (λ (t : Touched). known_after t k) (h.touches x);
+  pub filling_fills : (step : Location → Step) (n : ℕ) (k : List Known) → IsFilling f step n k → (x : ℕ) → is_register_at f x ≡ true → Fills f k (step (whole x)) x
+  filling_fills step n k h x e = record {
+    ready = ap (are_ready k) (h.touches x e) ∙ uses_ready k h.uses (x ∷ []) (all_there h.uses n k h.held);
+    after = ap (λ (t : Touched). known_after t k) (h.touches x e);
   }
 
   -- it is aimed at a place that is there, at nothing, or at a literal
@@ -29,11 +30,11 @@ module _ (f : Function) where
   aimed_filling o n k h = record {
     uses = place_uses o ++ [];
     held = subst (λ (xs : List ℕ). AreHeld (xs ++ []) n k) (sym h.uses) ((h.below, h.held), tt);
-    touches = λ x. refl;
+    touches = λ x e. refl;
   }
 
   pub null_filling : (n : ℕ) (k : List Known) → IsFilling f (λ p. Aim p Null) n k
-  null_filling n k = record { uses = []; held = tt; touches = λ x. refl }
+  null_filling n k = record { uses = []; held = tt; touches = λ x e. refl }
 
   pub text_filling : (m n : ℕ) (k : List Known) → IsFilling f (λ p. Aim p (Text m)) n k
-  text_filling m n k = record { uses = []; held = tt; touches = λ x. refl }
+  text_filling m n k = record { uses = []; held = tt; touches = λ x e. refl }

@@ -1,13 +1,14 @@
 -- What has been written of a function and what is visible, between statements.
-use Rattle.std.proofs.Common.{◌≡◌, ◌<◌, ◌≤◌, ◌||◌, ℕ, zero, suc, Bool, true, List, [], ◌∷◌, Contains, length, slice_get, take, Option, Some, None, refl, sym, ap, ◌∙◌, subst, unwrap_or, arith}
+use Rattle.std.proofs.Common.{◌≡◌, ◌<◌, ◌≤◌, ◌||◌, ℕ, zero, suc, Bool, true, false, List, [], ◌∷◌, Contains, length, slice_get, take, Option, Some, None, refl, sym, ap, ◌∙◌, subst, unwrap_or, arith}
 use Rattle.std.proofs.lemmas.Option.{none-some, slice_get_within}
-use Rattle.life_types.specs.TypeTests.{is_pointer, is_value}
+use Rattle.life_types.specs.TypeTests.{is_pointer, is_void}
 use Rattle.life_types.specs.Types.{Types}
 use Rattle.life_types.specs.declared.ty.NameId.{NameId}
 use Rattle.life_typed.specs.BaseTypes.{type_at}
 use Rattle.life_typed.specs.declared.typed_program.TypedLocal.{TypedLocal}
 use Rattle.life_core.specs.Function.{Function}
 use Rattle.life_core.specs.declared.program.Local.{Local}
+use Rattle.life_core.specs.declared.program.LocalKind.TheVariants.{Register}
 use Rattle.life_proper.specs.Placed.{object_at}
 use Rattle.life_proper.specs.Placed as placed
 use Rattle.life_proper.specs.declared.known.Known.{Known}
@@ -16,7 +17,6 @@ use Rattle.life_writer.specs.Around.{Around, result_local}
 use Rattle.life_writer.specs.Variables.{variable}
 use Rattle.life_writer.specs.Writing.{State}
 use Rattle.life_elab_laws.proofs.Among.{Among, Ascend, among_contains, contains_among}
-use Rattle.life_elab_laws.proofs.Emitting.{IsWanted}
 use Rattle.life_elab_laws.proofs.Exits.{AreNamed, Knows}
 use Rattle.life_elab_laws.proofs.Fronts.{IsFront, front_itself, front_length, front_then, front_taken}
 use Rattle.life_elab_laws.proofs.Growing.{Begins, Grows, bare}
@@ -34,23 +34,26 @@ pub record IsLivingBare (s : State) (y : ℕ) : Type 0 where
 abbrev pub IsLiving : State → ℕ → Type 0
 IsLiving s y = IsLivingBare (bare s) y
 
--- the register of the result is there, of its type, where the function gives a value back
+-- the register of the result is there, of its type
+pub record IsResultRegister (a : Around) (s : State) : Type 0 where
+  pub local : Local
+  pub there : slice_get s.locals (result_local a) ≡ Some local
+  pub nameless : local.name ≡ None
+  pub kind : local.kind ≡ Register
+  pub typed : slice_get s.types.types local.ty.0 ≡ Some (type_at a.program.types a.function.result)
+
+-- .. where the function gives something back
 abbrev pub HasRegister : Around → State → Type 0
-HasRegister a s = is_value (type_at a.program.types a.function.result) ≡ true → (is : IsWanted s (result_local a)) × (is.ty ≡ type_at a.program.types a.function.result)
+HasRegister a s = is_void (type_at a.program.types a.function.result) ≡ false → IsResultRegister a s
 
 pub register_later : (a : Around) (s s' : State) → IsFront s.locals s'.locals → IsFront s.types.types s'.types.types → HasRegister a s → HasRegister a s'
-register_later a s s' locals table h worth = let is = (h worth).0 in (
-  record {
-    local = is.local;
-    there = locals (result_local a) is.local is.there;
-    nameless = is.nameless;
-    kind = is.kind;
-    ty = is.ty;
-    typed = table is.local.ty.0 is.ty is.typed;
-    value = is.value;
-  },
-  (h worth).1,
-)
+register_later a s s' locals table h some = let is = h some in record {
+  local = is.local;
+  there = locals (result_local a) is.local is.there;
+  nameless = is.nameless;
+  kind = is.kind;
+  typed = table is.local.ty.0 (type_at a.program.types a.function.result) is.typed;
+}
 
 -- what ends: an object or a pointer
 abbrev pub may_end : Types → Function → ℕ → Bool

@@ -1,5 +1,5 @@
 -- What the rules of initialisation let a pointer be given it takes, and so does a reference: of one target, and const stays const.
-use Rattle.std.proofs.Common.{◌≡◌, Bool, true, false, ◌&&◌, not, cond, Err, refl, ap, ◌∙◌, subst, rules, ◌||◌}
+use Rattle.std.proofs.Common.{◌≡◌, Bool, true, false, ◌&&◌, not, cond, Err, refl, ap, ◌∙◌, subst, rules, ◌||◌, sym}
 use Rattle.std.proofs.lemmas.Bool.{and_from, false≢true}
 use Rattle.life_types.specs.Pointees.{ty_of}
 use Rattle.life_types.specs.TypeTests.{is_value}
@@ -7,9 +7,9 @@ use Rattle.life_types.specs.Types.{Types}
 use Rattle.life_types.specs.contracts.ty.TyIdPartialEq.TheImpl.{ghosts as id}
 use Rattle.life_types.specs.declared.ty.Ty.TheVariants as ty
 use Rattle.life_types.specs.declared.ty.TyId.{TyId}
-use Rattle.life_built.specs.Built.{needs_no_temporary}
+use Rattle.life_served.specs.Served.{needs_no_temporary}
 use Rattle.life_typed.specs.BaseTypes.{type_at}
-use Rattle.life_typed.specs.Conversions.{fits, initialised, is_const_place, is_place_of, pointer_from, unless, same_target}
+use Rattle.life_typed.specs.Conversions.{fits, initialised, is_const_place, is_place_of, pointer_from, refused, unless, same_target}
 use Rattle.life_typed.specs.TypedForm.{Typed}
 use Rattle.life_typed.specs.declared.misfit.Misfit.TheVariants.{General, Constant}
 use Rattle.life_typed.specs.declared.typed_expr.Category.{Category}
@@ -98,6 +98,23 @@ bound_place types target constant t (category.Place found held) is e =
 pub given_reference : (types : Types) (target : TyId) (constant : Bool) (e : Typed) → is_value (type_at types target) ≡ true → needs_no_temporary (ty.Reference target constant) e ≡ true
     → is_given types (ty.Reference target constant) e ≡ true → IsBoundTo target constant e.category
 given_reference types target constant e worth place given = bound_place types target constant e.ty e.category place given
+
+-- .. through which it may be changed: nothing else could be given
+pub given_changed : (types : Types) (target : TyId) (e : Typed) → is_given types (ty.Reference target false) e ≡ true → IsBoundTo target false e.category
+given_changed types target e given = go e.category refl given
+  where
+    none : (t : ExprType) → fits_at_all (refused t) ≡ true → ⊥
+    none (Of t) h = false≢true h
+    none NullPointer h = false≢true h
+    none TextLiteral h = false≢true h
+
+    go : (c : Category) → e.category ≡ c → fits_at_all (fits types (ty.Reference target false) e.ty c) ≡ true → IsBoundTo target false e.category
+    go category.Value at h = absurd (none e.ty h)
+    go (category.Place found held) at h = same (id.eq found target) refl h
+      where
+        same : (b : Bool) → id.eq found target ≡ b → fits_at_all (cond b (unless held Constant) (refused e.ty)) ≡ true → IsBoundTo target false e.category
+        same true is h = subst (IsBoundTo target false) (sym at) (bound_place types target false e.ty (category.Place found held) is (subst (λ (c : Category). fits_at_all (fits types (ty.Reference target false) e.ty c) ≡ true) at given))
+        same false is h = absurd (none e.ty h)
 
 -- ---- owners
 

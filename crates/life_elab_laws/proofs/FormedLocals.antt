@@ -1,7 +1,7 @@
 -- The locals of a core function that is translated are well formed, and so is what stands beside its body: its name, its result and its promise.
 use Rattle.std.proofs.Common.{◌≡◌, ◌<◌, ◌+◌, ◌≤◌, ◌⊎◌, inl, inr, ℕ, zero, suc, Bool, true, false, ◌&&◌, ◌||◌, not, List, [], ◌∷◌, length, nat_eq, nat_le, nat_lt, slice_get, Option, Some, is_some, refl, sym, ap, ◌∙◌, subst, unwrap_or, arith}
 use Rattle.std.specs.List.{list_all}
-use Rattle.std.proofs.lemmas.Bool.{and_from, and_parts, false≢true, le-leb, or_cases}
+use Rattle.std.proofs.lemmas.Bool.{and_from, and_parts, false≢true, le-leb}
 use Rattle.std.proofs.lemmas.Bool.Decides.{nat_tests}
 use Rattle.std.proofs.lemmas.Option.{same_Some}
 use Rattle.life_types.specs.Pointees.{or_void, ty_of}
@@ -12,9 +12,9 @@ use Rattle.life_types.specs.declared.ty.NameId.{NameId}
 use Rattle.life_types.specs.declared.ty.Ty.{Ty}
 use Rattle.life_types.specs.declared.ty.Ty.TheVariants as ty
 use Rattle.life_types.specs.declared.ty.TyId.{TyId}
-use Rattle.life_built.specs.Built.{is_default, is_pointing}
+use Rattle.life_served.specs.Served.{is_pointing}
 use Rattle.life_typed.specs.BaseTypes.{type_at}
-use Rattle.life_typed.specs.Programs.{FunctionForm, ProgramForm, PromiseForm, default}
+use Rattle.life_typed.specs.Programs.{FunctionForm, ProgramForm, PromiseForm, default, listed}
 use Rattle.life_typed.specs.declared.typed_program.ParameterPromise.{ParameterPromise}
 use Rattle.life_typed.specs.declared.typed_program.TypedLocal.{TypedLocal}
 use Rattle.life_core.specs.Function.{Function}
@@ -23,6 +23,7 @@ use Rattle.life_core.specs.declared.program.LocalKind.{LocalKind}
 use Rattle.life_core.specs.declared.program.LocalKind.TheVariants.{Object, Register}
 use Rattle.life_pset.specs.Shapes.{referred, shape, shape_if, unslotted}
 use Rattle.life_proper.specs.WellFormedPrograms.{are_well_formed_locals, fits_kind, is_name, is_name_if, is_named_as, is_result_local, is_result_of, is_well_formed_local, may_stand, names_parameters}
+use Rattle.life_well_typed.specs.Functions.{lists_parameters}
 use Rattle.life_well_typed.specs.Names.{is_function_named, is_local_named}
 use Rattle.life_writer.specs.Registers.{nameless}
 use Rattle.life_writer.specs.Around.{Around}
@@ -36,6 +37,7 @@ use Rattle.life_elab_laws.proofs.ExpressionKinds.{variable_built}
 use Rattle.life_elab_laws.proofs.Fronts.{IsFront, front_length, passed_at}
 use Rattle.life_elab_laws.proofs.OperandsThere.{type_either}
 use Rattle.life_elab_laws.proofs.Reaching.{IsReachedType, variable_found}
+use Rattle.life_elab_laws.proofs.ResultTypes.{result_is}
 use Rattle.life_elab_laws.proofs.WrittenLocals.{AreWrittenLocals, IsIntermediate, IsOwn, fits_later, fits_local, fits_register, local_later, owner_local, register_local, FitsNameless}
 use Rattle.life_elab_laws.specs.Reached.{is_owner_of_values, is_walker_of_values}
 use Rattle.life_elab_laws.proofs.Shaped.{owner_later}
@@ -209,23 +211,23 @@ pub record HasFormedHead (types : Types) (names : ℕ) (f : Function) : Type 0 w
   pub result : is_result_of types f.result (slice_get types.types f.result.0) (slice_get f.locals f.parameters) ≡ true
   pub locals : are_well_formed_locals types names f.parameters 0 f.locals ≡ true
 
-default_names : (n : ℕ) (promise : PromiseForm) → is_default promise ≡ true → names_parameters n (promise_of promise) ≡ true
-default_names n default d = refl
-default_names n _ d = absurd (false≢true d)
+promise_names : (n : ℕ) (promise : PromiseForm) → lists_parameters n promise ≡ true → names_parameters n (promise_of promise) ≡ true
+promise_names n default named = refl
+promise_names n (listed parameters fixed null) named = named
 
 itself : (n : ℕ) → nat_eq n n ≡ true
 itself n = grind (arith, nat_tests)
 
-lt_of : (a b : ℕ) → nat_lt a b ≡ true → a < b
+pub lt_of : (a b : ℕ) → nat_lt a b ≡ true → a < b
 lt_of a b h = grind (arith, nat_tests)
 
 result_void : (types : Types) (id : TyId) (o : Option Local) (t : Ty) → is_void t ≡ true → is_result_of types id (Some t) o ≡ true
 result_void types id o ty.Void v = refl
 result_void types id o _ v = absurd (false≢true v)
 
-result_worth : (types : Types) (id : TyId) (o : Option Local) (t : Ty) → is_value t ≡ true → is_result_local types id o ≡ true → is_result_of types id (Some t) o ≡ true
-result_worth types id o ty.Void v h = refl
-result_worth types id o _ v h = h
+result_some : (types : Types) (id : TyId) (o : Option Local) (t : Ty) → is_result_local types id o ≡ true → is_result_of types id (Some t) o ≡ true
+result_some types id o ty.Void h = refl
+result_some types id o _ h = h
 
 -- as it is written, in a finished table that begins with the one behind it
 module _ (so_far : Bool) (p : ProgramForm) (of : FunctionForm) (T types : Types) (names : ℕ) (made : IsFunctionOf so_far p of) (table : IsFront p.types.types T.types) (front : IsFront p.types.types types.types)
@@ -287,28 +289,25 @@ module _ (so_far : Bool) (p : ProgramForm) (of : FunctionForm) (T types : Types)
   result_type : slice_get types.types core.result.0 ≡ Some made.ty
   result_type = front of.result.0 made.ty made.result
 
-  result_there : is_value made.ty ≡ true → slice_get core.locals core.parameters ≡ Some (nameless of.place of.result)
-  result_there v =
+  result_there : is_void made.ty ≡ false → slice_get core.locals core.parameters ≡ Some (nameless of.place of.result)
+  result_there some =
       grown core.parameters (nameless of.place of.result)
-      (result_first (around p of) T made.typed.parameters table (ap is_value (type_found p.types of.result made.ty made.result) ∙ v))
-
-  result_cases : (is_void made.ty ≡ true) ⊎ (is_value made.ty ≡ true)
-  result_cases = or_cases (is_void made.ty) (is_value made.ty) (subst (λ (u : Ty). (is_void u || is_value u) ≡ true) (type_found p.types of.result made.ty made.result) made.built.result)
+      (result_first (around p of) T made.typed.parameters table made.built.result (ap is_void (type_found p.types of.result made.ty made.result) ∙ some))
 
   result_formed : is_result_of types core.result (slice_get types.types core.result.0) (slice_get core.locals core.parameters) ≡ true
-  result_formed = ap (λ (o : Option Ty). is_result_of types core.result o (slice_get core.locals core.parameters)) result_type ∙ go result_cases
+  result_formed = ap (λ (o : Option Ty). is_result_of types core.result o (slice_get core.locals core.parameters)) result_type ∙ go (is_void made.ty) refl
     where
-      go : (is_void made.ty ≡ true) ⊎ (is_value made.ty ≡ true) → is_result_of types core.result (Some made.ty) (slice_get core.locals core.parameters) ≡ true
-      go (inl v) = result_void types core.result (slice_get core.locals core.parameters) made.ty v
-      go (inr v) =
-          result_worth types core.result (slice_get core.locals core.parameters) made.ty v
-          (ap (is_result_local types core.result) (result_there v) ∙ and_from (nat_eq of.result.0 of.result.0) true (itself of.result.0) refl)
+      go : (b : Bool) → is_void made.ty ≡ b → is_result_of types core.result (Some made.ty) (slice_get core.locals core.parameters) ≡ true
+      go true v = result_void types core.result (slice_get core.locals core.parameters) made.ty v
+      go false some =
+          result_some types core.result (slice_get core.locals core.parameters) made.ty
+          (ap (is_result_local types core.result) (result_there some) ∙ and_from (nat_eq of.result.0 of.result.0) true (itself of.result.0) refl)
 
   -- ---- the whole
 
   enough : core.parameters ≤ length core.locals
   enough =
-      let fewer = (result_grows (around p of) (type_at p.types of.result) (given (around p of) T made.typed.parameters table) made.built.result).count in
+      let fewer = (result_grows (around p of) (type_at p.types of.result) (given (around p of) T made.typed.parameters table) (result_is p.types (type_at p.types of.result) made.built.result)).count in
       let more = front_length (first_state (around p of) T).locals core.locals grown in
       omega (arith, given_count (around p of) T made.typed.parameters table, fewer, more)
 
@@ -316,7 +315,7 @@ module _ (so_far : Bool) (p : ProgramForm) (of : FunctionForm) (T types : Types)
   head_formed = record {
     name = (and_parts (nat_lt of.name.0 names) (list_all (is_local_named names) of.locals) named).0;
     count = le-leb core.parameters (length core.locals) enough;
-    promise = default_names core.parameters of.promise made.built.promise;
+    promise = promise_names core.parameters of.promise made.typed.promise;
     result = result_formed;
     locals = locals_formed;
   }

@@ -3,7 +3,7 @@ use Rattle.std.proofs.Common.{◌≡◌, ℕ, Bool, true, false, not, if◌then�
 use Rattle.std.proofs.lemmas.Bool.{false≢true}
 use Rattle.life_types.specs.Pointees.{or_void, pointee, ty_of}
 use Rattle.life_types.specs.TypeTests.{is_constant, is_reference, is_value, is_void}
-use Rattle.life_types.specs.Types.{Types}
+use Rattle.life_types.specs.Types.{Types, class}
 use Rattle.life_types.specs.declared.ty.Ty.{Ty}
 use Rattle.life_types.specs.declared.ty.Ty.TheVariants as ty
 use Rattle.life_types.specs.declared.ty.TyId.{TyId}
@@ -20,7 +20,7 @@ use Rattle.life_core.specs.declared.program.Local.{Local}
 use Rattle.life_core.specs.declared.program.LocalKind.TheVariants.{Object, Register}
 use Rattle.life_pset.specs.Shapes.{referred, shape_if, shape_of, target_of, ty_if, unslotted}
 use Rattle.life_writer.specs.Around.{Around}
-use Rattle.life_writer.specs.Variables.{variable, variable_place}
+use Rattle.life_writer.specs.Variables.{kind, variable, variable_place}
 use Rattle.life_writer.specs.Writing.{State}
 use Rattle.life_elab_laws.proofs.Fronts.{IsFront}
 use Rattle.life_elab_laws.proofs.Growing.{Begins}
@@ -32,7 +32,7 @@ use Rattle.life_elab_laws.proofs.VariablePlaces.{IsVariableAt, IsVariableType, a
 use Rattle.life_proper.specs.OperandTypes.{keeps_const}
 use Rattle.life_proper.specs.Placed as placed
 use Rattle.life_elab_laws.proofs.Gifts.{IsAt, IsPlaceOf}
-use Rattle.life_elab_laws.proofs.OperandsThere.{object_there, type_there, value_no_reference}
+use Rattle.life_elab_laws.proofs.OperandsThere.{object_there, register_there, type_there, value_no_reference}
 
 keeps_all : (to : Bool) → keeps_const to false ≡ true
 keeps_all true = refl
@@ -90,6 +90,14 @@ location_no_reference ty.View loc = refl
 location_no_reference (ty.Iterator target constant) loc = refl
 location_no_reference (ty.Span target constant) loc = refl
 location_no_reference _ loc = absurd (false≢true loc)
+
+-- a register holds it
+pub location_kind : (t : Ty) → is_location t ≡ true → kind (class (Some t)) ≡ Register
+location_kind (ty.Raw target constant) loc = refl
+location_kind ty.View loc = refl
+location_kind (ty.Iterator target constant) loc = refl
+location_kind (ty.Span target constant) loc = refl
+location_kind _ loc = absurd (false≢true loc)
 
 module _ (types : Types) (f : Function) where
   reference_shape : (parameter : Bool) (id target : TyId) (constant : Bool) → ty_of types id ≡ ty.Reference target constant → is_value (ty_of types target) ≡ true → shape_if types parameter id ≡ id
@@ -182,7 +190,7 @@ module _ (types : Types) (texts : ℕ) (so_far : Bool) (fs : List Function) (f :
             subst (IsPlaceOf types texts so_far fs f (type_at a.program.types id) constant) (sym (place_is a s x v h Register (kind_is a s x v h (ty.Reference target c) found)))
             (subst (λ (d : Bool). IsPlaceOf types texts so_far fs f (type_at a.program.types id) d (behind (variable s x))) (const_same target id c constant same)
             (behind_place (whole (variable s x)) (ty.Reference target c) target c (type_at a.program.types id)
-            (record { typed = reference_there types f (variable s x) h.local target c there (typed_as (ty.Reference target c) found) (ap is_value later ∙ w); served = λ so. refl }) refl refl refl here value))
+            (record { typed = reference_there types f (variable s x) h.local target c there (typed_as (ty.Reference target c) found) (ap is_value later ∙ w); kept = register_there types f (variable s x) h.local there (kind_is a s x v h (ty.Reference target c) found); served = λ so. refl }) refl refl refl here value))
 
     -- an owner is a place of its type
     pub owner_formed : (t : Ty) (constant : Bool) → slice_get a.program.types.types v.ty.0 ≡ Some t → is_owner_of_values a.program.types t ≡ true → IsPlaceOf types texts so_far fs f t constant (variable_place s x)
@@ -193,4 +201,8 @@ module _ (types : Types) (texts : ℕ) (so_far : Bool) (fs : List Function) (f :
 
     -- the variable of a raw pointer or a view has its type
     pub pointer_formed : (t : Ty) → is_location t ≡ true → slice_get a.program.types.types v.ty.0 ≡ Some t → IsAt types texts so_far fs f t (whole (variable s x))
-    pointer_formed t loc found = record { typed = type_there types f (variable s x) h.local t there (typed_as t found) (location_no_reference t loc); served = λ so. refl }
+    pointer_formed t loc found = record {
+      typed = type_there types f (variable s x) h.local t there (typed_as t found) (location_no_reference t loc);
+      kept = register_there types f (variable s x) h.local there (kind_is a s x v h t found ∙ location_kind t loc);
+      served = λ so. refl;
+    }

@@ -29,7 +29,7 @@ use Rattle.life_elab_laws.proofs.Doing.{Acting, Does, does_then}
 use Rattle.life_elab_laws.proofs.Exits.{Leaves}
 use Rattle.life_elab_laws.proofs.Following.{Follows, HasRegister}
 use Rattle.life_elab_laws.proofs.Fronts.{IsFront}
-use Rattle.life_elab_laws.proofs.GivingBack.{GivesValue}
+use Rattle.life_elab_laws.proofs.GivingBack.{GivesResult}
 use Rattle.life_elab_laws.proofs.Growing.{Begins}
 use Rattle.life_elab_laws.proofs.Returning.{return_does}
 use Rattle.life_elab_laws.proofs.Setting.{Setting}
@@ -41,8 +41,8 @@ use Rattle.life_elab_laws.proofs.Stopping.{stops, stops_next, stops_right}
 pub record IsProperBody (a : Around) (types : Types) (texts : ℕ) (so_far : Bool) (fs : List Function) (f : Function) : Type 0 where
   pub checked : is_checked types f ≡ true
   pub stated : IsStated types texts so_far fs f false f.body
-  -- where it gives a value back and control doesn't run past its text, each return stands behind that
-  pub returns : GivesValue a → ReturnsKnown types f f.parameters f.body (Some (entry_known f))
+  -- where it gives something back and control doesn't run past its text, each return stands behind that
+  pub returns : GivesResult a → ReturnsKnown types f f.parameters f.body (Some (entry_known f))
 
 -- what endl writes stands behind the texts
 text_there : (p : ProgramForm) (f : FunctionForm) → nat_lt (end_line (around p f)) (length (texts_of p)) ≡ true
@@ -61,7 +61,7 @@ module _ (so_far : Bool) (p : ProgramForm) (form : FunctionForm) (T types : Type
     pub does : Does types texts so_far fs f (around p form) behind false s s'
     pub stopped : stops (trees s'.code) ≡ true
 
-  finished : (it : StmtForm) (s : State) → ends form.body ≡ ends it → IsBody p form it → is_reached_statement texts so_far p.types form.locals it ≡ true → Follows types f (around p form) (with_parameters (length form.parameters)) s → HasRegister (around p form) s
+  finished : (it : StmtForm) (s : State) → ends form.body ≡ ends it → IsBody p form it → is_reached_statement texts so_far p.types form.locals form.result it ≡ true → Follows types f (around p form) (with_parameters (length form.parameters)) s → HasRegister (around p form) s
       → IsFinished s (body (around p form) it s)
   finished (block items closing) s same h b follows register = go (ends (block items closing)) refl
     where
@@ -85,7 +85,7 @@ module _ (so_far : Bool) (p : ProgramForm) (form : FunctionForm) (T types : Type
     pub function_finished : IsFinished (first_state (around p form) T) (written (around p form) T)
     function_finished =
         finished form.body (first_state (around p form) T) refl is.typed.body is.built.body
-        (first_follows (around p form) T is.typed.parameters table types f setting.front is.built.any is.built.result) (register_there (around p form) T is.typed.parameters table is.ty is.result)
+        (first_follows (around p form) T is.typed.parameters table types f setting.front is.built.any is.built.result) (register_there (around p form) T is.typed.parameters table is.ty is.result is.built.result)
 
     -- ---- in the finished function
 

@@ -8,10 +8,10 @@ use Rattle.life_types.specs.declared.ty.TyId.{TyId}
 use Rattle.life_typed.specs.declared.typed_expr.ExprType.{ExprType}
 use Rattle.life_typed.specs.declared.typed_expr.ExprType.TheVariants.{NullPointer, Of, TextLiteral}
 use Rattle.life_core.specs.Function.{Function}
-use Rattle.life_core.specs.Operands.{Argument, Location, Operand, Value}
+use Rattle.life_core.specs.Kinds.{is_register_at}
+use Rattle.life_core.specs.Operands.{Argument, Location, Operand, PointerOf, Value}
 use Rattle.life_core.specs.Served.{is_served_argument, is_served_location, is_served_operand}
 use Rattle.life_core.specs.Step.{Step}
-use Rattle.life_proper.specs.ByValue.{is_value_argument}
 use Rattle.life_proper.specs.GivenOver.{given_argument}
 use Rattle.life_proper.specs.OperandTypes.{keeps_const, takes}
 use Rattle.life_proper.specs.Placed.{is_const_place, is_number_of, type_in, type_of}
@@ -20,12 +20,13 @@ use Rattle.life_proper.specs.declared.known.Known.{Known}
 use Rattle.life_writer.specs.Pointers.{As, By, Pointing}
 use Rattle.life_elab_laws.proofs.Locations.{is_location}
 use Rattle.life_elab_laws.proofs.Making.{AreHeld, IsFilling, IsHeld, IsPlace, IsPointer, IsPointing, Keeps}
-use Rattle.life_elab_laws.proofs.Shaping.{IsFineStep, is_no_object}
+use Rattle.life_elab_laws.proofs.Shaping.{IsFineStep}
 
--- a number in a register for each of these
+-- a number in a register, or a pointer, for each of these
 abbrev pub AreNumbersFor : List TyId → List Argument → ℕ → List Known → Type 0
 AreNumbersFor [] [] n k = Unit {0}
 AreNumbersFor (id ∷ ids) (Value r ∷ xs) n k = IsHeld r n k × AreNumbersFor ids xs n k
+AreNumbersFor (id ∷ ids) (PointerOf l ∷ xs) n k = IsPointer l n k × AreNumbersFor ids xs n k
 AreNumbersFor _ _ n k = ⊥
 
 -- what a pointer of a type may be given: what it is itself, a pointer that it takes, nullptr, or a literal
@@ -79,10 +80,11 @@ module _ (types : Types) (texts : ℕ) (so_far : Bool) (fs : List Function) (f :
   abbrev pub a_place : Ty → Bool → Gift Operand
   a_place t constant = record { typed = IsPlaceOf t constant; ready = IsPlace; stays = place_stays }
 
-  -- ---- a location that holds a pointer of a type
+  -- ---- a location that holds a pointer of a type: a register
 
   pub record IsAt (t : Ty) (l : Location) : Type 0 where
     pub typed : type_in types f l ≡ t
+    pub kept : is_register_at f l.local ≡ true
     pub served : so_far ≡ true → is_served_location l ≡ true
 
   pub pointer_stays : (l : Location) (n m : ℕ) (k j : List Known) → n ≤ m → IsPointer l n k → Keeps f n None k j → IsPointer l m j
@@ -119,13 +121,13 @@ module _ (types : Types) (texts : ℕ) (so_far : Bool) (fs : List Function) (f :
   pub record AreHanded (ids : List TyId) (xs : List Argument) : Type 0 where
     pub fit : are_arguments_for types texts fs f ids xs ≡ true
     pub own : have_own_slots types texts fs f xs ≡ true
-    pub given : list_all (is_no_object types f) (flat_map given_argument xs) ≡ true
+    pub given : flat_map given_argument xs ≡ []
     pub served : so_far ≡ true → list_all is_served_argument xs ≡ true
-    pub values : so_far ≡ true → list_all is_value_argument xs ≡ true
 
   pub numbers_stay : (ids : List TyId) (xs : List Argument) (n m : ℕ) (k j : List Known) → n ≤ m → AreNumbersFor ids xs n k → Keeps f n None k j → AreNumbersFor ids xs m j
   numbers_stay [] [] n m k j h p keeps = tt
   numbers_stay (id ∷ ids) (Value r ∷ xs) n m k j h p keeps = (held_stays r n m k j h p.0 keeps, numbers_stay ids xs n m k j h p.1 keeps)
+  numbers_stay (id ∷ ids) (PointerOf l ∷ xs) n m k j h p keeps = (pointer_stays l n m k j h p.0 keeps, numbers_stay ids xs n m k j h p.1 keeps)
   numbers_stay _ _ n m k j h p keeps = absurd p
 
   abbrev pub arguments : List TyId → Gift (List Argument)

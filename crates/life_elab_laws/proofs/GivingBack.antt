@@ -2,7 +2,7 @@
 use Rattle.std.proofs.Common.{◌≡◌, ℕ, true, false, ◌&&◌, List, [], ◌∷◌, ◌++◌, Some, None, refl, sym, ap, Bool}
 use Rattle.std.proofs.lemmas.Bool.{and_parts, false≢true}
 use Rattle.std.proofs.lemmas.Option.{none-some}
-use Rattle.life_types.specs.TypeTests.{is_value}
+use Rattle.life_types.specs.TypeTests.{is_void}
 use Rattle.life_types.specs.Types.{Types}
 use Rattle.life_typed.specs.BaseTypes.{type_at}
 use Rattle.life_typed.specs.Ends.{ends}
@@ -18,9 +18,9 @@ use Rattle.life_elab_laws.proofs.Exits.{Knows, MayKnow}
 use Rattle.life_elab_laws.proofs.Nowhere.{none_met, nowhere_flows}
 use Rattle.life_elab_laws.proofs.Shaping.{IsFine, IsFineTest}
 
--- a function that gives a value back, past whose text control doesn't run
-abbrev pub GivesValue : Around → Type 0
-GivesValue a = (is_value (type_at a.program.types a.function.result) ≡ true) × (ends a.function.body ≡ true)
+-- a function that gives something back, past whose text control doesn't run
+abbrev pub GivesResult : Around → Type 0
+GivesResult a = (is_void (type_at a.program.types a.function.result) ≡ false) × (ends a.function.body ≡ true)
 
 pub nowhere_ready : (r : ℕ) (o : State) → o ≡ None → IsKnownReady r o
 nowhere_ready r None e = tt

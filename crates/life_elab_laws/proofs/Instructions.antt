@@ -4,14 +4,14 @@ use Rattle.std.proofs.lemmas.Bool.{and_from, false≢true}
 use Rattle.std.proofs.lemmas.Option.{slice_get_within}
 use Rattle.std.specs.Prelude.{ℤ}
 use Rattle.life_types.specs.Trees.{HasPartsBelow}
-use Rattle.life_types.specs.TypeTests.{is_value}
+use Rattle.life_types.specs.TypeTests.{is_raw, is_value}
 use Rattle.life_types.specs.Types.{Types}
 use Rattle.life_types.specs.contracts.ty.TyPartialEq.TheImpl.{ghosts as compared}
 use Rattle.life_types.specs.declared.place.Place.{Place}
 use Rattle.life_types.specs.declared.ty.Ty.{Ty}
 use Rattle.life_types.specs.declared.ty.Ty.TheVariants as ty
 use Rattle.life_typed.specs.declared.typed_expr.ExprType.{ExprType}
-use Rattle.life_typed.specs.declared.typed_expr.ExprType.TheVariants.{Of, TextLiteral}
+use Rattle.life_typed.specs.declared.typed_expr.ExprType.TheVariants.{NullPointer, Of, TextLiteral}
 use Rattle.life_core.specs.Function.{Function}
 use Rattle.life_core.specs.Kinds.{is_register_at}
 use Rattle.life_core.specs.Operands.{Location, Operand, whole}
@@ -45,7 +45,7 @@ use Rattle.life_elab_laws.proofs.Held.{one_there, place_there, two_there}
 use Rattle.life_elab_laws.proofs.Knowledge.{at_set}
 use Rattle.life_elab_laws.proofs.Locations.{is_location}
 use Rattle.life_elab_laws.proofs.Making.{IsOpen, IsPointer, Keeps, keeps_all, Alive}
-use Rattle.life_elab_laws.proofs.OperandsThere.{number_any, number_there, number_typed, type_there, value_same}
+use Rattle.life_elab_laws.proofs.OperandsThere.{number_any, number_there, number_typed, register_there, type_there, value_same}
 use Rattle.life_elab_laws.proofs.Parts.{Makes, Part, Runs, and_part, gives_part, then_part}
 use Rattle.life_elab_laws.proofs.Shaping.{IsFineStep, fine_acts}
 use Rattle.life_elab_laws.proofs.Types.{same_types, type_added}
@@ -140,7 +140,6 @@ module _ (types : Types) (texts : ℕ) (so_far : Bool) (fs : List Function) (f :
   evaluates P x t o ready formed = record {
     fills = λ r n k e p. record { ready = uses_ready k (operation_uses o) (r ∷ []) (ready n k p); after = refl };
     fine = λ r e p. record {
-      plain = λ so. refl;
       given = refl;
       formed =
           and_from (is_number types f r) (is_operation_of types texts fs f (type_at types f r) o) (number_any types f t r e)
@@ -162,7 +161,7 @@ module _ (types : Types) (texts : ℕ) (so_far : Bool) (fs : List Function) (f :
       computed_part (nothing types texts so_far fs f) tt into t place values.input s (ap is_value long) wanted
       (record {
         fills = λ r n k e p. record { ready = refl; after = refl };
-        fine = λ r e p. record { plain = λ so. refl; given = refl; formed = subst (λ (u : Ty). is_number_of types f u r ≡ true) long e; served = λ so. refl };
+        fine = λ r e p. record { given = refl; formed = subst (λ (u : Ty). is_number_of types f u r ≡ true) long e; served = λ so. refl };
       })
 
   -- ---- from one register
@@ -208,7 +207,7 @@ module _ (types : Types) (texts : ℕ) (so_far : Bool) (fs : List Function) (f :
       computed_part (a_place types texts so_far fs f t constant) o into t place (load o) s v wanted
       (record {
         fills = λ r n k e p. record { ready = uses_ready k (place_uses o) (r ∷ []) (place_there o n k p); after = refl };
-        fine = λ r e h. record { plain = λ so. refl; given = refl; formed = subst (λ (u : Ty). is_number_of types f u r ≡ true) (sym h.typed) e; served = h.served };
+        fine = λ r e h. record { given = refl; formed = subst (λ (u : Ty). is_number_of types f u r ≡ true) (sym h.typed) e; served = h.served };
       })
 
   -- ---- behind other parts
@@ -273,7 +272,11 @@ module _ (types : Types) (texts : ℕ) (so_far : Bool) (fs : List Function) (f :
   pub location_at : (place : Place) (t : Ty) (s : State) → is_location t ≡ true → Begins types f (new_register place t s).state → IsAt types texts so_far fs f t (whole (new_register place t s).given)
   location_at place t s loc b =
       let l = added place t s in
-      record { typed = type_there types f _ l t (b.locals _ l (last_there s.locals l)) (b.table l.ty.0 t (type_added s.types.types t)) (location_no_reference t loc); served = λ so. refl }
+      record {
+        typed = type_there types f _ l t (b.locals _ l (last_there s.locals l)) (b.table l.ty.0 t (type_added s.types.types t)) (location_no_reference t loc);
+        kept = register_there types f _ l (b.locals _ l (last_there s.locals l)) refl;
+        served = λ so. refl;
+      }
 
   -- a variable is where it is, and anything else comes into a register that takes it
   located_from : (source : ExprType) (t : Ty) → IsTakenBy types t source → ((l : Location) → IsGivenAs types texts so_far fs f source (As l) → IsAt types texts so_far fs f t l)
@@ -286,7 +289,7 @@ module _ (types : Types) (texts : ℕ) (so_far : Bool) (fs : List Function) (f :
       emit_part (a_pointing types texts so_far fs f source) (By step) None s w place (λ r. step (whole r)) (whole w.given) (a_pointer types texts so_far fs f t)
       (new_targeted so_far types f place t s fits below)
       (λ b h. let at = location_at place t s loc b in (h t (whole w.given) loc at taken, at))
-      (λ r n k e h. filling_fills f step n k h r)
+      (λ r n k e h. filling_fills f step n k h r e)
       (λ k lt e. record { local = w.given; is = refl; below = lt; held = e })
 
   pub located_part : (p : Pointing) (t : Ty) (place : Place) (s : State) → is_location t ≡ true → fits_register so_far types t ≡ true → HasPartsBelow s.types (length s.types.types) t
@@ -297,6 +300,11 @@ module _ (types : Types) (texts : ℕ) (so_far : Bool) (fs : List Function) (f :
   pub literal_located_part : (p : Pointing) (place : Place) (s : State) → Part types texts so_far fs f (a_pointing types texts so_far fs f TextLiteral) p None s (located place ty.View p s) (a_pointer types texts so_far fs f ty.View)
   literal_located_part p place s = located_from TextLiteral ty.View (inr refl) (λ l h. absurd h) p place s refl refl tt
 
+  -- .. and nothing into one of a raw pointer
+  pub null_located_part : (p : Pointing) (t : Ty) (place : Place) (s : State) → is_raw t ≡ true → is_location t ≡ true → fits_register so_far types t ≡ true → HasPartsBelow s.types (length s.types.types) t
+      → Part types texts so_far fs f (a_pointing types texts so_far fs f NullPointer) p None s (located place t p s) (a_pointer types texts so_far fs f t)
+  null_located_part p t place s raw loc fits below = located_from NullPointer t (inr raw) (λ l h. absurd h) p place s loc fits below
+
   -- two views are compared
   pub same_part : (into : Option ℕ) (t : Ty) (place : Place) (equal : Bool) (x : Location × Location) (s : State) → t ≡ ty.Bool → so_far ≡ false → is_value t ≡ true → IsIntoOf t s into
       → Part types texts so_far fs f (both types texts so_far fs f (a_pointer types texts so_far fs f ty.View) (a_pointer types texts so_far fs f ty.View)) x into s (computed into t place (λ n. Same n x.0 x.1 equal) s) (a_number types texts so_far fs f t)
@@ -306,7 +314,6 @@ module _ (types : Types) (texts : ℕ) (so_far : Bool) (fs : List Function) (f :
       (record {
         fills = λ r n k e p. record { ready = uses_ready k (x.0.local ∷ x.1.local ∷ []) (r ∷ []) (two_there k x.0.local x.1.local (pointer_held x.0 n k p.0) (pointer_held x.1 n k p.1)); after = refl };
         fine = λ r e h. record {
-          plain = λ so. refl;
           given = refl;
           formed =
               and_from (is_number_of types f ty.Bool r) (operands.are_compared types (type_in types f x.0) (type_in types f x.1)) (subst (λ (u : Ty). is_number_of types f u r ≡ true) bool e)
@@ -342,23 +349,29 @@ module _ (types : Types) (texts : ℕ) (so_far : Bool) (fs : List Function) (f :
     };
   }
 
-  pub acted_part : {A : Type 0} (P : G A) (x : A) (place : Place) (i : Step) (s : State) → (P.typed x → IsFineStep types texts so_far fs f i) → ((n : ℕ) (k : List Known) → P.ready x n k → are_ready k (touched_by f i) ≡ true)
-      → ((n m : ℕ) (k : List Known) → P.ready x n k → Keeps f m None k (known_after (touched_by f i) k))
+  pub acted_as_part : {A : Type 0} (P : G A) (x : A) (place : Place) (i : Step) (s : State) → (P.typed x → IsFineStep types texts so_far fs f i)
+      → (P.typed x → (n : ℕ) (k : List Known) → P.ready x n k → are_ready k (touched_by f i) ≡ true) → (P.typed x → (n m : ℕ) (k : List Known) → P.ready x n k → Keeps f m None k (known_after (touched_by f i) k))
       → Part types texts so_far fs f P x None s (gives tt (emit place i s)) (nothing types texts so_far fs f)
-  acted_part P x place i s fine ready after = record {
+  acted_as_part P x place i s fine ready after = record {
     grown = grows_none s;
     registers = registers_none so_far types s;
     code = Acts place i ∷ [];
     written = refl;
-    runs = λ b p. record {
-      fine = fine_acts types texts so_far fs f place i (fine p);
+    runs = λ b h. record {
+      fine = fine_acts types texts so_far fs f place i (fine h);
       typed = tt;
       goes = λ k alive p. record {
         after = known_after (touched_by f i) k;
-        falls = falls_acts types f place i k (ready (length s.locals) k p);
-        keeps = after (length s.locals) (length s.locals) k p;
+        falls = falls_acts types f place i k (ready h (length s.locals) k p);
+        keeps = after h (length s.locals) (length s.locals) k p;
         gives = tt;
-        alive = alive_same f s k (known_after (touched_by f i) k) (after (length s.locals) zero k p).sized (λ y. (after (length s.locals) (suc y) k p).below y (omega arith) tt) alive;
+        alive = alive_same f s k (known_after (touched_by f i) k) (after h (length s.locals) zero k p).sized (λ y. (after h (length s.locals) (suc y) k p).below y (omega arith) tt) alive;
       };
     };
   }
+
+  -- .. whatever the types of its operands are
+  pub acted_part : {A : Type 0} (P : G A) (x : A) (place : Place) (i : Step) (s : State) → (P.typed x → IsFineStep types texts so_far fs f i) → ((n : ℕ) (k : List Known) → P.ready x n k → are_ready k (touched_by f i) ≡ true)
+      → ((n m : ℕ) (k : List Known) → P.ready x n k → Keeps f m None k (known_after (touched_by f i) k))
+      → Part types texts so_far fs f P x None s (gives tt (emit place i s)) (nothing types texts so_far fs f)
+  acted_part P x place i s fine ready after = acted_as_part P x place i s fine (λ h. ready) (λ h. after)

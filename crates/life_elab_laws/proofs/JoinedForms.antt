@@ -1,8 +1,7 @@
 -- Strings that are made: two texts, one behind the other, a copy of a string, and a string of what a view sees.
-use Rattle.std.proofs.Common.{◌≡◌, ℕ, Bool, true, false, List, [], None, refl, sym, ap, ◌∙◌, subst}
+use Rattle.std.proofs.Common.{◌≡◌, ℕ, Bool, true, false, List, None, refl}
 use Rattle.life_types.specs.Types.{Types}
 use Rattle.life_types.specs.declared.place.Place.{Place}
-use Rattle.life_types.specs.declared.ty.Ty.{Ty}
 use Rattle.life_types.specs.declared.ty.Ty.TheVariants as ty
 use Rattle.life_typed.specs.TypedForm.{Form}
 use Rattle.life_core.specs.Function.{Function}
@@ -17,7 +16,6 @@ use Rattle.life_writer.specs.Characters.{InView, Seen, changed_by, characters, c
 use Rattle.life_writer.specs.ExpressionForms.{uses}
 use Rattle.life_writer.specs.OwnerForms.{copied_at, set_to, standing}
 use Rattle.life_writer.specs.Uses.{Remaining, lived}
-use Rattle.life_writer.specs.Using.{pointer}
 use Rattle.life_writer.specs.Writing.{Gives, State, ◌>>◌, gives, mapped}
 use Rattle.life_elab_laws.proofs.AppendForms.{Finds, IsFoundAt, IsFoundOf, a_found, append_takes, characters_part, characters_there, some_characters}
 use Rattle.life_elab_laws.proofs.ChangeSteps.{Takes, changes_part}

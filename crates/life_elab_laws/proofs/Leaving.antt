@@ -24,7 +24,7 @@ use Rattle.life_elab_laws.proofs.Falling.{falling, flow_append}
 use Rattle.life_elab_laws.proofs.Following.{Follows, adds_none, follows_again, take_itself}
 use Rattle.life_elab_laws.proofs.FormedEnds.{variable_ends}
 use Rattle.life_elab_laws.proofs.Fronts.{front_length}
-use Rattle.life_elab_laws.proofs.GivingBack.{GivesValue, fine_known, known_append}
+use Rattle.life_elab_laws.proofs.GivingBack.{GivesResult, fine_known, known_append}
 use Rattle.life_elab_laws.proofs.Growing.{Begins}
 use Rattle.life_elab_laws.proofs.OrderedTypes.{order_none}
 use Rattle.life_elab_laws.proofs.Setting.{Setting}
@@ -122,7 +122,7 @@ module _ (types : Types) (texts : ℕ) (so_far : Bool) (fs : List Function) (f :
             (leaves_falling f in_loop (take n s.living) (take s.outside s.living) j ends) (leaves j ends))
 
     -- .. and where that is a return, no value has to be given back
-    left_from : (GivesValue a → (o : Knowing) → ReturnsKnown types f (result_local a) (trees (t ∷ [])) o) → (e : IsEnded types texts so_far fs f (reverse (drop n s.living)) place s)
+    left_from : (GivesResult a → (o : Knowing) → ReturnsKnown types f (result_local a) (trees (t ∷ [])) o) → (e : IsEnded types texts so_far fs f (reverse (drop n s.living)) place s)
         → Does types texts so_far fs f a v in_loop s (write t (with_code (s.code ++ e.code) s))
     left_from back e = record {
       adds = adds_none types f s;
@@ -137,7 +137,7 @@ module _ (types : Types) (texts : ℕ) (so_far : Bool) (fs : List Function) (f :
           known_append types f (result_local a) e.code (t ∷ []) o (fine_known types f (result_local a) texts so_far fs e.code (past_fine a setting v s h b n place e) o) (back gives ends);
     }
 
-    pub left_does : (GivesValue a → (o : Knowing) → ReturnsKnown types f (result_local a) (trees (t ∷ [])) o) → Does types texts so_far fs f a v in_loop s (left n place t s)
+    pub left_does : (GivesResult a → (o : Knowing) → ReturnsKnown types f (result_local a) (trees (t ∷ [])) o) → Does types texts so_far fs f a v in_loop s (left n place t s)
     left_does back = subst (λ (r : State). Does types texts so_far fs f a v in_loop s (write t r)) (sym (ended types texts so_far fs f (reverse (drop n s.living)) place s).written) (left_from back (ended types texts so_far fs f (reverse (drop n s.living)) place s))
 
   pub left_level : (s : State) (n : ℕ) (place : Place) (t : Tree) → (left n place t s).living ≡ s.living

@@ -5,9 +5,10 @@ pub mod AppendForms
 pub mod BaseSteps
 pub mod Beginning
 pub mod Branching
-pub mod BuiltReached
+pub mod ServedReached
 pub mod BuiltVariables
 pub mod CallParts
+pub mod CalledPointers
 pub mod Callees
 pub mod Calls
 pub mod ChangeForms
@@ -39,8 +40,11 @@ pub mod Fronts
 pub mod FunctionWriting
 pub mod Gifts
 pub mod GivenKinds
+pub mod GivenResults
 pub mod GivingBack
 pub mod Growing
+pub mod HandedForms
+pub mod HandedTypes
 pub mod Held
 pub mod Instructions
 pub mod ItemTokens
@@ -71,6 +75,7 @@ pub mod ProgramNames
 pub mod Programs
 pub mod ProperTranslations
 pub mod Reaching
+pub mod ResultTypes
 pub mod Returning
 pub mod RowTypes
 pub mod SeenForms

@@ -22,7 +22,7 @@ use Rattle.life_elab_laws.proofs.Exits.{AreNamed, Knows, Leaves, MayKnow, MayLea
 use Rattle.life_elab_laws.proofs.Falling.{deciding}
 use Rattle.life_elab_laws.proofs.Following.{Adds, Follows, adds_then, begins_added, follows_again, follows_grown, follows_named, grows_adds, knows_alive, take_itself, visible_again}
 use Rattle.life_elab_laws.proofs.Fronts.{front_itself}
-use Rattle.life_elab_laws.proofs.GivingBack.{GivesValue, asks_known, known_may}
+use Rattle.life_elab_laws.proofs.GivingBack.{GivesResult, asks_known, known_may}
 use Rattle.life_elab_laws.proofs.Growing.{Begins}
 use Rattle.life_elab_laws.proofs.OrderedTypes.{order_then}
 use Rattle.life_elab_laws.proofs.Shaped.{AreShaped, shaped_at, is_passing, named_lasts}
@@ -241,7 +241,7 @@ module _ (types : Types) (texts : ℕ) (so_far : Bool) (fs : List Function) (f :
               let v = flow types f (trees body.does.code) q.on_true in
               ReturnsKnown types f (result_local a) (trees body.does.code) q.on_true × ReturnsKnown types f (result_local a) (trees step.does.code) (met v.next v.on_continue)
 
-          returned : GivesValue a → ReturnsKnown types f (result_local a) (trees (turns ∷ [])) (Some k)
+          returned : GivesResult a → ReturnsKnown types f (result_local a) (trees (turns ∷ [])) (Some k)
           returned gives =
               let behind = subst ReturnBehind (sym g.decides) (body.does.returns begun gives (Some g.on) known_on, step.does.returns b gives back known_back) in
               ((asks_known types f (result_local a) texts so_far fs w.given asks.fine (Some head), behind), tt)
@@ -253,7 +253,7 @@ module _ (types : Types) (texts : ℕ) (so_far : Bool) (fs : List Function) (f :
           ways = leaves_may types f in_loop s.living r.living (take s.outside s.living) (trees (turns ∷ [])) went;
         }
 
-        loop_returns : GivesValue a → (o : Knowing) → MayKnow f s.living o → ReturnsKnown types f (result_local a) (trees (turns ∷ [])) o
+        loop_returns : GivesResult a → (o : Knowing) → MayKnow f s.living o → ReturnsKnown types f (result_local a) (trees (turns ∷ [])) o
         loop_returns gives = known_may types f (result_local a) s.living (trees (turns ∷ [])) (λ k knows. returned k knows gives)
 
       pub loop_does : DoesLevel types texts so_far fs f a x in_loop s whole

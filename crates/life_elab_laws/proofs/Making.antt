@@ -1,6 +1,7 @@
 -- What a part of an expression gives where so much is known, where it begins, and what of that it keeps.
-use Rattle.std.proofs.Common.{◌≡◌, ◌<◌, ◌≤◌, ℕ, false, List, [], ◌∷◌, Contains, length, slice_get, Option, Some, None, refl, ◌∙◌, arith, subst}
+use Rattle.std.proofs.Common.{◌≡◌, ◌<◌, ◌≤◌, ℕ, true, false, List, [], ◌∷◌, Contains, length, slice_get, Option, Some, None, refl, ◌∙◌, arith, subst}
 use Rattle.life_core.specs.Function.{Function}
+use Rattle.life_core.specs.Kinds.{is_register_at}
 use Rattle.life_core.specs.Operands.{Location, Operand, whole}
 use Rattle.life_core.specs.Step.{Step}
 use Rattle.life_core.specs.Touched.{nothing, place_uses, touched_by}
@@ -39,11 +40,11 @@ abbrev pub AreHeld : List ℕ → ℕ → List Known → Type 0
 AreHeld [] n k = Unit {0}
 AreHeld (x ∷ xs) n k = IsHeld x n k × AreHeld xs n k
 
--- an instruction with a hole uses locals that are there, and writes the one in the hole
+-- an instruction with a hole uses locals that are there, and writes the register in the hole
 pub record IsFilling (f : Function) (step : Location → Step) (n : ℕ) (k : List Known) : Type 0 where
   pub uses : List ℕ
   pub held : AreHeld uses n k
-  pub touches : (x : ℕ) → touched_by f (step (whole x)) ≡ record nothing { uses = uses; writes = x ∷ [] }
+  pub touches : (x : ℕ) → is_register_at f x ≡ true → touched_by f (step (whole x)) ≡ record nothing { uses = uses; writes = x ∷ [] }
 
 -- what a pointer may be given
 abbrev pub IsPointing : Function → Pointing → ℕ → List Known → Type 0

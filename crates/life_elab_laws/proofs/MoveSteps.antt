@@ -68,7 +68,6 @@ module _ (types : Types) (texts : ℕ) (so_far : Bool) (fs : List Function) (f :
   move_fine table t to y wide o place from apart =
       let is = owner_there table t y o from in
       record {
-        plain = λ so. refl;
         given = refl;
         formed =
             and_from (is_owner (type_of types f to)) _ (ap is_owner place.typed ∙ owner_is table t o)

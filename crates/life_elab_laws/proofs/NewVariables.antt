@@ -23,7 +23,7 @@ use Rattle.life_writer.specs.Writing.{State}
 use Rattle.life_elab_laws.proofs.Aiming.{keeps_further}
 use Rattle.life_elab_laws.proofs.CallParts.{goes_object}
 use Rattle.life_elab_laws.proofs.Declaring.{with_new}
-use Rattle.life_elab_laws.proofs.FormedVariables.{location_no_reference, object_place, reference_there, type_found, type_later, owner_no_reference}
+use Rattle.life_elab_laws.proofs.FormedVariables.{location_kind, location_no_reference, object_place, reference_there, type_found, type_later, owner_no_reference}
 use Rattle.life_elab_laws.proofs.Fronts.{IsFront, front_itself, last_there}
 use Rattle.life_elab_laws.proofs.Gifts.{IsAt, IsPlaceOf}
 use Rattle.life_elab_laws.proofs.Growing.{Begins}
@@ -66,7 +66,6 @@ module _ (a : Around) (types : Types) (texts : ℕ) (so_far : Bool) (fs : List F
 
       pub value_saved : (r : ℕ) → is_number_of types f (type_at a.program.types v.ty) r ≡ true → IsFineStep types texts so_far fs f (Save (object_named (length s.locals)) r)
       value_saved r h = record {
-        plain = λ so. refl;
         given = refl;
         formed =
             and_from (is_number_of types f (placed.type_of types f (object_named (length s.locals))) r) true
@@ -92,7 +91,11 @@ module _ (a : Around) (types : Types) (texts : ℕ) (so_far : Bool) (fs : List F
 
     -- of the type of a raw pointer or a view
     pub location_declared : (t : Ty) → is_location t ≡ true → slice_get a.program.types.types v.ty.0 ≡ Some t → IsAt types texts so_far fs f t (whole (length s.locals))
-    location_declared t loc found = record { typed = type_there types f (length s.locals) (variable_local a v) t there (front v.ty.0 t found) (location_no_reference t loc); served = λ so. refl }
+    location_declared t loc found = record {
+      typed = type_there types f (length s.locals) (variable_local a v) t there (front v.ty.0 t found) (location_no_reference t loc);
+      kept = register_there types f (length s.locals) (variable_local a v) there (ap (λ (o : Option Ty). kind (class o)) found ∙ location_kind t loc);
+      served = λ so. refl;
+    }
 
     -- .. it can live where it is no reference
     pub location_lives : (t : Ty) → is_location t ≡ true → is_pointer t ≡ true → kind (class (Some t)) ≡ Register → slice_get a.program.types.types v.ty.0 ≡ Some t → can_live types texts fs f (length s.locals) ≡ true
@@ -112,3 +115,6 @@ module _ (a : Around) (types : Types) (texts : ℕ) (so_far : Bool) (fs : List F
       reference_declared =
           reference_there types f (length s.locals) (variable_local a v) target constant there (front v.ty.0 (ty.Reference target constant) found)
           (ap is_value (type_later a.program.types types front target worth) ∙ worth)
+
+      pub reference_kept : register_at types f (length s.locals) ≡ true
+      reference_kept = register_there types f (length s.locals) (variable_local a v) there (ap (λ (o : Option Ty). kind (class o)) found)

@@ -70,7 +70,6 @@ module _ (a : Around) (visible : List ℕ) (types : Types) (texts : ℕ) (so_far
       (new_targeted so_far types f place ty.View s refl tt)
       (λ b p. (
         record {
-          plain = λ so. refl;
           given = refl;
           formed = ap (λ (t : Ty). is_source_of types texts fs f t (Text (end_line a))) (at_view b) ∙ and_from true (nat_lt (end_line a) texts) refl few;
           served = λ so. refl;
@@ -80,7 +79,7 @@ module _ (a : Around) (visible : List ℕ) (types : Types) (texts : ℕ) (so_far
       (λ r n k e p. record { ready = refl; after = refl })
       (λ k lt e. (lt, e)))
       (acted_part types texts so_far fs f a_view w.given place (Ports (WritesView (whole_local w.given))) aimed
-      (λ h. record { plain = λ so. refl; given = refl; formed = h; served = λ so. refl })
+      (λ h. record { given = refl; formed = h; served = λ so. refl })
       (λ n k p. uses_ready k (w.given ∷ []) [] (one_there k w.given p.1))
       (λ n m k p. keeps_all f m None k))
     where
@@ -96,7 +95,7 @@ module _ (a : Around) (visible : List ℕ) (types : Types) (texts : ℕ) (so_far
       let w = value u behind t None s in
       subst (λ (b : Bool). Acts a visible types texts so_far fs f setting s (cond b (w >> λ r s. emit e.place (Ports (Writes r)) s) (seen u s >> λ x s. viewed x s >> λ l s. emit e.place (Ports (WritesView l)) s))) (sym (own_value e.ty n))
       (then_part types texts so_far fs f (nothing types texts so_far fs f) tt None s w _ (a_number types texts so_far fs f t) (nothing types texts so_far fs f) stands.opened (is.valued n behind t (own_value e.ty n) None s tt stands)
-      (acted_part types texts so_far fs f (a_number types texts so_far fs f t) w.given e.place (Ports (Writes w.given)) w.state (λ h. record { plain = λ so. refl; given = refl; formed = number_any types f t w.given h; served = λ so. refl })
+      (acted_part types texts so_far fs f (a_number types texts so_far fs f t) w.given e.place (Ports (Writes w.given)) w.state (λ h. record { given = refl; formed = number_any types f t w.given h; served = λ so. refl })
       (λ n k p. uses_ready k (w.given ∷ []) [] (one_there k w.given p.1)) (λ n m k p. keeps_all f m None k)))
 
   -- characters that are seen
@@ -110,7 +109,7 @@ module _ (a : Around) (visible : List ℕ) (types : Types) (texts : ℕ) (so_far
       subst (λ (b : Bool). Acts a visible types texts so_far fs f setting s (cond b (value u behind (own_type e.ty) None s >> λ r s. emit e.place (Ports (Writes r)) s) (seen u s >> λ x s. viewed x s >> λ l s. emit e.place (Ports (WritesView l)) s))) (sym no_value)
       (then_part types texts so_far fs f (nothing types texts so_far fs f) tt None s l _ Q (nothing types texts so_far fs f) stands.opened
       (then_part types texts so_far fs f (nothing types texts so_far fs f) tt None s x l P Q stands.opened (shows s stands) (viewed_part types texts so_far fs f x.given x.state))
-      (acted_part types texts so_far fs f Q l.given e.place (Ports (WritesView l.given)) l.state (λ h. record { plain = λ so. refl; given = refl; formed = ap is_view h.typed; served = h.served })
+      (acted_part types texts so_far fs f Q l.given e.place (Ports (WritesView l.given)) l.state (λ h. record { given = refl; formed = ap is_view h.typed; served = h.served })
       (λ n k p. uses_ready k (l.given.local ∷ []) [] (one_there k l.given.local (ap (λ (q : Location). known_at k q.local) p.is ∙ p.held))) (λ n m k p. keeps_all f m None k)))
 
   -- what is printed and is no number has no value

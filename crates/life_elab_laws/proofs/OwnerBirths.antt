@@ -57,7 +57,7 @@ module _ (a : Around) (types : Types) (texts : ℕ) (so_far : Bool) (fs : List F
     acts = Acts place (step x) ∷ []
 
     live_fine : can_live types texts fs f x ≡ true → IsFineStep types texts so_far fs f (Live x Plain)
-    live_fine can = record { plain = λ so. refl; given = refl; formed = can; served = λ so. absurd (false≢true (sym wide ∙ so)) }
+    live_fine can = record { given = refl; formed = can; served = λ so. absurd (false≢true (sym wide ∙ so)) }
 
     falls : (k : List Known) → x < length k → Q.ready w.given x k → known_at k x ≡ known.Blank → Falls types f (lives ++ acts) k (slice_set k x known.Ready)
     falls k lt q blank =

@@ -69,7 +69,6 @@ module _ (types : Types) (texts : ℕ) (so_far : Bool) (fs : List Function) (f :
   pub copy_fine : (table : Types) (t : Ty) (to from : Operand) → so_far ≡ false → is_owner_of_values table t ≡ true → type_of types f to ≡ t → keeps_const false (is_const_place types f to) ≡ true → type_of types f from ≡ t
       → IsFineStep types texts so_far fs f (Copy to from)
   copy_fine table t to from wide o at free source = record {
-    plain = λ so. refl;
     given = refl;
     formed =
         and_from (same (type_of types f to) (type_of types f from)) _ (ap (λ (u : Ty). same u (type_of types f from)) at ∙ ap (same t) source ∙ owner_same table t o)
@@ -92,7 +91,6 @@ module _ (types : Types) (texts : ℕ) (so_far : Bool) (fs : List Function) (f :
 
   pub whole_given : (o : Operand) → so_far ≡ false → type_of types f o ≡ ty.Text → IsGivenAs types texts so_far fs f (Of ty.View) (aimed (Whole o))
   whole_given o wide text = λ u l loc at taken. record {
-    plain = λ so. refl;
     given = refl;
     formed =
         ap (λ (t : Ty). is_source_of types texts fs f t (Whole o)) (at.typed ∙ view_taker types u loc taken)
@@ -104,5 +102,5 @@ module _ (types : Types) (texts : ℕ) (so_far : Bool) (fs : List Function) (f :
   whole_filling o n k h = record {
     uses = place_uses o ++ [];
     held = subst (λ (xs : List ℕ). AreHeld (xs ++ []) n k) (sym h.uses) ((h.below, h.held), tt);
-    touches = λ x. refl;
+    touches = λ x e. refl;
   }

@@ -19,7 +19,7 @@ use Rattle.life_typed.specs.declared.typed_expr.ExprType.TheVariants.{NullPointe
 use Rattle.life_typed.specs.declared.typed_program.TypedLocal.{TypedLocal}
 use Rattle.life_type_expr.specs.Operands.{variable_of}
 use Rattle.life_core.specs.Function.{Function}
-use Rattle.life_core.specs.Operands.{Argument, Location, Null, Operand, Place as Aimed, Text, Through, whole}
+use Rattle.life_core.specs.Operands.{Argument, Location, Null, Operand, Place as Aimed, Text, Through, behind as through, whole}
 use Rattle.life_proper.specs.OperandTypes.{aims_at, keeps_const}
 use Rattle.life_proper.specs.Placed.{is_const_place}
 use Rattle.life_proper.specs.Placed as placed
@@ -27,32 +27,37 @@ use Rattle.life_well_typed.specs.Expressions.{HasResult, IsVariable, parameter_t
 use Rattle.life_well_typed.specs.Given.{is_number}
 use Rattle.life_writer.specs.Around.{Around, own_type, parameters_of}
 use Rattle.life_writer.specs.Around as around
-use Rattle.life_writer.specs.Calls.{Called}
+use Rattle.life_writer.specs.Bases.{reference_to}
+use Rattle.life_writer.specs.Building.{Fill, built}
+use Rattle.life_writer.specs.Calls.{Called, called}
 use Rattle.life_writer.specs.ExpressionForms.{all_uses, form_uses, target_at, uses}
 use Rattle.life_writer.specs.Characters.{InView, seen, seen_by}
 use Rattle.life_writer.specs.Giving as giving
-use Rattle.life_writer.specs.Pointers.{As, Pointing, aimed, located}
+use Rattle.life_writer.specs.Pointers.{As, By, Pointing, aimed, located}
+use Rattle.life_writer.specs.Registers.{computed as computed_by, wanted}
 use Rattle.life_writer.specs.Uses.{Uses, own}
 use Rattle.life_writer.specs.Using.{nullable, operand, operand_by, pointer, pointing, register_type, temporary_of}
 use Rattle.life_writer.specs.Variables.{variable, variable_place}
 use Rattle.life_writer.specs.Writing.{Gives, State, ◌>>◌, gives, mapped}
 use Rattle.life_elab_laws.proofs.Aiming.{literal_given, null_given, place_given}
 use Rattle.life_elab_laws.proofs.CallParts.{call_part}
-use Rattle.life_elab_laws.proofs.ExpressionForms.{IsCall, IsForm, IsWhole, no_place, nullable_raw, of_number, place_form, pointer_form, pointer_own, pointing_itself}
+use Rattle.life_elab_laws.proofs.CalledPointers.{pointed_call, referred_call}
+use Rattle.life_elab_laws.proofs.ExpressionForms.{IsCall, IsForm, IsWhole, nullable_raw, of_number, place_form, pointer_form, pointer_own, pointing_itself}
 use Rattle.life_elab_laws.proofs.ExpressionKinds.{IsAddressed, IsDereferenced, kind_local, variable_built}
-use Rattle.life_elab_laws.proofs.ExpressionTypes.{own_value, result_kind, result_value}
+use Rattle.life_elab_laws.proofs.ExpressionTypes.{IsAnswered, answered_as, answers_nothing, answers_place, answers_raw, answers_value, own_value}
 use Rattle.life_elab_laws.proofs.Filling.{aimed_filling, null_filling, text_filling}
 use Rattle.life_elab_laws.proofs.FormedVariables.{behind_place, const_same, pointer_formed, type_later, variable_formed}
-use Rattle.life_elab_laws.proofs.Gifts.{IsGivenAs, a_place, a_pointer, a_pointing, arguments}
+use Rattle.life_elab_laws.proofs.Gifts.{IsGivenAs, a_number, a_place, a_pointer, a_pointing, arguments}
 use Rattle.life_elab_laws.proofs.Gifts as gifts
-use Rattle.life_elab_laws.proofs.Instructions.{literal_located_part}
+use Rattle.life_elab_laws.proofs.Instructions.{IsIntoOf, literal_located_part}
 use Rattle.life_elab_laws.proofs.Locations.{IsPointed, at_location, by_literal, by_null, is_location, is_pointed, is_seen, number_no_pointer, pointed_type, raw_location, seen_type}
 use Rattle.life_elab_laws.proofs.OperandsThere.{value_same}
 use Rattle.life_elab_laws.proofs.Parts.{Makes, leaf_part, seen_part, then_part}
+use Rattle.life_elab_laws.proofs.ResultTypes.{result_is}
 use Rattle.life_elab_laws.proofs.RowTypes.{sees}
 use Rattle.life_elab_laws.proofs.Setting.{Setting}
 use Rattle.life_elab_laws.proofs.TypedKinds.{HasKind, IsKind, a_null, a_number as is_number_kind, a_pointer as is_pointer_kind, a_text, a_view, kind_of_place, kind_of_result, no_value, none_some, place_same, some_same, value_place}
-use Rattle.life_elab_laws.proofs.VariablePlaces.{Stands, named_pointer, pointer_there, variable_there}
+use Rattle.life_elab_laws.proofs.VariablePlaces.{Stands, named_pointer, pointer_there, stands_later, variable_there}
 use Rattle.life_elab_laws.specs.Reached.{is_reached_type}
 
 module _ (a : Around) (visible : List ℕ) (types : Types) (texts : ℕ) (so_far : Bool) (fs : List Function) (f : Function) (setting : Setting so_far a types fs f) where
@@ -146,6 +151,54 @@ module _ (a : Around) (visible : List ℕ) (types : Types) (texts : ℕ) (so_far
       let t = setting.results g of there in
       ap or_void (setting.front of.result.0 t.0 t.1) ∙ sym (ap (λ (o : Option Ty). unwrap_or o ty.Void) t.1)
 
+  module _ (g : ℕ) (given : Form) (delimiters : DelimitersForm) (e : Typed) (is : IsCall a visible types texts so_far fs f setting (record { function = g; arguments = given; delimiters = delimiters }) e.ty e.category) where
+    abbrev Answers : Type 0
+    Answers = IsAnswered a.program.types (type_at a.program.types is.of.result) e.ty e.category
+
+    abbrev handed : State → Gives (List Argument)
+    handed s = giving.arguments a (all_uses a given) delimiters (around.parameter_types a g) s
+
+    later : ty_of types is.of.result ≡ type_at a.program.types is.of.result
+    later = result_later g is.of is.there
+
+    computed : Answers → e.category ≡ category.Value → is_number e.ty ≡ true → (place : Place) (into : Option ℕ) (s : State) → IsIntoOf (own_type e.ty) s into → Standing s
+        → Makes types texts so_far fs f into s (computed_by into (own_type e.ty) place (λ r. called g (handed s).given (whole r)) (handed s).state) (a_number types texts so_far fs f (own_type e.ty))
+    computed (answers_nothing void own held) c n place into s wanted stands = absurd (false≢true (sym (ap is_number own) ∙ n))
+    computed (answers_value v own held) c n place into s wanted stands =
+        call_part types texts so_far fs f g is.of into (own_type e.ty) place s (handed s) (setting.callees g is.of is.there) (later ∙ sym (ap own_type own)) (own_value e.ty n) wanted stands.opened (is.hands s stands)
+    computed (answers_raw target constant raw w own held) c n place into s wanted stands = absurd (false≢true (sym (ap is_number own) ∙ n))
+    computed (answers_place target constant refers w own held) c n place into s wanted stands = absurd (value_place (sym c ∙ held))
+
+    named : Answers → (id : TyId) (constant : Bool) → e.category ≡ category.Place id constant → is_value (type_at a.program.types id) ≡ true → (place : Place) (s : State) → Standing s
+        → Placed (type_at a.program.types id) constant s ((form_uses a (call g given delimiters) place e.ty e.category).at s)
+    named (answers_nothing void own held) id constant at v place s stands = absurd (value_place (sym held ∙ at))
+    named (answers_value w own held) id constant at v place s stands = absurd (value_place (sym held ∙ at))
+    named (answers_raw target d raw w own held) id constant at v place s stands = absurd (value_place (sym held ∙ at))
+    named (answers_place target d refers w own held) id constant at v place s stands =
+        let first = is.hands s stands in
+        subst (λ (t : Ty). Placed (type_at a.program.types id) constant s (mapped through (built (Fill place (called g (handed s).given)) (wanted place None t) (handed s).state))) (sym (ap reference_to at))
+        (referred_call a.program.types types texts so_far fs f setting.front g is.of (setting.callees g is.of is.there) id constant v s (handed s) first (later ∙ refers ∙ ap reference_to (sym held ∙ at)) place stands.opened
+        (stands_later a visible s (handed s).state first.grown stands).table)
+
+    pointed : Answers → is_pointed e.ty ≡ true → (place : Place) (s : State) → Standing s → Points e.ty s ((form_uses a (call g given delimiters) place e.ty e.category).pointing s)
+    pointed (answers_nothing void own held) p place s stands = absurd (false≢true (sym (ap is_pointed own) ∙ p))
+    pointed (answers_value v own held) p place s stands = absurd (number_no_pointer e.ty (ap is_number own ∙ v) p)
+    pointed (answers_place target constant refers w own held) p place s stands = absurd (number_no_pointer e.ty (ap is_number own ∙ w) p)
+    pointed (answers_raw target constant raw w own held) p place s stands =
+        subst (λ (t : ExprType). Points t s (mapped (λ (xs : List Argument). By (called g xs)) (handed s))) (sym own)
+        (pointed_call a.program.types types texts so_far fs f setting.front g is.of (setting.callees g is.of is.there) target constant w s (handed s) (is.hands s stands) (later ∙ raw))
+
+    call_of : IsKind so_far a.program.types e → IsForm a visible types texts so_far fs f setting (call g given delimiters) e
+    call_of kind = record {
+      kind = kind;
+      computes = λ c n place b none into s wanted stands. computed is.answers c n place into s wanted stands;
+      lands = λ c n place b none r s. refl;
+      names = λ id constant at v place s stands. named is.answers id constant at v place s stands;
+      points = λ p place s stands. pointed is.answers p place s stands;
+      decides = λ place b w at. absurd (none_some at);
+      calls = λ c at. subst (λ (d : Called). IsCall a visible types texts so_far fs f setting d e.ty e.category) (some_same at) is;
+    }
+
   pub call_form : (g : ℕ) (given : Form) (delimiters : DelimitersForm) (e : Typed) → HasResult a.program.types (slice_get a.program.functions g) e
       → ((of : FunctionForm) → slice_get a.program.functions g ≡ Some of → (s : State) → Standing s → Hands of s (giving.arguments a (all_uses a given) delimiters (parameter_types (Some of)) s)) → IsForm a visible types texts so_far fs f setting (call g given delimiters) e
   call_form g given delimiters e h hands = go (slice_get a.program.functions g) refl h
@@ -153,31 +206,15 @@ module _ (a : Around) (visible : List ℕ) (types : Types) (texts : ℕ) (so_far
       go : (o : Option FunctionForm) → slice_get a.program.functions g ≡ o → HasResult a.program.types o e → IsForm a visible types texts so_far fs f setting (call g given delimiters) e
       go None at h = absurd h
       go (Some of) at h =
-          let built = setting.returned g of at in
-          let k = result_kind (type_at a.program.types of.result) a.program.types e built h in
-          let is : IsCall a visible types texts so_far fs f setting (record { function = g; arguments = given; delimiters = delimiters }) e.ty e.category = record {
+          let kind = result_is a.program.types (type_at a.program.types of.result) (setting.returned g of at) in
+          call_of g given delimiters e
+          (record {
             of = of;
             there = at;
-            kind = k.0;
-            own = k.2;
-            held = result_value (type_at a.program.types of.result) a.program.types e built h;
+            answers = answered_as a.program.types e (type_at a.program.types of.result) kind h;
             hands = λ s stands. subst (λ (ids : List TyId). Hands of s (giving.arguments a (all_uses a given) delimiters ids s)) (sym (ap parameters_of at)) (hands of at s stands);
-          } in
-          record {
-            kind = kind_of_result so_far a.program.types e (type_at a.program.types of.result) built h;
-            computes = λ c n place b none into s wanted stands.
-                call_part types texts so_far fs f g of into (own_type e.ty) place s (giving.arguments a (all_uses a given) delimiters (around.parameter_types a g) s) (setting.callees g of at) (result_later g of at ∙ sym (ap own_type k.2))
-                (own_value e.ty n) wanted stands.opened (is.hands s stands);
-            lands = λ c n place b none r s. refl;
-            names = no_place a visible types texts so_far fs f setting (call g given delimiters) e (result_value (type_at a.program.types of.result) a.program.types e built h);
-            points = λ p. absurd (no_pointer k.0 p);
-            decides = λ place b w at. absurd (none_some at);
-            calls = λ c at. subst (λ (d : Called). IsCall a visible types texts so_far fs f setting d e.ty e.category) (some_same at) is;
-          }
-        where
-          no_pointer : (e.ty ≡ Of ty.Void) ⊎ (is_number e.ty ≡ true) → is_pointed e.ty ≡ true → ⊥
-          no_pointer (inl void) p = false≢true (sym (ap is_pointed void) ∙ p)
-          no_pointer (inr n) p = number_no_pointer e.ty n p
+          })
+          (kind_of_result so_far a.program.types e (type_at a.program.types of.result) kind h)
 
   -- ---- pointers
 

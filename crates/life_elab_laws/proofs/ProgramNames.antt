@@ -5,7 +5,7 @@ use Rattle.std.proofs.lemmas.Bool.{false≢true}
 use Rattle.life_types.specs.Types.{Types}
 use Rattle.life_types.specs.declared.ty.NameId.{NameId}
 use Rattle.life_types.specs.declared.ty.TyId.{TyId}
-use Rattle.life_built.specs.Built.{has_no_structs}
+use Rattle.life_served.specs.Served.{has_no_structs}
 use Rattle.life_core.specs.Function.{Function}
 use Rattle.life_elab.specs.Programs.{member_names}
 use Rattle.life_typed.specs.Programs.{FunctionForm, ProgramForm, StructForm}

@@ -1,29 +1,33 @@
 -- The core program of a well typed program that the law reaches: each of its functions is checked, among all of them, and has short places.
-use Rattle.std.proofs.Common.{◌≡◌, ◌<◌, ℕ, zero, suc, Bool, true, false, ◌&&◌, List, [], ◌∷◌, ◌++◌, length, map, slice_get, take, Some, option_map, refl, sym, ap, ◌∙◌, subst, arith, append_assoc, append-nil}
-use Rattle.std.proofs.lemmas.Bool.{and_from, and_parts}
+use Rattle.std.proofs.Common.{◌≡◌, ◌<◌, ℕ, zero, suc, Bool, true, false, ◌&&◌, List, [], ◌∷◌, ◌++◌, length, map, slice_get, take, Option, Some, None, option_map, refl, sym, ap, ◌∙◌, subst, arith, append_assoc, append-nil}
+use Rattle.std.proofs.lemmas.Bool.{and_from, and_parts, false≢true}
 use Rattle.std.proofs.lemmas.Option.{none-some, same_Some, slice_get-map}
 use Rattle.std.specs.List.{list_all}
-use Rattle.life_types.specs.Types.{Types}
+use Rattle.life_types.specs.Pointees.{or_void, ty_of}
+use Rattle.life_types.specs.TypeTests.{is_void}
+use Rattle.life_types.specs.Types.{Types, class}
 use Rattle.life_types.specs.declared.ty.Ty.{Ty}
 use Rattle.life_types.specs.declared.ty.TyId.{TyId}
-use Rattle.life_built.specs.Built.{has_no_structs}
+use Rattle.life_served.specs.Served.{has_no_structs}
 use Rattle.life_elab_laws.specs.Reached.{are_reached_functions, is_reached}
 use Rattle.life_typed.specs.BaseTypes.{type_at}
-use Rattle.life_typed.specs.Programs.{FunctionForm, ProgramForm}
+use Rattle.life_typed.specs.Programs.{FunctionForm, ProgramForm, is_main}
 use Rattle.life_core.specs.Function.{Function}
+use Rattle.life_core.specs.declared.program.Local.{Local}
+use Rattle.life_core.specs.declared.program.LocalKind.TheVariants.{Register}
 use Rattle.life_proper.specs.Checking.{checked, is_checked}
 use Rattle.life_proper.specs.ProperPrograms.{has_own_breaks, have_own_breaks}
-use Rattle.life_proper.specs.Plain.{are_plain, is_plain, is_plain_tree}
 use Rattle.life_pset.specs.Elements.{AreShort, elements_of}
 use Rattle.life_well_typed.specs.Functions.{AreWellTyped, IsWellTyped, IsWellTypedFunction}
 use Rattle.life_elab.specs.Bounds.{HaveShortPlaces}
 use Rattle.life_elab.specs.Functions.{function_from}
 use Rattle.life_elab.specs.ProgramForms.{all_functions, first_state, functions, translated, written}
 use Rattle.life_elab.specs.Programs.{Functions, around, texts_of, with_function}
+use Rattle.life_well_typed.specs.Mains.{HasIntMain, HaveIntMains}
 use Rattle.life_well_typed.specs.Names.{HasNames, is_function_named}
 use Rattle.life_well_typed.specs.Results.{HasResults, HaveResults, HasTable}
 use Rattle.life_elab_laws.proofs.Beginning.{first_locals, first_types}
-use Rattle.life_elab_laws.proofs.Callees.{IsBegun, IsFunctionOf, callee_from, gives_from, reached_parts, result_register, takes_values, type_found, values_at}
+use Rattle.life_elab_laws.proofs.Callees.{IsBegun, IsFunctionOf, callee_from, gives_from, handed_at, reached_parts, result_register, takes_handed, type_found}
 use Rattle.life_elab_laws.proofs.Calls.{IsCallee}
 use Rattle.life_elab_laws.proofs.ExpressionKinds.{function_built}
 use Rattle.life_elab_laws.proofs.FormedLocals.{HasFormedHead, head_formed}
@@ -31,7 +35,7 @@ use Rattle.life_elab_laws.proofs.Fronts.{IsFront, each_at, front_itself, front_t
 use Rattle.life_elab_laws.proofs.FunctionWriting.{IsProperBody, function_finished, function_proper}
 use Rattle.life_elab_laws.proofs.Growing.{Begins}
 use Rattle.life_elab_laws.proofs.OrderedTypes.{KeepsOrder, order_none, order_then}
-use Rattle.life_elab_laws.proofs.Setting.{Setting}
+use Rattle.life_elab_laws.proofs.Setting.{GivesBack, Setting, unasked}
 use Rattle.life_elab_laws.proofs.Shaped.{AreShaped}
 use Rattle.life_elab_laws.proofs.ShapedLocals.{written_shaped}
 use Rattle.life_elab_laws.proofs.ShortPlaces.{short_function}
@@ -45,6 +49,14 @@ there : {X : Type 0} (xs : List X) (n : ℕ) → n < length xs → (x : X) × (s
 there [] n lt = absurd (omega (arith, lt))
 there (x ∷ xs) zero lt = (x, refl)
 there (x ∷ xs) (suc n) lt = there xs n (omega (arith, lt))
+
+-- where a table has no more
+past : {X : Type 0} (xs : List X) → slice_get xs (length xs) ≡ None
+past [] = refl
+past (x ∷ xs) = past xs
+
+pub int_at : (p : ProgramForm) (fs : List FunctionForm) (n : ℕ) (f : FunctionForm) → HaveIntMains p.names p.types fs → slice_get fs n ≡ Some f → is_main p.names f.name ≡ true → type_at p.types f.result ≡ ty.Int
+int_at p = each_at (λ (f : FunctionForm). is_main p.names f.name ≡ true → type_at p.types f.result ≡ ty.Int) (HaveIntMains p.names p.types) (λ f fs h. h)
 
 result_at : (types : Types) (fs : List FunctionForm) (n : ℕ) (f : FunctionForm) → HaveResults types fs → slice_get fs n ≡ Some f → (t : Ty) × (slice_get types.types f.result.0 ≡ Some t)
 result_at types fs n f h at = there types.types f.result.0 (each_at (λ (g : FunctionForm). g.result.0 < length types.types) (HaveResults types) (λ g gs h. h) fs n f h at)
@@ -103,21 +115,22 @@ module _ (so_far : Bool) (p : ProgramForm) (typed : IsWellTyped p) (built : are_
       let t = result_at p.types p.functions n f results at in
       record { typed = each_at (IsWellTypedFunction p) (AreWellTyped p) (λ g gs h. h) p.functions n f typed at; built = reached_parts (length (texts_of p)) so_far p.types f (function_built (length (texts_of p)) so_far p.types p.functions n f built at); ty = t.0; result = t.1 }
 
-  setting_of : (T types : Types) (fs : List Function) (f : FunctionForm) (core : Function) (n : ℕ) → slice_get p.functions n ≡ Some f → IsBegun p f T types core
+  setting_of : (types : Types) (fs : List Function) (f : FunctionForm) (core : Function) (n : ℕ) → slice_get p.functions n ≡ Some f → IsFront p.types.types types.types → GivesBack (around p f) types core
+      → ((l : Local) → slice_get core.locals core.parameters ≡ Some l → is_void (ty_of types core.result) ≡ false → (l.name ≡ None) × (l.kind ≡ Register))
       → ((g : ℕ) (of : FunctionForm) → slice_get p.functions g ≡ Some of → IsCallee types fs g of) → AreShaped types core.locals → Setting so_far (around p f) types fs core
-  setting_of T types fs f core n at begun callees shaped = let is = of_program n f at in record {
-    front = front_then p.types.types T.types types.types begun.table begun.later;
+  setting_of types fs f core n at front gives register callees shaped = let is = of_program n f at in record {
+    front = front;
     variables = is.built.variables;
     chars = chars;
     returned = λ g of there. (of_program g of there).built.result;
     result = is.built.result;
-    taken = λ g of there m id at. values_at p.types (take (length of.parameters) of.locals) (of_program g of there).built.parameters m id at;
+    taken = λ g of there m id at. handed_at so_far p.types (take (length of.parameters) of.locals) (of_program g of there).built.parameters m id at;
     callees = callees;
     results = λ g of there. result_at p.types p.functions g of results there;
-    gives = gives_from so_far p f T types core is begun;
+    gives = gives;
     shaped = shaped;
-    registers = λ l there void. (result_register so_far p f T types core is begun l there void).1;
-    nameless = λ l there void. (result_register so_far p f T types core is begun l there void).0;
+    registers = λ l there some. (register l there some).1;
+    nameless = λ l there some. (register l there some).0;
   }
 
   -- ---- what is written grows: shown with functions that only begin
@@ -134,23 +147,27 @@ module _ (so_far : Bool) (p : ProgramForm) (typed : IsWellTyped p) (built : are_
   begun_callee : (g : ℕ) (of : FunctionForm) → slice_get p.functions g ≡ Some of → IsCallee p.types (map begun p.functions) g of
   begun_callee g of at = callee_from so_far p of p.types p.types (begun of) (of_program g of at) (begun_so of) (map begun p.functions) g (begun_there g of at)
 
-  begun_setting : (n : ℕ) (f : FunctionForm) → slice_get p.functions n ≡ Some f → Setting so_far (around p f) p.types (map begun p.functions) (begun f)
-  begun_setting n f at =
+  -- .. one of them that gives nothing back itself: a type that isn't in the table is none
+  abbrev mute : FunctionForm → Function
+  mute f = record (begun f) { result = record { 0 = length p.types.types } }
+
+  mute_setting : (n : ℕ) (f : FunctionForm) → slice_get p.functions n ≡ Some f → Setting so_far (around p f) p.types (map begun p.functions) (mute f)
+  mute_setting n f at =
       let is = of_program n f at in
       let table = front_itself p.types.types in
       let first = subst (λ (x : Types). IsFront x.types p.types.types) (sym (first_types (around p f) p.types is.typed.parameters table)) table in
-      setting_of p.types p.types (map begun p.functions) f (begun f) n at (begun_so f) begun_callee
-      (written_shaped so_far (around p f) (first_state (around p f) p.types) p.types table first is.built.any (first_locals (around p f) p.types is.typed.parameters table so_far p.types is.ty is.result is.built.result))
+      setting_of p.types (map begun p.functions) f (mute f) n at table (unasked (ap class (past p.types.types))) (λ l there some. absurd (false≢true (sym some ∙ ap (λ (o : Option Ty). is_void (or_void o)) (past p.types.types)))) begun_callee
+      (written_shaped so_far (around p f) (first_state (around p f) p.types) p.types table first is.built.any (first_locals (around p f) p.types is.typed.parameters table so_far is.ty is.result is.built.result))
 
   pub grows : (n : ℕ) (f : FunctionForm) → slice_get p.functions n ≡ Some f → (T : Types) → IsFront p.types.types T.types → FunctionGrows so_far p f T
   grows n f at T table =
       let is = of_program n f at in
       let first = first_types (around p f) T is.typed.parameters table in
-      let done = function_finished so_far p f T p.types (map begun p.functions) (begun f) (begun_setting n f at) is table in
+      let done = function_finished so_far p f T p.types (map begun p.functions) (mute f) (mute_setting n f at) is table in
       record {
         locals = done.does.adds.locals;
         table = subst (λ (x : Types). IsFront x.types (written (around p f) T).types.types) first done.does.adds.table;
-        own = done.does.locals (first_locals (around p f) T is.typed.parameters table so_far p.types is.ty is.result is.built.result);
+        own = done.does.locals (first_locals (around p f) T is.typed.parameters table so_far is.ty is.result is.built.result);
         order = subst (λ (x : Types). KeepsOrder x (written (around p f) T).types) first done.does.order;
       }
 
@@ -210,13 +227,15 @@ module _ (so_far : Bool) (p : ProgramForm) (typed : IsWellTyped p) (built : are_
     is : IsFunctionOf so_far p f
     is = of_program n f at
 
-    pub one_body : IsProperBody (around p f) whole.types (length (texts_of p)) so_far whole.functions core
-    one_body =
-        let setting = setting_of w.before whole.types whole.functions f core n at (as_begun n f at core w) callee (shaped n f at core w) in
+    pub one_body : HasIntMain p → IsProperBody (around p f) whole.types (length (texts_of p)) so_far whole.functions core
+    one_body mains =
+        let begun_so = as_begun n f at core w in
+        let setting =
+        setting_of whole.types whole.functions f core n at (front n f at core w) (gives_from so_far p f w.before whole.types core is begun_so (int_at p p.functions n f mains at)) (result_register so_far p f w.before whole.types core is begun_so) callee (shaped n f at core w) in
         function_proper so_far p f w.before whole.types whole.functions core setting is w.table (as_begun n f at core w) (written_begins n f at core w) (ap (λ (c : Function). c.body) w.is)
 
     one_short : AreShort (elements_of whole.types core)
-    one_short = short_function whole.types core (shaped n f at core w) (takes_values so_far p f w.before whole.types core is (as_begun n f at core w))
+    one_short = short_function whole.types so_far core (shaped n f at core w) (takes_handed so_far p f w.before whole.types core is (as_begun n f at core w))
 
     -- the locals are well formed, and what else stands beside the body
     pub one_head : HasNames p → HasFormedHead whole.types (length p.names) core
@@ -244,14 +263,11 @@ module _ (so_far : Bool) (p : ProgramForm) (typed : IsWellTyped p) (built : are_
   passed_by_all test all none more each =
       of_all (λ core. test core ≡ true) (λ cores. all cores ≡ true) none (λ core cores one others. more core cores ∙ and_from (test core) (all cores) one others) each
 
-  pub program_checked : checked (translated p) ≡ true
-  program_checked = passed_by_all (is_checked whole.types) (list_all (is_checked whole.types)) refl (λ core cores. refl) (λ n f at core w. (one_body n f at core w).checked)
+  pub program_checked : HasIntMain p → checked (translated p) ≡ true
+  program_checked mains = passed_by_all (is_checked whole.types) (list_all (is_checked whole.types)) refl (λ core cores. refl) (λ n f at core w. (one_body n f at core w mains).checked)
 
-  pub program_plain : so_far ≡ true → is_plain (translated p) ≡ true
-  program_plain so = passed_by_all (λ core. is_plain_tree whole.types core core.body) (are_plain whole.types) refl (λ core cores. refl) (λ n f at core w. (one_body n f at core w).stated.plain so)
-
-  pub program_breaks : have_own_breaks (translated p) ≡ true
-  program_breaks = passed_by_all has_own_breaks (list_all has_own_breaks) refl (λ core cores. refl) (λ n f at core w. (one_body n f at core w).stated.breaks)
+  pub program_breaks : HasIntMain p → have_own_breaks (translated p) ≡ true
+  program_breaks mains = passed_by_all has_own_breaks (list_all has_own_breaks) refl (λ core cores. refl) (λ n f at core w. (one_body n f at core w mains).stated.breaks)
 
   pub program_short : HaveShortPlaces whole.types whole.functions
   program_short = of_all (λ core. AreShort (elements_of whole.types core)) (HaveShortPlaces whole.types) tt (λ core cores one others. (one, others)) one_short

@@ -2,8 +2,8 @@
 use Rattle.std.proofs.Common.{◌≡◌, Bool, true, false, ◌||◌, ℕ, List, [], ◌∷◌, ◌++◌, drop, length, reverse, take, Option, Some, None, refl, sym, ap, ◌∙◌, subst, append_assoc}
 use Rattle.std.proofs.lemmas.Bool.{and_from, false≢true}
 use Rattle.std.proofs.lemmas.Option.{none-some, same_Some}
-use Rattle.life_types.specs.TypeTests.{is_value, is_void}
-use Rattle.life_types.specs.Types.{Types, class}
+use Rattle.life_types.specs.TypeTests.{is_unique}
+use Rattle.life_types.specs.Types.{Types, class_at}
 use Rattle.life_types.specs.declared.place.Place.{Place}
 use Rattle.life_types.specs.declared.ty.Class.{Class}
 use Rattle.life_types.specs.declared.ty.Class.TheVariants as classes
@@ -11,71 +11,78 @@ use Rattle.life_types.specs.declared.ty.NameId.{NameId}
 use Rattle.life_types.specs.declared.ty.Ty.{Ty}
 use Rattle.life_types.specs.declared.ty.Ty.TheVariants as ty
 use Rattle.life_types.specs.declared.ty.TyId.{TyId}
-use Rattle.life_elab_laws.specs.Reached.{is_reached_expression, is_reached_if_any}
-use Rattle.life_typed.specs.BaseTypes.{type_at}
-use Rattle.life_typed.specs.TypedForm.{Typed, whole as whole_form}
 use Rattle.life_typed.specs.declared.typed_program.TypedLocal.{TypedLocal}
 use Rattle.life_core.specs.Function.{Function}
 use Rattle.life_core.specs.Touched.{nothing, result_uses}
 use Rattle.life_core.specs.Tree.{Tree, Breaks, Continues, Return, Returns, trees}
 use Rattle.life_core.specs.declared.program.Local.{Local}
 use Rattle.life_proper.specs.declared.known.Known.{Known}
-use Rattle.life_proper.specs.Checking.{Flow, flow}
+use Rattle.life_proper.specs.declared.known.Known.TheVariants as known
+use Rattle.life_proper.specs.Checking.{Flow, before_next, flow, joined}
 use Rattle.life_proper.specs.Knowing.{State as Knowing, known_at}
 use Rattle.life_proper.specs.ReadyKnown.{are_ready, is_node_ready}
 use Rattle.life_proper.specs.ResultsKnown.{IsKnownReady}
 use Rattle.life_type_stmt.specs.Returns.{moves_out}
-use Rattle.life_type_stmt.specs.Simples.{named_in}
-use Rattle.life_well_typed.specs.Given.{is_given, is_number}
-use Rattle.life_well_typed.specs.Statements.{IsReturned, named_local}
+use Rattle.life_proper.proofs.ReadyTests.{uses_ready}
 use Rattle.life_well_typed.specs.Visible.{Visible}
 use Rattle.life_writer.specs.Around.{Around, result_local}
-use Rattle.life_writer.specs.ExpressionForms.{uses}
-use Rattle.life_writer.specs.Using.{value}
 use Rattle.life_writer.specs.Variables.{end_pending}
 use Rattle.life_writer.specs.Writing.{State, Gives, with_code, write}
-use Rattle.life_elab.specs.StatementForms.{given_back, result_by, result_given}
 use Rattle.life_elab.specs.Statements.{left}
 use Rattle.life_elab_laws.proofs.Among.{Among, among_drop, reverse_among}
-use Rattle.life_elab_laws.proofs.Doing.{Acting, Does, DoesLevel, acts_then, ended_then, full_acts, full_adds, full_code, full_falls, full_fine, full_follows, full_knows, full_state, full_written}
-use Rattle.life_elab_laws.proofs.Ending.{blank_beside, end_ready}
+use Rattle.life_elab_laws.proofs.Doing.{Acting, Does, DoesLevel, ended_then, full_adds, full_code, full_falls, full_fine, full_follows, full_knows, full_state, full_written}
+use Rattle.life_elab_laws.proofs.Ending.{blank_beside, end_knows, end_ready, set_blank}
 use Rattle.life_elab_laws.proofs.EndSteps.{IsEnded, ended}
-use Rattle.life_elab_laws.proofs.Exits.{Leaves, MayKnow, MayLeave, none_leaves}
-use Rattle.life_elab_laws.proofs.ExpressionForms.{IsWhole}
-use Rattle.life_elab_laws.proofs.Expressions.{whole_expression}
-use Rattle.life_elab_laws.proofs.GivenKinds.{given_number}
-use Rattle.life_elab_laws.proofs.GivingBack.{GivesValue, fine_known, known_append, nowhere_ready}
+use Rattle.life_elab_laws.proofs.Exits.{Knows, Leaves, MayKnow, MayLeave, leaves_falling, leaves_may, leaves_then, none_leaves}
+use Rattle.life_elab_laws.proofs.Falling.{Falls, falling, falls_append, flow_append}
+use Rattle.life_elab_laws.proofs.GivingBack.{GivesResult, fine_known, known_append, nowhere_ready}
 use Rattle.life_elab_laws.proofs.Growing.{Begins}
-use Rattle.life_elab_laws.proofs.Following.{Follows, HasRegister, IsLiving, knows_alive}
-use Rattle.life_elab_laws.proofs.Gifts.{Gift, a_number}
-use Rattle.life_elab_laws.proofs.Leaving.{left_acts, left_does, left_level, past_fine}
+use Rattle.life_elab_laws.proofs.Following.{Follows, IsLiving, IsResultRegister, knows_alive}
+use Rattle.life_elab_laws.proofs.Gifts.{Gift}
+use Rattle.life_elab_laws.proofs.Held.{one_there}
+use Rattle.life_elab_laws.proofs.Leaving.{left_does, left_level, past_fine}
 use Rattle.life_elab_laws.proofs.Nowhere.{nowhere_flows}
-use Rattle.life_elab_laws.proofs.Parts.{Makes}
+use Rattle.life_elab_laws.proofs.Parts.{Goes, Makes}
 use Rattle.life_elab_laws.proofs.PendingTemporaries.{IsTemporary}
 use Rattle.life_elab_laws.proofs.EndedTemporaries.{behind_is, ends_spare}
 use Rattle.life_elab_laws.proofs.TemporaryEnds.{TemporariesEnd, temporary_ends}
 use Rattle.life_core.specs.Kinds.{is_object}
-use Rattle.life_elab_laws.proofs.Setting.{Setting}
-use Rattle.life_elab_laws.proofs.Values.{by_results, by_values}
+use Rattle.life_elab_laws.proofs.Setting.{GivesBack, Setting, asked, unasked}
+use Rattle.life_elab_laws.proofs.Shaping.{stated_alone, stated_append}
 use Rattle.life_elab_laws.proofs.WrittenLocals.{locals_added}
 
-pub not_void : (t : Ty) → (is_void t || is_value t) ≡ true → is_void t ≡ false → is_value t ≡ true
-not_void = by_results (λ t. is_void t ≡ false → is_value t ≡ true) (λ e. absurd (false≢true (sym e))) (λ t v e. v)
-
--- a value that is given back fits the result: a std::unique_ptr alone is moved out
-value_back : (t : Ty) (result : TyId) (named : Option TypedLocal) (given : Bool) → is_value t ≡ true → (moves_out t result named || given) ≡ true → given ≡ true
-value_back (ty.Unique target) result named given worth h = absurd (false≢true worth)
-value_back _ result named given worth h = h
+-- what is given back fits the result: a std::unique_ptr alone is moved out
+pub back_given : (t : Ty) (result : TyId) (named : Option TypedLocal) (given : Bool) → is_unique t ≡ false → (moves_out t result named || given) ≡ true → given ≡ true
+back_given (ty.Unique target) result named given plain h = absurd (false≢true (sym plain))
+back_given _ result named given plain h = h
 
 module _ (a : Around) (types : Types) (texts : ℕ) (so_far : Bool) (fs : List Function) (f : Function) (setting : Setting so_far a types fs f) (v : Visible) (in_loop : Bool) where
-  -- a value that is given back may be left unwritten
-  result_ready : (k : List Known) → is_node_ready types f k Return ≡ true
-  result_ready k = ap (λ (c : Class). are_ready k (record nothing { uses = result_uses c f.parameters })) setting.gives
+  -- ---- where control returns
 
-  -- control returns
-  return_leaves : (s : State) (keyword : Place) (k : List Known) → Leaves f in_loop s.living (take s.outside s.living) (flow types f (trees (Returns keyword ∷ [])) (Some k))
-  return_leaves s keyword k = record {
-    fine = and_from (is_node_ready types f k Return) true (result_ready k) refl;
+  -- nothing has to be given back, or it was written
+  unasked_ready : (GivesResult a → ⊥) → (k : List Known) → is_node_ready types f k Return ≡ true
+  unasked_ready never k = go setting.gives
+    where
+      go : GivesBack a types f → is_node_ready types f k Return ≡ true
+      go (unasked value) = ap (λ (c : Class). are_ready k (record nothing { uses = result_uses c f.parameters })) value
+      go (asked count some over) = absurd (never (some, over))
+
+  result_ready : (k : List Known) → known_at k (result_local a) ≡ known.Ready → is_node_ready types f k Return ≡ true
+  result_ready k there = go setting.gives
+    where
+      used : (c : Class) → f.parameters ≡ result_local a → are_ready k (record nothing { uses = result_uses c f.parameters }) ≡ true
+      used classes.Value count = refl
+      used classes.Pointer count = uses_ready k (f.parameters ∷ []) [] (one_there k f.parameters (ap (known_at k) count ∙ there))
+      used classes.Owner count = uses_ready k (f.parameters ∷ []) [] (one_there k f.parameters (ap (known_at k) count ∙ there))
+      used classes.Aggregate count = uses_ready k (f.parameters ∷ []) [] (one_there k f.parameters (ap (known_at k) count ∙ there))
+
+      go : GivesBack a types f → is_node_ready types f k Return ≡ true
+      go (unasked value) = ap (λ (c : Class). are_ready k (record nothing { uses = result_uses c f.parameters })) value
+      go (asked count some over) = used (class_at types f.result) count
+
+  return_leaves : (s : State) (keyword : Place) (k : List Known) → is_node_ready types f k Return ≡ true → Leaves f in_loop s.living (take s.outside s.living) (flow types f (trees (Returns keyword ∷ [])) (Some k))
+  return_leaves s keyword k ready = record {
+    fine = and_from (is_node_ready types f k Return) true ready refl;
     next = tt;
     on_break = none_leaves f in_loop (take s.outside s.living);
     on_continue = none_leaves f in_loop (take s.outside s.living);
@@ -86,7 +93,7 @@ module _ (a : Around) (types : Types) (texts : ℕ) (so_far : Bool) (fs : List F
   module _ (s : State) (h : Follows types f a v s) where
     pub break_does : in_loop ≡ true → (keyword : Place) → DoesLevel types texts so_far fs f a v in_loop s (left s.outside keyword Breaks s)
     break_does e keyword = record {
-      does = left_does types texts so_far fs f a setting v in_loop s h s.outside keyword Breaks (record { statement = refl; tests = refl; breaks = e; plain = λ so. refl; given = refl; formed = refl; served = λ so. refl })
+      does = left_does types texts so_far fs f a setting v in_loop s h s.outside keyword Breaks (record { statement = refl; tests = refl; breaks = e; given = refl; formed = refl; served = λ so. refl })
           (λ k knows. record {
             fine = refl;
             next = tt;
@@ -101,7 +108,7 @@ module _ (a : Around) (types : Types) (texts : ℕ) (so_far : Bool) (fs : List F
 
     pub continue_does : in_loop ≡ true → (keyword : Place) → DoesLevel types texts so_far fs f a v in_loop s (left s.outside keyword Continues s)
     continue_does e keyword = record {
-      does = left_does types texts so_far fs f a setting v in_loop s h s.outside keyword Continues (record { statement = refl; tests = refl; breaks = e; plain = λ so. refl; given = refl; formed = refl; served = λ so. refl })
+      does = left_does types texts so_far fs f a setting v in_loop s h s.outside keyword Continues (record { statement = refl; tests = refl; breaks = e; given = refl; formed = refl; served = λ so. refl })
           (λ k knows. record {
             fine = refl;
             next = tt;
@@ -114,38 +121,18 @@ module _ (a : Around) (types : Types) (texts : ℕ) (so_far : Bool) (fs : List F
       level = left_level types texts so_far fs f s s.outside keyword Continues;
     }
 
-    -- control returns where no value has to be given back
-    pub return_does : (GivesValue a → ⊥) → (keyword : Place) → DoesLevel types texts so_far fs f a v in_loop s (left 0 keyword (Returns keyword) s)
+    -- control returns where nothing has to be given back
+    pub return_does : (GivesResult a → ⊥) → (keyword : Place) → DoesLevel types texts so_far fs f a v in_loop s (left 0 keyword (Returns keyword) s)
     return_does never keyword = record {
-      does = left_does types texts so_far fs f a setting v in_loop s h 0 keyword (Returns keyword) (record { statement = refl; tests = refl; breaks = refl; plain = λ so. refl; given = refl; formed = refl; served = λ so. refl }) (λ k knows. return_leaves s keyword k) (λ gives o. absurd (never gives));
+      does = left_does types texts so_far fs f a setting v in_loop s h 0 keyword (Returns keyword) (record { statement = refl; tests = refl; breaks = refl; given = refl; formed = refl; served = λ so. refl }) (λ k knows. return_leaves s keyword k (unasked_ready never k)) (λ gives o. absurd (never gives));
       level = left_level types texts so_far fs f s 0 keyword (Returns keyword);
     }
 
-    -- .. and behind the value that is given back
-    module _ (register : HasRegister a s) (e : Typed) (keyword token : Place) (b_e : is_reached_expression texts so_far e ≡ true) (r : IsReturned a.program a.function.locals a.function.result v.visible (Some e)) where
-      abbrev t : Ty
-      t = type_at a.program.types a.function.result
-
-      abbrev w : Gives ℕ
-      w = value (uses a (whole_form e)) token t (Some (result_local a)) s
-
-      worth : is_value t ≡ true
-      worth = not_void t setting.result r.0
-
-      number : is_number e.ty ≡ true
-      number = given_number a.program.types t e worth (value_back t a.function.result (named_local a.function.locals (named_in e.form)) (is_given a.program.types t e) worth r.1)
-
-      whole_is : IsWhole a v.visible types texts so_far fs f setting (whole_form e)
-      whole_is = whole_expression a v.visible types texts so_far fs f setting (whole_form e) b_e r.2
-
-      made : Makes types texts so_far fs f (Some (result_local a)) s w (a_number types texts so_far fs f t)
-      made = whole_is.valued number token t worth (Some (result_local a)) s (register worth) h.stands
-
+    -- .. and behind what is given back, in the register of the result
+    module _ (register : IsResultRegister a s) (keyword token : Place) {A : Type 0} (w : Gives A) (Q : Gift types texts so_far fs f A) (made : Makes types texts so_far fs f (Some (result_local a)) s w Q)
+        (lands : (n : ℕ) (k : List Known) → Q.ready w.given n k → known_at k (result_local a) ≡ known.Ready) where
       can : TemporariesEnd types texts fs f
       can = temporary_ends types texts fs f setting.registers
-
-      abbrev Q : Gift types texts so_far fs f ℕ
-      Q = a_number types texts so_far fs f t
 
       abbrev into : Option ℕ
       into = Some (result_local a)
@@ -163,16 +150,15 @@ module _ (a : Around) (types : Types) (texts : ℕ) (so_far : Bool) (fs : List F
       -- the register of the result is none of them
       no_temporary : Begins types f w.state → IsTemporary f.locals types.types (result_local a) → ⊥
       no_temporary b is =
-          let wanted = (register worth).0 in
-          let same : is.local ≡ wanted.local = same_Some is.local wanted.local (sym is.there ∙ b.locals (result_local a) wanted.local (made.grown.locals (result_local a) wanted.local wanted.there)) in
-          false≢true (sym (ap (λ (l : Local). is_object l.kind) same ∙ ap is_object wanted.kind) ∙ ap is_object is.kind)
+          let same : is.local ≡ register.local = same_Some is.local register.local (sym is.there ∙ b.locals (result_local a) register.local (made.grown.locals (result_local a) register.local register.there)) in
+          false≢true (sym (ap (λ (l : Local). is_object l.kind) same ∙ ap is_object register.kind) ∙ ap is_object is.kind)
 
       abbrev ending : List ℕ
       ending = reverse (drop 0 w.state.living)
 
       -- its register isn't a variable's, so it stays where all variables end
       not_ending : Among (result_local a) ending → ⊥
-      not_ending m = named is.local (register worth).0.local is.name (same_Some is.local (register worth).0.local (sym is.there ∙ made.grown.locals (result_local a) (register worth).0.local (register worth).0.there)) is.named (register worth).0.nameless
+      not_ending m = named is.local register.local is.name (same_Some is.local register.local (sym is.there ∙ made.grown.locals (result_local a) register.local register.there)) is.named register.nameless
         where
           is : IsLiving r_state (result_local a)
           is = later.living (result_local a) (among_drop 0 w.state.living (result_local a) (reverse_among (drop 0 w.state.living) (result_local a) m))
@@ -187,21 +173,60 @@ module _ (a : Around) (types : Types) (texts : ℕ) (so_far : Bool) (fs : List F
         abbrev behind : State
         behind = write (Returns keyword) (with_code (r_state.code ++ d.code) r_state)
 
+        -- ---- one way to where control returns
+
+        module _ (b : Begins types f w.state) (k : List Known) (alive : Knows f s.living k) where
+          g : Goes types texts so_far fs f into s w Q made.code k
+          g = (made.runs b tt).goes k (knows_alive types f a v s h k alive) tt
+
+          abbrev middle : List Known
+          middle = ended_then types texts so_far fs f a v in_loop into s w Q h can token made g.after
+
+          abbrev last : List Known
+          last = set_blank ending middle
+
+          falls_there : Falls types f (all_code ++ d.code) k last
+          falls_there =
+              falls_append types f all_code d.code k middle last (full_falls types texts so_far fs f a v in_loop into s w Q h can token made k g)
+              (d.falls middle (end_ready f w.state.living 0 0 later.ascend middle (full_knows types texts so_far fs f a v in_loop into s w Q h can token made k g)))
+
+          knows_there : Knows f (take 0 w.state.living) last
+          knows_there = end_knows f w.state.living 0 0 later.ascend middle (full_knows types texts so_far fs f a v in_loop into s w Q h can token made k g)
+
+          written_there : known_at last (result_local a) ≡ known.Ready
+          written_there =
+              blank_beside ending middle (result_local a) not_ending
+              ∙ ends_spare types texts so_far fs f s w.state made.grown h.stands.pends token b g.after (result_local a) (no_temporary b)
+              ∙ lands (length w.state.locals) g.after g.gives
+
+          leaves_there : Leaves f in_loop w.state.living (take s.outside s.living) (flow types f (trees (all_code ++ back)) (Some k))
+          leaves_there =
+              subst (Leaves f in_loop w.state.living (take s.outside s.living))
+              (sym (ap (λ (c : List Tree). flow types f (trees c) (Some k)) (sym (append_assoc all_code d.code (Returns keyword ∷ [])))
+              ∙ flow_append types f (all_code ++ d.code) (Returns keyword ∷ []) (Some k)
+              ∙ ap (λ (x : Flow). joined (before_next x) (flow types f (trees (Returns keyword ∷ [])) x.next)) falls_there))
+              (leaves_then f in_loop (take 0 w.state.living) w.state.living (take s.outside s.living) (falling last) (flow types f (trees (Returns keyword ∷ [])) (Some last))
+              (leaves_falling f in_loop (take 0 w.state.living) (take s.outside s.living) last knows_there) (returned_there (result_ready last written_there)))
+            where
+              returned_there : is_node_ready types f last Return ≡ true → Leaves f in_loop w.state.living (take s.outside s.living) (flow types f (trees (Returns keyword ∷ [])) (Some last))
+              returned_there ready = record {
+                fine = and_from (is_node_ready types f last Return) true ready refl;
+                next = tt;
+                on_break = none_leaves f in_loop (take s.outside s.living);
+                on_continue = none_leaves f in_loop (take s.outside s.living);
+                on_true = refl;
+                on_false = refl;
+              }
+
         -- what is known where control returns
         known_there : Begins types f w.state → (o : Knowing) → MayKnow f s.living o → IsKnownReady (result_local a) (flow types f (trees d.code) (flow types f (trees all_code) o).next).next
         known_there b None known =
             nowhere_ready (result_local a) (flow types f (trees d.code) (flow types f (trees all_code) None).next).next
             (nowhere_flows types f (trees d.code) (flow types f (trees all_code) None).next (nowhere_flows types f (trees all_code) None refl).next).next
         known_there b (Some k) known =
-            let g = (made.runs b tt).goes k (knows_alive types f a v s h k known) tt in
-            let mid = full_knows types texts so_far fs f a v in_loop into s w Q h can token made k g in
-            let j : List Known = ended_then types texts so_far fs f a v in_loop into s w Q h can token made g.after in
-            subst (λ (q : Flow). IsKnownReady (result_local a) (flow types f (trees d.code) q.next).next) (sym (full_falls types texts so_far fs f a v in_loop into s w Q h can token made k g))
-            (subst (λ (q : Flow). IsKnownReady (result_local a) q.next) (sym (d.falls j (end_ready f w.state.living 0 0 later.ascend j mid)))
-            (blank_beside ending j (result_local a) not_ending
-            ∙ ends_spare types texts so_far fs f s w.state made.grown h.stands.pends token b g.after (result_local a) (no_temporary b)
-            ∙ ap (known_at g.after) (sym (whole_is.lands number token t (result_local a) s))
-            ∙ g.gives.1))
+            subst (λ (q : Flow). IsKnownReady (result_local a) (flow types f (trees d.code) q.next).next) (sym (full_falls types texts so_far fs f a v in_loop into s w Q h can token made k (g b k known)))
+            (subst (λ (q : Flow). IsKnownReady (result_local a) q.next) (sym (d.falls (middle b k known) (end_ready f w.state.living 0 0 later.ascend (middle b k known) (full_knows types texts so_far fs f a v in_loop into s w Q h can token made k (g b k known)))))
+            (written_there b k known))
 
         returned_from : Does types texts so_far fs f a v in_loop s behind
         returned_from = record {
@@ -223,32 +248,23 @@ module _ (a : Around) (types : Types) (texts : ℕ) (so_far : Bool) (fs : List F
         }
           where
             acting : Begins types f w.state → Acting types texts so_far fs f in_loop s behind (all_code ++ back)
-            acting b =
-                acts_then types texts so_far fs f in_loop s r_state behind all_code back h.outside (full_adds types texts so_far fs f a v in_loop into s w Q h can token made)
-                (full_acts types texts so_far fs f a v in_loop into s w Q h can token made b)
-                (left_acts types texts so_far fs f a setting v in_loop r_state later 0 keyword (Returns keyword) (record { statement = refl; tests = refl; breaks = refl; plain = λ so. refl; given = refl; formed = refl; served = λ so. refl }) (λ k knows. return_leaves r_state keyword k) d b)
+            acting b = record {
+              stated =
+                  stated_append types texts so_far fs f in_loop all_code back ((full_fine types texts so_far fs f a v in_loop into s w Q h can token made b).stated in_loop)
+                  (stated_append types texts so_far fs f in_loop d.code (Returns keyword ∷ []) ((past_fine types texts so_far fs f a setting v r_state later b 0 keyword d).stated in_loop)
+                  (stated_alone types texts so_far fs f in_loop (Returns keyword) (record { statement = refl; tests = refl; breaks = refl; given = refl; formed = refl; served = λ so. refl })));
+              ways = leaves_may types f in_loop s.living w.state.living (take s.outside s.living) (trees (all_code ++ back)) (λ k known. leaves_there b k known);
+            }
 
-      value_returned : DoesLevel types texts so_far fs f a v in_loop s (left 0 keyword (Returns keyword) r_state)
-      value_returned =
+      result_left : DoesLevel types texts so_far fs f a v in_loop s (left 0 keyword (Returns keyword) r_state)
+      result_left =
           let d = ended types texts so_far fs f ending keyword r_state in
           record {
             does = subst (λ (q : State). Does types texts so_far fs f a v in_loop s (write (Returns keyword) q)) (sym d.written) (returned_from d);
             level = left_level types texts so_far fs f r_state 0 keyword (Returns keyword) ∙ made.grown.living;
           }
 
-      pub result_returned : DoesLevel types texts so_far fs f a v in_loop s (left 0 keyword (Returns keyword) (result_given a (Some e) keyword token s))
-      result_returned =
-          subst (λ (x : State). DoesLevel types texts so_far fs f a v in_loop s (left 0 keyword (Returns keyword) (end_pending (length s.pending) token x))) (sym by_value)
-          (subst (λ (x : State). DoesLevel types texts so_far fs f a v in_loop s (left 0 keyword (Returns keyword) x)) (sym (behind_is types texts so_far fs f s w.state made.grown h.stands.pends token)) value_returned)
-        where
-          by_value : given_back a e keyword token s ≡ w.state
-          by_value = ap (λ (k : Class). result_by a k (uses a (whole_form e)) t keyword token s) (by_values (λ x. class (Some x) ≡ classes.Value) refl refl refl refl refl t worth)
-
-    no_value : (x : Ty) → is_void x ≡ true → is_value x ≡ false
-    no_value ty.Void e = refl
-    no_value _ e = absurd (false≢true e)
-
-    pub returned_does : HasRegister a s → (keyword : Place) (given : Option Typed) (token : Place) → is_reached_if_any texts so_far given ≡ true → IsReturned a.program a.function.locals a.function.result v.visible given
-        → DoesLevel types texts so_far fs f a v in_loop s (left 0 keyword (Returns keyword) (result_given a given keyword token s))
-    returned_does register keyword None token b r = return_does (λ gives. false≢true (sym (no_value (type_at a.program.types a.function.result) r) ∙ gives.0)) keyword
-    returned_does register keyword (Some e) token b r = result_returned register e keyword token b r
+      pub result_returned : (x : State) → x ≡ w.state → DoesLevel types texts so_far fs f a v in_loop s (left 0 keyword (Returns keyword) (end_pending (length s.pending) token x))
+      result_returned x same =
+          subst (λ (x : State). DoesLevel types texts so_far fs f a v in_loop s (left 0 keyword (Returns keyword) (end_pending (length s.pending) token x))) (sym same)
+          (subst (λ (x : State). DoesLevel types texts so_far fs f a v in_loop s (left 0 keyword (Returns keyword) x)) (sym (behind_is types texts so_far fs f s w.state made.grown h.stands.pends token)) result_left)

@@ -8,7 +8,7 @@ use Rattle.life_types.specs.declared.ty.Ty.{Ty}
 use Rattle.life_types.specs.declared.ty.Ty.TheVariants as ty
 use Rattle.life_typed.specs.TypedForm.{Form}
 use Rattle.life_core.specs.Function.{Function}
-use Rattle.life_core.specs.Operands.{Operand, Whole, whole}
+use Rattle.life_core.specs.Operands.{Whole, whole}
 use Rattle.life_core.specs.Step.{Aim, Same}
 use Rattle.life_core.specs.Touched.{place_uses}
 use Rattle.life_proper.specs.OperandTypes.{spans}
@@ -23,7 +23,7 @@ use Rattle.life_writer.specs.Characters.{InRegister, InString, InView, Seen, see
 use Rattle.life_writer.specs.ExpressionForms.{uses}
 use Rattle.life_writer.specs.Registers.{computed, new_register}
 use Rattle.life_writer.specs.Using.{operand, pointer, pointing, pointing_by}
-use Rattle.life_writer.specs.Writing.{Gives, State, ◌>>◌, gives, mapped}
+use Rattle.life_writer.specs.Writing.{Gives, State, ◌>>◌, gives}
 use Rattle.life_elab_laws.proofs.Emitting.{new_targeted}
 use Rattle.life_elab_laws.proofs.ExpressionForms.{IsWhole, Standing, Valued}
 use Rattle.life_elab_laws.proofs.Gifts.{Gift, IsAt, IsPlaceOf, a_number, a_place, a_pointer, both, nothing as no_gift, place_stays, pointer_stays, a_pointing}
@@ -70,7 +70,6 @@ module _ (types : Types) (texts : ℕ) (so_far : Bool) (fs : List Function) (f :
       (new_targeted so_far types f place ty.View s refl tt)
       (λ b h. let at = location_at types texts so_far fs f place ty.View s refl b in (
         record {
-          plain = λ so. refl;
           given = refl;
           formed = ap (λ (t : Ty). is_source_of types texts fs f t (Whole o)) at.typed ∙ and_from (spans types ty.View (type_of types f o)) true (ap (spans types ty.View) h.1.typed) refl;
           served = λ so. absurd (false≢true (sym h.0 ∙ so));

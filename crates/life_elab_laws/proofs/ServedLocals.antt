@@ -6,7 +6,7 @@ use Rattle.life_types.specs.TypeTests.{is_value}
 use Rattle.life_types.specs.Types.{Types, class, class_at, is_slot_at, is_slot_type}
 use Rattle.life_types.specs.declared.ty.Ty.{Ty}
 use Rattle.life_types.specs.declared.ty.Ty.TheVariants as ty
-use Rattle.life_built.specs.Built.{is_pointing}
+use Rattle.life_served.specs.Served.{is_pointing}
 use Rattle.life_core.specs.Holdings.{held_by, held_if}
 use Rattle.life_core.specs.Served.{is_served_as, is_served_local}
 use Rattle.life_core.specs.declared.program.Local.{Local}

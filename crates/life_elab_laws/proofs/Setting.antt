@@ -1,39 +1,46 @@
 -- Where a function is written: in a program that the law reaches, whose core functions take and give what they should.
 use Rattle.std.proofs.Common.{◌≡◌, ℕ, Bool, true, false, List, None, Some, slice_get}
 use Rattle.life_types.specs.Pointees.{ty_of}
-use Rattle.life_types.specs.TypeTests.{is_value, is_void}
+use Rattle.life_types.specs.TypeTests.{is_void}
 use Rattle.life_types.specs.Types.{Types, class_at}
 use Rattle.life_types.specs.declared.ty.Class.TheVariants.{Value}
 use Rattle.life_types.specs.declared.ty.Ty.{Ty}
 use Rattle.life_types.specs.declared.ty.Ty.TheVariants as ty
 use Rattle.life_types.specs.declared.ty.TyId.{TyId}
-use Rattle.life_built.specs.Built.{is_built_result}
+use Rattle.life_served.specs.Served.{is_served_result}
 use Rattle.life_elab_laws.specs.Reached.{are_reached_variables}
 use Rattle.life_typed.specs.BaseTypes.{type_at}
+use Rattle.life_typed.specs.Ends.{ends}
 use Rattle.life_typed.specs.Programs.{FunctionForm}
 use Rattle.life_typed.specs.declared.basic.TheConstants.{CHAR}
 use Rattle.life_core.specs.Function.{Function}
 use Rattle.life_core.specs.declared.program.Local.{Local}
 use Rattle.life_well_typed.specs.Expressions.{parameter_types}
-use Rattle.life_writer.specs.Around.{Around}
+use Rattle.life_writer.specs.Around.{Around, result_local}
 use Rattle.life_elab_laws.proofs.Calls.{IsCallee}
 use Rattle.life_elab_laws.proofs.Fronts.{IsFront}
+use Rattle.life_elab_laws.proofs.HandedTypes.{IsHandedType}
 use Rattle.life_elab_laws.proofs.Shaped.{AreShaped}
 use Rattle.life_core.specs.declared.program.LocalKind.TheVariants.{Register}
+
+-- what a return gives back: nothing, or a value, which may be left unwritten; or something that is written, past whose text control doesn't run
+pub data GivesBack (a : Around) (types : Types) (f : Function) : Type 0 where
+  unasked : class_at types f.result ≡ Value → GivesBack a types f
+  asked : f.parameters ≡ result_local a → is_void (type_at a.program.types a.function.result) ≡ false → ends a.function.body ≡ true → GivesBack a types f
 
 pub record Setting (so_far : Bool) (a : Around) (types : Types) (fs : List Function) (f : Function) : Type 0 where
   pub front : IsFront a.program.types.types types.types
   pub variables : are_reached_variables so_far a.program.types a.function.locals ≡ true
   -- the table has chars, where views have elements
   pub chars : so_far ≡ false → type_at a.program.types CHAR ≡ ty.Char
-  pub returned : (g : ℕ) (of : FunctionForm) → slice_get a.program.functions g ≡ Some of → is_built_result a.program.types of.result ≡ true
-  pub result : is_built_result a.program.types a.function.result ≡ true
-  pub taken : (g : ℕ) (of : FunctionForm) → slice_get a.program.functions g ≡ Some of → (n : ℕ) (id : TyId) → slice_get (parameter_types (Some of)) n ≡ Some id → is_value (type_at a.program.types id) ≡ true
+  pub returned : (g : ℕ) (of : FunctionForm) → slice_get a.program.functions g ≡ Some of → is_served_result a.program.types of.result ≡ true
+  pub result : is_served_result a.program.types a.function.result ≡ true
+  pub taken : (g : ℕ) (of : FunctionForm) → slice_get a.program.functions g ≡ Some of → (n : ℕ) (id : TyId) → slice_get (parameter_types (Some of)) n ≡ Some id → IsHandedType so_far a.program.types id
   pub callees : (g : ℕ) (of : FunctionForm) → slice_get a.program.functions g ≡ Some of → IsCallee types fs g of
   -- .. and the table has the types of what they give back
   pub results : (g : ℕ) (of : FunctionForm) → slice_get a.program.functions g ≡ Some of → (t : Ty) × (slice_get a.program.types.types of.result.0 ≡ Some t)
-  -- the function itself gives a value back, or nothing; its locals without names are registers, and the others variables
-  pub gives : class_at types f.result ≡ Value
+  -- what the function itself gives back; its locals without names are registers, and the others variables
+  pub gives : GivesBack a types f
   pub shaped : AreShaped types f.locals
   -- .. and that of the result is one of these registers
   pub registers : (l : Local) → slice_get f.locals f.parameters ≡ Some l → is_void (ty_of types f.result) ≡ false → l.kind ≡ Register

@@ -1,5 +1,5 @@
 -- What is written is shaped: it is a register without a name, a temporary or a variable, each of a type that is reached.
-use Rattle.std.proofs.Common.{◌≡◌, inl, inr, ℕ, Bool, true, false, ◌&&◌, List, not, slice_get, Option, Some, is_none, unwrap_or, refl, sym, ap, ◌∙◌}
+use Rattle.std.proofs.Common.{◌≡◌, inl, inr, Bool, true, false, ◌&&◌, not, Option, is_none, unwrap_or, refl, sym, ap, ◌∙◌}
 use Rattle.std.proofs.lemmas.Bool.{false≢true}
 use Rattle.life_types.specs.Types.{Types}
 use Rattle.life_types.specs.declared.ty.NameId.{NameId}
@@ -8,14 +8,13 @@ use Rattle.life_types.specs.declared.ty.Ty.TheVariants as ty
 use Rattle.life_core.specs.Kinds.{is_object, is_register}
 use Rattle.life_core.specs.declared.program.Local.{Local}
 use Rattle.life_core.specs.declared.program.LocalKind.{LocalKind}
-use Rattle.life_proper.specs.Knowing.{is_intermediate}
 use Rattle.life_writer.specs.Around.{Around}
 use Rattle.life_writer.specs.Writing.{State}
 use Rattle.life_elab_laws.specs.Reached.{are_reached_variables, is_reached_variable}
 use Rattle.life_elab_laws.proofs.ExpressionKinds.{variable_built}
 use Rattle.life_elab_laws.proofs.Fronts.{IsFront}
 use Rattle.life_elab_laws.proofs.Reaching.{reaches, type_reached}
-use Rattle.life_elab_laws.proofs.Shaped.{AreShaped, IsShaped, all_shaped, is_passing, named_lasts, owner_later, variable_later}
+use Rattle.life_elab_laws.proofs.Shaped.{AreShaped, IsShaped, all_shaped, named_lasts, owner_later, variable_later}
 use Rattle.life_elab_laws.proofs.WrittenLocals.{AreWrittenLocals, FitsNameless, IsIntermediate, IsOwn}
 
 -- .. in each table that the one so far begins

@@ -1,5 +1,5 @@
 -- The shape of what is written: statements and conditions where they belong, straight before tests, with no break or continue outside of a loop,
--- well formed, and, where the program is one that is served so far, plain and served.
+-- well formed, and, where the program is one that is served so far, served.
 use Rattle.std.proofs.Common.{◌≡◌, ℕ, Bool, true, false, ◌&&◌, not, List, [], ◌∷◌, ◌++◌, refl, sym, ◌∙◌}
 use Rattle.std.proofs.lemmas.Bool.{and_from, and_parts, false≢true}
 use Rattle.std.proofs.lemmas.List.Folds.{list_all-append}
@@ -11,10 +11,8 @@ use Rattle.life_core.specs.Served.{is_served_spot, is_served_step, is_served_tes
 use Rattle.life_core.specs.Shape.{breaks_inside, is_condition, is_statement, is_straight, test_straight, tests_straight}
 use Rattle.life_core.specs.Step.{Call, Step, Test}
 use Rattle.life_core.specs.Tree.{Tree, Skip, Then, Acts, Asks, Both, Either, Negated, Choice, Turns, Breaks, Continues, Returns, Stops, Node, Action, Spot, spots, trees}
-use Rattle.life_proper.specs.ByValue.{is_by_value}
 use Rattle.life_proper.specs.GivenOver.{given_step, keeps_target}
 use Rattle.life_proper.specs.Placed.{object_at}
-use Rattle.life_proper.specs.Plain.{is_plain_tree}
 use Rattle.life_proper.specs.WellFormed.{is_well_formed_step, is_well_formed_test, is_well_formed_tree}
 use Rattle.life_proper.proofs.SpotTests.{three_parts, two_parts}
 
@@ -80,9 +78,6 @@ module _ (types : Types) (f : Function) where
   tree_gives_values t = list_all spot_gives_values (spots t)
 
 module _ (types : Types) (texts : ℕ) (so_far : Bool) (fs : List Function) (f : Function) where
-  abbrev is_plain : Tree → Bool
-  is_plain t = is_plain_tree types f t
-
   abbrev is_formed : Tree → Bool
   is_formed t = is_well_formed_tree types texts fs f t
 
@@ -108,20 +103,18 @@ module _ (types : Types) (texts : ℕ) (so_far : Bool) (fs : List Function) (f :
     pub condition : is_condition t ≡ true
     pub straight : test_straight t ≡ true
     pub breaks : (in_loop : Bool) → breaks_inside in_loop t ≡ true
-    pub plain : so_far ≡ true → is_plain_tree types f t ≡ true
     pub given : tree_gives_values types f t ≡ true
     pub formed : is_well_formed_tree types texts fs f t ≡ true
     pub served : so_far ≡ true → is_served_tree t ≡ true
 
   pub fine_asks : (place : Place) (t : Test) → is_well_formed_test types texts fs f t ≡ true → (so_far ≡ true → is_served_test types f t ≡ true) → IsFineTest (Asks place t)
-  fine_asks place t e g = record { condition = refl; straight = refl; breaks = λ in_loop. refl; plain = λ so. refl; given = refl; formed = e; served = λ so. and_from (is_served_test types f t) true (g so) refl }
+  fine_asks place t e g = record { condition = refl; straight = refl; breaks = λ in_loop. refl; given = refl; formed = e; served = λ so. and_from (is_served_test types f t) true (g so) refl }
 
   pub fine_both : (a b : Tree) → IsFineTest a → IsFineTest b → IsFineTest (Both a b)
   fine_both a b first second = record {
     condition = and_from (is_condition a) (is_condition b) first.condition second.condition;
     straight = and_from (test_straight a) (test_straight b) first.straight second.straight;
     breaks = λ in_loop. and_from (breaks_inside in_loop a) (breaks_inside in_loop b) (first.breaks in_loop) (second.breaks in_loop);
-    plain = λ so. and_from (is_plain a) (is_plain b) (first.plain so) (second.plain so);
     given = given_both a b first.given second.given;
     formed = and_from (is_formed a) (is_formed b) first.formed second.formed;
     served = λ so. served_both a b (first.served so) (second.served so);
@@ -132,14 +125,13 @@ module _ (types : Types) (texts : ℕ) (so_far : Bool) (fs : List Function) (f :
     condition = and_from (is_condition a) (is_condition b) first.condition second.condition;
     straight = and_from (test_straight a) (test_straight b) first.straight second.straight;
     breaks = λ in_loop. and_from (breaks_inside in_loop a) (breaks_inside in_loop b) (first.breaks in_loop) (second.breaks in_loop);
-    plain = λ so. and_from (is_plain a) (is_plain b) (first.plain so) (second.plain so);
     given = given_both a b first.given second.given;
     formed = and_from (is_formed a) (is_formed b) first.formed second.formed;
     served = λ so. served_both a b (first.served so) (second.served so);
   }
 
   pub fine_negated : (a : Tree) → IsFineTest a → IsFineTest (Negated a)
-  fine_negated a h = record { condition = h.condition; straight = h.straight; breaks = h.breaks; plain = h.plain; given = h.given; formed = h.formed; served = h.served }
+  fine_negated a h = record { condition = h.condition; straight = h.straight; breaks = h.breaks; given = h.given; formed = h.formed; served = h.served }
 
   -- ---- statements, in a loop or outside
 
@@ -147,20 +139,18 @@ module _ (types : Types) (texts : ℕ) (so_far : Bool) (fs : List Function) (f :
     pub statement : is_statement t ≡ true
     pub tests : tests_straight t ≡ true
     pub breaks : breaks_inside in_loop t ≡ true
-    pub plain : so_far ≡ true → is_plain_tree types f t ≡ true
     pub given : tree_gives_values types f t ≡ true
     pub formed : is_well_formed_tree types texts fs f t ≡ true
     pub served : so_far ≡ true → is_served_tree t ≡ true
 
   pub stated_none : (in_loop : Bool) → IsStated in_loop Skip
-  stated_none in_loop = record { statement = refl; tests = refl; breaks = refl; plain = λ so. refl; given = refl; formed = refl; served = λ so. refl }
+  stated_none in_loop = record { statement = refl; tests = refl; breaks = refl; given = refl; formed = refl; served = λ so. refl }
 
   pub stated_alone : (in_loop : Bool) (t : Tree) → IsStated in_loop t → IsStated in_loop (trees (t ∷ []))
   stated_alone in_loop t h = record {
     statement = and_from (is_statement t) true h.statement refl;
     tests = and_from (tests_straight t) true h.tests refl;
     breaks = and_from (breaks_inside in_loop t) true h.breaks refl;
-    plain = λ so. and_from (is_plain t) true (h.plain so) refl;
     given = given_both t Skip h.given refl;
     formed = and_from (is_formed t) true h.formed refl;
     served = λ so. served_both t Skip (h.served so) refl;
@@ -171,7 +161,6 @@ module _ (types : Types) (texts : ℕ) (so_far : Bool) (fs : List Function) (f :
     statement = all_append is_statement refl (λ a b. refl) c d first.statement second.statement;
     tests = all_append tests_straight refl (λ a b. refl) c d first.tests second.tests;
     breaks = all_append (breaks_inside in_loop) refl (λ a b. refl) c d first.breaks second.breaks;
-    plain = λ so. all_append (is_plain_tree types f) refl (λ a b. refl) c d (first.plain so) (second.plain so);
     given = all_append (tree_gives_values types f) refl (λ a b. list_all-append (spot_gives_values types f) (spots a) (spots b)) c d first.given second.given;
     formed = all_append (is_well_formed_tree types texts fs f) refl (λ a b. refl) c d first.formed second.formed;
     served = λ so. all_append is_served_tree refl (λ a b. list_all-append (is_served_spot types f) (spots a) (spots b)) c d (first.served so) (second.served so);
@@ -182,7 +171,6 @@ module _ (types : Types) (texts : ℕ) (so_far : Bool) (fs : List Function) (f :
     statement = and_from (is_condition t) _ test.condition (and_from (is_statement a) (is_statement b) first.statement second.statement);
     tests = and_from (test_straight t) _ test.straight (and_from (tests_straight a) (tests_straight b) first.tests second.tests);
     breaks = and_from (breaks_inside in_loop t) _ (test.breaks in_loop) (and_from (breaks_inside in_loop a) (breaks_inside in_loop b) first.breaks second.breaks);
-    plain = λ so. and_from (is_plain t) _ (test.plain so) (and_from (is_plain a) (is_plain b) (first.plain so) (second.plain so));
     given = given_all t a b test.given first.given second.given;
     formed = and_from (is_formed t) _ test.formed (and_from (is_formed a) (is_formed b) first.formed second.formed);
     served = λ so. served_all t a b (test.served so) (first.served so) (second.served so);
@@ -194,7 +182,6 @@ module _ (types : Types) (texts : ℕ) (so_far : Bool) (fs : List Function) (f :
     tests = and_from (test_straight t) _ test.straight (and_from (tests_straight body) (tests_straight step) first.tests second.tests);
     breaks = and_from (breaks_inside in_loop t) _ (test.breaks in_loop)
         (and_from (breaks_inside true body) (breaks_inside in_loop step) first.breaks (breaks_anywhere in_loop step second.breaks));
-    plain = λ so. and_from (is_plain t) _ (test.plain so) (and_from (is_plain body) (is_plain step) (first.plain so) (second.plain so));
     given = given_all t body step test.given first.given second.given;
     formed = and_from (is_formed t) _ test.formed (and_from (is_formed body) (is_formed step) first.formed second.formed);
     served = λ so. served_all t body step (test.served so) (first.served so) (second.served so);
@@ -217,7 +204,6 @@ module _ (types : Types) (texts : ℕ) (so_far : Bool) (fs : List Function) (f :
 
   -- an instruction by itself
   pub record IsFineStep (i : Step) : Type 0 where
-    pub plain : so_far ≡ true → is_by_value types f i ≡ true
     pub given : gives_values types f i ≡ true
     pub formed : is_well_formed_step types texts fs f i ≡ true
     pub served : so_far ≡ true → is_served_step types f i ≡ true
@@ -226,7 +212,7 @@ module _ (types : Types) (texts : ℕ) (so_far : Bool) (fs : List Function) (f :
   fine_acts place i is = record {
     straight = refl;
     stated = λ in_loop. stated_alone in_loop (Acts place i)
-        (record { statement = refl; tests = refl; breaks = refl; plain = is.plain; given = and_from (gives_values types f i) true is.given refl; formed = is.formed; served = λ so. and_from (is_served_step types f i) true (is.served so) refl });
+        (record { statement = refl; tests = refl; breaks = refl; given = and_from (gives_values types f i) true is.given refl; formed = is.formed; served = λ so. and_from (is_served_step types f i) true (is.served so) refl });
   }
 
   -- a branch whose branches are straight
@@ -242,7 +228,6 @@ module _ (types : Types) (texts : ℕ) (so_far : Bool) (fs : List Function) (f :
     condition = and_from (is_statement (trees c)) (is_condition t) one.statement second.condition;
     straight = and_from (is_straight (trees c)) (tests_straight (trees c) && test_straight t) first.straight (and_from (tests_straight (trees c)) (test_straight t) one.tests second.straight);
     breaks = λ in_loop. and_from (breaks_inside in_loop (trees c)) (breaks_inside in_loop t) (first.stated in_loop).breaks (second.breaks in_loop);
-    plain = λ so. and_from (is_plain (trees c)) (is_plain t) (one.plain so) (second.plain so);
     given = given_both (trees c) t one.given second.given;
     formed = and_from (is_formed (trees c)) (is_formed t) one.formed second.formed;
     served = λ so. served_both (trees c) t (one.served so) (second.served so);

@@ -1,10 +1,10 @@
--- The places of a function that is translated have a step at most: its objects are values and owners of values, and nothing is behind its parameters.
-use Rattle.std.proofs.Common.{◌≡◌, ◌<◌, ◌+◌, ℕ, zero, suc, Bool, true, false, ◌&&◌, ◌||◌, List, [], ◌∷◌, ◌++◌, if◌then◌else◌, flat_map, map, nat_lt, slice_get, Option, Some, None, is_none, refl, ap, ◌∙◌, subst, sym, unwrap_or, arith}
+-- The places of a function that is translated have a step at most: its objects are values and owners of values, and values and characters are behind its parameters.
+use Rattle.std.proofs.Common.{◌≡◌, ◌<◌, ◌+◌, inl, inr, ℕ, zero, suc, Bool, true, false, ◌&&◌, ◌||◌, List, [], ◌∷◌, ◌++◌, if◌then◌else◌, flat_map, map, nat_lt, slice_get, Option, Some, None, is_none, refl, ap, ◌∙◌, subst, sym, unwrap_or, arith}
 use Rattle.std.proofs.lemmas.Bool.{false≢true}
 use Rattle.std.proofs.lemmas.Bool.Decides.{nat_tests}
 use Rattle.life_types.specs.Pointees.{or_void, ty_of}
 use Rattle.life_types.specs.Trees.{tree_at, tree_of, tree_within}
-use Rattle.life_types.specs.TypeTests.{is_value}
+use Rattle.life_types.specs.TypeTests.{is_pointer, is_value}
 use Rattle.life_types.specs.Types.{Types}
 use Rattle.life_types.specs.declared.place.Place.{Place}
 use Rattle.life_types.specs.declared.ty.Ty.{Ty}
@@ -20,15 +20,16 @@ use Rattle.life_core.specs.declared.program.Local.{Local}
 use Rattle.life_core.specs.declared.program.LocalKind.{LocalKind}
 use Rattle.life_core.specs.declared.program.LocalKind.TheVariants.{Object, Register, Range}
 use Rattle.life_core.specs.Kinds.{is_register}
-use Rattle.life_pset.specs.Elements.{AreShort, causes_of_end, caused_at, caused_elements, elements_of, end_elements, input_places, inputs_among, inputs_from, inputs_of, local_inputs, local_place, locations_in, node_elements, object_places, objects_from, places_in, pointers_in, step_elements}
-use Rattle.life_pset.specs.Shapes.{is_variable, referred, shape, shape_if, unslotted}
+use Rattle.life_pset.specs.Elements.{AreShort, Input, input_at, input_if, input_root, causes_of_end, caused_at, caused_elements, elements_of, end_elements, input_places, inputs_among, inputs_from, inputs_of, local_inputs, local_place, locations_in, node_elements, object_places, objects_from, places_in, pointers_in, step_elements}
+use Rattle.life_pset.specs.Shapes.{has_buffer, is_variable, referred, shape, shape_if, target_of, tree_if, unslotted}
 use Rattle.life_pset.specs.declared.element.AbsPlace.{AbsPlace}
 use Rattle.life_pset.specs.declared.element.Cause.{Cause}
 use Rattle.life_pset.specs.declared.element.Element.{Element}
 use Rattle.life_pset.specs.declared.element.Element.TheVariants as element
-use Rattle.life_elab_laws.proofs.Reaching.{reaches, value_reached}
+use Rattle.life_elab_laws.proofs.Reaching.{IsReachedType, reaches, type_reached, value_reached}
 use Rattle.life_elab_laws.proofs.Shaped.{AreShaped, IsShaped}
-use Rattle.life_pset.specs.Places.{owned_place}
+use Rattle.life_elab_laws.proofs.HandedTypes.{IsHandedType, a_raw, a_reference, a_value, a_view}
+use Rattle.life_pset.specs.Places.{owned_place, root_place}
 
 -- ---- lists
 
@@ -169,32 +170,94 @@ module _ (types : Types) where
       ap (λ (b : Bool). if b then at ∷ [] else pointers_in at (tree_at types id)) (no_buffer k (ty_of types id) (value_there (slice_get types.types id.0) w))
       ∙ no_pointers id w at
 
-  no_local_inputs : (n x : ℕ) (l : Local) → (x < n → is_value (type_at types l.ty) ≡ true) → local_inputs types n x l ≡ []
-  no_local_inputs n x l value = go (nat_lt x n) refl
+  -- a pointer is one
+  no_buffer_pointer : (k : LocalKind) (t : Ty) → has_buffer t ≡ false → is_variable k t ≡ false
+  no_buffer_pointer Object t none = none
+  no_buffer_pointer Register t none = refl
+  no_buffer_pointer Range t none = refl
+
+  itself_alone : (k : LocalKind) (id : TyId) (t : Ty) → slice_get types.types id.0 ≡ Some t → has_buffer t ≡ false → ((n : ℕ) (at : AbsPlace) → pointers_in at (tree_of types (tree_within n types) (Some t)) ≡ at ∷ []) → (at : AbsPlace) → locations_in types k id at ≡ at ∷ []
+  unfolding tree_at
+  itself_alone k id t found none one at =
+      ap (λ (b : Bool). if b then at ∷ [] else pointers_in at (tree_at types id)) (ap (λ (o : Option Ty). is_variable k (or_void o)) found ∙ no_buffer_pointer k t none)
+      ∙ ap (λ (o : Option Ty). pointers_in at (tree_of types (tree_within id.0 types) o)) found ∙ one id.0 at
+
+  -- what stands behind it is one place
+  abbrev IsOneBehind : TyId → Type 0
+  IsOneBehind id = (at : AbsPlace) → places_in at (tree_if types (target_of (ty_of types id))) ≡ at ∷ []
+
+  one_place : (id : TyId) → is_value (type_at types id) ≡ true → (at : AbsPlace) → places_in at (tree_at types id) ≡ at ∷ []
+  unfolding tree_at
+  one_place id w at = go (slice_get types.types id.0) w
+    where
+      go : (o : Option Ty) → is_value (unwrap_or o ty.Void) ≡ true → places_in at (tree_of types (tree_within id.0 types) o) ≡ at ∷ []
+      go (Some ty.Bool) w = refl
+      go (Some ty.Char) w = refl
+      go (Some ty.Int) w = refl
+      go (Some ty.Long) w = refl
+      go (Some ty.Size) w = refl
+      go _ w = absurd (false≢true w)
+
+  -- ---- inputs whose places are short
+
+  abbrev AreShortInputs : List Input → Type 0
+  AreShortInputs [] = Unit {0}
+  AreShortInputs (i ∷ is) = AreShort (map element.At (input_places types i)) × AreShortInputs is
+
+  inputs_append : (is js : List Input) → AreShortInputs is → AreShortInputs js → AreShortInputs (is ++ js)
+  inputs_append [] js first second = second
+  inputs_append (i ∷ is) js first second = (first.0, inputs_append is js first.1 second)
+
+  inputs_places : (is : List Input) → AreShortInputs is → AreShort (map element.At (flat_map (input_places types) is))
+  inputs_places [] h = tt
+  inputs_places (i ∷ is) h = short_places (input_places types i) (flat_map (input_places types) is) h.0 (inputs_places is h.1)
+
+  one_input : (x : ℕ) (id : TyId) → IsOneBehind id → AreShortInputs (inputs_among types x id 0 (local_place x ∷ []))
+  one_input x id one = go (is_pointer (ty_of types id))
+    where
+      go : (b : Bool) → AreShortInputs (input_if b (input_at x 0 (local_place x) (Some id)) ++ [])
+      go false = tt
+      go true = (subst (λ (xs : List AbsPlace). AreShort (map element.At xs)) (sym (one (root_place (input_root x 0 (local_place x))))) (omega arith, tt), tt)
+
+  pointer_inputs : (k : LocalKind) (x : ℕ) (id : TyId) (t : Ty) → slice_get types.types id.0 ≡ Some t → IsReachedType false types t → has_buffer t ≡ false → ((n : ℕ) (at : AbsPlace) → pointers_in at (tree_of types (tree_within n types) (Some t)) ≡ at ∷ []) → IsOneBehind id
+      → AreShortInputs (inputs_among types x (shape_if types true id) 0 (locations_in types k (shape_if types true id) (local_place x)))
+  pointer_inputs k x id t found reached none alone one =
+      let same = same_shape true id (ap (λ (o : Option Ty). reaches false types (unwrap_or o ty.Void)) found ∙ type_reached false types t reached) in
+      subst (λ (i : TyId). AreShortInputs (inputs_among types x i 0 (locations_in types k i (local_place x)))) (sym same)
+      (subst (λ (xs : List AbsPlace). AreShortInputs (inputs_among types x id 0 xs)) (sym (itself_alone k id t found none alone (local_place x))) (one_input x id one))
+
+  handed_inputs : (so_far : Bool) (k : LocalKind) (x : ℕ) (id : TyId) → IsHandedType so_far types id → AreShortInputs (inputs_among types x (shape_if types true id) 0 (locations_in types k (shape_if types true id) (local_place x)))
+  handed_inputs so_far k x id (a_value w) =
+      let same = same_shape true id (value_reached false types (type_at types id) w) in
+      subst (λ (xs : List AbsPlace). AreShortInputs (inputs_among types x (shape_if types true id) 0 xs)) (sym (ap (λ (i : TyId). locations_in types k i (local_place x)) same ∙ no_locations k id w (local_place x))) tt
+  handed_inputs so_far k x id (a_raw target constant at w) =
+      pointer_inputs k x id (ty.Raw target constant) at (inl w) refl (λ n place. refl) (λ place. ap (λ (o : Option Ty). places_in place (tree_if types (target_of (or_void o)))) at ∙ one_place target w place)
+  handed_inputs so_far k x id (a_reference target at w) =
+      pointer_inputs k x id (ty.Reference target false) at (inl w) refl (λ n place. refl) (λ place. ap (λ (o : Option Ty). places_in place (tree_if types (target_of (or_void o)))) at ∙ one_place target w place)
+  handed_inputs so_far k x id (a_view so at) =
+      pointer_inputs k x id ty.View at (inr (inl (refl, refl))) refl (λ n place. refl) (λ place. ap (λ (o : Option Ty). places_in place (tree_if types (target_of (or_void o)))) at)
+
+  local_short : (so_far : Bool) (n x : ℕ) (l : Local) → (x < n → IsHandedType so_far types l.ty) → AreShortInputs (local_inputs types n x l)
+  local_short so_far n x l handed = go (nat_lt x n) refl
     where
       lt_of : (a b : ℕ) → nat_lt a b ≡ true → a < b
       lt_of a b h = grind (arith, nat_tests)
 
-      go : (b : Bool) → nat_lt x n ≡ b → (if b then inputs_among types x (shape_if types b l.ty) 0 (locations_in types l.kind (shape_if types b l.ty) (local_place x)) else []) ≡ []
-      go false is = refl
-      go true is =
-          let w = value (lt_of x n is) in
-          let same : shape_if types true l.ty ≡ l.ty = same_shape true l.ty (value_reached false types (type_at types l.ty) w) in
-          ap (inputs_among types x (shape_if types true l.ty) 0) (ap (λ (id : TyId). locations_in types l.kind id (local_place x)) same ∙ no_locations l.kind l.ty w (local_place x))
+      go : (b : Bool) → nat_lt x n ≡ b → AreShortInputs (if b then inputs_among types x (shape_if types b l.ty) 0 (locations_in types l.kind (shape_if types b l.ty) (local_place x)) else [])
+      go false is = tt
+      go true is = handed_inputs so_far l.kind x l.ty (handed (lt_of x n is))
 
-  no_inputs : (n x : ℕ) (ls : List Local) → ((y : ℕ) (l : Local) → slice_get ls y ≡ Some l → x + y < n → is_value (type_at types l.ty) ≡ true) → inputs_from types n x ls ≡ []
-  no_inputs n x [] values = refl
-  no_inputs n x (l ∷ ls) values =
-      ap (λ is. is ++ inputs_from types n (x + 1) ls) (no_local_inputs n x l (λ lt. values zero l refl (omega (arith, lt))))
-      ∙ no_inputs n (x + 1) ls (λ y u at lt. values (suc y) u at (omega (arith, lt)))
+  inputs_short : (so_far : Bool) (n x : ℕ) (ls : List Local) → ((y : ℕ) (l : Local) → slice_get ls y ≡ Some l → x + y < n → IsHandedType so_far types l.ty) → AreShortInputs (inputs_from types n x ls)
+  inputs_short so_far n x [] handed = tt
+  inputs_short so_far n x (l ∷ ls) handed =
+      inputs_append (local_inputs types n x l) (inputs_from types n (x + 1) ls) (local_short so_far n x l (λ lt. handed zero l refl (omega (arith, lt))))
+      (inputs_short so_far n (x + 1) ls (λ y u at lt. handed (suc y) u at (omega (arith, lt))))
 
   -- ---- the whole
 
-  pub short_function : (f : Function) → AreShaped types f.locals → ((y : ℕ) (l : Local) → slice_get f.locals y ≡ Some l → y < f.parameters → is_value (type_at types l.ty) ≡ true) → AreShort (elements_of types f)
-  short_function f shaped values =
-      let none : inputs_of types f ≡ [] = no_inputs f.parameters 0 f.locals (λ y l at lt. values y l at (omega (arith, lt))) in
-      let behind : AreShort (map element.At (flat_map (input_places types) (inputs_of types f))) =
-      subst (λ is. AreShort (map element.At (flat_map (input_places types) is))) (sym none) tt in
+  pub short_function : (so_far : Bool) (f : Function) → AreShaped types f.locals → ((y : ℕ) (l : Local) → slice_get f.locals y ≡ Some l → y < f.parameters → IsHandedType so_far types l.ty) → AreShort (elements_of types f)
+  short_function so_far f shaped handed =
+      let behind = inputs_places (inputs_of types f) (inputs_short so_far f.parameters 0 f.locals (λ y l at lt. handed y l at (omega (arith, lt)))) in
       let beside = short_append (map element.At (flat_map (input_places types) (inputs_of types f))) (caused_elements f) behind (short_caused f) in
       let places =
       short_append (map element.At (objects_from types f.parameters 0 f.locals)) (map element.At (flat_map (input_places types) (inputs_of types f)) ++ caused_elements f)

@@ -1,5 +1,5 @@
 -- Assignments, steps, and calls that stand alone.
-use Rattle.std.proofs.Common.{◌≡◌, ◌⊎◌, inl, inr, ℕ, Bool, true, false, List, [], ◌∷◌, cond, length, not, Option, Some, None, refl, sym, ap, ◌∙◌, subst, ◌&&◌, ◌||◌}
+use Rattle.std.proofs.Common.{◌≡◌, inl, inr, ℕ, Bool, true, false, List, [], ◌∷◌, cond, length, not, Option, Some, None, refl, sym, ap, ◌∙◌, subst, ◌&&◌, ◌||◌}
 use Rattle.std.proofs.lemmas.Bool.{and_from, and_parts, false≢true, or_cases}
 use Rattle.std.specs.Prelude.{pos}
 use Rattle.life_types.specs.TypeTests.{is_value, is_void, is_text, is_view, is_iterator}
@@ -11,7 +11,7 @@ use Rattle.life_types.specs.declared.ty.Ty.{Ty}
 use Rattle.life_types.specs.declared.ty.Ty.TheVariants as ty
 use Rattle.life_tree.specs.declared.operator.CompoundOperator.{CompoundOperator}
 use Rattle.life_tree.specs.declared.operator.StepOperator.{StepOperator}
-use Rattle.life_built.specs.Built.{is_call}
+use Rattle.life_served.specs.Served.{is_call}
 use Rattle.life_elab_laws.specs.Reached.{is_reached_expression, is_reached_simple, is_changing, is_reached_change, is_reached_form, is_reached_object, is_reached_owner, is_reached_append, is_reached_either, is_owner_of_values, is_reached_assigned, is_owner_type, is_reached_walker, is_walker_of_values, is_erased, is_reached_list, is_text_there, is_vector, is_walker_type}
 use Rattle.life_typed.specs.Operators.{promoted}
 use Rattle.life_typed.specs.Statements.{can_step, compounded}
@@ -46,7 +46,7 @@ use Rattle.life_writer.specs.Assigning.{acted, assigned_by, owner_by, replaced_b
 use Rattle.life_writer.specs.Calls.{Called, called_alone, form_call}
 use Rattle.life_writer.specs.ExpressionForms.{all_uses, uses}
 use Rattle.life_writer.specs.Giving as giving
-use Rattle.life_writer.specs.Lists.{list_object, listed}
+use Rattle.life_writer.specs.Lists.{built_type, list_object, listed}
 use Rattle.life_writer.specs.Pointers.{By, aimed, located, pointed}
 use Rattle.life_writer.specs.Registers.{computed, constant as constant_step, converted}
 use Rattle.life_writer.specs.Uses.{Act, Uses, own}
@@ -55,12 +55,11 @@ use Rattle.life_writer.specs.Values.{read}
 use Rattle.life_writer.specs.Values as values
 use Rattle.life_writer.specs.Writing.{State, Gives, ◌>>◌, emit, gives, mapped}
 use Rattle.life_elab.specs.SimpleForms.{advanced, appended, assigned, combined, done, stepped, target_of, thrown, thrown_by, direction}
-use Rattle.life_elab.specs.DeclarationForms.{built_type}
 use Rattle.life_elab.specs.Simples.{compound_operator, held, put_back, step_operator}
 use Rattle.life_elab_laws.proofs.Aiming.{literal_given, pointed_fine, pointed_keeps, pointed_ready}
 use Rattle.life_elab_laws.proofs.CallParts.{alone_fine}
 use Rattle.life_elab_laws.proofs.Calls.{alone_after, alone_ready}
-use Rattle.life_elab_laws.proofs.ExpressionTypes.{own_no_iterator, own_no_text, own_value, seen_kind}
+use Rattle.life_elab_laws.proofs.ExpressionTypes.{IsAnswered, answers_nothing, answers_place, answers_raw, answers_value, own_no_iterator, own_no_text, own_value, seen_kind}
 use Rattle.life_elab_laws.proofs.ExpressionForms.{IsCall, IsWhole}
 use Rattle.life_elab_laws.proofs.Expressions.{asked_expression, owner_expression, walker_expression, whole_expression, wholes}
 use Rattle.life_elab_laws.proofs.PointerForms.{placed_operand, pointer_whole, points_whole, result_later}
@@ -69,7 +68,7 @@ use Rattle.life_elab_laws.proofs.Filling.{text_filling}
 use Rattle.life_elab_laws.proofs.Gifts.{Gift, IsPlaceOf, takes_from, a_number, a_place, a_pointer, a_pointing, arguments, both, nothing}
 use Rattle.life_elab_laws.proofs.GivenKinds.{given_number, given_pointer, given_view}
 use Rattle.life_elab_laws.proofs.Held.{place_there, ready_there}
-use Rattle.life_elab_laws.proofs.Instructions.{acted_part, as_type_part, constant_part, converted_part, literal_located_part, load_part, operator_part}
+use Rattle.life_elab_laws.proofs.Instructions.{acted_as_part, acted_part, as_type_part, constant_part, converted_part, literal_located_part, load_part, operator_part}
 use Rattle.life_elab_laws.proofs.Locations.{is_location, is_pointed, seen_pointed, location_is, view_location}
 use Rattle.life_elab_laws.proofs.Making.{IsHeld, IsOpen, IsPlace, Keeps, keeps_all, opened_later}
 use Rattle.life_elab_laws.proofs.Parts.{Makes, Part, and_part, gives_part, keep_part, leaf_part, seen_part, then_part, under_part}
@@ -141,7 +140,6 @@ module _ (a : Around) (visible : List ℕ) (types : Types) (texts : ℕ) (so_far
   saved_part P x t r o place s number at ready =
       acted_part types texts so_far fs f P x place (Save o r) s
       (λ h. record {
-        plain = λ so. refl;
         given = refl;
         formed = and_from (is_number_of types f (type_of types f o) r) (not (is_const_place types f o)) (ap (λ (u : Ty). is_number_of types f u r) (at h).typed ∙ number h) (at h).held;
         served = (at h).served;
@@ -184,10 +182,10 @@ module _ (a : Around) (visible : List ℕ) (types : Types) (texts : ℕ) (so_far
       let second = lies w.state (stands_later a visible s w.state first.grown stands) in
       then_part types texts so_far fs f no_gift tt None s (gives (w.given, l.given) l.state) _ (both_of P Q) no_gift stands.opened
       (and_part types texts so_far fs f no_gift tt s w l P Q stands.opened first second)
-      (acted_part types texts so_far fs f (both_of P Q) (w.given, l.given) e.place (pointed w.given l.given) l.state
+      (acted_as_part types texts so_far fs f (both_of P Q) (w.given, l.given) e.place (pointed w.given l.given) l.state
       (λ h. pointed_fine types texts so_far fs f l.given u source w.given loc h.1 taken h.0)
-      (λ n k p. pointed_ready f l.given n n w.given k p.1 p.0)
-      (λ n m k p. pointed_keeps f l.given n n m w.given k p.1 p.0))
+      (λ h n k p. pointed_ready f l.given n n w.given k p.1 p.0 h.1.kept)
+      (λ h n m k p. pointed_keeps f l.given n n m w.given k p.1 p.0 h.1.kept))
 
   pointer_assigned_part : (target e : Typed) (equals behind : Place) (s : State) (u : Ty) → is_location u ≡ true → IsWhole a visible types texts so_far fs f setting (whole_form target) → IsWhole a visible types texts so_far fs f setting (whole_form e) → target.ty ≡ Of u
       → is_pointed e.ty ≡ true → takes_from types u e.ty ≡ true → Standing s → Acts s (assigned_by classes.Pointer (uses a (whole_form e)) (own_type target.ty) (target_of (uses a (whole_form target))) equals behind s)
@@ -302,7 +300,7 @@ module _ (a : Around) (visible : List ℕ) (types : Types) (texts : ℕ) (so_far
   kept_part e behind s is n stands =
       seen_part types texts so_far fs f no_gift tt None s (value (uses a (whole_form e)) behind (own_type e.ty) None s) (a_value (own_type e.ty)) (λ (r : ℕ). tt) no_gift (is.valued n behind (own_type e.ty) (own_value e.ty n) None s tt stands) (λ b h. tt) (λ n k h. tt)
 
-  alone_part : (e : Typed) (c : Called) (s : State) → IsCall a visible types texts so_far fs f setting c e.ty e.category → e.ty ≡ Of ty.Void → Standing s
+  alone_part : (e : Typed) (c : Called) (s : State) → (is : IsCall a visible types texts so_far fs f setting c e.ty e.category) → type_at a.program.types is.of.result ≡ ty.Void → Standing s
       → Acts s (giving.arguments a (all_uses a c.arguments) c.delimiters (around.parameter_types a c.function) s >> λ given s. emit e.place (called_alone c.function given) s)
   alone_part e c s is void stands =
       let w = giving.arguments a (all_uses a c.arguments) c.delimiters (around.parameter_types a c.function) s in
@@ -310,7 +308,7 @@ module _ (a : Around) (visible : List ℕ) (types : Types) (texts : ℕ) (so_far
       let callee = setting.callees c.function is.of is.there in
       then_part types texts so_far fs f no_gift tt None s w _ P no_gift stands.opened (is.hands s stands)
       (acted_part types texts so_far fs f P w.given e.place (called_alone c.function w.given) w.state
-      (λ h. alone_fine types texts so_far fs f c.function w.given is.of callee h (result_later a visible types texts so_far fs f setting c.function is.of is.there ∙ sym (ap own_type is.own) ∙ ap own_type void))
+      (λ h. alone_fine types texts so_far fs f c.function w.given is.of callee h (result_later a visible types texts so_far fs f setting c.function is.of is.there ∙ void))
       (λ n k p. alone_ready f c.function (parameter_types (Some is.of)) w.given n k p)
       (λ n m k p. subst (Keeps f m None k) (sym (alone_after f c.function (parameter_types (Some is.of)) w.given n k p)) (keeps_all f m None k)))
 
@@ -319,27 +317,6 @@ module _ (a : Around) (visible : List ℕ) (types : Types) (texts : ℕ) (so_far
   value_thrown e behind t s own_is v =
       ap (λ (x : Ty). cond (is_void x) (e.alone s) (thrown_by (class (Some x)) e behind s)) own_is
       ∙ by_values (λ x. cond (is_void x) (e.alone s) (thrown_by (class (Some x)) e behind s) ≡ (value e behind (own e) None s).state) refl refl refl refl refl t v
-
-  discarded_part : (form : Form) (e : Typed) (behind : Place) (s : State) → e.form ≡ form → is_reached_expression texts so_far e ≡ true → Whole e → is_call form ≡ true → Standing s → Acts s (thrown e.category (uses a (whole_form e)) behind s)
-  discarded_part (call g given d) e behind s same b h calls stands = kind is.kind
-    where
-      is : IsCall a visible types texts so_far fs f setting (record { function = g; arguments = given; delimiters = d }) e.ty e.category
-      is = (whole e b h).calls (record { function = g; arguments = given; delimiters = d }) (ap form_call same)
-
-      alone_is : (uses a (whole_form e)).alone s ≡ (giving.arguments a (all_uses a given) d (around.parameter_types a g) s >> λ given s. emit e.place (called_alone g given) s)
-      alone_is = ap (λ (f : Form). (uses a (typed e.place e.ty e.category f)).alone s) same
-
-      kind : (e.ty ≡ Of ty.Void) ⊎ (is_number e.ty ≡ true) → Acts s (thrown e.category (uses a (whole_form e)) behind s)
-      kind (inl void) =
-          subst (Acts s)
-          (sym (ap (λ (k : Category). thrown k (uses a (whole_form e)) behind s) is.held
-          ∙ ap (λ (x : ExprType). cond (is_void (own_type x)) ((uses a (whole_form e)).alone s) (thrown_by (class (Some (own_type x))) (uses a (whole_form e)) behind s)) void
-          ∙ alone_is))
-          (alone_part e (record { function = g; arguments = given; delimiters = d }) s is void stands)
-      kind (inr n) =
-          subst (Acts s) (sym (ap (λ (k : Category). thrown k (uses a (whole_form e)) behind s) is.held ∙ value_thrown (uses a (whole_form e)) behind (own_type e.ty) s refl (own_value e.ty n)))
-          (kept_part e behind s (whole e b h) n stands)
-  discarded_part _ e behind s same b h calls stands = absurd (false≢true calls)
 
   -- a number, which is computed, or a place that has one
   number_thrown : (e : Typed) (behind : Place) (s : State) → IsWhole a visible types texts so_far fs f setting (whole_form e) → is_number e.ty ≡ true → Standing s → Acts s (thrown e.category (uses a (whole_form e)) behind s)
@@ -351,6 +328,37 @@ module _ (a : Around) (visible : List ℕ) (types : Types) (texts : ℕ) (so_far
           let t = type_at a.program.types id in
           let worth : is_value t ≡ true = sym (ap is_number (is.kind.place id constant held)) ∙ n in
           seen_part types texts so_far fs f no_gift tt None s ((uses a (whole_form e)).at s) (a_place types texts so_far fs f t constant) (λ (o : Operand). tt) no_gift (is.names id constant held worth s stands) (λ b h. tt) (λ n k h. tt)
+
+  -- a pointer that nothing is done with
+  pointer_thrown : (e : Typed) (behind : Place) (s : State) → IsWhole a visible types texts so_far fs f setting (whole_form e) → (target : TyId) (constant : Bool) → e.ty ≡ Of (ty.Raw target constant) → e.category ≡ category.Value → Standing s
+      → Acts s (thrown e.category (uses a (whole_form e)) behind s)
+  pointer_thrown e behind s is target constant at held stands =
+      let u = uses a (whole_form e) in
+      subst (Acts s)
+      (sym (ap (λ (k : Category). thrown k u behind s) held ∙ ap (λ (x : ExprType). cond (is_void (own_type x)) (u.alone s) (thrown_by (class (Some (own_type x))) u behind s)) at))
+      (seen_part types texts so_far fs f no_gift tt None s (pointer u (own u) s) (a_pointer types texts so_far fs f (ty.Raw target constant)) (λ (l : Location). tt) no_gift
+      (pointer_whole a visible types texts so_far fs f setting (whole_form e) is (ty.Raw target constant) at refl (own u) s stands) (λ b h. tt) (λ n k h. tt))
+
+  discarded_part : (form : Form) (e : Typed) (behind : Place) (s : State) → e.form ≡ form → is_reached_expression texts so_far e ≡ true → Whole e → is_call form ≡ true → Standing s → Acts s (thrown e.category (uses a (whole_form e)) behind s)
+  discarded_part (call g given d) e behind s same b h calls stands = by_answer is.answers
+    where
+      is : IsCall a visible types texts so_far fs f setting (record { function = g; arguments = given; delimiters = d }) e.ty e.category
+      is = (whole e b h).calls (record { function = g; arguments = given; delimiters = d }) (ap form_call same)
+
+      alone_is : (uses a (whole_form e)).alone s ≡ (giving.arguments a (all_uses a given) d (around.parameter_types a g) s >> λ given s. emit e.place (called_alone g given) s)
+      alone_is = ap (λ (f : Form). (uses a (typed e.place e.ty e.category f)).alone s) same
+
+      by_answer : IsAnswered a.program.types (type_at a.program.types is.of.result) e.ty e.category → Acts s (thrown e.category (uses a (whole_form e)) behind s)
+      by_answer (answers_nothing void own held) =
+          subst (Acts s)
+          (sym (ap (λ (k : Category). thrown k (uses a (whole_form e)) behind s) held
+          ∙ ap (λ (x : ExprType). cond (is_void (own_type x)) ((uses a (whole_form e)).alone s) (thrown_by (class (Some (own_type x))) (uses a (whole_form e)) behind s)) own
+          ∙ alone_is))
+          (alone_part e (record { function = g; arguments = given; delimiters = d }) s is void stands)
+      by_answer (answers_value v own held) = number_thrown e behind s (whole e b h) (ap is_number own ∙ v) stands
+      by_answer (answers_raw target constant raw w own held) = pointer_thrown e behind s (whole e b h) target constant own held stands
+      by_answer (answers_place target constant refers w own held) = number_thrown e behind s (whole e b h) (ap is_number own ∙ w) stands
+  discarded_part _ e behind s same b h calls stands = absurd (false≢true calls)
 
   -- ---- changes of owners
 
@@ -616,12 +624,12 @@ module _ (a : Around) (visible : List ℕ) (types : Types) (texts : ℕ) (so_far
       let second = constant_part types texts so_far fs f None ty.Int place (pos 1) l.state refl tt in
       then_part types texts so_far fs f no_gift tt None s (gives (l.given, r.given) r.state) _ (both_of P Q) no_gift stands.opened
       (and_part types texts so_far fs f no_gift tt s l r P Q stands.opened first second)
-      (acted_part types texts so_far fs f (both_of P Q) (l.given, r.given) place (Advance l.given l.given r.given (direction o)) r.state
+      (acted_as_part types texts so_far fs f (both_of P Q) (l.given, r.given) place (Advance l.given l.given r.given (direction o)) r.state
       (λ h. pointed_fine types texts so_far fs f l.given t (Of t) step refl h.0
       (and_from (same (ty_of types item) (ty_of types item)) (keeps_const constant constant) (value_same (ty_of types item) worth) (keeps_itself constant))
       (advance_given types texts so_far fs f item constant ty.Int l.given r.given (direction o) is.wide h.0 worth h.1))
-      (λ n k p. pointed_ready f l.given n n step k p.0 (advance_filling types texts so_far fs f l.given r.given (direction o) n k p.0 p.1))
-      (λ n m k p. pointed_keeps f l.given n n m step k p.0 (advance_filling types texts so_far fs f l.given r.given (direction o) n k p.0 p.1)))
+      (λ h n k p. pointed_ready f l.given n n step k p.0 (advance_filling types texts so_far fs f l.given r.given (direction o) n k p.0 p.1) h.0.kept)
+      (λ h n m k p. pointed_keeps f l.given n n m step k p.0 (advance_filling types texts so_far fs f l.given r.given (direction o) n k p.0 p.1) h.0.kept))
     where
       worth : is_value (ty_of types item) ≡ true
       worth =

@@ -33,7 +33,6 @@ use Rattle.life_elab_laws.proofs.ExpressionTypes.{seen_kind}
 use Rattle.life_elab_laws.proofs.JoinedForms.{copy_builds, joined_builds, view_builds}
 use Rattle.life_elab_laws.proofs.Locations.{is_seen, seen_type}
 use Rattle.life_elab_laws.proofs.MadeForms.{Builds, IsMadeAt, IsOwning, is_made, stands_there}
-use Rattle.life_elab_laws.proofs.ObjectForms.{IsObject}
 use Rattle.life_elab_laws.proofs.PointerForms.{held_typed, own_typed, view_whole}
 use Rattle.life_elab_laws.proofs.RowTypes.{Fits, row_fits_between, sees}
 use Rattle.life_elab_laws.proofs.Setting.{Setting}

@@ -59,7 +59,6 @@ module _ (types : Types) (texts : ℕ) (so_far : Bool) (fs : List Function) (f :
       let to = span_taker types item constant u loc taken in
       let typed : type_in types f l ≡ ty.Span to.target to.held = at.typed ∙ to.is in
       record {
-        plain = λ so. refl;
         given = refl;
         formed =
             and_from (is_range (type_in types f l)) _ (ap is_range typed)
@@ -74,7 +73,7 @@ module _ (types : Types) (texts : ℕ) (so_far : Bool) (fs : List Function) (f :
   part_filling item constant x n k h = record {
     uses = x.0.0.local ∷ x.0.1 ∷ (count_uses x.1 ++ []);
     held = (pointer_is_held x.0.0 n k h.0.0, (h.0.1, counted x.1 h.1));
-    touches = λ y. refl;
+    touches = λ y e. refl;
   }
     where
       counted : (o : Option ℕ) → IsCounted o n k → AreHeld (count_uses o ++ []) n k

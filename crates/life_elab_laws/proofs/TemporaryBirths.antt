@@ -9,7 +9,7 @@ use Rattle.life_types.specs.declared.ty.Ty.{Ty}
 use Rattle.life_core.specs.Function.{Function}
 use Rattle.life_core.specs.Operands.{Operand, object_named}
 use Rattle.life_core.specs.Step.{Live}
-use Rattle.life_core.specs.Tree.{Acts, Tree}
+use Rattle.life_core.specs.Tree.{Acts}
 use Rattle.life_core.specs.declared.instr.Form.{Form}
 use Rattle.life_core.specs.declared.program.Local.{Local}
 use Rattle.life_core.specs.declared.program.LocalKind.TheVariants.{Object}
@@ -37,8 +37,7 @@ use Rattle.life_elab_laws.proofs.OperandsThere.{object_there, type_there}
 use Rattle.life_elab_laws.proofs.OrderedTypes.{type_ordered}
 use Rattle.life_elab_laws.proofs.Parts.{Goes, Makes}
 use Rattle.life_elab_laws.proofs.PendingTemporaries.{ArePending, ArePendingIn, IsTemporary, temporary_later}
-use Rattle.life_elab_laws.proofs.Shaped.{is_passing}
-use Rattle.life_elab_laws.proofs.Shaping.{IsFineStep, fine_acts}
+use Rattle.life_elab_laws.proofs.Shaping.{fine_acts}
 use Rattle.life_elab_laws.proofs.Types.{type_added, types_before}
 use Rattle.life_elab_laws.proofs.VariablePlaces.{owner_is}
 use Rattle.life_elab_laws.proofs.WrittenLocals.{AddsRegisters, register_pushed}
@@ -160,7 +159,7 @@ module _ (types : Types) (texts : ℕ) (so_far : Bool) (fs : List Function) (f :
     code = Acts place (Live x form) ∷ [];
     written = refl;
     runs = λ b p. record {
-      fine = fine_acts types texts so_far fs f place (Live x form) (record { plain = λ so. refl; given = refl; formed = lives b; served = λ so. absurd (false≢true (sym wide ∙ so)) });
+      fine = fine_acts types texts so_far fs f place (Live x form) (record { given = refl; formed = lives b; served = λ so. absurd (false≢true (sym wide ∙ so)) });
       typed = is_place b;
       goes = λ k alive q. goes b k alive;
     };

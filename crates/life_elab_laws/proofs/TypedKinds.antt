@@ -2,13 +2,13 @@
 use Rattle.std.proofs.Common.{◌≡◌, inl, inr, Bool, true, false, ◌||◌, cond, subst, Option, Some, None, Result, Ok, Err, refl, sym, ap, ◌∙◌, not, ◌&&◌}
 use Rattle.std.proofs.lemmas.Bool.{false≢true}
 use Rattle.std.proofs.lemmas.Option.{cond_some}
-use Rattle.life_types.specs.TypeTests.{is_iterator, is_text, is_unique, is_value, is_view, is_void}
+use Rattle.life_types.specs.TypeTests.{is_iterator, is_text, is_unique, is_value, is_view}
 use Rattle.life_types.specs.Types.{Types}
 use Rattle.life_types.specs.declared.place.Place.{Place}
 use Rattle.life_types.specs.declared.ty.Ty.{Ty}
 use Rattle.life_types.specs.declared.ty.Ty.TheVariants as ty
 use Rattle.life_types.specs.declared.ty.TyId.{TyId}
-use Rattle.life_built.specs.Built.{is_pointing}
+use Rattle.life_served.specs.Served.{is_pointing}
 use Rattle.life_typed.specs.BaseTypes.{type_at}
 use Rattle.life_typed.specs.Operators.{answer, answered, given, misfit, promoted}
 use Rattle.life_typed.specs.TypedForm.{Form, Typed}
@@ -18,6 +18,7 @@ use Rattle.life_typed.specs.declared.typed_expr.Category.TheVariants as category
 use Rattle.life_typed.specs.declared.typed_expr.ExprType.TheVariants.{Of, NullPointer, TextLiteral}
 use Rattle.life_type_expr.specs.Operands.{answer_of, combination, combined_to, place_of, value, variable_of}
 use Rattle.life_elab_laws.proofs.Reaching.{IsReachedType}
+use Rattle.life_elab_laws.proofs.ResultTypes.{IsResultType, gives_nothing, gives_raw, gives_reference, gives_value}
 use Rattle.life_elab_laws.proofs.Values.{by_values}
 use Rattle.life_elab_laws.specs.Reached.{is_owner_of_values, is_reached_type, is_walker_of_values}
 use Rattle.life_typed.specs.declared.typed_expr.ExprType.{ExprType}
@@ -158,17 +159,24 @@ kind_of_variable so_far types e id c form t at (inl built) n is = go t at built 
     go ty.Size at built is = kind_of_place so_far types e id c form is (a_number ty.Size (ap (λ (x : Typed). x.ty) is ∙ ap Of at) refl)
     go _ at built is = absurd (false≢true built)
 
-pub kind_of_result : (so_far : Bool) (types : Types) (e : Typed) (t : Ty) → (is_void t || is_value t) ≡ true → e ≡ answer_of t types e.place e.form → IsKind so_far types e
-kind_of_result so_far types e ty.Void built is = record {
-  kind = no_value (ap (λ (x : Typed). x.ty) is) (ap (λ (x : Typed). x.category) is);
-  place = λ id c at. absurd (value_place (sym (ap (λ (x : Typed). x.category) is) ∙ at));
-}
-kind_of_result so_far types e ty.Bool built is = kind_value so_far types e ty.Bool is refl
-kind_of_result so_far types e ty.Char built is = kind_value so_far types e ty.Char is refl
-kind_of_result so_far types e ty.Int built is = kind_value so_far types e ty.Int is refl
-kind_of_result so_far types e ty.Long built is = kind_value so_far types e ty.Long is refl
-kind_of_result so_far types e ty.Size built is = kind_value so_far types e ty.Size is refl
-kind_of_result so_far types e _ built is = absurd (false≢true built)
+pub kind_of_result : (so_far : Bool) (types : Types) (e : Typed) (t : Ty) → IsResultType types t → e ≡ answer_of t types e.place e.form → IsKind so_far types e
+kind_of_result so_far types e t (gives_nothing void) is =
+    let here = is ∙ ap (λ (u : Ty). answer_of u types e.place e.form) void in
+    record {
+      kind = no_value (ap (λ (x : Typed). x.ty) here) (ap (λ (x : Typed). x.category) here);
+      place = λ id c at. absurd (value_place (sym (ap (λ (x : Typed). x.category) here) ∙ at));
+    }
+kind_of_result so_far types e t (gives_value v) is =
+    kind_value so_far types e t (is ∙ by_values (λ u. answer_of u types e.place e.form ≡ value e.place u e.form) refl refl refl refl refl t v) v
+kind_of_result so_far types e t (gives_raw target constant raw w) is =
+    let here = is ∙ ap (λ (u : Ty). answer_of u types e.place e.form) raw in
+    record {
+      kind = a_pointer target constant (ap (λ (x : Typed). x.ty) here) w;
+      place = λ id c at. absurd (value_place (sym (ap (λ (x : Typed). x.category) here) ∙ at));
+    }
+kind_of_result so_far types e t (gives_reference target constant refers w) is =
+    let here = is ∙ ap (λ (u : Ty). answer_of u types e.place e.form) refers in
+    kind_of_place so_far types e target constant e.form here (a_number (type_at types target) (ap (λ (x : Typed). x.ty) here) w)
 
 -- ---- operators
 

@@ -1,7 +1,7 @@
 -- What holds of each of the five types of values holds of a value.
-use Rattle.std.proofs.Common.{◌≡◌, true, ◌||◌}
+use Rattle.std.proofs.Common.{◌≡◌, true}
 use Rattle.std.proofs.lemmas.Bool.{false≢true}
-use Rattle.life_types.specs.TypeTests.{is_value, is_void}
+use Rattle.life_types.specs.TypeTests.{is_value}
 use Rattle.life_types.specs.declared.ty.Ty.{Ty}
 use Rattle.life_types.specs.declared.ty.Ty.TheVariants as ty
 
@@ -12,8 +12,3 @@ by_values P bool char int long size ty.Int v = int
 by_values P bool char int long size ty.Long v = long
 by_values P bool char int long size ty.Size v = size
 by_values P bool char int long size _ v = absurd (false≢true v)
-
--- .. and what is so of void besides, of whatever a function gives back
-pub by_results : (P : Ty → Type 0) → P ty.Void → ((t : Ty) → is_value t ≡ true → P t) → (t : Ty) → (is_void t || is_value t) ≡ true → P t
-by_results P void value ty.Void b = void
-by_results P void value t b = value t b

@@ -58,7 +58,6 @@ module _ (types : Types) (texts : ℕ) (so_far : Bool) (fs : List Function) (f :
   cut_given x wide h = λ u l loc at taken.
       let view : type_in types f l ≡ ty.View = at.typed ∙ view_taker types u loc taken in
       record {
-        plain = λ so. refl;
         given = refl;
         formed =
             and_from (is_range (type_in types f l)) _ (ap is_range view)
@@ -71,7 +70,7 @@ module _ (types : Types) (texts : ℕ) (so_far : Bool) (fs : List Function) (f :
   cut_filling x n k h = record {
     uses = x.0.0.local ∷ x.0.1 ∷ (count_uses x.1 ++ []);
     held = (pointer_is_held x.0.0 n k h.0.0, (h.0.1, counted x.1 h.1));
-    touches = λ y. refl;
+    touches = λ y e. refl;
   }
     where
       counted : (o : Option ℕ) → IsCounted o n k → AreHeld (count_uses o ++ []) n k

@@ -14,7 +14,7 @@ use Rattle.life_typed.specs.declared.typed_expr.ExprType.TheVariants.{NullPointe
 use Rattle.life_typed.specs.declared.typed_program.TypedLocal.{TypedLocal}
 use Rattle.life_type_expr.specs.Operands.{variable_of}
 use Rattle.life_core.specs.Function.{Function}
-use Rattle.life_core.specs.Operands.{Location, whole, Base, Operand, Pointer, Whole}
+use Rattle.life_core.specs.Operands.{Location, whole, Base, Pointer, Whole}
 use Rattle.life_core.specs.Step.{Cursor}
 use Rattle.life_core.specs.declared.operand.RangeEnd.{RangeEnd}
 use Rattle.life_well_typed.specs.Expressions.{IsVariable, typed_in}
@@ -25,7 +25,7 @@ use Rattle.life_writer.specs.MethodForms.{cursor}
 use Rattle.life_writer.specs.Pointers.{As, By, Pointing, aimed}
 use Rattle.life_writer.specs.Using.{operand, pointer, pointing, pointing_by}
 use Rattle.life_writer.specs.Variables.{variable}
-use Rattle.life_writer.specs.Writing.{Gives, State, gives, mapped}
+use Rattle.life_writer.specs.Writing.{Gives, State, gives}
 use Rattle.life_elab_laws.specs.Reached.{is_walker, is_walker_of_values, is_walker_type, is_owner_of_values}
 use Rattle.life_elab_laws.proofs.BaseSteps.{a_base}
 use Rattle.life_elab_laws.proofs.ExpressionForms.{Standing, pointer_own, pointer_part, pointing_itself}

@@ -79,7 +79,6 @@ module _ (types : Types) (texts : ℕ) (so_far : Bool) (fs : List Function) (f :
       let to = iterator_taker types item constant u loc taken in
       let typed : type_in types f l ≡ ty.Iterator to.target to.held = at.typed ∙ to.is in
       record {
-        plain = λ so. refl;
         given = refl;
         formed =
             and_from (walks types (type_in types f l) (element_of types f b)) (keeps_const (is_constant (type_in types f l)) (is_const_base types f b))
@@ -92,7 +91,7 @@ module _ (types : Types) (texts : ℕ) (so_far : Bool) (fs : List Function) (f :
   cursor_filling b end n k h = record {
     uses = base_uses b ++ [];
     held = subst (λ (xs : List ℕ). AreHeld (xs ++ []) n k) (sym h.uses) ((h.below, h.held), tt);
-    touches = λ x. refl;
+    touches = λ x e. refl;
   }
 
   -- ---- so many elements on
@@ -103,7 +102,6 @@ module _ (types : Types) (texts : ℕ) (so_far : Bool) (fs : List Function) (f :
       let to = iterator_taker types item constant u loc taken in
       let typed : type_in types f l ≡ ty.Iterator to.target to.held = at.typed ∙ to.is in
       record {
-        plain = λ so. refl;
         given = refl;
         formed =
             and_from (is_iterator (type_in types f l)) _ (ap is_iterator typed)
@@ -115,7 +113,7 @@ module _ (types : Types) (texts : ℕ) (so_far : Bool) (fs : List Function) (f :
       }
 
   pub advance_filling : (q : Location) (r : ℕ) (direction : Direction) (n : ℕ) (k : List Known) → IsPointer q n k → IsHeld r n k → IsFilling f (λ p. Advance p q r direction) n k
-  advance_filling q r direction n k h number = record { uses = q.local ∷ r ∷ []; held = (pointer_is_held q n k h, (number, tt)); touches = λ x. refl }
+  advance_filling q r direction n k h number = record { uses = q.local ∷ r ∷ []; held = (pointer_is_held q n k h, (number, tt)); touches = λ x e. refl }
 
   -- ---- the whole of a vector
 
@@ -125,7 +123,6 @@ module _ (types : Types) (texts : ℕ) (so_far : Bool) (fs : List Function) (f :
       let to = span_taker types item constant u loc taken in
       let typed : type_in types f l ≡ ty.Span to.target to.held = at.typed ∙ to.is in
       record {
-        plain = λ so. refl;
         given = refl;
         formed =
             ap (λ (w : Ty). is_source_of types texts fs f w (Whole o)) typed

@@ -6,7 +6,7 @@ use Rattle.life_types.specs.Trees.{IsOrdered}
 use Rattle.life_types.specs.Types.{HasEachOnce, Types, class}
 use Rattle.life_types.specs.declared.ty.Ty.{Ty}
 use Rattle.life_types.specs.declared.ty.TyId.{TyId}
-use Rattle.life_built.specs.Built.{has_no_structs}
+use Rattle.life_served.specs.Served.{has_no_structs}
 use Rattle.life_elab_laws.specs.Reached.{are_reached_functions}
 use Rattle.life_typed.specs.Programs.{FunctionForm, ProgramForm}
 use Rattle.life_core.specs.Function.{Function}
@@ -18,6 +18,7 @@ use Rattle.life_proper.specs.GivenOver.{all_keep_given, keeps_all_given}
 use Rattle.life_proper.specs.WellFormed.{is_well_formed_tree}
 use Rattle.life_proper.specs.WellFormedPrograms.{IsWellFormedProgram, are_well_formed_locals, is_name, is_result_of, is_well_formed_function, names_parameters}
 use Rattle.life_well_typed.specs.Functions.{IsWellTyped}
+use Rattle.life_well_typed.specs.Mains.{HasIntMain}
 use Rattle.life_well_typed.specs.Names.{HasNames}
 use Rattle.life_well_typed.specs.Results.{HasResults}
 use Rattle.life_writer.specs.Variables.{kind}
@@ -35,7 +36,7 @@ use Rattle.life_typed.specs.BaseTypes.{type_at}
 use Rattle.life_typed.specs.declared.basic.TheConstants.{CHAR}
 use Rattle.life_types.specs.declared.ty.Ty.TheVariants as ty
 
-module _ (so_far : Bool) (p : ProgramForm) (typed : IsWellTyped p) (built : are_reached_functions (length (texts_of p)) so_far p.types p.functions ≡ true) (results : HasResults p) (chars : so_far ≡ false → type_at p.types CHAR ≡ ty.Char) where
+module _ (so_far : Bool) (p : ProgramForm) (typed : IsWellTyped p) (built : are_reached_functions (length (texts_of p)) so_far p.types p.functions ≡ true) (results : HasResults p) (chars : so_far ≡ false → type_at p.types CHAR ≡ ty.Char) (mains : HasIntMain p) where
   abbrev functions : List Function
   functions = (whole so_far p typed built results chars).functions
 
@@ -74,10 +75,10 @@ module _ (so_far : Bool) (p : ProgramForm) (typed : IsWellTyped p) (built : are_
     one_served : so_far ≡ true → is_served types core ≡ true
     one_served so =
         and_from (list_all (is_served_local types) core.locals) (list_all (is_served_spot types core) (spots core.body)) (all_pass (is_served_local types) core.locals (served_local so))
-        ((one_body so_far p typed built results chars n f at core w).stated.served so)
+        ((one_body so_far p typed built results chars n f at core w mains).stated.served so)
 
     body_formed : is_well_formed_tree types texts functions core core.body ≡ true
-    body_formed = (one_body so_far p typed built results chars n f at core w).stated.formed
+    body_formed = (one_body so_far p typed built results chars n f at core w mains).stated.formed
 
     one_formed : HasNames p → is_well_formed_function types names texts functions core ≡ true
     one_formed named =
@@ -89,7 +90,7 @@ module _ (so_far : Bool) (p : ProgramForm) (typed : IsWellTyped p) (built : are_
         (and_from (are_well_formed_locals types names core.parameters 0 core.locals) (is_well_formed_tree types texts functions core core.body) head.locals body_formed))))
 
     one_keeps : all_keep_given types core ≡ true
-    one_keeps = keeps_all types core (one_body so_far p typed built results chars n f at core w).stated.given
+    one_keeps = keeps_all types core (one_body so_far p typed built results chars n f at core w mains).stated.given
 
   -- ---- all of them
 

@@ -8,7 +8,7 @@ use Rattle.life_types.specs.Types.{Types, class_at}
 use Rattle.life_types.specs.declared.ty.Ty.{Ty}
 use Rattle.life_types.specs.declared.ty.Ty.TheVariants as ty
 use Rattle.life_types.specs.declared.ty.TyId.{TyId}
-use Rattle.life_built.specs.Built.{is_pointing}
+use Rattle.life_served.specs.Served.{is_pointing}
 use Rattle.life_typed.specs.BaseTypes.{type_at}
 use Rattle.life_typed.specs.declared.typed_program.TypedLocal.{TypedLocal}
 use Rattle.life_core.specs.declared.program.Local.{Local}
@@ -33,6 +33,12 @@ fits_register so_far types t = is_value t || is_pointing types t
 
 pub value_fits : (so_far : Bool) (types : Types) (t : Ty) → is_value t ≡ true → fits_register so_far types t ≡ true
 value_fits so_far types = by_values (λ t. fits_register so_far types t ≡ true) refl refl refl refl refl
+
+pub pointing_fits : (so_far : Bool) (types : Types) (t : Ty) → (is_value t || is_pointing types t) ≡ true → fits_register so_far types t ≡ true
+pointing_fits so_far types ty.View h = refl
+pointing_fits so_far types (ty.Iterator target constant) h = absurd (false≢true h)
+pointing_fits so_far types (ty.Span target constant) h = absurd (false≢true h)
+pointing_fits so_far types _ h = h
 
 -- a value that is there, also where more is asked
 value_too : (b : Bool) (few more : Types) → IsFront few.types more.types → (target : TyId) → (b && is_value (type_at few target)) ≡ true → (b && is_value (type_at more target)) ≡ true

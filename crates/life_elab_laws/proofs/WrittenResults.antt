@@ -1,8 +1,8 @@
--- The core program of a well typed program that the law reaches writes its results: on every way to a return of a function that gives a value back the result was
+-- The core program of a well typed program that the law reaches writes its results: on every way to a return of a function that gives something back the result was
 -- written, but for the int of main.
-use Rattle.std.proofs.Common.{◌≡◌, ℕ, Bool, true, false, ◌||◌, List, length, slice_get, Some, None, refl, sym, ap, ◌∙◌, subst}
+use Rattle.std.proofs.Common.{◌≡◌, ℕ, Bool, true, false, length, slice_get, Some, None, refl, sym, ap, ◌∙◌}
 use Rattle.std.proofs.lemmas.Bool.{false≢true}
-use Rattle.life_types.specs.TypeTests.{is_value, is_void}
+use Rattle.life_types.specs.TypeTests.{is_void}
 use Rattle.life_types.specs.declared.ty.NameId.{NameId}
 use Rattle.life_types.specs.declared.ty.Ty.{Ty}
 use Rattle.life_types.specs.declared.ty.Ty.TheVariants as ty
@@ -15,43 +15,36 @@ use Rattle.life_core.specs.Function.{Function}
 use Rattle.life_proper.specs.ResultsWritten.{HasResultWritten, HaveResultsWritten, WritesResults, is_written_by, writes_result}
 use Rattle.life_proper.proofs.ResultsFound.{results_found}
 use Rattle.life_well_typed.specs.Functions.{IsWellTyped}
-use Rattle.life_well_typed.specs.Mains.{HasIntMain, HaveIntMains}
+use Rattle.life_well_typed.specs.Mains.{HasIntMain}
 use Rattle.life_well_typed.specs.Results.{HasResults}
 use Rattle.life_elab.specs.ProgramForms.{translated}
 use Rattle.life_elab.specs.Programs.{around, texts_of}
-use Rattle.life_elab_laws.proofs.Fronts.{each_at}
-use Rattle.life_elab_laws.proofs.GivingBack.{GivesValue}
-use Rattle.life_elab_laws.proofs.Programs.{IsWritten, of_all, of_program, one_body, whole, written_result}
-use Rattle.life_elab_laws.proofs.TypedKinds.{none_some}
-use Rattle.life_elab_laws.proofs.Values.{by_results, by_values}
+use Rattle.life_elab_laws.proofs.GivingBack.{GivesResult}
+use Rattle.life_elab_laws.proofs.Programs.{IsWritten, int_at, of_all, of_program, one_body, whole, written_result}
+use Rattle.life_elab_laws.proofs.ResultTypes.{past_end}
 use Rattle.life_typed.specs.declared.basic.TheConstants.{CHAR}
 
--- ---- what must be written is a value, and control doesn't run past the end
+-- ---- what must be written is given back, and control doesn't run past the end
 
-value_of : (t : Ty) → (is_void t || is_value t) ≡ true → is_written_by false (Some t) ≡ true → (is_value t ≡ true) × (is_void t ≡ false)
-value_of = by_results (λ t. is_written_by false (Some t) ≡ true → (is_value t ≡ true) × (is_void t ≡ false)) (λ w. absurd (false≢true w)) (λ t v w. (v, by_values (λ u. is_void u ≡ false) refl refl refl refl refl t v))
+written_some : (main : Bool) (t : Ty) → is_written_by main (Some t) ≡ true → is_void t ≡ false
+written_some main ty.Void w = absurd (false≢true w)
+written_some main _ w = refl
 
-no_fault : (void over : Bool) → void ≡ false → return_fault false void over ≡ None → over ≡ true
-no_fault true over v e = absurd (false≢true (sym v))
-no_fault false true v e = refl
-no_fault false false v e = absurd (none_some (sym e))
-
-needs : (main : Bool) (t : Ty) (over : Bool) → (is_void t || is_value t) ≡ true → (main ≡ true → t ≡ ty.Int) → return_fault main (is_void t) over ≡ None → is_written_by main (Some t) ≡ true
-    → (is_value t ≡ true) × (over ≡ true)
-needs true t over b int e w = absurd (false≢true (subst (λ (u : Ty). is_written_by true (Some u) ≡ true) (int refl) w))
-needs false t over b int e w = let v = value_of t b w in (v.0, no_fault (is_void t) over v.1 e)
-
-int_at : (p : ProgramForm) (fs : List FunctionForm) (n : ℕ) (f : FunctionForm) → HaveIntMains p.names p.types fs → slice_get fs n ≡ Some f → is_main p.names f.name ≡ true → type_at p.types f.result ≡ ty.Int
-int_at p = each_at (λ (f : FunctionForm). is_main p.names f.name ≡ true → type_at p.types f.result ≡ ty.Int) (HaveIntMains p.names p.types) (λ f fs h. h)
+needs : (main : Bool) (t : Ty) (over : Bool) → (main ≡ true → t ≡ ty.Int) → return_fault main (is_void t) over ≡ None → is_written_by main (Some t) ≡ true → (is_void t ≡ false) × (over ≡ true)
+needs main t over int e w = let some = written_some main t w in (some, past_end main (is_void t) over some unwritten e)
+  where
+    -- the int of main needn't be
+    unwritten : main ≡ true → ⊥
+    unwritten m = false≢true (sym (ap (λ (b : Bool). is_written_by b (Some t)) m ∙ ap (λ (u : Ty). is_written_by true (Some u)) (int m)) ∙ w)
 
 -- ---- each function
 
 module _ (so_far : Bool) (p : ProgramForm) (typed : IsWellTyped p) (built : are_reached_functions (length (texts_of p)) so_far p.types p.functions ≡ true) (results : HasResults p) (chars : so_far ≡ false → type_at p.types CHAR ≡ ty.Char) (mains : HasIntMain p) where
   module _ (n : ℕ) (f : FunctionForm) (at : slice_get p.functions n ≡ Some f) (core : Function) (w : IsWritten p (whole so_far p typed built results chars).types f core) where
-    gives : writes_result p.names (whole so_far p typed built results chars).types core ≡ true → GivesValue (around p f)
+    gives : writes_result p.names (whole so_far p typed built results chars).types core ≡ true → GivesResult (around p f)
     gives must =
         let of = of_program so_far p typed built results chars n f at in
-        needs (is_main p.names f.name) (type_at p.types f.result) (ends f.body) of.built.result (int_at p p.functions n f mains at) of.typed.ending
+        needs (is_main p.names f.name) (type_at p.types f.result) (ends f.body) (int_at p p.functions n f mains at) of.typed.ending
         (ap (λ (x : NameId). is_written_by (is_main p.names x) (Some (type_at p.types f.result))) (sym (ap (λ (c : Function). c.name) w.is))
         ∙ ap (is_written_by (is_main p.names core.name)) (sym (written_result so_far p typed built results chars n f at core w))
         ∙ must)
@@ -59,7 +52,7 @@ module _ (so_far : Bool) (p : ProgramForm) (typed : IsWellTyped p) (built : are_
     one_result : HasResultWritten p.names (whole so_far p typed built results chars).types core
     one_result must = λ q bits l way here is.
         let g = gives must in
-        let body = one_body so_far p typed built results chars n f at core w in
+        let body = one_body so_far p typed built results chars n f at core w mains in
         results_found (whole so_far p typed built results chars).types core body.checked core.parameters (body.returns g) q bits l way here is
 
   pub program_writes_results : WritesResults (translated p)

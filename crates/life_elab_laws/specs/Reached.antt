@@ -1,11 +1,11 @@
--- Which programs the law on translations reaches: all that are built, and with them views of characters, strings, vectors of values, and iterators and spans as variables, with what is asked of them and done to them; strings that are made of others; and text literals.
+-- Which programs the law on translations reaches: all that are served, and with them views of characters, strings, vectors of values, and iterators and spans as variables, with what is asked of them and done to them; strings that are made of others; and text literals.
 use Rattle.std.specs.Prelude.{ℕ, Bool, true, false, ◌&&◌, ◌||◌, not, if◌then◌else◌, List, [], ◌∷◌, take, length, nat_lt, Option, Some, None, slice_get}
 use Rattle.life_types.specs.TypeTests.{is_value, is_view}
 use Rattle.life_types.specs.Types.{Types}
 use Rattle.life_types.specs.declared.ty.Ty.{Ty}
 use Rattle.life_types.specs.declared.ty.Ty.TheVariants as ty
 use Rattle.life_types.specs.declared.ty.TyId.{TyId}
-use Rattle.life_built.specs.Built.{are_values, has_no_structs, is_built_result, is_built_variable, is_call, is_default, needs_no_temporary}
+use Rattle.life_served.specs.Served.{has_no_structs, is_served_parameter, is_served_result, is_served_variable, is_call, needs_no_temporary}
 use Rattle.life_typed.specs.BaseTypes.{type_at}
 use Rattle.life_typed.specs.Programs.{FunctionForm, ProgramForm}
 use Rattle.life_typed.specs.TypedForm.{Form, Typed, number, character, boolean, text, null, local, call, paren, input, dereference, index, method, negate, not as negation, address_of, binary, text_of, typed, nothing, ◌⨟◌, whole, forms}
@@ -40,11 +40,21 @@ is_walker_of_values types _ = false
 
 -- these and a view too, but in a program that is served so far
 abbrev pub is_reached_variable : (so_far : Bool) → Types → TyId → Bool
-is_reached_variable so_far types id = is_built_variable types id || (not so_far && (is_view (type_at types id) || (is_owner_of_values types (type_at types id) || is_walker_of_values types (type_at types id))))
+is_reached_variable so_far types id = is_served_variable types id || (not so_far && (is_view (type_at types id) || (is_owner_of_values types (type_at types id) || is_walker_of_values types (type_at types id))))
 
 abbrev pub are_reached_variables : (so_far : Bool) → Types → List TypedLocal → Bool
 are_reached_variables so_far types [] = true
 are_reached_variables so_far types (v ∷ vs) = is_reached_variable so_far types v.ty && are_reached_variables so_far types vs
+
+-- ---- parameters
+
+-- one that is served, and a view too, but in a program that is served so far
+abbrev pub is_reached_parameter : (so_far : Bool) → Types → TyId → Bool
+is_reached_parameter so_far types id = is_served_parameter types id || (not so_far && is_view (type_at types id))
+
+abbrev pub are_reached_parameters : (so_far : Bool) → Types → List TypedLocal → Bool
+are_reached_parameters so_far types [] = true
+are_reached_parameters so_far types (v ∷ vs) = is_reached_parameter so_far types v.ty && are_reached_parameters so_far types vs
 
 -- ---- expressions
 
@@ -260,6 +270,11 @@ module _ (texts : ℕ) (so_far : Bool) where
 
   -- ---- statements
 
+  -- what is given back: a reference is aimed at a place of its type
+  abbrev pub is_reached_return : Ty → Option Typed → Bool
+  is_reached_return t None = true
+  is_reached_return t (Some e) = is_reached_expression e && needs_no_temporary t e
+
   -- in a function with these parameters and variables
   module _ (types : Types) (locals : List TypedLocal) where
     abbrev pub is_reached_declaration : DeclarationForm → Bool
@@ -270,33 +285,34 @@ module _ (texts : ℕ) (so_far : Bool) where
     is_reached_start (Some (declared_first d)) = is_reached_declaration d
     is_reached_start (Some (done_first it)) = is_reached_simple it
 
-    abbrev pub is_reached_statement : StmtForm → Bool
-    is_reached_statement (block items closing) = is_reached_statement items
-    is_reached_statement (empty place) = true
-    is_reached_statement (sentence it semicolon) = is_reached_simple it
-    is_reached_statement (branching branches last) = is_reached_statement branches && is_reached_statement last
-    is_reached_statement (while_loop keyword decides closing body) = is_reached_expression decides && is_reached_statement body
-    is_reached_statement (for_loop keyword start first decides second stepping closing body) =
-        is_reached_start start && (is_reached_if_any decides && (is_reached_step stepping && is_reached_statement body))
-    is_reached_statement (range_loop keyword x name colon range closing body) = false
-    is_reached_statement (loop_break keyword semicolon) = true
-    is_reached_statement (loop_continue keyword semicolon) = true
-    is_reached_statement (returned keyword value semicolon) = is_reached_if_any value
-    is_reached_statement (print items semicolon) = are_reached_items items
-    is_reached_statement (assertion keyword decides closing semicolon) = is_reached_expression decides
-    is_reached_statement (branch keyword decides closing body) = is_reached_expression decides && is_reached_statement body
-    is_reached_statement (declaration d semicolon) = is_reached_declaration d
-    is_reached_statement no_more = true
-    is_reached_statement (chain first others) = is_reached_statement first && is_reached_statement others
+    -- .. that gives back this
+    module _ (result : TyId) where
+      abbrev pub is_reached_statement : StmtForm → Bool
+      is_reached_statement (block items closing) = is_reached_statement items
+      is_reached_statement (empty place) = true
+      is_reached_statement (sentence it semicolon) = is_reached_simple it
+      is_reached_statement (branching branches last) = is_reached_statement branches && is_reached_statement last
+      is_reached_statement (while_loop keyword decides closing body) = is_reached_expression decides && is_reached_statement body
+      is_reached_statement (for_loop keyword start first decides second stepping closing body) =
+          is_reached_start start && (is_reached_if_any decides && (is_reached_step stepping && is_reached_statement body))
+      is_reached_statement (range_loop keyword x name colon range closing body) = false
+      is_reached_statement (loop_break keyword semicolon) = true
+      is_reached_statement (loop_continue keyword semicolon) = true
+      is_reached_statement (returned keyword value semicolon) = is_reached_return (type_at types result) value
+      is_reached_statement (print items semicolon) = are_reached_items items
+      is_reached_statement (assertion keyword decides closing semicolon) = is_reached_expression decides
+      is_reached_statement (branch keyword decides closing body) = is_reached_expression decides && is_reached_statement body
+      is_reached_statement (declaration d semicolon) = is_reached_declaration d
+      is_reached_statement no_more = true
+      is_reached_statement (chain first others) = is_reached_statement first && is_reached_statement others
 
 -- ---- functions and programs
 
 abbrev pub is_reached_function : (texts : ℕ) (so_far : Bool) → Types → FunctionForm → Bool
 is_reached_function texts so_far types f =
-    is_built_result types f.result
-    && (are_values types (take (length f.parameters) f.locals)
-    && (are_reached_variables so_far types f.locals
-    && (is_default f.promise && is_reached_statement texts so_far types f.locals f.body)))
+    is_served_result types f.result
+    && (are_reached_parameters so_far types (take (length f.parameters) f.locals)
+    && (are_reached_variables so_far types f.locals && is_reached_statement texts so_far types f.locals f.result f.body))
 
 abbrev pub are_reached_functions : (texts : ℕ) (so_far : Bool) → Types → List FunctionForm → Bool
 are_reached_functions texts so_far types [] = true

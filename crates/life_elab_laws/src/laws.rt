@@ -1,5 +1,5 @@
-// What is translated is proper, and has short places. Of more programs than are built this is said of all parts of that but what isn't proved of every program yet.
-ghost use Rattle.life_built.specs.Built.{is_built};
+// What is translated is proper, and has short places. Of more programs than are served this is said of all parts of that but what isn't proved of every program yet.
+ghost use Rattle.life_served.specs.Served.{is_served};
 ghost use Rattle.life_elab.specs.Bounds.{HaveShortPlaces};
 ghost use Rattle.life_elab.specs.ProgramForms.{translated};
 ghost use Rattle.life_elab_laws.specs.ProperParts.{HasProperParts};
@@ -13,15 +13,15 @@ ghost use Rattle.life_well_typed.specs.Names.{HasNames};
 ghost use Rattle.life_well_typed.specs.Results.{HasResults, HasTable};
 ghost use Rattle.std.specs.Prelude.{IsTrue};
 
-/// The core program of a well typed program that is built is proper, where it passes no limit.
+/// The core program of a well typed program that is served is proper, where it passes no limit.
 pub fn translations_are_proper()
-    ensures { (p : ProgramForm) → IsWellTyped p → HasResults p → HasTable p → HasNames p → HasIntMain p → IsTrue (is_built p)
+    ensures { (p : ProgramForm) → IsWellTyped p → HasResults p → HasTable p → HasNames p → HasIntMain p → IsTrue (is_served p)
         → IsProgramWithinLimits (translated p) → IsProperProgram (translated p) }
 {}
 
 /// Its places are short, as the rules ask: each has at most eight steps.
 pub fn translations_have_short_places()
-    ensures { (p : ProgramForm) → IsWellTyped p → HasResults p → IsTrue (is_built p) → HaveShortPlaces (translated p).types (translated p).functions }
+    ensures { (p : ProgramForm) → IsWellTyped p → HasResults p → IsTrue (is_served p) → HaveShortPlaces (translated p).types (translated p).functions }
 {}
 
 /// The core program of a well typed program that the laws reach has all that makes it proper but what is served so far, where it passes no limit.

@@ -1,4 +1,4 @@
-//! What translations are: the core program of a well typed program that is built is proper, and has short
+//! What translations are: the core program of a well typed program that is served is proper, and has short
 //! places. What is said of more programs stands beside it, up to what isn't proved of every program yet.
 #![tactic(auto)]
 

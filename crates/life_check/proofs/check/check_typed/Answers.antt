@@ -2,30 +2,30 @@ use Rattle.std.proofs.Common.{sym, ◌∙◌}
 use Rattle.std.proofs.lemmas.Result.{err_from_is_err_and}
 use Rattle.life_core.specs.Function.{program_of}
 use Rattle.life_typed.specs.Programs.{program_view}
-use Rattle.life_check.proofs.Checking.{core_finds, limited_finds, unbuilt_finds}
+use Rattle.life_check.proofs.Checking.{core_finds, limited_finds, unserved_finds}
 use Rattle.life_check.proofs.PassedLimits.{translated_proper}
 use Rattle.life_check.proofs.check.check_typed.Goals as goal
 
-pub returns-then-not-is_built-clause-finds : goal.returns-then-not-is_built-clause-finds
-returns-then-not-is_built-clause-finds g c = rw c.unsupported.ensures (unbuilt_finds (program_view c.args.typed) (sym c.is_built.ensures ∙ c.if-not-is_built.true))
+pub returns-then-not-is_served-clause-finds : goal.returns-then-not-is_served-clause-finds
+returns-then-not-is_served-clause-finds g c = rw c.unsupported.ensures (unserved_finds (program_view c.args.typed) (sym c.is_served.ensures ∙ c.if-not-is_served.true))
 
 pub returns-in_err-program-clause-finds : goal.returns-in_err-program-clause-finds
 returns-in_err-program-clause-finds g c =
     let e = err_from_is_err_and c.from_residual.result c.from_residual.ensures.1 in
     rw (e.1, e.2)
-    (limited_finds (program_view c.args.typed) (sym c.is_built.ensures ∙ c.if-not-is_built.false) c.in_err-program.field-0.0 c.in_err-program.ensures.program)
+    (limited_finds (program_view c.args.typed) (sym c.is_served.ensures ∙ c.if-not-is_served.false) c.in_err-program.field-0.0 c.in_err-program.ensures.program)
 
 pub check_program-requires : goal.check_program-requires
 check_program-requires g c =
     let p = program_view c.args.typed in
-    let built = sym c.is_built.ensures ∙ c.if-not-is_built.false in
+    let served = sym c.is_served.ensures ∙ c.if-not-is_served.false in
     let typed = c.requires.well_typed in
     let results = c.requires.results in
     translated_proper p (program_of c.in_ok-program.program) c.in_ok-program.ensures.program.0 c.in_ok-program.ensures.program.1 c.in_ok-program.ensures.numbered
-    (c.translations_have_short_places.ensures p typed results built)
-    (c.translations_are_proper.ensures p typed results c.requires.table c.requires.names c.requires.mains built)
+    (c.translations_have_short_places.ensures p typed results served)
+    (c.translations_are_proper.ensures p typed results c.requires.table c.requires.names c.requires.mains served)
 
 pub returns-clause-finds : goal.returns-clause-finds
 returns-clause-finds g c =
-    core_finds (program_view c.args.typed) (sym c.is_built.ensures ∙ c.if-not-is_built.false) (program_of c.in_ok-program.program) c.check_program.result c.in_ok-program.ensures.program.0
+    core_finds (program_view c.args.typed) (sym c.is_served.ensures ∙ c.if-not-is_served.false) (program_of c.in_ok-program.program) c.check_program.result c.in_ok-program.ensures.program.0
     c.in_ok-program.ensures.program.1 c.check_program.ensures.finds

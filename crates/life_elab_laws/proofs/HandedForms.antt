@@ -1,0 +1,237 @@
+-- What a parameter is handed: a value in a register, or a pointer, which is its own location or written to a register.
+use Rattle.std.proofs.Common.{◌≡◌, ℕ, Bool, true, false, not, List, ◌∷◌, None, Some, Option, length, slice_get, unwrap_or, refl, sym, ap, ◌∙◌, subst, cond}
+use Rattle.std.proofs.lemmas.Bool.{and_from, false≢true}
+use Rattle.std.specs.List.{list_all}
+use Rattle.life_types.specs.Pointees.{or_void, ty_of}
+use Rattle.life_types.specs.TypeTests.{is_value}
+use Rattle.life_types.specs.Types.{Types, is_slot_at, is_slot_target, is_slot_type}
+use Rattle.life_types.specs.declared.place.Place.{Place}
+use Rattle.life_types.specs.declared.ty.Ty.{Ty}
+use Rattle.life_types.specs.declared.ty.Ty.TheVariants as ty
+use Rattle.life_types.specs.declared.ty.TyId.{TyId}
+use Rattle.life_typed.specs.BaseTypes.{type_at}
+use Rattle.life_typed.specs.Conversions.{is_place_of}
+use Rattle.life_typed.specs.Delimiters.{DelimitersForm, behind_first, behind_others}
+use Rattle.life_typed.specs.TypedForm.{Form, ◌⨟◌}
+use Rattle.life_typed.specs.declared.typed_expr.Category.{Category}
+use Rattle.life_typed.specs.declared.typed_expr.ExprType.{ExprType}
+use Rattle.life_typed.specs.declared.typed_expr.ExprType.TheVariants.{NullPointer}
+use Rattle.life_core.specs.Function.{Function}
+use Rattle.life_core.specs.Operands.{Argument, Location, Operand, Place as Aimed, PointerOf, Value, object_named, whole}
+use Rattle.life_core.specs.Served.{is_served_argument}
+use Rattle.life_core.specs.Step.{Aim}
+use Rattle.life_proper.specs.OperandTypes.{keeps_const, same, takes}
+use Rattle.life_proper.specs.Placed.{type_in}
+use Rattle.life_proper.specs.WellFormed.{are_arguments_for, is_argument_for, is_source_of}
+use Rattle.life_well_typed.specs.Expressions.{typed_in}
+use Rattle.life_well_typed.specs.Given.{is_given}
+use Rattle.life_writer.specs.Around.{Around, own_type}
+use Rattle.life_writer.specs.ExpressionForms.{all_uses, uses}
+use Rattle.life_writer.specs.Giving as giving
+use Rattle.life_writer.specs.Pointers.{located}
+use Rattle.life_writer.specs.Registers.{new_register, wanted}
+use Rattle.life_writer.specs.Temporaries.{temporary}
+use Rattle.life_writer.specs.Uses.{Uses}
+use Rattle.life_writer.specs.Using.{pointer, pointing, register_type, value}
+use Rattle.life_writer.specs.Writing.{Gives, State, ◌>>◌, emit, gives, mapped}
+use Rattle.life_elab_laws.proofs.CallParts.{handed_part}
+use Rattle.life_elab_laws.proofs.Emitting.{new_targeted}
+use Rattle.life_elab_laws.proofs.ExpressionForms.{IsWhole, Standing}
+use Rattle.life_elab_laws.proofs.ExpressionTypes.{seen_kind}
+use Rattle.life_elab_laws.proofs.Filling.{aimed_filling, filling_fills}
+use Rattle.life_elab_laws.proofs.FormedFits.{given_changed, given_raw}
+use Rattle.life_elab_laws.proofs.FormedVariables.{reference_there, type_later}
+use Rattle.life_elab_laws.proofs.Fronts.{IsFront, front_length, last_there}
+use Rattle.life_elab_laws.proofs.Gifts.{Gift, a_number, a_place, a_pointer, a_pointing, arguments, both, nothing as no_gift, takes_from}
+use Rattle.life_elab_laws.proofs.GivenKinds.{given_number, given_pointer, given_view}
+use Rattle.life_elab_laws.proofs.Growing.{Begins, added}
+use Rattle.life_elab_laws.proofs.HandedTypes.{IsHandedType, a_raw, a_reference, a_value, a_view}
+use Rattle.life_elab_laws.proofs.Instructions.{emit_part, null_located_part}
+use Rattle.life_elab_laws.proofs.Locations.{IsPointed, at_location, by_literal, by_null, is_pointed, pointed_type}
+use Rattle.life_elab_laws.proofs.Making.{IsOpen}
+use Rattle.life_elab_laws.proofs.NewVariables.{bound_given}
+use Rattle.life_elab_laws.proofs.OperandsThere.{register_there, value_same}
+use Rattle.life_elab_laws.proofs.Parts.{Makes, Part, and_part, seen_part, then_part}
+use Rattle.life_elab_laws.proofs.PointerForms.{held_typed, own_typed, pointer_whole, points_whole, view_whole}
+use Rattle.life_elab_laws.proofs.Setting.{Setting}
+use Rattle.life_elab_laws.proofs.Shaped.{value_later}
+use Rattle.life_elab_laws.proofs.Types.{type_added}
+use Rattle.life_elab_laws.proofs.Values.{by_values}
+use Rattle.life_elab_laws.proofs.VariablePlaces.{stands_later}
+use Rattle.life_elab_laws.proofs.WalkerSteps.{keeps_itself}
+use Rattle.life_elab_laws.proofs.WrittenLocals.{fits_below}
+
+-- a reference to a value is no slot
+no_slot : (types : Types) (target : TyId) → is_value (type_at types target) ≡ true → is_slot_target (slice_get types.types target.0) ≡ false
+no_slot types target v = go (slice_get types.types target.0) v
+  where
+    go : (o : Option Ty) → is_value (unwrap_or o ty.Void) ≡ true → is_slot_target o ≡ false
+    go None v = refl
+    go (Some t) v = by_values (λ u. is_slot_target (Some u) ≡ false) refl refl refl refl refl t v
+
+-- what a table has has the type that is there
+found_type : (types : Types) (id : TyId) (t : Ty) → slice_get types.types id.0 ≡ Some t → type_at types id ≡ t
+found_type types id t at = ap (λ (o : Option Ty). unwrap_or o ty.Void) at
+
+module _ (types : Types) (texts : ℕ) (so_far : Bool) (fs : List Function) (f : Function) where
+  -- a pointer before the others
+  pub pointer_handed_part : (id : TyId) (t u : Ty) (ids : List TyId) (first : State → Gives Location) (others : State → Gives (List Argument)) (s : State) → is_slot_at types id ≡ false → ty_of types id ≡ t → takes types t u ≡ true → IsOpen s
+      → Makes types texts so_far fs f None s (first s) (a_pointer types texts so_far fs f u) → Makes types texts so_far fs f None (first s).state (others (first s).state) (arguments types texts so_far fs f ids)
+      → Makes types texts so_far fs f None s (first s >> λ l s. mapped (λ xs. PointerOf l ∷ xs) (others s)) (arguments types texts so_far fs f (id ∷ ids))
+  pointer_handed_part id t u ids first others s plain at taken opened one more =
+      let l = first s in
+      let xs = others l.state in
+      let G = no_gift types texts so_far fs f in
+      let P = a_pointer types texts so_far fs f u in
+      let Q = arguments types texts so_far fs f ids in
+      seen_part types texts so_far fs f G tt None s (gives (l.given, xs.given) xs.state) (both types texts so_far fs f P Q) (λ x. PointerOf x.0 ∷ x.1) (arguments types texts so_far fs f (id ∷ ids))
+      (and_part types texts so_far fs f G tt s l xs P Q opened one more)
+      (λ b h. record {
+        fit =
+            and_from (is_argument_for types texts fs f id (PointerOf l.given)) (are_arguments_for types texts fs f ids xs.given)
+            (and_from (not (is_slot_at types id)) (takes types (ty_of types id) (type_in types f l.given)) (ap not plain) (ap (λ (w : Ty). takes types w (type_in types f l.given)) at ∙ ap (takes types t) h.0.typed ∙ taken)) h.1.fit;
+        own = h.1.own;
+        given = h.1.given;
+        served = λ so. and_from (is_served_argument (PointerOf l.given)) (list_all is_served_argument xs.given) (h.0.served so) (h.1.served so);
+      })
+      (λ n k h. h)
+
+  -- ---- a reference, which is aimed by a register
+
+  module _ (a : Around) (front : IsFront a.program.types.types types.types) (target : TyId) (held : Bool) (place : Place) (o : Operand) (s : State) (table : IsFront a.program.types.types s.types.types)
+      (worth : is_value (type_at a.program.types target) ≡ true) (kept : keeps_const false held ≡ true) where
+    abbrev reference : Ty
+    reference = ty.Reference target false
+
+    abbrev w : Gives ℕ
+    w = new_register place reference s
+
+    later : is_value (ty_of types target) ≡ true
+    later = ap is_value (type_later a.program.types types front target worth) ∙ worth
+
+    there : Begins types f w.state → type_in types f (whole w.given) ≡ reference
+    there b =
+        let l = added place reference s in
+        reference_there types f (length s.locals) l target false (b.locals (length s.locals) l (last_there s.locals l)) (b.table l.ty.0 reference (type_added s.types.types reference)) later
+
+    pub aimed_part : Part types texts so_far fs f (a_place types texts so_far fs f (type_at a.program.types target) held) o None s (gives (whole w.given) (emit place (Aim (whole w.given) (Aimed o)) w.state)) (a_pointer types texts so_far fs f reference)
+    aimed_part =
+        emit_part types texts so_far fs f (a_place types texts so_far fs f (type_at a.program.types target) held) o None s w place (λ r. Aim (whole r) (Aimed o)) (whole w.given) (a_pointer types texts so_far fs f reference)
+        (new_targeted so_far types f place reference s (value_later a.program.types types front target worth) (fits_below so_far a.program.types s.types (front_length a.program.types.types s.types.types table) reference worth))
+        (λ b h. let at = there b in (
+          record {
+            given = refl;
+            formed = ap (λ (t : Ty). is_source_of types texts fs f t (Aimed o)) at ∙ bound_given a types texts so_far fs f front target false held o worth kept h;
+            served = λ so. h.served so;
+          },
+          record { typed = at; kept = register_there types f (length s.locals) (added place reference s) (b.locals (length s.locals) (added place reference s) (last_there s.locals (added place reference s))) refl; served = λ so. refl },
+        ))
+        (λ r n k e h. filling_fills f (λ p. Aim p (Aimed o)) n k (aimed_filling f o n k h) r e)
+        (λ k lt e. record { local = w.given; is = refl; below = lt; held = e })
+
+module _ (a : Around) (visible : List ℕ) (types : Types) (texts : ℕ) (so_far : Bool) (fs : List Function) (f : Function) (setting : Setting so_far a types fs f) where
+  abbrev Stood : State → Type 0
+  Stood s = Standing a visible types texts so_far fs f setting s
+
+  abbrev Hands : List TyId → State → Gives (List Argument) → Type 0
+  Hands ids s w = Makes types texts so_far fs f None s w (arguments types texts so_far fs f ids)
+
+  -- ---- a raw pointer, which nullptr is too
+
+  raw_part : (form : Form) (target : TyId) (constant : Bool) (s : State) → IsWhole a visible types texts so_far fs f setting form → is_value (type_at a.program.types target) ≡ true → is_given a.program.types (ty.Raw target constant) (typed_in form) ≡ true → Stood s
+      → (u : Ty) × (takes types (ty.Raw target constant) u ≡ true) × Makes types texts so_far fs f None s (pointer (uses a form) (ty.Raw target constant) s) (a_pointer types texts so_far fs f u)
+  raw_part form target constant s is worth given stands = go (pointed_type (typed_in form).ty pointed)
+    where
+      t : Ty
+      t = ty.Raw target constant
+
+      pointed : is_pointed (typed_in form).ty ≡ true
+      pointed = given_pointer a.program.types (ty.Raw target constant) (typed_in form) refl given
+
+      taken : takes_from types (ty.Raw target constant) (typed_in form).ty ≡ true
+      taken = given_raw a.program.types types setting.front target constant worth (typed_in form) given
+
+      go : IsPointed (typed_in form).ty → (u : Ty) × (takes types (ty.Raw target constant) u ≡ true) × Makes types texts so_far fs f None s (pointer (uses a form) (ty.Raw target constant) s) (a_pointer types texts so_far fs f u)
+      go (at_location u at loc) = (u, ap (takes_from types (ty.Raw target constant)) (sym at) ∙ taken, pointer_whole a visible types texts so_far fs f setting form is u at loc (ty.Raw target constant) s stands)
+      go (by_literal at) = absurd (false≢true (ap (takes_from types (ty.Raw target constant)) (sym at) ∙ taken))
+      go (by_null at) =
+          let w = pointing (uses a form) s in
+          let first = subst (λ (x : ExprType). Makes types texts so_far fs f None s w (a_pointing types texts so_far fs f x)) at (points_whole a visible types texts so_far fs f setting form is pointed s stands) in
+          let later = stands_later a visible s w.state first.grown stands in (
+            ty.Raw target constant,
+            and_from (same (ty_of types target) (ty_of types target)) (keeps_const constant constant) (value_same (ty_of types target) (ap is_value (type_later a.program.types types setting.front target worth) ∙ worth)) (keeps_itself constant),
+            subst (λ (x : Ty). Makes types texts so_far fs f None s (w >> λ p s. located (uses a form).place (register_type (ty.Raw target constant) x) p s) (a_pointer types texts so_far fs f (ty.Raw target constant)))
+                (sym (ap own_type (sym (own_typed a visible types texts so_far fs f setting form) ∙ at)))
+                (then_part types texts so_far fs f (no_gift types texts so_far fs f) tt None s w _ (a_pointing types texts so_far fs f NullPointer) (a_pointer types texts so_far fs f (ty.Raw target constant)) stands.opened first
+                (null_located_part types texts so_far fs f w.given (ty.Raw target constant) (uses a form).place w.state refl refl (value_later a.program.types types setting.front target worth)
+                (fits_below so_far a.program.types w.state.types (front_length a.program.types.types w.state.types.types later.table) (ty.Raw target constant) worth))),
+          )
+
+  -- ---- any of them, before the others
+
+  abbrev others_of : Form → DelimitersForm → List TyId → State → Gives (List Argument)
+  others_of es d ids s = giving.arguments a (all_uses a es) (behind_others d) ids s
+
+  -- a register of a reference, which is aimed at a place
+  abbrev aimed_to : Uses → Ty → Gives Operand → Gives Location
+  aimed_to u t w = gives (whole (new_register u.place t w.state).given) (emit u.place (Aim (whole (new_register u.place t w.state).given) (Aimed w.given)) (new_register u.place t w.state).state)
+
+  -- .. or at a temporary
+  abbrev bound_by : Uses → TyId → Place → State → Bool → Gives Argument
+  bound_by u target behind s c =
+      (cond c (mapped (giving.aimed_at u.place) (u.at s)) (giving.given u (type_at a.program.types target) behind s >> λ rest s. rest (temporary u.place (type_at a.program.types target)) s >> λ x s. gives (giving.aimed_at u.place (object_named x)) s))
+      >> λ rest s. mapped (λ r. PointerOf (whole r)) (rest (wanted u.place None (ty.Reference target false)) s)
+
+  pub first_handed : (e es : Form) (d : DelimitersForm) (id : TyId) (ids : List TyId) → IsWhole a visible types texts so_far fs f setting e → ((s : State) → Stood s → Hands ids s (giving.arguments a (all_uses a es) (behind_others d) ids s))
+      → IsHandedType so_far a.program.types id → is_given a.program.types (type_at a.program.types id) (typed_in e) ≡ true → (s : State) → Stood s → Hands (id ∷ ids) s (giving.arguments a (all_uses a (e ⨟ es)) d (id ∷ ids) s)
+  first_handed e es d id ids is rest kind given s stands = go kind
+    where
+      as_type : (t : Ty) → slice_get a.program.types.types id.0 ≡ Some t → Hands (id ∷ ids) s (giving.argument a (uses a e) t (behind_first d) s >> λ x s. mapped (λ xs. x ∷ xs) (others_of es d ids s)) → Hands (id ∷ ids) s (giving.arguments a (all_uses a (e ⨟ es)) d (id ∷ ids) s)
+      as_type t at part = subst (λ (x : Ty). Hands (id ∷ ids) s (giving.argument a (uses a e) x (behind_first d) s >> λ x s. mapped (λ xs. x ∷ xs) (others_of es d ids s))) (sym (found_type a.program.types id t at)) part
+
+      given_as : (t : Ty) → slice_get a.program.types.types id.0 ≡ Some t → is_given a.program.types t (typed_in e) ≡ true
+      given_as t at = subst (λ (x : Ty). is_given a.program.types x (typed_in e) ≡ true) (found_type a.program.types id t at) given
+
+      later : (t : Ty) → slice_get a.program.types.types id.0 ≡ Some t → ty_of types id ≡ t
+      later t at = ap or_void (setting.front id.0 t at)
+
+      plain : (t : Ty) → slice_get a.program.types.types id.0 ≡ Some t → is_slot_type types (Some t) ≡ false → is_slot_at types id ≡ false
+      plain t at none = ap (is_slot_type types) (setting.front id.0 t at) ∙ none
+
+      behind_first_part : {A : Type 0} (w : Gives A) (Q : Gift types texts so_far fs f A) → Makes types texts so_far fs f None s w Q → Hands ids w.state (others_of es d ids w.state)
+      behind_first_part w Q first = rest w.state (stands_later a visible s w.state first.grown stands)
+
+      go : IsHandedType so_far a.program.types id → Hands (id ∷ ids) s (giving.arguments a (all_uses a (e ⨟ es)) d (id ∷ ids) s)
+      go (a_value worth) =
+          let t = type_at a.program.types id in
+          let first = is.valued (given_number a.program.types t (typed_in e) worth given) (behind_first d) t worth None s tt stands in
+          subst (Hands (id ∷ ids) s)
+          (sym (ap (λ (w : Gives Argument). w >> λ x s. mapped (λ xs. x ∷ xs) (others_of es d ids s)) (by_values (λ x. giving.argument a (uses a e) x (behind_first d) s ≡ mapped Value (value (uses a e) (behind_first d) x None s)) refl refl refl refl refl t worth)))
+          (handed_part types texts so_far fs f id t ids (value (uses a e) (behind_first d) t None) (others_of es d ids) s (type_later a.program.types types setting.front id worth) stands.opened first
+          (behind_first_part (value (uses a e) (behind_first d) t None s) (a_number types texts so_far fs f t) first))
+      go (a_raw target constant at worth) =
+          let t = ty.Raw target constant in
+          let found = raw_part e target constant s is worth (given_as t at) stands in
+          as_type t at
+          (pointer_handed_part types texts so_far fs f id t found.0 ids (pointer (uses a e) t) (others_of es d ids) s (plain t at refl) (later t at) found.1 stands.opened found.2
+          (behind_first_part (pointer (uses a e) t s) (a_pointer types texts so_far fs f found.0) found.2))
+      go (a_view wide at) =
+          let seen = seen_kind so_far a.program.types (typed_in e) is.kind.kind (given_view a.program.types (typed_in e) (given_as ty.View at)) in
+          let first = view_whole a visible types texts so_far fs f setting e is seen s stands in
+          as_type ty.View at
+          (pointer_handed_part types texts so_far fs f id ty.View ty.View ids (pointer (uses a e) ty.View) (others_of es d ids) s (plain ty.View at refl) (later ty.View at) refl stands.opened first
+          (behind_first_part (pointer (uses a e) ty.View s) (a_pointer types texts so_far fs f ty.View) first))
+      go (a_reference target at worth) =
+          let t = ty.Reference target false in
+          let bound = given_changed a.program.types target (typed_in e) (given_as t at) in
+          let w = (uses a e).at s in
+          let first = is.names target bound.held bound.place worth s stands in
+          let there = stands_later a visible s w.state first.grown stands in
+          let aim = aimed_part types texts so_far fs f a setting.front target bound.held (uses a e).place w.given w.state there.table worth bound.kept in
+          let v = aimed_to (uses a e) t w in
+          let all = then_part types texts so_far fs f (no_gift types texts so_far fs f) tt None s w v (a_place types texts so_far fs f (type_at a.program.types target) bound.held) (a_pointer types texts so_far fs f t) stands.opened first aim in
+          as_type t at
+          (subst (λ (c : Bool). Hands (id ∷ ids) s (bound_by (uses a e) target (behind_first d) s c >> λ x s. mapped (λ xs. x ∷ xs) (others_of es d ids s))) (sym (ap (λ (c : Category). is_place_of c target) (sym (held_typed a visible types texts so_far fs f setting e)) ∙ bound.here))
+          (pointer_handed_part types texts so_far fs f id t t ids (λ s. aimed_to (uses a e) t ((uses a e).at s)) (others_of es d ids) s (plain t at (no_slot types target (value_later a.program.types types setting.front target worth))) (later t at)
+          (and_from (same (ty_of types target) (ty_of types target)) (keeps_const false false) (value_same (ty_of types target) (ap is_value (type_later a.program.types types setting.front target worth) ∙ worth)) refl) stands.opened all
+          (behind_first_part v (a_pointer types texts so_far fs f t) all)))

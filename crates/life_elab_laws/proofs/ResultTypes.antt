@@ -1,0 +1,46 @@
+-- What a function gives back: nothing, a value, or a raw pointer or a reference to a value; control doesn't run past the end of one that gives something back.
+use Rattle.std.proofs.Common.{◌≡◌, Bool, true, false, ◌||◌, None, refl, sym}
+use Rattle.std.proofs.lemmas.Bool.{false≢true}
+use Rattle.life_types.specs.TypeTests.{is_value, is_void}
+use Rattle.life_types.specs.Types.{Types}
+use Rattle.life_types.specs.declared.ty.Ty.{Ty}
+use Rattle.life_types.specs.declared.ty.Ty.TheVariants as ty
+use Rattle.life_types.specs.declared.ty.TyId.{TyId}
+use Rattle.life_served.specs.Served.{is_pointing}
+use Rattle.life_typed.specs.BaseTypes.{type_at}
+use Rattle.life_type_stmt.specs.Bodies.{return_fault}
+
+abbrev pub gives_back : Types → Ty → Bool
+gives_back types t = is_void t || (is_value t || is_pointing types t)
+
+pub data IsResultType (types : Types) (t : Ty) : Type 0 where
+  gives_nothing : t ≡ ty.Void → IsResultType types t
+  gives_value : is_value t ≡ true → IsResultType types t
+  gives_raw : (target : TyId) (constant : Bool) → t ≡ ty.Raw target constant → is_value (type_at types target) ≡ true → IsResultType types t
+  gives_reference : (target : TyId) (constant : Bool) → t ≡ ty.Reference target constant → is_value (type_at types target) ≡ true → IsResultType types t
+
+pub result_is : (types : Types) (t : Ty) → gives_back types t ≡ true → IsResultType types t
+result_is types ty.Void b = gives_nothing refl
+result_is types ty.Bool b = gives_value refl
+result_is types ty.Char b = gives_value refl
+result_is types ty.Int b = gives_value refl
+result_is types ty.Long b = gives_value refl
+result_is types ty.Size b = gives_value refl
+result_is types (ty.Raw target constant) b = gives_raw target constant refl b
+result_is types (ty.Reference target constant) b = gives_reference target constant refl b
+result_is types _ b = absurd (false≢true b)
+
+-- ---- the end of the text
+
+no_fault : (void over : Bool) → void ≡ false → return_fault false void over ≡ None → over ≡ true
+no_fault true over v e = absurd (false≢true (sym v))
+no_fault false true v e = refl
+no_fault false false v e = absurd (fault e)
+  where
+    fault : return_fault false false false ≡ None → ⊥
+    fault e = cc
+
+-- control doesn't come there, but in main
+pub past_end : (main void over : Bool) → void ≡ false → (main ≡ true → ⊥) → return_fault main void over ≡ None → over ≡ true
+past_end true void over v never e = absurd (never refl)
+past_end false void over v never e = no_fault void over v e
