@@ -4,7 +4,6 @@ ghost use Rattle.std.specs.Prelude.{◌<◌, ◌^◌, length};
 
 use crate::program::core_told;
 use crate::types::types_told;
-use life_built::is_built;
 use life_elab::elaborate;
 use life_keys::keyed;
 use life_lex::tokens_of_file;
@@ -103,9 +102,6 @@ fn resolved(alloc: Global, tree: &Program, translate: bool) -> Result<String, Al
 }
 
 fn translated(alloc: Global, typed: &Typed) -> Result<String, AllocError> {
-    if !is_built(typed) {
-        return "a form that isn't built\n".to_string(alloc);
-    }
     match elaborate(alloc, typed) {
         Ok(program) => {
             let told = core_told(alloc, &program);
