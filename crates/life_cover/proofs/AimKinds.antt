@@ -30,7 +30,7 @@ use Rattle.life_contract.specs.Signatures.{Signature}
 use Rattle.life_proper.specs.OperandTypes.{aims_at, is_range, same, seen_element, takes}
 use Rattle.life_proper.specs.Placed.{is_const_place, type_at, type_of}
 use Rattle.life_rules.specs.Carrying.{from_none, is_gone, makes, named_in, reached_from, writes}
-use Rattle.life_rules.specs.Diagnosing.{used_in, uses}
+use Rattle.life_rules.specs.Diagnosing.{used_in, uses, owners}
 use Rattle.life_rules.specs.Matching.{fact_at, facts_at}
 use Rattle.life_rules.proofs.Giving.{at_head}
 use Rattle.life_store.specs.Doing.{does, on_character, owner_element, pointer_to, viewed, whole_of}
@@ -60,6 +60,7 @@ use Rattle.life_cover.proofs.Pointers.{OnRight, repointed_covered}
 use Rattle.life_cover.proofs.Putting.{other_local, put_covered}
 use Rattle.life_cover.proofs.Reaching.{IsReached, Reach, by_reach, on_place_right}
 use Rattle.life_cover.proofs.Takes.{named_fact, taken_fact}
+use Rattle.life_cover.proofs.Lacking.{owner_whole}
 use Rattle.life_cover.specs.Inputs.{may_change, owning, StandsAt}
 use Rattle.life_cover.specs.Regions.{Region}
 
@@ -138,9 +139,10 @@ module _ (types : Types) (f : Function) (rest : ℕ → ℕ) (inputs : Root → 
           go (ty.Vector element) h = refl
           go _ h = absurd (false≢true h)
 
-      module _ (i : Step) (right : IsRight sigs types n f place i S S') (none : from_none sigs types f place i ≡ facts_at (local_place p) (named_in true o)) (one : (x : Fact) → makes sigs types f place i x ≡ reached_from (whole p) true o x) (r : IsReached types f st (StandsAt inputs) (may_change types f) S o) where
+      module _ (i : Step) (right : IsRight sigs types n f place i S S') (none : from_none sigs types f place i ≡ facts_at (local_place p) (named_in true o)) (one : (x : Fact) → makes sigs types f place i x ≡ reached_from (whole p) true o x) (uses_it : Contains (owners i) o)
+          (r : IsReached types f st (StandsAt inputs) (may_change types f) S o) where
         has : IsOpened types f rest inputs S st k o r u item.item
-        has = opened types f rest inputs S st k o r u is item.item item.type item.buffer
+        has = opened types f rest inputs S st k o r (owner_whole types f rest inputs S st k o r solid_owner sigs n place i S' right uses_it) u is item.item item.type item.buffer
 
         can : CanOpen types k.ordered k.plain f k.shaped k.short st.world.content st.cells (object_named types f rest inputs S st k) inputs k.given.each r.place
         can = opens_place types f rest inputs S st k o r solid_owner right.closed.of item.item has.type
@@ -154,9 +156,9 @@ module _ (types : Types) (f : Function) (rest : ℕ → ℕ) (inputs : Root → 
       pub whole_aim_kind : (s : Setting) → IsRight sigs types n f place (Aim (whole p) (named.Whole o)) S S' → is_range (type_at types f p) ≡ true → ((look_at types f p).constant ≡ false → is_const_place types f o ≡ false) → OnRight (does s types f (Aim (whole p) (named.Whole o)) st) (FrameCovered types f inputs S')
       whole_aim_kind s right ranged const =
           by_reach types f st (StandsAt inputs) (may_change types f) S o (reach i right (λ q h. h)) (λ spot. on_got (buffer_of st.world.content spot) (λ b. pointed types f (whole p) (whole_of st.world.content b) st)) (FrameCovered types f inputs S')
-          (λ r. let h = has i right refl (λ x. refl) r in
+          (λ r. let h = has i right refl (λ x. refl) (at_head o []) r in
           whole_kind types k.ordered f (hand_of rest st) st (store_of types f rest inputs S st k) (StandsAt inputs) (may_change types f) (owning types f) (rooted_of types f rest inputs S st k) sigs place S S' k.covered o r h.typed h.buffer h.owned s
-          p item.item h.object h.lives h.type item.seen (λ e. r.change (const e)) (can i right refl (λ x. refl) r).room (pointer_free types f rest inputs S st k p pointer) ranged right.closed (into i right refl (λ x. refl) r))
+          p item.item h.object h.lives h.type item.seen (λ e. r.change (const e)) (can i right refl (λ x. refl) (at_head o []) r).room (pointer_free types f rest inputs S st k p pointer) ranged right.closed (into i right refl (λ x. refl) (at_head o []) r))
         where
           i : Step
           i = Aim (whole p) (named.Whole o)
@@ -165,9 +167,9 @@ module _ (types : Types) (f : Function) (rest : ℕ → ℕ) (inputs : Root → 
       owner_cursor_kind s end right single const =
           by_reach types f st (StandsAt inputs) (may_change types f) S o (reach i right (λ q h. h))
           (λ spot. on_got (buffer_of st.world.content spot) (λ b. pointed types f (whole p) (pointer_to st.world.content b (end_index end (size_of st.world.content b)) 0) st)) (FrameCovered types f inputs S')
-          (λ r. let h = has i right refl (λ x. refl) r in
+          (λ r. let h = has i right refl (λ x. refl) (at_head o []) r in
           begin_kind types k.ordered f (hand_of rest st) st (store_of types f rest inputs S st k) (StandsAt inputs) (may_change types f) (owning types f) (rooted_of types f rest inputs S st k) sigs place S S' k.covered o r h.typed h.buffer h.owned s
-          p item.item h.object h.lives h.type item.seen (λ e. r.change (const e)) (can i right refl (λ x. refl) r).room (pointer_free types f rest inputs S st k p pointer) end single right.closed (into i right refl (λ x. refl) r))
+          p item.item h.object h.lives h.type item.seen (λ e. r.change (const e)) (can i right refl (λ x. refl) (at_head o []) r).room (pointer_free types f rest inputs S st k p pointer) end single right.closed (into i right refl (λ x. refl) (at_head o []) r))
         where
           i : Step
           i = Cursor (whole p) (named.Owner o) end
@@ -176,9 +178,9 @@ module _ (types : Types) (f : Function) (rest : ℕ → ℕ) (inputs : Root → 
           → OnRight (does s types f (step.Element (whole p) (named.Owner o) w) st) (FrameCovered types f inputs S')
       owner_item_kind s w item_of right single const =
           by_reach types f st (StandsAt inputs) (may_change types f) S o (reach i right (λ q h. h)) (λ spot. owner_element types f (whole p) spot w st) (FrameCovered types f inputs S')
-          (λ r. let h = has i right refl (λ x. refl) r in
+          (λ r. let h = has i right refl (λ x. refl) (at_head o []) r in
           owner_element_kind types k.ordered f (hand_of rest st) st (store_of types f rest inputs S st k) (StandsAt inputs) (may_change types f) (owning types f) (rooted_of types f rest inputs S st k) sigs place S S' k.covered o r h.typed h.buffer h.owned s
-          p item.item h.object h.lives h.type item.seen (λ e. r.change (const e)) (can i right refl (λ x. refl) r).room (pointer_free types f rest inputs S st k p pointer) w item_of single right.closed (into i right refl (λ x. refl) r))
+          p item.item h.object h.lives h.type item.seen (λ e. r.change (const e)) (can i right refl (λ x. refl) (at_head o []) r).room (pointer_free types f rest inputs S st k p pointer) w item_of single right.closed (into i right refl (λ x. refl) (at_head o []) r))
         where
           i : Step
           i = step.Element (whole p) (named.Owner o) w

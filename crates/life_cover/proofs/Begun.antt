@@ -24,22 +24,23 @@ use Rattle.life_forest.proofs.HandedOver.{AreHandedTo, IsHandedTo}
 use Rattle.life_forest.proofs.Following.{in_hand}
 use Rattle.life_forest.proofs.Steps.{touches_then, touches_self}
 use Rattle.life_forest.proofs.Feet.{within_self}
-use Rattle.life_cover.specs.Buffered.{AreBuffered}
+use Rattle.life_cover.specs.Buffered.{AreBut}
+use Rattle.life_cover.specs.Lacking.{IsLoose}
 use Rattle.life_cover.proofs.Owning.{IsOwn}
 use Rattle.life_cover.proofs.GivenValues.{IsFilled, IsGiven, TakesNoSlot, value_given}
 use Rattle.life_cover.proofs.Unkilled.{no_foot}
 use Rattle.life_cover.specs.Inputs.{foot_with, mutated}
 use Rattle.life_cover.specs.Regions.{Region}
 
--- each pointer there was handed over, each vector and each string has its buffer, and nothing was touched but what was given
+-- each pointer there was handed over, each vector and each string has its buffer to which anybody comes, and nothing was touched but what was given
 pub record IsBegun (types : Types) (f : Function) (inputs : Root → Option Region) (vs : List Cell) (before : Content) (st : State) : Type 0 where
   pub points : (x : ℕ) (v : Pointer) → slice_get st.cells x ≡ Some (Points v) → slice_get vs x ≡ Some (Points v)
-  pub buffered : AreBuffered types st.world.content
+  pub buffered : AreBut types (IsLoose types inputs (named_in vs) before) st.world.content
   pub own : IsOwn types f inputs (named_in vs) before st
 
 module _ (types : Types) (ordered : IsOrdered types) (s : Setting) (f : Function) (inputs : Root → Option Region) (vs : List Cell) (hand : ℕ → ℕ) (before : Content) (store : IsStore types hand before) where
   -- one more is given
-  begun_given : (x : ℕ) (v : Cell) (st after : State) → slice_get vs x ≡ Some v → IsBegun types f inputs vs before st → IsGiven types x v st after → IsBegun types f inputs vs before after
+  begun_given : (x : ℕ) (v : Cell) (st after : State) → slice_get vs x ≡ Some v → IsBegun types f inputs vs before st → IsGiven types (IsLoose types inputs (named_in vs) before) x v st after → IsBegun types f inputs vs before after
   begun_given x v st after at_x begun h = record {
     points = λ y p e. ⊎_elim (λ new. subst (λ z. slice_get vs z ≡ Some (Points p)) new.0 (at_x ∙ ap Some new.1)) (λ was. begun.points y p was.1) (h.points y p e);
     buffered = h.buffered;
@@ -73,13 +74,13 @@ module _ (types : Types) (ordered : IsOrdered types) (s : Setting) (f : Function
   parameters_begun x [] (v ∷ us) taking suits inside st begun = absurd suits
   parameters_begun x (id ∷ ids) [] taking suits inside st begun = absurd suits
   parameters_begun x (id ∷ ids) (v ∷ us) taking suits inside st begun =
-      go (given s types f v x st) (value_given types ordered s f x v st begun.buffered (filled id v suits.0) (no_slot_taken x taking.0.0 id taking.0.1 v suits.0))
+      go (given s types f v x st) (value_given types ordered s f x v st (IsLoose types inputs (named_in vs) before) begun.buffered (filled id v suits.0) (no_slot_taken x taking.0.0 id taking.0.1 v suits.0))
       (λ after h. parameters_begun (x + 1) ids us taking.1 suits.1 (λ i u e. let k : x + suc i ≡ x + 1 + i = omega arith in ap (slice_get vs) (sym k) ∙ inside (suc i) u e) after (begun_given x v st after here begun h))
     where
       here : slice_get vs x ≡ Some v
       here = let k : x + 0 ≡ x = omega arith in ap (slice_get vs) (sym k) ∙ inside 0 v refl
 
-      go : (e : Effect) → OnNext e (IsGiven types x v st) → ((after : State) → IsGiven types x v st after → OnNext (parameters_given s types f (x + 1) us after) (IsBegun types f inputs vs before))
+      go : (e : Effect) → OnNext e (IsGiven types (IsLoose types inputs (named_in vs) before) x v st) → ((after : State) → IsGiven types (IsLoose types inputs (named_in vs) before) x v st after → OnNext (parameters_given s types f (x + 1) us after) (IsBegun types f inputs vs before))
           → OnNext (on_next e (parameters_given s types f (x + 1) us)) (IsBegun types f inputs vs before)
       go (Next after) h more = more after h
       go (Traps kind) h more = tt
@@ -87,7 +88,7 @@ module _ (types : Types) (ordered : IsOrdered types) (s : Setting) (f : Function
       go Strays h more = tt
 
 -- nothing is there before
-pub frame_begun : (types : Types) (f : Function) (inputs : Root → Option Region) (vs : List Cell) (w : World) → AreBuffered types w.content → IsBegun types f inputs vs w.content (frame f w)
+pub frame_begun : (types : Types) (f : Function) (inputs : Root → Option Region) (vs : List Cell) (w : World) → AreBut types (IsLoose types inputs (named_in vs) w.content) w.content → IsBegun types f inputs vs w.content (frame f w)
 frame_begun types f inputs vs w buffered = record {
   points = λ x v e. absurd (unlike v (empty_cells f.locals x (Points v) e));
   buffered = buffered;

@@ -1,6 +1,6 @@
 -- What holds behind an instruction of a frame: each vector and each string has its buffer, what is touched lies beneath what the frame named or is an
 -- owner behind a mutating input, and what it names it named before, or it is new.
-use Rattle.std.proofs.Common.{◌≡◌, ◌⊎◌, inl, inr, ⊎_elim, ℕ, ◌≤◌, ◌<◌, List, Some, refl, sym, subst, Option}
+use Rattle.std.proofs.Common.{◌≡◌, ◌⊎◌, inl, inr, ⊎_elim, ℕ, ◌≤◌, ◌<◌, List, Some, refl, sym, ap, subst, ◌∙◌, Option}
 use Rattle.std.specs.Prelude.{ℤ, slice_get}
 use Rattle.life_types.specs.Types.{Types}
 use Rattle.life_core.specs.Function.{Function}
@@ -8,6 +8,7 @@ use Rattle.life_store.specs.Content.{Content}
 use Rattle.life_store.specs.Effects.{Effect, Next, Traps, Faults, Strays, Attempt, Got, GotTrap, GotFault, GotLost, put_cell, put_content}
 use Rattle.life_store.specs.State.{Cell, Empty, Named, Number, Pointer, Points, State}
 use Rattle.life_store.proofs.CellLemmas.{cell_cases}
+use Rattle.life_store.proofs.MapLemmas.{one_or_apart}
 use Rattle.life_forest.specs.Forest.{Touches}
 use Rattle.life_forest.specs.Frames.{OnNext, named_in}
 use Rattle.life_forest.specs.Kinds.{kinds_of}
@@ -15,8 +16,9 @@ use Rattle.life_forest.specs.Owned.{times}
 use Rattle.life_forest.proofs.Coming.{IfGot}
 use Rattle.life_forest.proofs.Following.{in_hand}
 use Rattle.life_forest.proofs.Steps.{touches_self}
-use Rattle.life_cover.specs.Buffered.{AreBuffered}
+use Rattle.life_cover.specs.Buffered.{AreBut}
 use Rattle.life_cover.proofs.Pointers.{OnRight}
+use Rattle.life_cover.proofs.Putting.{set_other}
 use Rattle.life_cover.specs.Inputs.{frame_foot}
 use Rattle.life_cover.specs.Regions.{Region}
 use Rattle.life_pset.specs.declared.element.Root.{Root}
@@ -41,56 +43,82 @@ right_next (Traps kind) P h = tt
 right_next (Faults kind) P h = tt
 right_next Strays P h = tt
 
-module _ (types : Types) (f : Function) (inputs : Root → Option Region) (st : State) where
+-- no local, and any
+abbrev pub no_local : ℕ → Type 0
+no_local x = ⊥
+
+abbrev pub any_local : ℕ → Type 0
+any_local x = Unit {0}
+
+-- each vector and each string has its buffer, but in objects that may be bare; what it named it names still, but for locals that are given over or end
+module _ (types : Types) (f : Function) (inputs : Root → Option Region) (bare over : ℕ → Type 0) (st : State) where
   pub record IsBehind (st' : State) : Type 0 where
-    pub buffered : AreBuffered types st'.world.content
+    pub buffered : AreBut types bare st'.world.content
     pub touch : Touches (kinds_of types) (frame_foot types f inputs st.cells) st.world.content st'.world.content
     pub named : (x n : ℕ) → slice_get st'.cells x ≡ Some (Named n) → (0 < times (named_in st.cells) n) ⊎ (st.world.content.births ≤ n)
+    pub kept : (x n : ℕ) → slice_get st.cells x ≡ Some (Named n) → over x ⊎ (slice_get st'.cells x ≡ Some (Named n))
 
   -- the cells are as they were
-  pub behind_same : (st' : State) → st'.cells ≡ st.cells → AreBuffered types st'.world.content → Touches (kinds_of types) (frame_foot types f inputs st.cells) st.world.content st'.world.content → IsBehind st'
-  behind_same st' cells buffered touch = record { buffered = buffered; touch = touch; named = λ x n e. inl (in_hand st.cells x n (subst (λ (vs : List Cell). slice_get vs x ≡ Some (Named n)) cells e)) }
+  pub behind_same : (st' : State) → st'.cells ≡ st.cells → AreBut types bare st'.world.content → Touches (kinds_of types) (frame_foot types f inputs st.cells) st.world.content st'.world.content → IsBehind st'
+  behind_same st' cells buffered touch = record {
+    buffered = buffered;
+    touch = touch;
+    named = λ x n e. inl (in_hand st.cells x n (subst (λ (vs : List Cell). slice_get vs x ≡ Some (Named n)) cells e));
+    kept = λ x n e. inr (subst (λ (vs : List Cell). slice_get vs x ≡ Some (Named n)) (sym cells) e);
+  }
 
-  pub behind_content : (d : Content) → AreBuffered types d → Touches (kinds_of types) (frame_foot types f inputs st.cells) st.world.content d → IsBehind (put_content d st)
+  pub behind_content : (d : Content) → AreBut types bare d → Touches (kinds_of types) (frame_foot types f inputs st.cells) st.world.content d → IsBehind (put_content d st)
   behind_content d = behind_same (put_content d st) refl
 
   -- .. and a cell, which may name what is new
-  pub behind_cell : (x : ℕ) (v : Cell) (d : Content) → ((n : ℕ) → v ≡ Named n → st.world.content.births ≤ n) → AreBuffered types d → Touches (kinds_of types) (frame_foot types f inputs st.cells) st.world.content d → IsBehind (put_cell x v (put_content d st))
-  behind_cell x v d new buffered touch = record {
-    buffered = buffered;
-    touch = touch;
-    named = λ y n e. ⊎_elim (λ h. inr (new n h.1)) (λ h. inl (in_hand st.cells y n h.1)) (cell_cases st.cells x y v (Named n) e);
-  }
+  module _ (x : ℕ) (free : (n : ℕ) → slice_get st.cells x ≡ Some (Named n) → over x) where
+    pub behind_cell : (v : Cell) (d : Content) → ((n : ℕ) → v ≡ Named n → st.world.content.births ≤ n) → AreBut types bare d → Touches (kinds_of types) (frame_foot types f inputs st.cells) st.world.content d → IsBehind (put_cell x v (put_content d st))
+    behind_cell v d new buffered touch = record {
+      buffered = buffered;
+      touch = touch;
+      named = λ y n e. ⊎_elim (λ h. inr (new n h.1)) (λ h. inl (in_hand st.cells y n h.1)) (cell_cases st.cells x y v (Named n) e);
+      kept = λ y n e. one_or_apart x y (λ same. inl (subst over same (free n (ap (slice_get st.cells) same ∙ e)))) (λ ne. inr (set_other st.cells x y v ne ∙ e));
+    }
 
-  -- .. that is empty now, or points
-  pub behind_empty : (x : ℕ) (d : Content) → AreBuffered types d → Touches (kinds_of types) (frame_foot types f inputs st.cells) st.world.content d → IsBehind (put_cell x Empty (put_content d st))
-  behind_empty x d = behind_cell x Empty d (λ n e. absurd (unlike n e))
-    where
-      unlike : (n : ℕ) → Empty ≡ Named n → ⊥
-      unlike n e = cc
-
-  pub behind_points : (x : ℕ) (v : Pointer) (d : Content) → AreBuffered types d → Touches (kinds_of types) (frame_foot types f inputs st.cells) st.world.content d → IsBehind (put_cell x (Points v) (put_content d st))
-  behind_points x v d = behind_cell x (Points v) d (λ n e. absurd (unlike n e))
-    where
-      unlike : (n : ℕ) → Points v ≡ Named n → ⊥
-      unlike n e = cc
-
-  -- a pointer or a number alone is another one, or nothing is
-  module _ (buffered : AreBuffered types st.world.content) where
-    pub behind_self : (st' : State) → st'.world.content ≡ st.world.content → st'.cells ≡ st.cells → IsBehind st'
-    behind_self st' content cells =
-        behind_same st' cells (subst (AreBuffered types) (sym content) buffered)
-        (subst (Touches (kinds_of types) (frame_foot types f inputs st.cells) st.world.content) (sym content) (touches_self (kinds_of types) (frame_foot types f inputs st.cells) st.world.content))
-
-    pub behind_pointer : (x : ℕ) (v : Pointer) → IsBehind (put_cell x (Points v) st)
-    behind_pointer x v = behind_points x v st.world.content buffered (touches_self (kinds_of types) (frame_foot types f inputs st.cells) st.world.content)
-
-    pub behind_number : (x : ℕ) (z : ℤ) → IsBehind (put_cell x (Number z) st)
-    behind_number x z = behind_cell x (Number z) st.world.content (λ n e. absurd (unlike n e)) buffered (touches_self (kinds_of types) (frame_foot types f inputs st.cells) st.world.content)
+    -- .. that is empty now, or points
+    pub behind_empty : (d : Content) → AreBut types bare d → Touches (kinds_of types) (frame_foot types f inputs st.cells) st.world.content d → IsBehind (put_cell x Empty (put_content d st))
+    behind_empty d = behind_cell Empty d (λ n e. absurd (unlike n e))
       where
-        unlike : (n : ℕ) → Number z ≡ Named n → ⊥
+        unlike : (n : ℕ) → Empty ≡ Named n → ⊥
         unlike n e = cc
 
-    -- .. where input was taken, too
-    pub behind_input : (x : ℕ) (z : ℤ) (zs : List ℤ) → IsBehind (put_cell x (Number z) (record st { world = record (st.world) { input = zs } }))
-    behind_input x z zs = let h = behind_number x z in record { buffered = h.buffered; touch = h.touch; named = h.named }
+    pub behind_points : (v : Pointer) (d : Content) → AreBut types bare d → Touches (kinds_of types) (frame_foot types f inputs st.cells) st.world.content d → IsBehind (put_cell x (Points v) (put_content d st))
+    behind_points v d = behind_cell (Points v) d (λ n e. absurd (unlike n e))
+      where
+        unlike : (n : ℕ) → Points v ≡ Named n → ⊥
+        unlike n e = cc
+
+  -- a pointer or a number alone is another one, or nothing is
+  module _ (buffered : AreBut types bare st.world.content) where
+    pub behind_self : (st' : State) → st'.world.content ≡ st.world.content → st'.cells ≡ st.cells → IsBehind st'
+    behind_self st' content cells =
+        behind_same st' cells (subst (AreBut types bare) (sym content) buffered)
+        (subst (Touches (kinds_of types) (frame_foot types f inputs st.cells) st.world.content) (sym content) (touches_self (kinds_of types) (frame_foot types f inputs st.cells) st.world.content))
+
+    module _ (x : ℕ) (free : (n : ℕ) → slice_get st.cells x ≡ Some (Named n) → over x) where
+      pub behind_pointer : (v : Pointer) → IsBehind (put_cell x (Points v) st)
+      behind_pointer v = behind_points x free v st.world.content buffered (touches_self (kinds_of types) (frame_foot types f inputs st.cells) st.world.content)
+
+      pub behind_number : (z : ℤ) → IsBehind (put_cell x (Number z) st)
+      behind_number z = behind_cell x free (Number z) st.world.content (λ n e. absurd (unlike n e)) buffered (touches_self (kinds_of types) (frame_foot types f inputs st.cells) st.world.content)
+        where
+          unlike : (n : ℕ) → Number z ≡ Named n → ⊥
+          unlike n e = cc
+
+      -- .. where input was taken, too
+      pub behind_input : (z : ℤ) (zs : List ℤ) → IsBehind (put_cell x (Number z) (record st { world = record (st.world) { input = zs } }))
+      behind_input z zs = let h = behind_number z in record { buffered = h.buffered; touch = h.touch; named = h.named; kept = h.kept }
+
+-- more may be bare, and given over
+pub behind_more : (types : Types) (f : Function) (inputs : Root → Option Region) (bare over bare' over' : ℕ → Type 0) (st st' : State) → ((n : ℕ) → bare n → bare' n) → ((x : ℕ) → over x → over' x) → IsBehind types f inputs bare over st st' → IsBehind types f inputs bare' over' st st'
+behind_more types f inputs bare over bare' over' st st' lacks gives h = record {
+  buffered = λ n i o s free there slot. h.buffered n i o s (λ b. free (lacks n b)) there slot;
+  touch = h.touch;
+  named = h.named;
+  kept = λ x n e. ⊎_elim (λ o. inl (gives x o)) (λ k. inr k) (h.kept x n e);
+}

@@ -1,5 +1,5 @@
 -- What isn't beneath what a step touches lies and stands as it did.
-use Rattle.std.proofs.Common.{◌≡◌, inl, inr, ℕ, zero, suc, ◌+◌, ◌<◌, Bool, true, false, cond, List, [], ◌∷◌, Option, Some, None, refl, sym, ap, subst, ◌∙◌, arith}
+use Rattle.std.proofs.Common.{◌≡◌, inl, inr, ℕ, zero, suc, ◌+◌, ◌<◌, Bool, true, false, cond, List, [], ◌∷◌, Option, Some, None, refl, sym, ap, subst, ◌∙◌, arith, length}
 use Rattle.std.specs.Prelude.{◌||◌, option_map, slice_get, slice_index}
 use Rattle.std.proofs.lemmas.Bool.{false≢true}
 use Rattle.life_types.specs.Trees.{IsOrdered}
@@ -42,11 +42,16 @@ blanked_slot f [] i u = none (f u)
 blanked_slot f (s ∷ ss) zero u = blanked_word f s.words u
 blanked_slot f (s ∷ ss) (suc i) u = blanked_slot f ss i u
 
--- an object of the type is there, with the same words but for values and those that pass the test
+blanked_count : (f : ℕ → Bool) (ss : List Slot) → length (blanked_slots f ss) ≡ length ss
+blanked_count f [] = refl
+blanked_count f (s ∷ ss) = ap suc (blanked_count f ss)
+
+-- an object of the type is there, with as many slots and the same words but for values and those that pass the test
 pub record Keeps (kind : Kinds) (g : ℕ → Bool) (d : Content) (n : ℕ) (o : Object) : Type 0 where
   pub object : Object
   pub there : at d.objects n ≡ Some object
   pub type : object.ty ≡ o.ty
+  pub count : length object.slots ≡ length o.slots
   pub words : (i u : ℕ) → is_value (kind.word o.ty u) ≡ false → g u ≡ false → word_at object i u ≡ word_at o i u
 
 pub kept_object : (kind : Kinds) (t : Foot) (c d : Content) (n : ℕ) (o : Object) → Touches kind t c d → n < c.births → (Beneath kind c t n → ⊥) → at c.objects n ≡ Some o → Keeps kind (t.part n) d n o
@@ -64,6 +69,7 @@ kept_object kind t c d n o touch born apart there = go (at d.objects n) refl (to
           object = q;
           there = e;
           type = ty;
+          count = sym (blanked_count (λ v. is_value (kind.word q.ty v) || t.part n v) q.slots) ∙ ap (λ (z : Object). length z.slots) same ∙ blanked_count (λ v. is_value (kind.word o.ty v) || t.part n v) o.slots;
           words = λ i u value free. let blank : (is_value (kind.word o.ty u) || t.part n u) ≡ false = either (is_value (kind.word o.ty u)) (t.part n u) value free in
               let blank_q : (is_value (kind.word q.ty u) || t.part n u) ≡ false = ap (λ id. is_value (kind.word id u) || t.part n u) ty ∙ blank in
               ap (λ b. cond b 0 (word_at q i u)) (sym blank_q)

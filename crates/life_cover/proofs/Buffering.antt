@@ -1,5 +1,5 @@
 -- Each vector and each string keeps its buffer behind births and ends, and where words of an object are written, but in objects that are left out.
-use Rattle.std.proofs.Common.{◌≡◌, ⊎_elim, ℕ, zero, suc, ◌+◌, ◌-◌, ◌≤◌, ◌<◌, List, [], ◌∷◌, ◌++◌, length, map, Option, Some, None, refl, sym, ap, subst, ◌∙◌, arith, ◌⊎◌, inl, inr}
+use Rattle.std.proofs.Common.{◌≡◌, ⊎_elim, ℕ, zero, suc, ◌+◌, ◌-◌, ◌≤◌, ◌<◌, List, [], ◌∷◌, ◌++◌, length, map, Option, Some, None, refl, sym, ap, subst, ◌∙◌, arith, ◌⊎◌, inl, inr, ◌≢◌}
 use Rattle.std.specs.Prelude.{drop, option_map, replicate, slice_get, slice_index, slice_set, take}
 use Rattle.life_types.specs.Types.{Types}
 use Rattle.life_types.specs.declared.ty.TyId.{TyId}
@@ -12,7 +12,7 @@ use Rattle.life_store.specs.Parts.{Parts, Single, Raw, Iterates, Views, Text, Ve
 use Rattle.life_store.proofs.CellLemmas.{cell_cases, none_some, set_cases, some_same, unset_cases}
 use Rattle.life_store.proofs.MapLemmas.{one_or_apart}
 use Rattle.life_forest.proofs.Coming.{IfGot}
-use Rattle.life_cover.specs.Buffered.{AreBuffered, HasBuffers}
+use Rattle.life_cover.specs.Buffered.{AreBut, HasBuffers}
 use Rattle.life_cover.proofs.OwnersStay.{read_word}
 
 -- ---- slots
@@ -83,22 +83,20 @@ module _ (types : Types) where
   pub single_have : (o : Object) → parts_at types o.ty ≡ Single → Have o
   single_have o single i s e = subst (λ (p : Parts). HasBuffers p s.words) (sym single) tt
 
-  -- each, but in these objects
-  abbrev pub AreBut : (out : ℕ → Type 0) → Content → Type 0
-  AreBut out c = (n i : ℕ) (o : Object) (s : Slot) → (out n → ⊥) → at c.objects n ≡ Some o → slice_get o.slots i ≡ Some s → HasBuffers (parts_at types o.ty) s.words
+  -- more may be left out
+  pub but_more : (out more : ℕ → Type 0) (c : Content) → ((n : ℕ) → out n → more n) → AreBut types out c → AreBut types more c
+  but_more out more c lacks h n i o s free there slot = h n i o s (λ gone. free (lacks n gone)) there slot
 
-  pub none_out : (c : Content) → AreBuffered types c → AreBut (λ n. ⊥) c
-  none_out c h n i o s free there slot = h n i o s there slot
-
-  pub all_in : (c : Content) → AreBut (λ n. ⊥) c → AreBuffered types c
-  all_in c h n i o s there slot = h n i o s (λ e. e) there slot
+  -- .. and not an object that has them
+  pub but_one : (out : ℕ → Type 0) (n : ℕ) (c : Content) → ((o : Object) → at c.objects n ≡ Some o → Have o) → AreBut types out c → AreBut types (λ k. out k × (k ≢ n)) c
+  but_one out n c have h k i o t free there slot = one_or_apart k n (λ same. have o (ap (at c.objects) (sym same) ∙ there) i t slot) (λ ne. h k i o t (λ gone. free (gone, ne)) there slot)
 
   module _ (out : ℕ → Type 0) where
-    pub without_but : (n : ℕ) (c : Content) → AreBut out c → AreBut out (without n c)
+    pub without_but : (n : ℕ) (c : Content) → AreBut types out c → AreBut types out (without n c)
     without_but n c h m i o s free there slot = ⊎_elim (λ gone. absurd (none_some (sym gone.1 ∙ there))) (λ kept. h m i o s free (sym kept.1 ∙ there) slot) (unset_cases c.objects n m)
 
     -- an object that has them, or is left out
-    pub set_but : (n : ℕ) (o : Object) (c d : Content) → (out n ⊎ Have o) → d.objects ≡ set c.objects n o → AreBut out c → AreBut out d
+    pub set_but : (n : ℕ) (o : Object) (c d : Content) → (out n ⊎ Have o) → d.objects ≡ set c.objects n o → AreBut types out c → AreBut types out d
     set_but n o c d new is h m i q s free there slot =
         ⊎_elim (λ same. at_n same.0 (some_same (sym same.1 ∙ here)) new) (λ other. h m i q s free (sym other.1 ∙ here) slot) (set_cases c.objects n m o)
       where
@@ -110,35 +108,35 @@ module _ (types : Types) where
         at_n same_n same (inr have) = subst (λ (x : Object). (j : ℕ) (t : Slot) → slice_get x.slots j ≡ Some t → HasBuffers (parts_at types x.ty) t.words) same have i s slot
 
     -- an object isn't left out where it has them
-    pub have_in : (n : ℕ) (c : Content) → ((o : Object) → at c.objects n ≡ Some o → Have o) → AreBut (λ k. out k ⊎ (k ≡ n)) c → AreBut out c
+    pub have_in : (n : ℕ) (c : Content) → ((o : Object) → at c.objects n ≡ Some o → Have o) → AreBut types (λ k. out k ⊎ (k ≡ n)) c → AreBut types out c
     have_in n c have h k i o t free there slot = one_or_apart k n (λ same. have o (ap (at c.objects) (sym same) ∙ there) i t slot) (λ ne. h k i o t (λ gone. ⊎_elim free ne gone) there slot)
 
-    pub birth_but : (ty : TyId) (w capacity : ℕ) (c : Content) → AreBut out c → AreBut out (with_birth ty w capacity c)
+    pub birth_but : (ty : TyId) (w capacity : ℕ) (c : Content) → AreBut types out c → AreBut types out (with_birth ty w capacity c)
     birth_but ty w capacity c h = set_but c.births (newborn ty w capacity c.clock) c (with_birth ty w capacity c) (inr (each_none (HasBuffers (parts_at types ty)))) refl h
 
     -- an object goes under another number
-    pub rename_but : (n : ℕ) (o : Object) (c : Content) → at c.objects n ≡ Some o → (out n → ⊥) → AreBut out c → AreBut out (with_rename n o c)
+    pub rename_but : (n : ℕ) (o : Object) (c : Content) → at c.objects n ≡ Some o → (out n → ⊥) → AreBut types out c → AreBut types out (with_rename n o c)
     rename_but n o c there free h = set_but c.births o (without n c) (with_rename n o c) (inr (λ i s e. h n i o s free there e)) refl (without_but n c h)
 
     -- one that is left out
-    pub resized_but : (n size since : ℕ) (c : Content) → out n → AreBut out c → AreBut out (resized_at n size since c)
+    pub resized_but : (n size since : ℕ) (c : Content) → out n → AreBut types out c → AreBut types out (resized_at n size since c)
     resized_but n size since c gone h = go (at c.objects n)
       where
-        go : (o : Option Object) → AreBut out (resized_if o n size since c)
+        go : (o : Option Object) → AreBut types out (resized_if o n size since c)
         go None = h
         go (Some o) = set_but n (resized (c.clock + 1) size since o) c (with_resize n size since o c) (inl gone) refl h
 
     -- ---- ends
 
-    slots_ended : (end : List ℕ → Content → Content) → ((ws : List ℕ) (c : Content) → AreBut out c → AreBut out (end ws c)) → (ss : List Slot) (c : Content) → AreBut out c → AreBut out (ended_slots end ss c)
+    slots_ended : (end : List ℕ → Content → Content) → ((ws : List ℕ) (c : Content) → AreBut types out c → AreBut types out (end ws c)) → (ss : List Slot) (c : Content) → AreBut types out c → AreBut types out (ended_slots end ss c)
     slots_ended end each [] c h = h
     slots_ended end each (s ∷ ss) c h = slots_ended end each ss (end s.words c) (each s.words c h)
 
-    owned_ended : (end : List ℕ → Content → Content) → ((ws : List ℕ) (c : Content) → AreBut out c → AreBut out (end ws c)) → (o : Option ℕ) (c : Content) → AreBut out c → AreBut out (ended_owned end o c)
+    owned_ended : (end : List ℕ → Content → Content) → ((ws : List ℕ) (c : Content) → AreBut types out c → AreBut types out (end ws c)) → (o : Option ℕ) (c : Content) → AreBut types out c → AreBut types out (ended_owned end o c)
     owned_ended end each None c h = h
     owned_ended end each (Some n) c h = without_but n (ended_slots end (slots_at c n) c) (slots_ended end each (slots_at c n) c h)
 
-    pub ended_but : (p : Parts) (ws : List ℕ) (c : Content) → AreBut out c → AreBut out (ended p ws c)
+    pub ended_but : (p : Parts) (ws : List ℕ) (c : Content) → AreBut types out c → AreBut types out (ended p ws c)
     ended_but Single ws c h = h
     ended_but Raw ws c h = h
     ended_but Iterates ws c h = h
@@ -177,26 +175,24 @@ module _ (types : Types) where
 
   -- ---- fewer slots
 
-  shrunk : (b size since : ℕ) (c : Content) → ((o : Object) → at c.objects b ≡ Some o → size ≤ length o.slots) → AreBut (λ n. ⊥) c → AreBut (λ n. ⊥) (resized_at b size since c)
-  shrunk b size since c fewer h = go (at c.objects b) refl
-    where
-      go : (o : Option Object) → at c.objects b ≡ o → AreBut (λ n. ⊥) (resized_if o b size since c)
-      go None e = h
-      go (Some o) e =
-          set_but (λ n. ⊥) b (resized (c.clock + 1) size since o) c (with_resize b size since o c)
-          (inr (each_resized (HasBuffers (parts_at types o.ty)) o.width (c.clock + 1) size since o.slots (fewer o e) (λ i s slot. h b i o s (λ f. f) e slot))) refl h
+  -- of an object that isn't left out
+  module _ (bare : ℕ → Type 0) (b : ℕ) (clear : bare b → ⊥) where
+    shrunk : (size since : ℕ) (c : Content) → ((o : Object) → at c.objects b ≡ Some o → size ≤ length o.slots) → AreBut types bare c → AreBut types bare (resized_at b size since c)
+    shrunk size since c fewer h = go (at c.objects b) refl
+      where
+        go : (o : Option Object) → at c.objects b ≡ o → AreBut types bare (resized_if o b size since c)
+        go None e = h
+        go (Some o) e =
+            set_but bare b (resized (c.clock + 1) size since o) c (with_resize b size since o c)
+            (inr (each_resized (HasBuffers (parts_at types o.ty)) o.width (c.clock + 1) size since o.slots (fewer o e) (λ i s slot. h b i o s clear e slot))) refl h
 
-  pub popped_buffered : (element : Parts) (b size : ℕ) (c : Content) → size ≡ size_of c b → AreBuffered types c → IfGot (popped element b size c) (AreBuffered types)
-  popped_buffered element b zero c is h = tt
-  popped_buffered element b (suc n) c is h =
-      all_in (resized_at b n n (ended element (slot_words c b n) c))
-      (shrunk b n n (ended element (slot_words c b n) c) (λ o there. let size = ap (λ (x : Option Object). length (slots_if x)) (ended_leaves element (slot_words c b n) c b o there) in omega (arith, size, is))
-      (ended_but (λ n. ⊥) element (slot_words c b n) c (none_out c h)))
+    pub popped_buffered : (element : Parts) (size : ℕ) (c : Content) → size ≡ size_of c b → AreBut types bare c → IfGot (popped element b size c) (AreBut types bare)
+    popped_buffered element zero c is h = tt
+    popped_buffered element (suc n) c is h =
+        shrunk n n (ended element (slot_words c b n) c) (λ o there. let size = ap (λ (x : Option Object). length (slots_if x)) (ended_leaves element (slot_words c b n) c b o there) in omega (arith, size, is)) (ended_but bare element (slot_words c b n) c h)
 
-  pub cleared_buffered : (element : Parts) (b : ℕ) (c : Content) → AreBuffered types c → AreBuffered types (cleared element b c)
-  cleared_buffered element b c h =
-      all_in (cleared element b c)
-      (shrunk b 0 0 (ended_slots (ended element) (slots_at c b) c) (λ o there. omega arith) (slots_ended (λ n. ⊥) (ended element) (λ vs d k. ended_but (λ n. ⊥) element vs d k) (slots_at c b) c (none_out c h)))
+    pub cleared_buffered : (element : Parts) (c : Content) → AreBut types bare c → AreBut types bare (cleared element b c)
+    cleared_buffered element c h = shrunk 0 0 (ended_slots (ended element) (slots_at c b) c) (λ o there. omega arith) (slots_ended bare (ended element) (λ vs d k. ended_but bare element vs d k) (slots_at c b) c h)
 
   -- ---- words are written
 
@@ -212,14 +208,14 @@ module _ (types : Types) where
   abbrev pub IsOwnerAt : Content → ℕ → Type 0
   IsOwnerAt c n = (o : Object) → at c.objects n ≡ Some o → IsBufferOwner (parts_at types o.ty) × AllSome o.slots
 
-  pub owns_but : (out : ℕ → Type 0) (n i m : ℕ) (c : Content) → IsOwnerAt c n → AreBut out c → AreBut out (owns (record { object = n; index = i; word = 0 }) m c)
+  pub owns_but : (out : ℕ → Type 0) (n i m : ℕ) (c : Content) → IsOwnerAt c n → AreBut types out c → AreBut types out (owns (record { object = n; index = i; word = 0 }) m c)
   owns_but out n i m c is h = go (at c.objects n) refl
     where
       at_slots : (o : Object) → at c.objects n ≡ Some o → (free : out n → ⊥) → Have (with_word i 0 (suc m) o)
       at_slots o there free =
           each_written (HasBuffers (parts_at types o.ty)) o.slots i 0 (suc m) (λ s e. (is o there).0 (slice_set s.words 0 (suc m)) m (ap owned_in (read_word s.words 0 (suc m) ((is o there).1 i s e)))) (λ j s e. h n j o s free there e)
 
-      go : (o : Option Object) → at c.objects n ≡ o → AreBut out (wrote_if o n i 0 (suc m ∷ []) c)
+      go : (o : Option Object) → at c.objects n ≡ o → AreBut types out (wrote_if o n i 0 (suc m ∷ []) c)
       go None e k j q s free there slot = h k j q s free there slot
       go (Some o) e k j q s free there slot =
           ⊎_elim
@@ -229,10 +225,10 @@ module _ (types : Types) where
 
   -- all slots of an object get rows that have their buffers
   pub filled_but : (out : ℕ → Type 0) (n : ℕ) (rows : List (List ℕ)) (c : Content) → ((o : Object) → at c.objects n ≡ Some o → length o.slots ≤ length rows) → ((o : Object) → at c.objects n ≡ Some o → (i : ℕ) (ws : List ℕ) → slice_get rows i ≡ Some ws → HasBuffers (parts_at types o.ty) ws)
-      → AreBut (λ k. out k ⊎ (k ≡ n)) c → AreBut out (filled n rows c)
+      → AreBut types (λ k. out k ⊎ (k ≡ n)) c → AreBut types out (filled n rows c)
   filled_but out n rows c enough each h = go (at c.objects n) refl
     where
-      go : (o : Option Object) → at c.objects n ≡ o → AreBut out (filled_if o n rows c)
+      go : (o : Option Object) → at c.objects n ≡ o → AreBut types out (filled_if o n rows c)
       go None e k i o s free there slot = h k i o s (λ gone. ⊎_elim free (λ is. none_some (sym e ∙ ap (at c.objects) (sym is) ∙ there)) gone) there slot
       go (Some o) e k i q s free there slot =
           ⊎_elim

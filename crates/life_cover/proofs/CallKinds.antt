@@ -10,7 +10,8 @@ use Rattle.life_types.specs.declared.place.Place.{Place}
 use Rattle.life_core.specs.declared.program.FnId.{FnId}
 use Rattle.life_core.specs.declared.program.Local.{Local}
 use Rattle.life_core.specs.Function.{Function}
-use Rattle.life_core.specs.Operands.{Argument, GivenOver, Location, PointerOf, Slot, Value, whole}
+use Rattle.life_core.specs.Operands.{Argument, GivenOver, Location, PointerOf, Slot, Value}
+use Rattle.life_core.specs.Operands as operands
 use Rattle.life_core.specs.Step.{Call}
 use Rattle.life_pset.specs.Elements.{local_place}
 use Rattle.life_pset.specs.Places.{is_within, members_place}
@@ -21,6 +22,7 @@ use Rattle.life_proper.specs.GivenOver.{given_argument}
 use Rattle.life_proper.specs.Placed.{is_slot_local, slot_at, type_at}
 use Rattle.life_rules.specs.Calling.{is_in_target}
 use Rattle.life_rules.proofs.Giving.{at_head}
+use Rattle.life_store.specs.Cells.{at}
 use Rattle.life_store.specs.Calls.{given_if, lent, number_handed, object_handed, pointer_handed, result_given, slots_returned}
 use Rattle.life_store.specs.Content.{Content}
 use Rattle.life_store.specs.Effects.{Effect, Next, Setting, cell, put_cell}
@@ -28,29 +30,33 @@ use Rattle.life_store.specs.Places.{location_cell}
 use Rattle.life_store.specs.State.{Cell, Empty, Named, Number, Pointer, Points, State, Target, To, World, is_there}
 use Rattle.life_store.proofs.CellLemmas.{cell_cases, none_some, some_same}
 use Rattle.life_store.proofs.MapLemmas.{one_or_apart}
-use Rattle.life_forest.specs.Forest.{Foot, Touches}
+use Rattle.life_forest.specs.Forest.{Beneath, Foot, Touches, part, under, whole}
 use Rattle.life_forest.specs.Frames.{OnNext, named_in}
 use Rattle.life_forest.specs.Kinds.{kinds_of}
-use Rattle.life_forest.specs.Owned.{times}
+use Rattle.life_forest.specs.Owned.{every, times}
+use Rattle.life_forest.proofs.Below.{no_part}
 use Rattle.life_forest.proofs.Counting.{one_same, one_there}
 use Rattle.life_forest.proofs.Feet.{within_self}
 use Rattle.life_forest.proofs.Following.{in_hand}
 use Rattle.life_forest.proofs.Frames.{first_named}
 use Rattle.life_forest.proofs.HandedOver.{HandEach}
 use Rattle.life_forest.proofs.Shaped.{IsShaped}
-use Rattle.life_forest.proofs.Steps.{touches_then}
-use Rattle.life_cover.specs.Buffered.{AreBuffered}
+use Rattle.life_forest.proofs.Steps.{alive_le, touches_then}
+use Rattle.life_cover.specs.Buffered.{AreBut}
 use Rattle.life_cover.specs.Frames.{FrameCovered, RootStands, look_at}
 use Rattle.life_cover.specs.Inputs.{StandsAt, entry_inputs, foot_with, frame_foot, may_change, mutated}
 use Rattle.life_cover.specs.Covers.{IsCovered}
 use Rattle.life_cover.specs.Kills.{IsUnnamed}
+use Rattle.life_cover.specs.Lacking.{IsLoose, IsSpared}
 use Rattle.life_cover.specs.Passed.{IsPromised}
 use Rattle.life_cover.proofs.Arguments.{AreSlotless, IsAimedBy}
 use Rattle.life_cover.proofs.Behind.{IsBehind}
 use Rattle.life_cover.proofs.CallCovers.{call_covered, call_spares}
 use Rattle.life_cover.proofs.GivenValues.{IsFilled, IsGiven, value_given}
 use Rattle.life_cover.proofs.KnownFrames.{IsKnownFrame, IsRight, hand_of, object_named, store_of}
+use Rattle.life_cover.proofs.Locals.{two_named}
 use Rattle.life_cover.proofs.Looks.{TakesAll}
+use Rattle.life_cover.proofs.Owning.{named_at}
 use Rattle.life_cover.proofs.PromisedResults.{result_covered}
 use Rattle.life_cover.proofs.Putting.{set_other}
 use Rattle.life_cover.proofs.Unkilled.{no_foot}
@@ -63,9 +69,10 @@ abbrev pub IsPlainTarget : Types → Function → Option Location → Type 0
 IsPlainTarget types f None = Unit {0}
 IsPlainTarget types f (Some l) = (l.members ≡ []) × (slot_at types f l.local ≡ false)
 
--- the facts cover all pointers behind it, and what it touched lies beneath what the frame named or is an owner behind a mutating input
-abbrev pub IsCalled : Types → Function → (inputs : Root → Option Region) → (S' : Fact → Type 0) → State → State → Type 0
-IsCalled types f inputs S' st after = FrameCovered types f inputs S' after × IsBehind types f inputs st after
+-- the facts cover all pointers behind it, what it touched lies beneath what the frame named or is an owner behind a mutating input, and nobody comes
+-- to what the callee left so
+abbrev pub IsCalled : Types → Function → (inputs : Root → Option Region) → (S' : Fact → Type 0) → (bare over loose : ℕ → Type 0) → State → State → Type 0
+IsCalled types f inputs S' bare over loose st after = FrameCovered types f inputs S' after × (IsBehind types f inputs bare over st after × ((n : ℕ) → loose n → IsLoose types inputs (named_in after.cells) after.world.content n))
 
 -- ---- what is handed over
 
@@ -149,13 +156,21 @@ given_object types f rest inputs S st k sigs number place S' target g xs right v
 module _ (types : Types) (f : Function) (rest : ℕ → ℕ) (inputs : Root → Option Region) (S : Fact → Type 0) (st : State) (k : IsKnownFrame types f rest inputs S st) (sigs : List Signature) (number : ℕ) (place : Place) (S' : Fact → Type 0) (target : Option Location) (g : FnId) (xs : List Argument)
     (right : IsRight sigs types number f place (Call target g xs) S S') (values : List Cell) (gf : Function) (at_g : slice_get sigs g.0 ≡ Some (signature_of gf)) (shaped : IsShaped types gf) (aims : (q : ℕ) (t : Target) → slice_get values q ≡ Some (Points (To t)) → IsAimedBy types f inputs S st xs gf q t)
     (plain : AreSlotless xs) (each : HandEach types f st xs values) where
+  -- what is given over
+  abbrev pub IsOver : ℕ → Type 0
+  IsOver y = Contains (flat_map given_argument xs) y
+
   -- what the callee may touch
   abbrev pub callee_foot : Foot
   callee_foot = foot_with types (mutated types gf (entry_inputs st.world.content values)) (named_in values)
 
   -- some cells are empty while it runs, and what is handed over isn't named meanwhile
   module _ (less : (y : ℕ) (v : Cell) → is_there v ≡ true → cell (lent types f xs st) y ≡ Some v → cell st y ≡ Some v) (hand : (j : ℕ) → times (named_in (lent types f xs st).cells) j + times (named_in values) j ≡ times (named_in st.cells) j)
-      (w : World) (touch : Touches (kinds_of types) (foot_with types (mutated types gf (entry_inputs st.world.content values)) (named_in values)) st.world.content w.content) (buffered : AreBuffered types w.content) where
+      (w : World) (touch : Touches (kinds_of types) (foot_with types (mutated types gf (entry_inputs st.world.content values)) (named_in values)) st.world.content w.content) (bare : ℕ → Type 0) (buffered : AreBut types bare w.content) (vs : List Cell) where
+    -- what nobody comes to then
+    abbrev pub LeftLoose : ℕ → Type 0
+    LeftLoose n = IsLoose types (entry_inputs st.world.content values) (named_in vs) w.content n × (times (named_in (lent types f xs st).cells) n ≡ 0) × IsSpared inputs n
+
     abbrev back : State
     back = record { world = w; cells = (lent types f xs st).cells }
 
@@ -166,11 +181,37 @@ module _ (types : Types) (f : Function) (rest : ℕ → ℕ) (inputs : Root → 
     stay : (y m : ℕ) → cell st y ≡ Some (Named m) → times (named_in values) m ≡ 0 → cell (record { world = w; cells = (lent types f xs st).cells }) y ≡ Some (Named m)
     stay y m was none = lent_stays types f st xs values plain each y m was none st was
 
-    pub nothing_taken : target ≡ None → IsCalled types f inputs S' st (record { world = w; cells = (lent types f xs st).cells })
+    -- .. or was given over
+    still_named : (after : State) → ((y m : ℕ) → cell st y ≡ Some (Named m) → times (named_in values) m ≡ 0 → cell after y ≡ Some (Named m)) → (y m : ℕ) → cell st y ≡ Some (Named m) → IsOver y ⊎ (cell after y ≡ Some (Named m))
+    still_named after stays y m was = one_or_apart (times (named_in values) m) 0 (λ z. inr (stays y m was z)) (λ nz. inl (over (given_named types f st xs values plain each m (omega (arith, nz)))))
+      where
+        over : (x : ℕ) × Contains (flat_map given_argument xs) x × (cell st x ≡ Some (Named m)) → IsOver y
+        over o = subst IsOver (one_or_apart o.0 y (λ same. same) (λ ne. absurd (twice o.0 ne o.2))) o.1
+          where
+            twice : (x : ℕ) → x ≢ y → cell st x ≡ Some (Named m) → ⊥
+            twice x ne named =
+                let two = two_named st.cells x y m ne named was in
+                let held = (store_of types f rest inputs S st k).forest.held m in
+                let alive = alive_le (kinds_of types) st.world.content m in
+                omega (arith, two, held, alive)
+
+    -- what is loose then is so where no more is named
+    loose_still : (after : State) → after.world.content ≡ w.content → ((y m : ℕ) → cell after y ≡ Some (Named m) → cell (lent types f xs st) y ≡ Some (Named m)) → (n : ℕ) → LeftLoose n → IsLoose types inputs (named_in after.cells) after.world.content n
+    loose_still after same old n loose = subst (λ (d : Content). IsLoose types inputs (named_in after.cells) d n) (sym same) (record {
+      born = loose.0.born;
+      unnamed = one_or_apart (times (named_in after.cells) n) 0 (λ z. z) (λ nz. let y = named_at after.cells n (omega (arith, nz)) in let e = in_hand (lent types f xs st).cells y.0 n (old y.0 n y.1) in let none = loose.1 in absurd (omega (arith, e, none)));
+      spared = loose.2;
+      unowned = loose.0.unowned;
+    })
+
+    pub nothing_taken : target ≡ None → IsCalled types f inputs S' bare IsOver LeftLoose st (record { world = w; cells = (lent types f xs st).cells })
     nothing_taken none = (
       call_covered types f rest inputs S st k sigs number place S' target g xs right values gf at_g shaped aims (given_object types f rest inputs S st k sigs number place S' target g xs right values plain each) back touch stay
           (λ y p e. inl (less y (Points p) refl e, ap (λ (t : Option Location). is_in_target t (local_place y)) none)),
-      record { buffered = buffered; touch = spares w.content touch; named = λ y m e. inl (in_hand st.cells y m (less y (Named m) refl e)) },
+      (
+        record { buffered = buffered; touch = spares w.content touch; named = λ y m e. inl (in_hand st.cells y m (less y (Named m) refl e)); kept = λ y m was. still_named back stay y m was },
+        loose_still back refl (λ y m e. e),
+      ),
     )
 
     -- a local that names nothing is given what comes back, which was handed over or is new
@@ -182,23 +223,44 @@ module _ (types : Types) (f : Function) (rest : ℕ → ℕ) (inputs : Root → 
           ∙ ap (λ b. b && true) (ne_eqb l.local y ne)
 
       -- a number or an object
-      module _ (v : Cell) (names : (j : ℕ) → v ≡ Named j → (0 < times (named_in values) j) ⊎ (st.world.content.births ≤ j)) (pointless : (p : Pointer) → v ≡ Points p → ⊥) where
-        taken : (after : State) → IsGiven types l.local v (record { world = w; cells = (lent types f xs st).cells }) after → IsCalled types f inputs S' st after
+      module _ (v : Cell) (names : (j : ℕ) → v ≡ Named j → (0 < times (named_in values) j) ⊎ (st.world.content.births ≤ j)) (among : (j : ℕ) → v ≡ Named j → 0 < times (named_in vs) j) (pointless : (p : Pointer) → v ≡ Points p → ⊥) where
+        taken : (after : State) → IsGiven types bare l.local v (record { world = w; cells = (lent types f xs st).cells }) after → IsCalled types f inputs S' bare IsOver LeftLoose st after
         taken after h = (
           call_covered types f rest inputs S st k sigs number place S' target g xs right values gf at_g shaped aims (given_object types f rest inputs S st k sigs number place S' target g xs right values plain each) after both stays
               (λ y p e. ⊎_elim (λ new. absurd (pointless p new.1)) (λ was. inl (less y (Points p) refl was.1, outside y was.0)) (h.points y p e)),
-          record {
-            buffered = h.buffered;
-            touch = spares after.world.content both;
-            named = λ y m e. ⊎_elim
-                (λ old. inl (in_hand st.cells y m (less y (Named m) refl old)))
-                (λ other. ⊎_elim
-                (λ is. ⊎_elim (λ lt. inl (let a = hand m in omega (arith, a, lt))) (λ new. inr new) (names m is))
-                (λ new. inr (let b = touch.births in omega (arith, b, new))) other)
-                (h.named y m e);
-          },
+          (
+            record {
+              buffered = h.buffered;
+              touch = spares after.world.content both;
+              named = λ y m e. ⊎_elim
+                  (λ old. inl (in_hand st.cells y m (less y (Named m) refl old)))
+                  (λ other. ⊎_elim
+                  (λ is. ⊎_elim (λ lt. inl (let a = hand m in omega (arith, a, lt))) (λ new. inr new) (names m is))
+                  (λ new. inr (let b = touch.births in omega (arith, b, new))) other)
+                  (h.named y m e);
+              kept = λ y m was. still_named after stays y m was;
+            },
+            λ n loose. record {
+              born = let b = h.touch.births in let l = loose.0.born in omega (arith, b, l);
+              unnamed = one_or_apart (times (named_in after.cells) n) 0 (λ z. z) (λ nz. absurd (named_then n loose (omega (arith, nz))));
+              spared = loose.2;
+              unowned = λ m own. ⊎_elim (λ low. nothing_beneath n low) (λ old. loose.0.unowned m old) (h.touch.back every m n loose.0.born own);
+            },
+          ),
         )
           where
+            nothing_beneath : (n : ℕ) → Beneath (kinds_of types) w.content no_foot n → ⊥
+            nothing_beneath n (whole _ e) = false≢true e
+            nothing_beneath n (part q _ own) = let z = no_part (kinds_of types) (at w.content.objects q) n in omega (arith, z, own)
+            nothing_beneath n (under q _ low own) = nothing_beneath q low
+
+            named_then : (n : ℕ) → LeftLoose n → 0 < times (named_in after.cells) n → ⊥
+            named_then n loose lt =
+                let y = named_at after.cells n lt in
+                ⊎_elim (λ old. let e = in_hand (lent types f xs st).cells y.0 n old in let none = loose.1 in omega (arith, e, none))
+                (λ other. ⊎_elim (λ is. let e = among n is in let none = loose.0.unnamed in omega (arith, e, none)) (λ new. let b = loose.0.born in omega (arith, b, new)) other)
+                (h.named y.0 n y.1)
+
             both : Touches (kinds_of types) (foot_with types (mutated types gf (entry_inputs st.world.content values)) (named_in values)) st.world.content after.world.content
             both =
                 touches_then (kinds_of types) (hand_of rest st) st.world.content (store_of types f rest inputs S st k).forest callee_foot no_foot callee_foot w.content after.world.content touch h.touch
@@ -207,12 +269,12 @@ module _ (types : Types) (f : Function) (rest : ℕ → ℕ) (inputs : Root → 
             stays : (y m : ℕ) → cell st y ≡ Some (Named m) → times (named_in values) m ≡ 0 → cell after y ≡ Some (Named m)
             stays y m was none = h.stays y (λ same. nameless m (ap (cell st) same ∙ was)) ∙ stay y m was none
 
-        pub result_taken : (s : Setting) → IsFilled v → OnNext (result_given s types f l l.members v (record { world = w; cells = (lent types f xs st).cells })) (IsCalled types f inputs S' st)
+        pub result_taken : (s : Setting) → IsFilled v → OnNext (result_given s types f l l.members v (record { world = w; cells = (lent types f xs st).cells })) (IsCalled types f inputs S' bare IsOver LeftLoose st)
         result_taken s is =
-            subst (λ (ms : List ℕ). OnNext (result_given s types f l ms v back) (IsCalled types f inputs S' st)) (sym whole_target.0)
-            (each_next (result_given s types f l [] v back) (value_given types k.ordered s f l.local v back buffered is (λ lo m there e. ap (is_slot_local types f) (sym there) ∙ whole_target.1)))
+            subst (λ (ms : List ℕ). OnNext (result_given s types f l ms v back) (IsCalled types f inputs S' bare IsOver LeftLoose st)) (sym whole_target.0)
+            (each_next (result_given s types f l [] v back) (value_given types k.ordered s f l.local v back bare buffered is (λ lo m there e. ap (is_slot_local types f) (sym there) ∙ whole_target.1)))
           where
-            each_next : (e : Effect) → OnNext e (IsGiven types l.local v back) → OnNext e (IsCalled types f inputs S' st)
+            each_next : (e : Effect) → OnNext e (IsGiven types bare l.local v back) → OnNext e (IsCalled types f inputs S' bare IsOver LeftLoose st)
             each_next (Next after) h = taken after h
             each_next _ h = tt
 
@@ -221,14 +283,17 @@ module _ (types : Types) (f : Function) (rest : ℕ → ℕ) (inputs : Root → 
         abbrev after : State
         after = put_cell l.local (Points p) (record { world = w; cells = (lent types f xs st).cells })
 
-        whole_is : target ≡ Some (whole l.local)
+        whole_is : target ≡ Some (operands.whole l.local)
         whole_is = into ∙ ap (λ (ms : List ℕ). Some (record { local = l.local; members = ms })) whole_target.0
 
-        old_named : (y m : ℕ) → cell after y ≡ Some (Named m) → cell st y ≡ Some (Named m)
-        old_named y m e = ⊎_elim (λ h. absurd (unlike h.1)) (λ h. less y (Named m) refl h.1) (cell_cases (lent types f xs st).cells l.local y (Points p) (Named m) e)
+        lent_named : (y m : ℕ) → cell after y ≡ Some (Named m) → cell (lent types f xs st) y ≡ Some (Named m)
+        lent_named y m e = ⊎_elim (λ h. absurd (unlike h.1)) (λ h. h.1) (cell_cases (lent types f xs st).cells l.local y (Points p) (Named m) e)
           where
             unlike : Points p ≡ Named m → ⊥
             unlike h = cc
+
+        old_named : (y m : ℕ) → cell after y ≡ Some (Named m) → cell st y ≡ Some (Named m)
+        old_named y m e = less y (Named m) refl (lent_named y m e)
 
         still : (y m : ℕ) → cell st y ≡ Some (Named m) → times (named_in values) m ≡ 0 → cell after y ≡ Some (Named m)
         still y m was none = set_other (lent types f xs st).cells l.local y (Points p) (λ same. nameless m (ap (cell st) same ∙ was)) ∙ stay y m was none
@@ -238,7 +303,7 @@ module _ (types : Types) (f : Function) (rest : ℕ → ℕ) (inputs : Root → 
             result_covered types f rest inputs S st k sigs number place S' target g xs right values gf at_g shaped aims (given_object types f rest inputs S st k sigs number place S' target g xs right values plain each) l.local whole_is pointer result look after touch still
             (λ y m e. object_named types f rest inputs S st k y m (old_named y m e)) p promised
 
-        pointer_taken : IsCalled types f inputs S' st after
+        pointer_taken : IsCalled types f inputs S' bare IsOver LeftLoose st after
         pointer_taken = (
           call_covered types f rest inputs S st k sigs number place S' target g xs right values gf at_g shaped aims (given_object types f rest inputs S st k sigs number place S' target g xs right values plain each) after touch still
               (λ y q e. ⊎_elim
@@ -246,15 +311,18 @@ module _ (types : Types) (f : Function) (rest : ℕ → ℕ) (inputs : Root → 
               (subst (IsCovered types w.content (RootStands types f (StandsAt inputs) after.cells) (may_change types f) S' (local_place l.local) (look_at types f l.local)) (same_pointer h.1) covered)))
               (λ h. inl (less y (Points q) refl h.1, outside y h.0))
               (cell_cases (lent types f xs st).cells l.local y (Points p) (Points q) e)),
-          record { buffered = buffered; touch = spares w.content touch; named = λ y m e. inl (in_hand st.cells y m (old_named y m e)) },
+          (
+            record { buffered = buffered; touch = spares w.content touch; named = λ y m e. inl (in_hand st.cells y m (old_named y m e)); kept = λ y m was. still_named after still y m was },
+            loose_still after refl lent_named,
+          ),
         )
           where
             same_pointer : {u v : Pointer} → Points u ≡ Points v → u ≡ v
             same_pointer e = cc
 
-        pub pointer_given : (s : Setting) → OnNext (result_given s types f l l.members (Points p) (record { world = w; cells = (lent types f xs st).cells })) (IsCalled types f inputs S' st)
-        pointer_given s = subst (λ (ms : List ℕ). OnNext (result_given s types f l ms (Points p) back) (IsCalled types f inputs S' st)) (sym whole_target.0) (by_local (slice_get f.locals l.local))
+        pub pointer_given : (s : Setting) → OnNext (result_given s types f l l.members (Points p) (record { world = w; cells = (lent types f xs st).cells })) (IsCalled types f inputs S' bare IsOver LeftLoose st)
+        pointer_given s = subst (λ (ms : List ℕ). OnNext (result_given s types f l ms (Points p) back) (IsCalled types f inputs S' bare IsOver LeftLoose st)) (sym whole_target.0) (by_local (slice_get f.locals l.local))
           where
-            by_local : (o : Option Local) → OnNext (given_if s types f o (Points p) l.local back) (IsCalled types f inputs S' st)
+            by_local : (o : Option Local) → OnNext (given_if s types f o (Points p) l.local back) (IsCalled types f inputs S' bare IsOver LeftLoose st)
             by_local None = tt
             by_local (Some lo) = pointer_taken

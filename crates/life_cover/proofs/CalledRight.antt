@@ -1,5 +1,5 @@
 -- Where nothing is diagnosed at a call: an argument may be neither invalid nor null where that isn't admitted, what a mutating one points to isn't kept,
--- and no two of which one is mutating overlap.
+-- no vector and no string to which one points is moved from, and no two of which one is mutating overlap.
 use Rattle.std.proofs.Common.{◌≡◌, ℕ, Bool, true, false, List, [], ◌∷◌, ◌++◌, Option, Some, None, refl, sym, ap, subst, ◌∙◌}
 use Rattle.std.specs.Prelude.{Contains, cond, slice_get, ◌&&◌, ◌||◌}
 use Rattle.std.specs.List.{flat_map}
@@ -12,17 +12,20 @@ use Rattle.life_core.specs.Operands.{Argument, Location}
 use Rattle.life_core.specs.Step.{Call}
 use Rattle.life_pset.specs.Elements.{Input, called}
 use Rattle.life_pset.specs.Places.{overlap}
+use Rattle.life_pset.specs.Shapes.{is_variable_place}
+use Rattle.life_pset.specs.contracts.element.AbsPlacePartialEq.TheImpl.{ghosts as compared}
 use Rattle.life_pset.specs.declared.element.AbsPlace.{AbsPlace}
 use Rattle.life_pset.specs.declared.element.Cause.{Cause}
 use Rattle.life_pset.specs.declared.element.Element.{Element}
 use Rattle.life_pset.specs.declared.element.Element.TheVariants as element
 use Rattle.life_pset.specs.declared.element.Fact.{Fact}
 use Rattle.life_pset.specs.declared.element.Root.TheVariants as root
+use Rattle.life_pset.proofs.Numbers.{place_laws}
 use Rattle.life_contract.specs.Arguments.{is_argument_of, is_mutating_argument}
 use Rattle.life_contract.specs.Breaking.{Break, NotAdmitted, Dangles, breaks_apart, breaks_at, of_pairs}
 use Rattle.life_contract.specs.Inputs.{admits_null, input_parameter, inputs_of_signature, is_mutating}
 use Rattle.life_contract.specs.Signatures.{Signature}
-use Rattle.life_rules.specs.Arguing.{argument_diags, argument_diags_of_two, broken_at, broken_by, broken_by_two, known_name, moved_at, overlapping_at, told_break}
+use Rattle.life_rules.specs.Arguing.{argument_diags, argument_diags_of_two, broken_at, broken_by, broken_by_two, known_name, moved_argument, moved_at, moved_behind, overlapping_at, told_break}
 use Rattle.life_rules.specs.Diagnosing.{moved_through, owners, use_diags}
 use Rattle.life_rules.specs.Keeping.{is_kept, keeping_diags, kept_by_call, kept_input, kept_root, kept_target}
 use Rattle.life_rules.specs.Matching.{fact_at}
@@ -102,6 +105,24 @@ module _ (sigs : List Signature) (types : Types) (n : ℕ) (f : Function) (place
   -- ---- two arguments
 
   module _ (clean : IsCleanOfTwo sigs types n f place (Call target g xs) S) where
+    -- a vector or a string to which an argument points isn't moved from
+    pub not_moved : (i : Input) → Contains (inputs_of_signature types sig) i → (l a : AbsPlace) → is_argument_of xs i l ≡ true → S (fact_at l (element.At a)) → is_variable_place types f a ≡ true → (c : Cause) → S (fact_at a (element.Moved c)) → ⊥
+    not_moved i among l a argument s variable c t =
+        clean (fact_at l (element.At a)) (fact_at a (element.Moved c)) s t d
+        (Contains-append_right (flat_map (moved_through types n f place (fact_at l (element.At a)) (fact_at a (element.Moved c))) (owners (Call target g xs))) (argument_diags_of_two sigs types n f place (Call target g xs) (fact_at l (element.At a)) (fact_at a (element.Moved c))) d
+        (subst (λ (o : Option Signature). Contains (broken_by_two types n f place g.0 o xs (fact_at l (element.At a)) (fact_at a (element.Moved c))) d) (sym at_g)
+        (Contains-append_left (flat_map (moved_at types n f place g.0 xs (fact_at l (element.At a)) (fact_at a (element.Moved c))) (inputs_of_signature types sig)) (of_pairs (overlapping_at types n place g.0 sig xs (fact_at l (element.At a)) (fact_at a (element.Moved c))) (inputs_of_signature types sig)) d
+        (flat_map_into (moved_at types n f place g.0 xs (fact_at l (element.At a)) (fact_at a (element.Moved c))) (inputs_of_signature types sig) i d among
+        (subst (λ u. Contains (cond u (moved_behind types n f place g.0 i (element.At a) (fact_at a (element.Moved c))) []) d) (sym argument)
+        (subst (λ u. Contains (cond u (moved_argument n place g.0 i (element.Moved c)) []) d) (sym passes) (at_head d [])))))))
+      where
+        d : Diag
+        d = record { function = n; place = place; kind = ArgDangling; name = i.pointer; called = Some g.0; why = why.Cause c }
+
+        passes : (compared.eq a a && is_variable_place types f a) ≡ true
+        passes = ap (λ u. u && is_variable_place types f a) (place_laws.refl a) ∙ variable
+
+    -- .. and two of which one is mutating don't overlap
     pub not_overlapping : (i j : Input) (l m a b : AbsPlace) → ((h : Input → Input → List Diag) (d : Diag) → Contains (h i j) d → Contains (of_pairs h (inputs_of_signature types sig)) d) → is_argument_of xs i l ≡ true → is_argument_of xs j m ≡ true → S (fact_at l (element.At a)) → S (fact_at m (element.At b))
         → (is_mutating types sig i || is_mutating types sig j) ≡ true → overlap a b ≡ true → ⊥
     not_overlapping i j l m a b in_order first second s t mutating same =

@@ -32,23 +32,26 @@ use Rattle.life_forest.proofs.SeenTypes.{parts_typed, value_parts}
 use Rattle.life_forest.proofs.TypedSteps.{value_solid}
 use Rattle.life_cover.proofs.Writing.{change_owning}
 use Rattle.life_cover.specs.Frames.{FrameCovered}
+use Rattle.life_cover.specs.Lacking.{MayLack}
 use Rattle.life_cover.proofs.KnownFrames.{IsKnownFrame, IsRight, hand_of, number_free, reach_at, rooted_of, store_of, used_right}
 use Rattle.life_cover.proofs.NumberKinds.{range_fit}
-use Rattle.life_cover.proofs.Opening.{IsOpened, text_opened, vector_opened}
+use Rattle.life_cover.proofs.Opening.{IsOpened, text_opened, vector_opened, owner_typed}
 use Rattle.life_cover.proofs.OwnerKinds.{append_kind, clear_kind, clear_text_kind, number_right, pop_kind, push_character_kind, push_kind, reserve_kind, set_kind}
 use Rattle.life_cover.proofs.PointerKinds.{read_right}
 use Rattle.life_cover.proofs.Pointers.{OnRight, right_then}
 use Rattle.life_cover.proofs.Reaching.{IsReached, by_reach, spot_is}
 use Rattle.life_cover.proofs.Using.{NotInvalid}
+use Rattle.life_cover.proofs.Lacking.{owner_whole}
 use Rattle.life_cover.specs.Inputs.{may_change, owning, StandsAt}
 use Rattle.life_cover.specs.Regions.{Region}
 
 module _ (types : Types) (f : Function) (rest : ℕ → ℕ) (inputs : Root → Option Region) (S : Fact → Type 0) (st : State) (k : IsKnownFrame types f rest inputs S st) (sigs : List Signature) (n : ℕ) (place : Place) (S' : Fact → Type 0) (s : Setting) (o : Operand) (free : is_const_place types f o ≡ false) where
   -- the owner is reached
-  owner_reached : (c : Change) → IsRight sigs types n f place (Changes o c) S S' → is_void (type_of types f o) ≡ false → (IsReached types f st (StandsAt inputs) (may_change types f) S o → OnRight (does s types f (Changes o c) st) (FrameCovered types f inputs S'))
+  owner_reached : (c : Change) → IsRight sigs types n f place (Changes o c) S S' → is_void (type_of types f o) ≡ false → ((r : IsReached types f st (StandsAt inputs) (may_change types f) S o) → (MayLack types f inputs S st r.region.object → ⊥) → OnRight (does s types f (Changes o c) st) (FrameCovered types f inputs S'))
       → OnRight (does s types f (Changes o c) st) (FrameCovered types f inputs S')
   owner_reached c right solid each =
-      by_reach types f st (StandsAt inputs) (may_change types f) S o (reach_at types f rest inputs S st k o solid (λ q h. used_right sigs types n f place (Changes o c) S right.clean q h)) (λ spot. changed s types f (operand_parts types f o) spot c st) (FrameCovered types f inputs S') each
+      by_reach types f st (StandsAt inputs) (may_change types f) S o (reach_at types f rest inputs S st k o solid (λ q h. used_right sigs types n f place (Changes o c) S right.clean q h)) (λ spot. changed s types f (operand_parts types f o) spot c st) (FrameCovered types f inputs S')
+      (λ r. each r (owner_whole types f rest inputs S st k o r solid sigs n place (Changes o c) S' right (at_head o [])))
 
   -- what is no value isn't added
   no_value : (r : IsReached types f st (StandsAt inputs) (may_change types f) S o) (x : ℕ) (v : Option Cell) → cell st x ≡ v
@@ -81,21 +84,21 @@ module _ (types : Types) (f : Function) (rest : ℕ → ℕ) (inputs : Root → 
     solid_text = ap is_void is_text
 
     module _ (r : IsReached types f st (StandsAt inputs) (may_change types f) S o) where
-      text_at : IsOpened types f rest inputs S st k o r ty.Text (characters_type types)
-      text_at = text_opened types f rest inputs S st k o r is_text
+      text_at : (MayLack types f inputs S st r.region.object → ⊥) → IsOpened types f rest inputs S st k o r ty.Text (characters_type types)
+      text_at unmoved = text_opened types f rest inputs S st k o r unmoved is_text
 
       text_parts : parts_at types r.region.ty ≡ Text (characters_type types)
-      text_parts = parts_typed types k.ordered r.region.ty ty.Text text_at.there
+      text_parts = parts_typed types k.ordered r.region.ty ty.Text (owner_typed types f rest inputs S st k o r ty.Text (characters_type types) is_text refl refl).there
 
     pub text_clear : IsRight sigs types n f place (Changes o Clear) S S' → OnRight (does s types f (Changes o Clear) st) (FrameCovered types f inputs S')
     text_clear right =
-        owner_reached Clear right solid_text (λ r. let h = text_at r in
+        owner_reached Clear right solid_text (λ r unmoved. let h = text_at r unmoved in
         clear_text_kind types k.ordered f (hand_of rest st) st (store_of types f rest inputs S st k) (StandsAt inputs) (may_change types f) (owning types f) (rooted_of types f rest inputs S st k) sigs place S S' k.covered o r (change_owning types f rest inputs S st k sigs n place S' o free right r h.type) h.typed h.buffer h.owned s
         (characters_type types) (text_parts r) right.closed)
 
     pub text_push : (x : ℕ) → is_number types f x ≡ true → IsRight sigs types n f place (Changes o (PushBack x)) S S' → OnRight (does s types f (Changes o (PushBack x)) st) (FrameCovered types f inputs S')
     text_push x number right =
-        owner_reached (PushBack x) right solid_text (λ r. let h = text_at r in by_cell r h (cell st x) refl)
+        owner_reached (PushBack x) right solid_text (λ r unmoved. let h = text_at r unmoved in by_cell r h (cell st x) refl)
       where
         by_cell : (r : IsReached types f st (StandsAt inputs) (may_change types f) S o) → IsOpened types f rest inputs S st k o r ty.Text (characters_type types) → (v : Option Cell) → cell st x ≡ v → OnRight (does s types f (Changes o (PushBack x)) st) (FrameCovered types f inputs S')
         by_cell r h (Some (Named m)) e = absurd (number_free types f rest inputs S st k x number m e)
@@ -119,13 +122,13 @@ module _ (types : Types) (f : Function) (rest : ℕ → ℕ) (inputs : Root → 
 
     pub text_set : (given : named.Characters) → IsGiven given → IsRight sigs types n f place (Changes o (Set given)) S S' → OnRight (does s types f (Changes o (Set given)) st) (FrameCovered types f inputs S')
     text_set given is right =
-        owner_reached (Set given) right solid_text (λ r. let h = text_at r in
+        owner_reached (Set given) right solid_text (λ r unmoved. let h = text_at r unmoved in
         set_kind types k.ordered f (hand_of rest st) st (store_of types f rest inputs S st k) (StandsAt inputs) (may_change types f) (owning types f) (rooted_of types f rest inputs S st k) sigs place S S' k.covered o r (change_owning types f rest inputs S st k sigs n place S' o free right r h.type) h.typed h.buffer h.owned s
         (characters_type types) (text_parts r) given (text_given Set given is right (λ l. refl)) right.closed)
 
     pub text_append : (given : named.Characters) → IsGiven given → IsRight sigs types n f place (Changes o (Append given)) S S' → OnRight (does s types f (Changes o (Append given)) st) (FrameCovered types f inputs S')
     text_append given is right =
-        owner_reached (Append given) right solid_text (λ r. let h = text_at r in
+        owner_reached (Append given) right solid_text (λ r unmoved. let h = text_at r unmoved in
         append_kind types k.ordered f (hand_of rest st) st (store_of types f rest inputs S st k) (StandsAt inputs) (may_change types f) (owning types f) (rooted_of types f rest inputs S st k) sigs place S S' k.covered o r (change_owning types f rest inputs S st k sigs n place S' o free right r h.type) h.typed h.buffer h.owned s
         (characters_type types) (text_parts r) given (text_given Append given is right (λ l. refl)) right.closed)
 
@@ -136,33 +139,33 @@ module _ (types : Types) (f : Function) (rest : ℕ → ℕ) (inputs : Root → 
     solid_vector = ap is_void is_vector
 
     module _ (r : IsReached types f st (StandsAt inputs) (may_change types f) S o) where
-      vector_at : IsOpened types f rest inputs S st k o r (ty.Vector element) element
-      vector_at = vector_opened types f rest inputs S st k o r element is_vector
+      vector_at : (MayLack types f inputs S st r.region.object → ⊥) → IsOpened types f rest inputs S st k o r (ty.Vector element) element
+      vector_at unmoved = vector_opened types f rest inputs S st k o r unmoved element is_vector
 
       vector_parts : parts_at types r.region.ty ≡ Vector element (parts_at types element)
-      vector_parts = parts_typed types k.ordered r.region.ty (ty.Vector element) vector_at.there
+      vector_parts = parts_typed types k.ordered r.region.ty (ty.Vector element) (owner_typed types f rest inputs S st k o r (ty.Vector element) element is_vector refl refl).there
 
     pub vector_clear : IsRight sigs types n f place (Changes o Clear) S S' → OnRight (does s types f (Changes o Clear) st) (FrameCovered types f inputs S')
     vector_clear right =
-        owner_reached Clear right solid_vector (λ r. let h = vector_at r in
+        owner_reached Clear right solid_vector (λ r unmoved. let h = vector_at r unmoved in
         clear_kind types k.ordered f (hand_of rest st) st (store_of types f rest inputs S st k) (StandsAt inputs) (may_change types f) (owning types f) (rooted_of types f rest inputs S st k) sigs place S S' k.covered o r (change_owning types f rest inputs S st k sigs n place S' o free right r h.type) h.typed h.buffer h.owned s
         element (parts_at types element) (vector_parts r) right.closed)
 
     pub vector_pop : IsRight sigs types n f place (Changes o PopBack) S S' → OnRight (does s types f (Changes o PopBack) st) (FrameCovered types f inputs S')
     vector_pop right =
-        owner_reached PopBack right solid_vector (λ r. let h = vector_at r in
+        owner_reached PopBack right solid_vector (λ r unmoved. let h = vector_at r unmoved in
         pop_kind types k.ordered f (hand_of rest st) st (store_of types f rest inputs S st k) (StandsAt inputs) (may_change types f) (owning types f) (rooted_of types f rest inputs S st k) sigs place S S' k.covered o r (change_owning types f rest inputs S st k sigs n place S' o free right r h.type) h.typed h.buffer h.owned s
         element (parts_at types element) (vector_parts r) right.closed)
 
     pub vector_reserve : (count : ℕ) → IsRight sigs types n f place (Changes o (Reserve count)) S S' → OnRight (does s types f (Changes o (Reserve count)) st) (FrameCovered types f inputs S')
     vector_reserve count right =
-        owner_reached (Reserve count) right solid_vector (λ r. let h = vector_at r in
+        owner_reached (Reserve count) right solid_vector (λ r unmoved. let h = vector_at r unmoved in
         reserve_kind types k.ordered f (hand_of rest st) st (store_of types f rest inputs S st k) (StandsAt inputs) (may_change types f) (owning types f) (rooted_of types f rest inputs S st k) sigs place S S' k.covered o r (change_owning types f rest inputs S st k sigs n place S' o free right r h.type) h.typed h.buffer h.owned s
         element (parts_at types element) (vector_parts r) count right.closed)
 
     -- a number
     pub vector_push : (x : ℕ) → is_number_of types f (ty_of types element) x ≡ true → is_value (ty_of types element) ≡ true → IsRight sigs types n f place (Changes o (PushBack x)) S S' → OnRight (does s types f (Changes o (PushBack x)) st) (FrameCovered types f inputs S')
-    vector_push x number value right = owner_reached (PushBack x) right solid_vector (λ r. by_cell r (vector_at r) (cell st x) refl)
+    vector_push x number value right = owner_reached (PushBack x) right solid_vector (λ r unmoved. by_cell r (vector_at r unmoved) (cell st x) refl)
       where
         single : parts_at types element ≡ Single
         single = value_parts types k.ordered element (ty_of types element) (type_there types element (ty_of types element) refl (value_solid (ty_of types element) value)) value
@@ -179,4 +182,4 @@ module _ (types : Types) (f : Function) (rest : ℕ → ℕ) (inputs : Root → 
     -- what is neither a number nor an object isn't added
     pub not_pushed : (x : ℕ) (v : Option Cell) → cell st x ≡ v → IsRight sigs types n f place (Changes o (PushBack x)) S S' → ((spot : Spot) → OnRight (pushes s types f (operand_parts types f o) spot x v st) (FrameCovered types f inputs S'))
         → OnRight (does s types f (Changes o (PushBack x)) st) (FrameCovered types f inputs S')
-    not_pushed x v e right none = owner_reached (PushBack x) right solid_vector (λ r. no_value r x v e (none (record { object = r.region.object; index = r.index; word = r.region.word })))
+    not_pushed x v e right none = owner_reached (PushBack x) right solid_vector (λ r unmoved. no_value r x v e (none (record { object = r.region.object; index = r.index; word = r.region.word })))

@@ -16,9 +16,12 @@ use Rattle.life_store.specs.Parts.{Parts, Single, Raw, Iterates, Views, Text, Ve
 use Rattle.life_store.specs.declared.run.TrapKind.TheVariants as trap
 use Rattle.life_store.proofs.CellLemmas.{none_some}
 use Rattle.life_forest.specs.Typed.{IsStore}
+use Rattle.life_forest.specs.Forest.{Beneath}
+use Rattle.life_forest.specs.Kinds.{kinds_of}
 use Rattle.life_forest.proofs.Members.{within_self}
-use Rattle.life_cover.specs.Buffered.{AreBuffered, HasBuffers}
-use Rattle.life_cover.proofs.Buffers.{buffer, buffer_parts, buffer_type}
+use Rattle.life_cover.specs.Buffered.{AreBut, HasBuffers}
+use Rattle.life_cover.specs.Regions.{Region, foot_of}
+use Rattle.life_cover.proofs.Buffers.{buffer, buffer_parts, buffer_type, low}
 use Rattle.life_cover.proofs.OwnersStay.{owned_is}
 use Rattle.life_cover.proofs.Pointers.{IfRight}
 use Rattle.life_cover.proofs.Walks.{by_test, then_right}
@@ -52,7 +55,8 @@ whole_within types plain (suc n) id = go (λ part. whole_within types plain n pa
 pub whole_parts : (types : Types) → types.structs ≡ [] → (id : TyId) → IsWhole (parts_at types id)
 whole_parts types plain id = whole_within types plain (suc id.0) id
 
-module _ (types : Types) (ordered : IsOrdered types) (hand : ℕ → ℕ) (c : Content) (store : IsStore types hand c) (buffered : AreBuffered types c) (s : Setting) where
+module _ (types : Types) (ordered : IsOrdered types) (hand : ℕ → ℕ) (c : Content) (store : IsStore types hand c) (bare : ℕ → Type 0) (buffered : AreBut types bare c)
+    (clear : (a : Region) (b : ℕ) → Beneath (kinds_of types) c (foot_of types a) b → bare b → ⊥) (s : Setting) where
   -- ---- only new objects came
 
   pub record IsLater (d : Content) : Type 0 where
@@ -110,30 +114,30 @@ module _ (types : Types) (ordered : IsOrdered types) (hand : ℕ → ℕ) (c : C
       (slots_right copy (slots_at d b) each f.1 h.1) (λ vs k. filled_later vs.1 f.0 vs.0 h.0 k))
 
   -- the value in a slot of an object, whose owner's word these words begin with
-  pub copied_right : (p : Parts) → IsWhole p → (n i : ℕ) (o : Object) (t : Slot) → parts_at types o.ty ≡ p → at c.objects n ≡ Some o → slice_get o.slots i ≡ Some t → (ws : List ℕ) → slice_index ws 0 ≡ slice_index t.words 0 → (d : Content) → IsLater d
+  pub copied_right : (p : Parts) → IsWhole p → (n i : ℕ) (o : Object) (t : Slot) → (bare n → ⊥) → parts_at types o.ty ≡ p → at c.objects n ≡ Some o → slice_get o.slots i ≡ Some t → (ws : List ℕ) → slice_index ws 0 ≡ slice_index t.words 0 → (d : Content) → IsLater d
       → IfRight (copied s p ws d) (λ v. IsLater v.1)
-  copied_right Single is n i o t typed there slot ws e d later = later
-  copied_right Raw is n i o t typed there slot ws e d later = later
-  copied_right Iterates is n i o t typed there slot ws e d later = later
-  copied_right Views is n i o t typed there slot ws e d later = later
-  copied_right (Unique ty target) is n i o t typed there slot ws e d later = tt
-  copied_right NoMember is n i o t typed there slot ws e d later = later
-  copied_right (Member first others) is n i o t typed there slot ws e d later = absurd is
-  copied_right (Text ty) is n i o t typed there slot ws e d later =
-      let b = subst (λ (p : Parts). HasBuffers p t.words) typed (buffered n i o t there slot) in
+  copied_right Single is n i o t free typed there slot ws e d later = later
+  copied_right Raw is n i o t free typed there slot ws e d later = later
+  copied_right Iterates is n i o t free typed there slot ws e d later = later
+  copied_right Views is n i o t free typed there slot ws e d later = later
+  copied_right (Unique ty target) is n i o t free typed there slot ws e d later = tt
+  copied_right NoMember is n i o t free typed there slot ws e d later = later
+  copied_right (Member first others) is n i o t free typed there slot ws e d later = absurd is
+  copied_right (Text ty) is n i o t free typed there slot ws e d later =
+      let b = subst (λ (p : Parts). HasBuffers p t.words) typed (buffered n i o t free there slot) in
       subst (λ (x : Option ℕ). IfRight (copied_buffer s ty 1 (λ vs g. Got (vs, g)) x d) (λ v. IsLater v.1)) (sym (ap owned_in e ∙ b.1)) (buffer_right ty 1 (λ vs g. Got (vs, g)) b.0 d later (λ j u h g k. k))
-  copied_right (Vector ty element) is n i o t typed there slot ws e d later =
-      let b = subst (λ (p : Parts). HasBuffers p t.words) typed (buffered n i o t there slot) in
+  copied_right (Vector ty element) is n i o t free typed there slot ws e d later =
+      let b = subst (λ (p : Parts). HasBuffers p t.words) typed (buffered n i o t free there slot) in
       subst (λ (x : Option ℕ). IfRight (copied_buffer s ty (width element) (copied s element) x d) (λ v. IsLater v.1)) (sym (ap owned_in e ∙ b.1))
       (buffer_right ty (width element) (copied s element) b.0 d later
-      (inner (λ m j x u parts_are at_m at_j g k. copied_right element is m j x u parts_are at_m at_j u.words refl g k) b.0 (owned_is c n i 0 o there ∙ ap (λ (x : Option Slot). owned_in (word_in x 0)) slot ∙ b.1)))
+      (inner (λ m j x u free_m parts_are at_m at_j g k. copied_right element is m j x u free_m parts_are at_m at_j u.words refl g k) b.0 (owned_is c n i 0 o there ∙ ap (λ (x : Option Slot). owned_in (word_in x 0)) slot ∙ b.1)))
     where
       lt : i < length o.slots
       lt = slot_within o.slots i t slot
 
-      inner : ((m j : ℕ) (x : Object) (u : Slot) → parts_at types x.ty ≡ element → at c.objects m ≡ Some x → slice_get x.slots j ≡ Some u → (g : Content) → IsLater g → IfRight (copied s element u.words g) (λ v. IsLater v.1))
+      inner : ((m j : ℕ) (x : Object) (u : Slot) → (bare m → ⊥) → parts_at types x.ty ≡ element → at c.objects m ≡ Some x → slice_get x.slots j ≡ Some u → (g : Content) → IsLater g → IfRight (copied s element u.words g) (λ v. IsLater v.1))
           → (b : ℕ) → owned_at c (record { object = n; index = i; word = 0 }) ≡ Some b → (j : ℕ) (u : Slot) → slice_get (slots_at d b) j ≡ Some u → (g : Content) → IsLater g → IfRight (copied s element u.words g) (λ v. IsLater v.1)
       inner again b owned j u h g k =
           let x = buffer types ordered hand c store n i 0 o.ty o there (within_self types o.ty) lt ty element typed b owned in
-          again b j x.0 u (ap (parts_at types) (buffer_type types ordered hand c store n i 0 o.ty o there (within_self types o.ty) lt ty element typed b owned) ∙ buffer_parts types ordered hand c store n i 0 o.ty o there (within_self types o.ty) lt ty element typed b owned)
+          again b j x.0 u (clear (record { object = n; word = 0; ty = o.ty }) b (low types ordered hand c store n i 0 o.ty o there (within_self types o.ty) lt ty element typed b owned)) (ap (parts_at types) (buffer_type types ordered hand c store n i 0 o.ty o there (within_self types o.ty) lt ty element typed b owned) ∙ buffer_parts types ordered hand c store n i 0 o.ty o there (within_self types o.ty) lt ty element typed b owned)
           x.1 (sym (ap (λ (y : Option Object). slice_get (slots_if y) j) (later.same b (store.forest.births b x.0 x.1) ∙ x.1)) ∙ h) g k

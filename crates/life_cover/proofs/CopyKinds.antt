@@ -59,11 +59,12 @@ use Rattle.life_cover.specs.Inputs.{IsAllOf, StandsAt, may_change, owning}
 use Rattle.life_cover.specs.Kills.{Closed}
 use Rattle.life_cover.specs.Regions.{IsAt, Region, foot_of, owned_in_type}
 use Rattle.life_cover.specs.Roots.{AreRooted}
+use Rattle.life_cover.specs.Lacking.{MayLack}
 use Rattle.life_cover.proofs.Copied.{copy_named, copy_through, copy_touches}
 use Rattle.life_cover.proofs.Copies.{IsWhole, copied_right, now, whole_parts}
 use Rattle.life_cover.proofs.KnownFrames.{IsKnownFrame, IsRight, hand_of, reach_at, rooted_of, store_of, typed, used_right, whole_location}
 use Rattle.life_cover.proofs.NumberKinds.{character_right}
-use Rattle.life_cover.proofs.Opening.{IsOpened, opened, region_all, slot_there}
+use Rattle.life_cover.proofs.Opening.{region_all, slot_there, IsTyped, owner_typed}
 use Rattle.life_cover.proofs.OwnerElements.{first_of}
 use Rattle.life_cover.proofs.OwnerKinds.{right_got}
 use Rattle.life_cover.proofs.Pointers.{IfRight, OnRight, right_then}
@@ -71,6 +72,8 @@ use Rattle.life_cover.proofs.Reaching.{IsReached, Reach, by_reach, on_place_righ
 use Rattle.life_cover.proofs.SaveKinds.{region_within, value_there, words_touches}
 use Rattle.life_cover.proofs.Unkilled.{unkilled_cover}
 use Rattle.life_cover.proofs.Using.{Faultless}
+use Rattle.life_cover.proofs.Lacking.{low_whole, owner_whole}
+use Rattle.life_rules.proofs.Giving.{at_head}
 
 -- neither a unique_ptr nor a struct
 abbrev pub IsCopyable : Ty → Type 0
@@ -200,8 +203,8 @@ module _ (types : Types) (f : Function) (rest : ℕ → ℕ) (inputs : Root → 
 
       module _ (item : TyId) (owned : owned_in_type types (Some u) ≡ Some item) (buffer : has_buffer u ≡ true) (one : width (parts_of types (parts_at types) (Some u)) ≡ 1) (no_value : parts_of types (parts_at types) (Some u) ≡ Single → ⊥) (holds : holds_owner (tree_of types (tree_at types) (Some u)) ≡ true)
           (r : IsReached types f st (StandsAt inputs) (may_change types f) S to) where
-        into : IsOpened types f rest inputs S st k to r u item
-        into = opened types f rest inputs S st k to r u is item owned buffer
+        into : IsTyped types f rest inputs S st k to r u
+        into = owner_typed types f rest inputs S st k to r u item is (ap is_void (sym is) ∙ solid_to) owned
 
         into_parts : parts_at types r.region.ty ≡ parts_of types (parts_at types) (Some u)
         into_parts = parts_typed types k.ordered r.region.ty u into.there
@@ -217,8 +220,8 @@ module _ (types : Types) (f : Function) (rest : ℕ → ℕ) (inputs : Root → 
             (subst (λ (q : Parts). length ws ≡ width q) (sym into_parts) are.wide) (subst (λ (q : Parts). Known (kinds_of types) st.world.content q ws) (sym into_parts) are.known)
             (subst (λ (q : Parts). (j : ℕ) → 0 < times (owned_of q ws) j → 0 < alive st.world.content j) (sym into_parts) are.living)))
             (faultless_of (copied s (parts_of types (parts_at types) (Some u)) ws st.world.content) _
-            (copied_right types k.ordered (hand_of rest st) st.world.content (store_of types f rest inputs S st k) k.buffered s (parts_of types (parts_at types) (Some u)) (subst IsWhole into_parts (whole_parts types k.plain r.region.ty))
-            h.region.object h.index h.holder t.0 (ap (parts_at types) (all.type h.holder h.there) ∙ from_parts) h.there t.1 ws first st.world.content (now types k.ordered (hand_of rest st) st.world.content (store_of types f rest inputs S st k) k.buffered s))))
+            (copied_right types k.ordered (hand_of rest st) st.world.content (store_of types f rest inputs S st k) (MayLack types f inputs S st) k.buffered (low_whole types f rest inputs S st k) s (parts_of types (parts_at types) (Some u)) (subst IsWhole into_parts (whole_parts types k.plain r.region.ty))
+            h.region.object h.index h.holder t.0 (owner_whole types f rest inputs S st k from h solid_from sigs n place (Copy to from) S' right (at_head from [])) (ap (parts_at types) (all.type h.holder h.there) ∙ from_parts) h.there t.1 ws first st.world.content (now types k.ordered (hand_of rest st) st.world.content (store_of types f rest inputs S st k) (MayLack types f inputs S st) k.buffered (low_whole types f rest inputs S st k) s))))
             (λ v touch. changed r (holds_is ∙ holds) (replaced (parts_of types (parts_at types) (Some u)) spot v) touch)
           where
             spot : Spot
@@ -227,8 +230,8 @@ module _ (types : Types) (f : Function) (rest : ℕ → ℕ) (inputs : Root → 
             ws : List ℕ
             ws = spot_words st.world.content (record { object = h.region.object; index = h.index; word = h.region.word }) (width (parts_of types (parts_at types) (Some u)))
 
-            out : IsOpened types f rest inputs S st k from h u item
-            out = opened types f rest inputs S st k from h u (sym alike ∙ is) item owned buffer
+            out : IsTyped types f rest inputs S st k from h u
+            out = owner_typed types f rest inputs S st k from h u item (sym alike ∙ is) (ap is_void (sym is) ∙ solid_to) owned
 
             from_parts : parts_at types h.region.ty ≡ parts_of types (parts_at types) (Some u)
             from_parts = parts_typed types k.ordered h.region.ty u out.there

@@ -55,6 +55,7 @@ use Rattle.life_cover.specs.Frames.{FrameCovered, RootStands, look_at}
 use Rattle.life_cover.specs.Inputs.{may_change, owning, StandsAt}
 use Rattle.life_cover.specs.Kills.{Closed}
 use Rattle.life_cover.specs.Regions.{Region, foot_of}
+use Rattle.life_cover.specs.Lacking.{MayLack}
 use Rattle.life_cover.proofs.Beside.{Keeps, at_on, kept_object}
 use Rattle.life_cover.proofs.Buffers.{buffer, erase_touches, low}
 use Rattle.life_cover.proofs.HeldElements.{elements_shut, held, vector_operand, vector_parts}
@@ -73,6 +74,7 @@ use Rattle.life_cover.proofs.Reaching.{IsReached, by_reach, spot_is}
 use Rattle.life_cover.proofs.SaveKinds.{region_within}
 use Rattle.life_cover.proofs.Takes.{made_of, named_fact}
 use Rattle.life_cover.proofs.Using.{Faultless}
+use Rattle.life_cover.proofs.Lacking.{owner_whole}
 
 -- ---- an iterator to elsewhere is a trap, and no fault
 
@@ -160,12 +162,15 @@ module _ (types : Types) (f : Function) (rest : ℕ → ℕ) (inputs : Root → 
       (subst (λ (a : AbsPlace). Contains (facts_at (local_place y) (Some (element.At (owned_place a)))) (fact_at (local_place y) (element.At (owned_place r.place)))) r.by.2 (at_head (fact_at (local_place y) (element.At (owned_place r.place))) [])))
 
   module _ (r : IsReached types f st (StandsAt inputs) (may_change types f) S o) where
+    unmoved : MayLack types f inputs S st r.region.object → ⊥
+    unmoved = owner_whole types f rest inputs S st k o r solid sigs number place (Changes o (Erase (whole x) (whole y))) S' right (at_head o [])
+
     abbrev h : IsOpened types f rest inputs S st k o r (ty.Vector item) item
-    h = vector_opened types f rest inputs S st k o r item is_vector
+    h = vector_opened types f rest inputs S st k o r unmoved item is_vector
 
     -- where an element was erased, its position is the pointer's
     abbrev behind : ℕ → Content
-    behind index = erased (parts_at types item) (vector_opened types f rest inputs S st k o r item is_vector).buffer index st.world.content
+    behind index = erased (parts_at types item) (vector_opened types f rest inputs S st k o r unmoved item is_vector).buffer index st.world.content
 
     erased_covered : (index : ℕ) → index < size_of st.world.content h.buffer → FrameCovered types f inputs S' (put_cell y (Points (pointer_to (behind index) h.buffer index 0)) (put_content (behind index) st))
     erased_covered index small =
@@ -178,8 +183,8 @@ module _ (types : Types) (f : Function) (rest : ℕ → ℕ) (inputs : Root → 
               (at_on types k.ordered (hand_of rest st) st.world.content (behind index) (store_of types f rest inputs S st k) (all_of (h.buffer ∷ [])) touch (RootStands types f (StandsAt inputs) st.cells) (RootStands types f (StandsAt inputs) st.cells) r.place r.region
               ((rooted_of types f rest inputs S st k).fits r.place.root) (λ a stands. stands) r.lies not_beneath)
               h.type holder.there owned (look_at types f y) seen (λ e. r.change free) (kinds_of types) (hand_of rest st) store.forest last.0 last.1 single index
-              (let count = (elements_shut types f rest inputs S st k o r item is_vector index small).count last.0 last.1 in
-              let size = ap (λ (q : Option Object). length (slots_if q)) (held types f rest inputs S st k o r item is_vector).1 in
+              (let count = (elements_shut types f rest inputs S st k o r item is_vector unmoved index small).count last.0 last.1 in
+              let size = ap (λ (q : Option Object). length (slots_if q)) (held types f rest inputs S st k o r item is_vector unmoved).1 in
               omega (arith, count, size, small));
         }))
         (λ z v ne e.

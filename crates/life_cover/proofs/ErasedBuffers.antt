@@ -11,8 +11,8 @@ use Rattle.life_store.specs.Owners.{ended, ended_owned, ended_slots, taken_slots
 use Rattle.life_store.specs.Parts.{Parts, Single, Raw, Iterates, Views, Text, Vector, Unique, Member, NoMember, parts_at, width}
 use Rattle.life_store.proofs.CellLemmas.{none_some, some_same}
 use Rattle.life_forest.proofs.Widths.{count-resized}
-use Rattle.life_cover.specs.Buffered.{AreBuffered, HasBuffers}
-use Rattle.life_cover.proofs.Buffering.{Each, all_in, each_append, each_stamped, each_take, ended_but, ended_leaves, have_in, none_left, set_but}
+use Rattle.life_cover.specs.Buffered.{AreBut, HasBuffers}
+use Rattle.life_cover.proofs.Buffering.{Each, each_append, each_stamped, each_take, ended_but, ended_leaves, have_in, none_left, set_but}
 use Rattle.life_cover.proofs.Copies.{IsWhole}
 use Rattle.life_cover.proofs.Rebuffering.{AreFree, AreTaken, slots_taken}
 
@@ -95,9 +95,9 @@ ended_unborn NoMember ws c = refl
 -- ---- a buffer with one element less
 
 -- .. of so many, and each vector and each string has its buffer
-pub record IsShut (types : Types) (b size : ℕ) (d : Content) : Type 0 where
+pub record IsShut (types : Types) (bare : ℕ → Type 0) (b size : ℕ) (d : Content) : Type 0 where
   pub count : (q : Object) → at d.objects b ≡ Some q → length q.slots ≡ size - 1
-  pub buffers : AreBuffered types d
+  pub buffers : AreBut types bare d
 
 module _ (types : Types) where
   free_drop : (p : Parts) (out : ℕ → Type 0) (n : ℕ) (ss : List Slot) → AreFree types p out ss → AreFree types p out (drop n ss)
@@ -105,7 +105,7 @@ module _ (types : Types) where
   free_drop p out (suc n) [] h = h
   free_drop p out (suc n) (t ∷ ss) h = free_drop p out n ss (λ i u e. h (suc i) u e)
 
-  module _ (p : Parts) (whole : IsWhole p) (b index : ℕ) (c : Content) (h : AreBuffered types c) (o : Object) (there : at c.objects b ≡ Some o) (typed : parts_at types o.ty ≡ p) (free : AreFree types p (λ k. ⊥ ⊎ (k ≡ b)) o.slots) (born : b < c.births) (lt : index < length o.slots) where
+  module _ (bare : ℕ → Type 0) (p : Parts) (whole : IsWhole p) (b index : ℕ) (c : Content) (h : AreBut types bare c) (o : Object) (there : at c.objects b ≡ Some o) (typed : parts_at types o.ty ≡ p) (free : AreFree types p (λ k. bare k ⊎ (k ≡ b)) o.slots) (born : b < c.births) (lt : index < length o.slots) where
     module _ (gone : List ℕ) where
       abbrev left : Content
       left = ended p gone c
@@ -116,10 +116,10 @@ module _ (types : Types) where
       abbrev rows : List (List ℕ)
       rows = map words_in (take index o.slots) ++ (taken_slots p (drop (index + 1) o.slots) (ended p gone c)).0
 
-      took : AreTaken types p (λ k. ⊥ ⊎ (k ≡ b)) b (length (drop (index + 1) o.slots)) (ended p gone c) (taken_slots p (drop (index + 1) o.slots) (ended p gone c))
+      took : AreTaken types p (λ k. bare k ⊎ (k ≡ b)) b (length (drop (index + 1) o.slots)) (ended p gone c) (taken_slots p (drop (index + 1) o.slots) (ended p gone c))
       took =
-          slots_taken types p whole (λ k. ⊥ ⊎ (k ≡ b)) b (inr refl) (drop (index + 1) o.slots) (free_drop p (λ k. ⊥ ⊎ (k ≡ b)) (index + 1) o.slots free) (ended p gone c) (let e = ended_unborn p gone c in omega (arith, e, born))
-          (ended_but types (λ k. ⊥ ⊎ (k ≡ b)) p gone c (λ k j q t out is slot. h k j q t is slot))
+          slots_taken types p whole (λ k. bare k ⊎ (k ≡ b)) b (inr refl) (drop (index + 1) o.slots) (free_drop p (λ k. bare k ⊎ (k ≡ b)) (index + 1) o.slots free) (ended p gone c) (let e = ended_unborn p gone c in omega (arith, e, born))
+          (ended_but types (λ k. bare k ⊎ (k ≡ b)) p gone c (λ k j q t out is slot. h k j q t (λ gone. out (inl gone)) is slot))
 
       rows_count : length rows ≡ length o.slots - 1
       rows_count =
@@ -161,28 +161,27 @@ module _ (types : Types) where
             (each_cut (HasBuffers p) q.width (later.1.clock + 1) (length o.slots - 1) index (filled_slots q.slots rows) (omega (arith, lt)) (let e = slots_as in omega (arith, e))
             (subst (λ n. EachOf (HasBuffers p) n (filled_slots q.slots rows)) rows_count (first_filled (HasBuffers p) q.slots rows have_rows)))
 
-        closed : IsShut types b (length o.slots) (with_resize b (length o.slots - 1) index filled_one before)
+        closed : IsShut types bare b (length o.slots) (with_resize b (length o.slots - 1) index filled_one before)
         closed = record {
           count = λ r is. ap (λ (x : Object). length x.slots) (some_same (sym is ∙ at-set_same before.objects b b last refl)) ∙ last_count;
-          buffers = all_in types (with_resize b (length o.slots - 1) index filled_one before)
-              (have_in types (λ k. ⊥) b (with_resize b (length o.slots - 1) index filled_one before)
+          buffers = have_in types bare b (with_resize b (length o.slots - 1) index filled_one before)
               (λ r is. subst (λ (x : Object). Each (HasBuffers (parts_at types x.ty)) x.slots) (some_same (sym (at-set_same before.objects b b last refl) ∙ is)) last_have)
-              (set_but types (λ k. ⊥ ⊎ (k ≡ b)) b last before (with_resize b (length o.slots - 1) index filled_one before) (inl (inr refl)) refl
-              (set_but types (λ k. ⊥ ⊎ (k ≡ b)) b filled_one later.1 before (inl (inr refl)) refl took.buffers)));
+              (set_but types (λ k. bare k ⊎ (k ≡ b)) b last before (with_resize b (length o.slots - 1) index filled_one before) (inl (inr refl)) refl
+              (set_but types (λ k. bare k ⊎ (k ≡ b)) b filled_one later.1 before (inl (inr refl)) refl took.buffers));
         }
 
-      shut : IsShut types b (length o.slots) (closed_up b index (length o.slots) (map words_in (take index o.slots)) (taken_slots p (drop (index + 1) o.slots) (ended p gone c)))
+      shut : IsShut types bare b (length o.slots) (closed_up b index (length o.slots) (map words_in (take index o.slots)) (taken_slots p (drop (index + 1) o.slots) (ended p gone c)))
       shut = go (at later.1.objects b) refl
         where
-          go : (x : Option Object) → at later.1.objects b ≡ x → IsShut types b (length o.slots) (resized_at b (length o.slots - 1) index (filled_if x b rows later.1))
+          go : (x : Option Object) → at later.1.objects b ≡ x → IsShut types bare b (length o.slots) (resized_at b (length o.slots - 1) index (filled_if x b rows later.1))
           go None e =
-              subst (λ (x : Option Object). IsShut types b (length o.slots) (resized_if x b (length o.slots - 1) index later.1)) (sym e)
-              (record { count = λ q is. absurd (none_some (sym e ∙ is)); buffers = all_in types later.1 (have_in types (λ k. ⊥) b later.1 (λ q is. absurd (none_some (sym e ∙ is))) took.buffers) })
+              subst (λ (x : Option Object). IsShut types bare b (length o.slots) (resized_if x b (length o.slots - 1) index later.1)) (sym e)
+              (record { count = λ q is. absurd (none_some (sym e ∙ is)); buffers = have_in types bare b later.1 (λ q is. absurd (none_some (sym e ∙ is))) took.buffers })
           go (Some q) e =
-              subst (λ (x : Option Object). IsShut types b (length o.slots) (resized_if x b (length o.slots - 1) index (with_object b (record q { slots = filled_slots q.slots rows }) later.1))) (sym (at-set_same later.1.objects b b (record q { slots = filled_slots q.slots rows }) refl))
+              subst (λ (x : Option Object). IsShut types bare b (length o.slots) (resized_if x b (length o.slots - 1) index (with_object b (record q { slots = filled_slots q.slots rows }) later.1))) (sym (at-set_same later.1.objects b b (record q { slots = filled_slots q.slots rows }) refl))
               (closed q (was q e))
 
-    pub erased_shut : IsShut types b (length o.slots) (erased p b index c)
+    pub erased_shut : IsShut types bare b (length o.slots) (erased p b index c)
     erased_shut =
-        subst (λ (ss : List Slot). IsShut types b (length o.slots) (closed_up b index (length ss) (map words_in (take index ss)) (taken_slots p (drop (index + 1) ss) (ended p (words_if (slice_get ss index)) c)))) (sym (ap slots_if there))
+        subst (λ (ss : List Slot). IsShut types bare b (length o.slots) (closed_up b index (length ss) (map words_in (take index ss)) (taken_slots p (drop (index + 1) ss) (ended p (words_if (slice_get ss index)) c)))) (sym (ap slots_if there))
         (shut (words_if (slice_get o.slots index)))

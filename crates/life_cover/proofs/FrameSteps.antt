@@ -1,6 +1,6 @@
 -- An instruction of a frame without structs at which nothing is wrong makes no fault, and the facts behind it cover all pointers of
 -- the frame: of values, pointers, vectors, strings, iterators, spans and views, by their types alone.
-use Rattle.std.proofs.Common.{◌≡◌, ◌≢◌, ℕ, Bool, true, false, ◌&&◌, not, List, Some, refl, sym, ap, subst, ◌∙◌, Option}
+use Rattle.std.proofs.Common.{◌≡◌, ◌≢◌, ℕ, Bool, true, false, ◌&&◌, not, List, Some, refl, sym, ap, subst, ◌∙◌, [], Option}
 use Rattle.std.specs.Prelude.{pos}
 use Rattle.std.proofs.lemmas.Bool.{and_parts, false≢true}
 use Rattle.life_types.specs.Pointees.{ty_of}
@@ -45,6 +45,7 @@ use Rattle.life_forest.proofs.TypedSteps.{IsSlotFree, value_solid}
 use Rattle.life_cover.specs.Frames.{FrameCovered, look_at}
 use Rattle.life_cover.specs.Inputs.{may_change, StandsAt}
 use Rattle.life_cover.specs.Regions.{owned_in_type, Region}
+use Rattle.life_cover.specs.Lacking.{MayLack}
 use Rattle.life_cover.proofs.AimKinds.{advances_kind, cuts_kind, empty_kind, null_kind, owner_cursor_kind, owner_item_kind, place_kind, repoint_kind, seen_cursor_kind, seen_item_kind, text_kind, whole_aim_kind}
 use Rattle.life_cover.proofs.ChangeSteps.{change_step}
 use Rattle.life_cover.proofs.CopyKinds.{copy_kind}
@@ -54,13 +55,18 @@ use Rattle.life_cover.proofs.KnownFrames.{at_pointer, IsKnownFrame, IsRight, rea
 use Rattle.life_cover.proofs.LiveKinds.{live_kind}
 use Rattle.life_cover.proofs.MakeKinds.{IsMade}
 use Rattle.life_cover.proofs.MakeSteps.{IsSpokenMade, make_right}
-use Rattle.life_cover.proofs.MoveSteps.{IsSpokenMove, move_right}
+use Rattle.life_cover.proofs.MoveSteps.{IsSpokenMove, by_move}
 use Rattle.life_cover.proofs.Looks.{view_range, HasItem, aims_single, const_kept, element_item, element_ranged, seen_at, spans_range, walks_single, whole_item}
 use Rattle.life_cover.proofs.NumberKinds.{IsPort, eval_kind, load_kind, port_kind, register_covered, same_kind, seen_size_kind}
 use Rattle.life_cover.proofs.Opening.{opened}
 use Rattle.life_cover.proofs.Pointers.{OnRight, right_weaker}
 use Rattle.life_cover.proofs.Reaching.{by_reach, spot_is}
 use Rattle.life_cover.proofs.SaveKinds.{save_kind}
+use Rattle.life_cover.proofs.Lacking.{owner_whole}
+use Rattle.life_cover.proofs.Behind.{no_local}
+use Rattle.life_cover.proofs.MoveKinds.{move_kind}
+use Rattle.life_cover.proofs.BufferMoveKinds.{MovedBare, buffer_move_kind}
+use Rattle.life_rules.proofs.Giving.{at_head}
 
 -- what a well-formed iterator is
 iterator_single : (t : Ty) → is_iterator t ≡ true → is_range t ≡ false
@@ -94,7 +100,7 @@ pub not_false : (b : Bool) → not b ≡ true → b ≡ false
 not_false true e = absurd (false≢true e)
 not_false false e = refl
 
--- ---- the kinds of instructions that are spoken of: no vector and no string is moved, nothing is made of a temporary that owns, and no unique_ptr is opened
+-- ---- the kinds of instructions that are spoken of: nothing is moved to a place behind a pointer, nothing is made of a temporary that owns, and no unique_ptr is opened
 
 abbrev pub IsSpokenSource : Source → Type 0
 IsSpokenSource (named.Get u) = ⊥
@@ -106,7 +112,7 @@ IsElement which.Target = ⊥
 IsElement _ = Unit {0}
 
 abbrev pub IsSpoken : Types → Function → Step → Type 0
-IsSpoken types f (Move to y) = IsSpokenMove types f to
+IsSpoken types f (Move to y) = IsSpokenMove to
 IsSpoken types f (Make u made) = IsSpokenMade types f made
 IsSpoken types f (Call target g xs) = ⊥
 IsSpoken types f (Aim p s) = IsSpokenSource s
@@ -225,7 +231,7 @@ module _ (types : Types) (f : Function) (rest : ℕ → ℕ) (inputs : Root → 
       with_item : (u : Ty) (item : TyId) → type_of types f o ≡ u → owned_in_type types (Some u) ≡ Some item → has_buffer u ≡ true → is_void u ≡ false → Covers (Size r (named.Owner o))
       with_item u item is owned buffer solid =
           by_reach types f st (StandsAt inputs) (may_change types f) S o (reach_at types f rest inputs S st k o (ap is_void is ∙ solid) (λ q used. used_right sigs types n f place (Size r (named.Owner o)) S right.clean q used)) go (FrameCovered types f inputs S')
-          (λ h. let have = opened types f rest inputs S st k o h u is item owned buffer in
+          (λ h. let have = opened types f rest inputs S st k o h (owner_whole types f rest inputs S st k o h (ap is_void is ∙ solid) sigs n place (Size r (named.Owner o)) S' right (at_head o [])) u is item owned buffer in
           subst (λ z. OnRight z (FrameCovered types f inputs S')) (sym (spot_is types f st (StandsAt inputs) (may_change types f) S o h go))
           (subst (λ w. OnRight (on_got (got_or w (GotFault fault.Moved)) (λ b. Next (put_cell r (Number (pos (size_of st.world.content b))) st))) (FrameCovered types f inputs S')) (sym have.owned)
           (register_covered types f rest inputs S st k sigs n place S' (Size r (named.Owner o)) right (λ e. refl) (λ l. refl) r number (pos (size_of st.world.content have.buffer)))))
@@ -267,7 +273,12 @@ module _ (types : Types) (f : Function) (rest : ℕ → ℕ) (inputs : Root → 
       let unique = (and_parts (not (holds_unique (tree_if types (operand_type types f to)))) _ (and_parts (not (is_pointer (type_of types f to))) _ first.1).1).0 in
       copy_kind types f rest inputs S st k sigs n place S' s to from (not_false (is_const_place types f to) (and_parts (not (holds_unique (tree_if types (operand_type types f to)))) (not (is_const_place types f to)) (and_parts (not (is_pointer (type_of types f to))) _ first.1).1).1) right (same_solid (type_of types f to) (type_of types f from) first.0) (also_solid (type_of types f to) (type_of types f from) first.0) (same_is (type_of types f to) (type_of types f from) first.0)
       (not_false (is_pointer (type_of types f to)) pointer) (copied_type types f rest inputs S st k to (same_solid (type_of types f to) (type_of types f from) first.0) unique)
-  step_covered (Move to y) spoken right e free ready = right_weaker (does s types f (Move to y) st) (IsMade types f inputs S' st) (FrameCovered types f inputs S') (move_right types f rest inputs S st k sigs n place S' texts fs s y to spoken right e) (λ after h. h.0)
+  step_covered (Move to y) spoken right e free ready =
+      by_move types f rest inputs S st k sigs n place S' texts fs y (λ q. Covers (Move q y))
+      (λ x now unique alike other. right_weaker (does s types f (Move (named.Name (whole x)) y) st) (IsMade types f inputs S' (MayLack types f inputs S st) no_local st) (FrameCovered types f inputs S') (move_kind types f rest inputs S st k sigs n place S' s x y now unique alike other) (λ after h. h.0))
+      (λ x now buffer alike other.
+      right_weaker (does s types f (Move (named.Name (whole x)) y) st) (IsMade types f inputs S' (MovedBare types f rest inputs S st k x y) no_local st) (FrameCovered types f inputs S') (buffer_move_kind types f rest inputs S st k sigs n place S' s x y now buffer alike other) (λ after h. h.0))
+      to spoken right e
   step_covered (Aim p sr) spoken right e free ready =
       to_pointer p (source_points (type_in types f p) sr spoken e) (λ q. Right (Aim q sr) → is_source_of types texts fs f (type_in types f q) sr ≡ true → Covers (Aim q sr)) (λ q now here. aim_step q sr spoken now here) right e
   step_covered (Repoint p q) spoken right e free ready =
@@ -315,6 +326,6 @@ module _ (types : Types) (f : Function) (rest : ℕ → ℕ) (inputs : Root → 
   step_covered (Changes o c) spoken right e free ready =
       let both = and_parts (is_change_of types texts fs f (type_of types f o) c) (not (is_const_place types f o)) e in
       change_step types f rest inputs S st k sigs n place S' texts fs s o (not_false (is_const_place types f o) both.1) c (type_of types f o) refl right both.0
-  step_covered (Make u m) spoken right e free ready = right_weaker (does s types f (Make u m) st) (IsMade types f inputs S' st) (FrameCovered types f inputs S') (make_right types f rest inputs S st k sigs n place S' texts fs s u m spoken right e) (λ after h. h.0)
+  step_covered (Make u m) spoken right e free ready = right_weaker (does s types f (Make u m) st) (IsMade types f inputs S' (MayLack types f inputs S st) no_local st) (FrameCovered types f inputs S') (make_right types f rest inputs S st k sigs n place S' texts fs s u m spoken right e) (λ after h. h.0)
   step_covered (Call target g xs) spoken right e free ready = absurd spoken
   step_covered (Ports p) spoken right e free ready = port_kind types f rest inputs S st k sigs n place S' s p right (port_whole p e)

@@ -24,8 +24,8 @@ use Rattle.life_forest.specs.Forest.{Touches}
 use Rattle.life_forest.specs.Frames.{OnNext}
 use Rattle.life_forest.specs.Kinds.{kinds_of}
 use Rattle.life_forest.specs.Owned.{hit, owns, owns_at, owns_if, spared}
-use Rattle.life_cover.specs.Buffered.{AreBuffered}
-use Rattle.life_cover.proofs.Buffering.{all_in, birth_but, none_out, set_but, single_have}
+use Rattle.life_cover.specs.Buffered.{AreBut}
+use Rattle.life_cover.proofs.Buffering.{birth_but, set_but, single_have}
 use Rattle.life_cover.proofs.KeptCopies.{object_parts}
 use Rattle.life_cover.proofs.Putting.{set_other}
 use Rattle.life_cover.proofs.Unkilled.{no_foot}
@@ -60,16 +60,16 @@ module _ (types : Types) (c d : Content) (word : ℕ) (ty : TyId) (single : part
 -- ---- behind a local that is given a value
 
 -- what is named was named, is what was given, or is new; a pointer is what was given, and all other cells are as they were
-pub record IsGiven (types : Types) (x : ℕ) (v : Cell) (st st' : State) : Type 0 where
+pub record IsGiven (types : Types) (bare : ℕ → Type 0) (x : ℕ) (v : Cell) (st st' : State) : Type 0 where
   pub touch : Touches (kinds_of types) no_foot st.world.content st'.world.content
-  pub buffered : AreBuffered types st'.world.content
+  pub buffered : AreBut types bare st'.world.content
   pub named : (y n : ℕ) → slice_get st'.cells y ≡ Some (Named n) → (slice_get st.cells y ≡ Some (Named n)) ⊎ ((v ≡ Named n) ⊎ (st.world.content.births ≤ n))
   pub points : (y : ℕ) (p : Pointer) → slice_get st'.cells y ≡ Some (Points p) → ((x ≡ y) × (v ≡ Points p)) ⊎ ((x ≢ y) × (slice_get st.cells y ≡ Some (Points p)))
   pub stays : (y : ℕ) → x ≢ y → slice_get st'.cells y ≡ slice_get st.cells y
 
-module _ (types : Types) (ordered : IsOrdered types) (s : Setting) (x : ℕ) (v : Cell) (st : State) (buffered : AreBuffered types st.world.content) where
-  given_cell : (new : Cell) (d : Content) → ((p : Pointer) → new ≡ Points p → v ≡ Points p) → ((n : ℕ) → new ≡ Named n → (v ≡ Named n) ⊎ (st.world.content.births ≤ n)) → Touches (kinds_of types) no_foot st.world.content d → AreBuffered types d
-      → IsGiven types x v st (put_cell x new (put_content d st))
+module _ (types : Types) (ordered : IsOrdered types) (s : Setting) (x : ℕ) (v : Cell) (st : State) (bare : ℕ → Type 0) (buffered : AreBut types bare st.world.content) where
+  given_cell : (new : Cell) (d : Content) → ((p : Pointer) → new ≡ Points p → v ≡ Points p) → ((n : ℕ) → new ≡ Named n → (v ≡ Named n) ⊎ (st.world.content.births ≤ n)) → Touches (kinds_of types) no_foot st.world.content d → AreBut types bare d
+      → IsGiven types bare x v st (put_cell x new (put_content d st))
   given_cell new d point name touch kept = record {
     touch = touch;
     buffered = kept;
@@ -97,30 +97,28 @@ module _ (types : Types) (ordered : IsOrdered types) (s : Setting) (x : ℕ) (v 
   number_nameless z n e = cc
 
   -- an object comes to life with a value
-  object_given : (ty : TyId) → parts_at types ty ≡ Single → (z : ℤ) → OnNext (born_with s ty z x st) (IsGiven types x v st)
+  object_given : (ty : TyId) → parts_at types ty ≡ Single → (z : ℤ) → OnNext (born_with s ty z x st) (IsGiven types bare x v st)
   object_given ty single z = go (nat_lt s.given.cells (live_words_of st.world.content + (2 + 1 * 1)))
     where
-      born : AreBuffered types (with_value_object ty st.world.content)
+      born : AreBut types bare (with_value_object ty st.world.content)
       born =
-          all_in types (with_value_object ty st.world.content)
-          (set_but types (λ n. ⊥) st.world.content.births (resized (st.world.content.clock + 1) 1 0 (newborn ty 1 1 st.world.content.clock)) (with_birth ty 1 1 st.world.content) (with_value_object ty st.world.content)
-          (inr (single_have types (resized (st.world.content.clock + 1) 1 0 (newborn ty 1 1 st.world.content.clock)) single)) refl (birth_but types (λ n. ⊥) ty 1 1 st.world.content (none_out types st.world.content buffered)))
+          set_but types bare st.world.content.births (resized (st.world.content.clock + 1) 1 0 (newborn ty 1 1 st.world.content.clock)) (with_birth ty 1 1 st.world.content) (with_value_object ty st.world.content)
+          (inr (single_have types (resized (st.world.content.clock + 1) 1 0 (newborn ty 1 1 st.world.content.clock)) single)) refl (birth_but types bare ty 1 1 st.world.content buffered)
 
       go : (full : Bool)
-          → OnNext (on_next (cond full (Traps trap.Cells) (Next (put_cell x (Named st.world.content.births) (put_content (with_value_object ty st.world.content) st)))) (λ later. on_found (found_at later.world.content st.world.content.births 0) (λ n i o. Next (saved z n i 0 o later)))) (IsGiven types x v st)
+          → OnNext (on_next (cond full (Traps trap.Cells) (Next (put_cell x (Named st.world.content.births) (put_content (with_value_object ty st.world.content) st)))) (λ later. on_found (found_at later.world.content st.world.content.births 0) (λ n i o. Next (saved z n i 0 o later)))) (IsGiven types bare x v st)
       go true = tt
       go false =
-          subst (λ (o : Option Object). OnNext (on_found (found_in o st.world.content.births 0) (λ n i q. Next (saved z n i 0 q (put_cell x (Named st.world.content.births) (put_content (with_value_object ty st.world.content) st))))) (IsGiven types x v st))
+          subst (λ (o : Option Object). OnNext (on_found (found_in o st.world.content.births 0) (λ n i q. Next (saved z n i 0 q (put_cell x (Named st.world.content.births) (put_content (with_value_object ty st.world.content) st))))) (IsGiven types bare x v st))
           (sym (at-set_same (with_birth ty 1 1 st.world.content).objects st.world.content.births st.world.content.births (resized (st.world.content.clock + 1) 1 0 (newborn ty 1 1 st.world.content.clock)) refl))
           (given_cell (Named st.world.content.births) (with_object st.world.content.births (with_word 0 0 (word_of_number z) (resized (st.world.content.clock + 1) 1 0 (newborn ty 1 1 st.world.content.clock))) (with_value_object ty st.world.content)) (named_other st.world.content.births)
           (λ n e. inr (subst (λ j. st.world.content.births ≤ j) (same e) (omega arith)))
           (new_touches types st.world.content (with_object st.world.content.births (with_word 0 0 (word_of_number z) (resized (st.world.content.clock + 1) 1 0 (newborn ty 1 1 st.world.content.clock))) (with_value_object ty st.world.content)) (word_of_number z) ty single
           (st.world.content.clock + 1) 1 (st.world.content.clock + 1)
           (at-set_same (with_value_object ty st.world.content).objects st.world.content.births st.world.content.births _ refl) others (omega arith) (omega arith))
-          (all_in types (with_object st.world.content.births (with_word 0 0 (word_of_number z) (resized (st.world.content.clock + 1) 1 0 (newborn ty 1 1 st.world.content.clock))) (with_value_object ty st.world.content))
-          (set_but types (λ n. ⊥) st.world.content.births (with_word 0 0 (word_of_number z) (resized (st.world.content.clock + 1) 1 0 (newborn ty 1 1 st.world.content.clock))) (with_value_object ty st.world.content)
+          (set_but types bare st.world.content.births (with_word 0 0 (word_of_number z) (resized (st.world.content.clock + 1) 1 0 (newborn ty 1 1 st.world.content.clock))) (with_value_object ty st.world.content)
           (with_object st.world.content.births (with_word 0 0 (word_of_number z) (resized (st.world.content.clock + 1) 1 0 (newborn ty 1 1 st.world.content.clock))) (with_value_object ty st.world.content))
-          (inr (single_have types (with_word 0 0 (word_of_number z) (resized (st.world.content.clock + 1) 1 0 (newborn ty 1 1 st.world.content.clock))) single)) refl (none_out types (with_value_object ty st.world.content) born))))
+          (inr (single_have types (with_word 0 0 (word_of_number z) (resized (st.world.content.clock + 1) 1 0 (newborn ty 1 1 st.world.content.clock))) single)) refl born))
         where
           same : {i j : ℕ} → Named i ≡ Named j → i ≡ j
           same e = cc
@@ -132,7 +130,7 @@ module _ (types : Types) (ordered : IsOrdered types) (s : Setting) (x : ℕ) (v 
               ∙ at-set_other (with_birth ty 1 1 st.world.content).objects st.world.content.births n (resized (st.world.content.clock + 1) 1 0 (newborn ty 1 1 st.world.content.clock)) ne
               ∙ at-set_other st.world.content.objects st.world.content.births n (newborn ty 1 1 st.world.content.clock) ne
 
-  number_given_to : (f : Function) (l : Local) (h : Holding) (z : ℤ) → (h ≡ AnObject → parts_at types l.ty ≡ Single) → OnNext (number_given s h l.ty z x st) (IsGiven types x v st)
+  number_given_to : (f : Function) (l : Local) (h : Holding) (z : ℤ) → (h ≡ AnObject → parts_at types l.ty ≡ Single) → OnNext (number_given s h l.ty z x st) (IsGiven types bare x v st)
   number_given_to f l AnObject z single = object_given l.ty (single refl) z
   number_given_to f l ANumber z single = given_cell (Number z) st.world.content (number_other z) (λ n e. absurd (number_nameless z n e)) nothing_touched buffered
   number_given_to f l Blank z single = tt
@@ -143,20 +141,20 @@ module _ (types : Types) (ordered : IsOrdered types) (s : Setting) (x : ℕ) (v 
 abbrev pub TakesNoSlot : Types → Function → ℕ → Cell → Type 0
 TakesNoSlot types f x v = (l : Local) (n : ℕ) → slice_get f.locals x ≡ Some l → v ≡ Named n → is_slot_at types l.ty ≡ false
 
-pub value_given : (types : Types) (ordered : IsOrdered types) (s : Setting) (f : Function) (x : ℕ) (v : Cell) (st : State) → AreBuffered types st.world.content → IsFilled v → TakesNoSlot types f x v → OnNext (given s types f v x st) (IsGiven types x v st)
-value_given types ordered s f x v st buffered is free = by_local (slice_get f.locals x) refl
+pub value_given : (types : Types) (ordered : IsOrdered types) (s : Setting) (f : Function) (x : ℕ) (v : Cell) (st : State) (bare : ℕ → Type 0) → AreBut types bare st.world.content → IsFilled v → TakesNoSlot types f x v → OnNext (given s types f v x st) (IsGiven types bare x v st)
+value_given types ordered s f x v st bare buffered is free = by_local (slice_get f.locals x) refl
   where
-    by_cell : (l : Local) → slice_get f.locals x ≡ Some l → (u : Cell) → v ≡ u → IsFilled u → OnNext (given_to s types (sort_of types f x) l.ty u x st) (IsGiven types x v st)
+    by_cell : (l : Local) → slice_get f.locals x ≡ Some l → (u : Cell) → v ≡ u → IsFilled u → OnNext (given_to s types (sort_of types f x) l.ty u x st) (IsGiven types bare x v st)
     by_cell l there Empty e h = absurd h
-    by_cell l there (Points p) e h = given_cell types ordered s x v st buffered (Points p) st.world.content (λ q k. e ∙ k) (λ n k. absurd (unlike n k)) (nothing_touched types ordered s x v st buffered) buffered
+    by_cell l there (Points p) e h = given_cell types ordered s x v st bare buffered (Points p) st.world.content (λ q k. e ∙ k) (λ n k. absurd (unlike n k)) (nothing_touched types ordered s x v st bare buffered) buffered
       where
         unlike : (n : ℕ) → Points p ≡ Named n → ⊥
         unlike n k = cc
-    by_cell l there (Number z) e h = number_given_to types ordered s x v st buffered f l (sort_of types f x) z (object_parts types ordered f x l there)
+    by_cell l there (Number z) e h = number_given_to types ordered s x v st bare buffered f l (sort_of types f x) z (object_parts types ordered f x l there)
     by_cell l there (Named n) e h =
-        subst (λ (b : Bool). OnNext (cond b (slot_born s types l.ty (Some n) x st) (Next (put_cell x (Named n) st))) (IsGiven types x v st)) (sym (free l n there e))
-        (given_cell types ordered s x v st buffered (Named n) st.world.content (named_other types ordered s x v st buffered n) (λ m k. inl (e ∙ k)) (nothing_touched types ordered s x v st buffered) buffered)
+        subst (λ (b : Bool). OnNext (cond b (slot_born s types l.ty (Some n) x st) (Next (put_cell x (Named n) st))) (IsGiven types bare x v st)) (sym (free l n there e))
+        (given_cell types ordered s x v st bare buffered (Named n) st.world.content (named_other types ordered s x v st bare buffered n) (λ m k. inl (e ∙ k)) (nothing_touched types ordered s x v st bare buffered) buffered)
 
-    by_local : (o : Option Local) → slice_get f.locals x ≡ o → OnNext (given_if s types f o v x st) (IsGiven types x v st)
+    by_local : (o : Option Local) → slice_get f.locals x ≡ o → OnNext (given_if s types f o v x st) (IsGiven types bare x v st)
     by_local None e = tt
     by_local (Some l) e = by_cell l e v refl is

@@ -1,5 +1,5 @@
 -- The elements of a vector that is reached in a frame without structs: its buffer is of their type, and what they have lives and isn't the buffer.
-use Rattle.std.proofs.Common.{◌≡◌, ℕ, ◌<◌, length, Option, Some, sym, ap, subst, ◌∙◌, arith, ◌⊎◌, ⊎_elim}
+use Rattle.std.proofs.Common.{◌≡◌, ℕ, ◌<◌, length, Option, Some, refl, sym, ap, subst, ◌∙◌, arith, ◌⊎◌, ⊎_elim}
 use Rattle.std.specs.Prelude.{slice_get}
 use Rattle.life_types.specs.Types.{Types}
 use Rattle.life_types.specs.declared.ty.Ty.TheVariants as ty
@@ -22,71 +22,84 @@ use Rattle.life_forest.proofs.Members.{within_self}
 use Rattle.life_forest.proofs.SeenTypes.{parts_typed}
 use Rattle.life_cover.specs.Buffered.{HasBuffers}
 use Rattle.life_cover.specs.Inputs.{may_change, StandsAt}
+use Rattle.life_cover.specs.Lacking.{MayLack}
 use Rattle.life_cover.specs.Regions.{Region, foot_of}
 use Rattle.life_cover.proofs.Buffers.{buffer, buffer_lives, buffer_low, buffer_type}
 use Rattle.life_cover.proofs.Copies.{slot_within, whole_parts}
 use Rattle.life_cover.proofs.ErasedBuffers.{IsShut, erased_shut}
 use Rattle.life_cover.proofs.Inside.{not_itself}
 use Rattle.life_cover.proofs.KnownFrames.{IsKnownFrame, hand_of, store_of}
-use Rattle.life_cover.proofs.Opening.{IsOpened, vector_opened}
+use Rattle.life_cover.proofs.Lacking.{low_whole}
+use Rattle.life_cover.proofs.Opening.{IsOpened, IsTyped, owner_typed, vector_opened}
 use Rattle.life_cover.proofs.OwnersStay.{owned_is}
 use Rattle.life_cover.proofs.Reaching.{IsReached}
 use Rattle.life_cover.proofs.Rebuffering.{AreFree, IsFree}
 use Rattle.life_cover.proofs.SaveKinds.{region_within}
 
 module _ (types : Types) (f : Function) (rest : ℕ → ℕ) (inputs : Root → Option Region) (S : Fact → Type 0) (st : State) (k : IsKnownFrame types f rest inputs S st) (o : Operand) (r : IsReached types f st (StandsAt inputs) (may_change types f) S o) (element : TyId) (is_vector : type_of types f o ≡ ty.Vector element) where
-  abbrev vector_at : IsOpened types f rest inputs S st k o r (ty.Vector element) element
-  vector_at = vector_opened types f rest inputs S st k o r element is_vector
+  typed_at : IsTyped types f rest inputs S st k o r (ty.Vector element)
+  typed_at = owner_typed types f rest inputs S st k o r (ty.Vector element) element is_vector refl refl
 
   pub vector_parts : parts_at types r.region.ty ≡ Vector element (parts_at types element)
-  vector_parts = parts_typed types k.ordered r.region.ty (ty.Vector element) vector_at.there
+  vector_parts = parts_typed types k.ordered r.region.ty (ty.Vector element) typed_at.there
 
   pub vector_operand : operand_parts types f o ≡ Vector element (parts_at types element)
-  vector_operand = ap (parts_if types) vector_at.typed ∙ vector_parts
+  vector_operand = ap (parts_if types) typed_at.typed ∙ vector_parts
 
-  pub held : (x : Object) × (at st.world.content.objects (vector_opened types f rest inputs S st k o r element is_vector).buffer ≡ Some x)
-  held =
-      buffer types k.ordered (hand_of rest st) st.world.content (store_of types f rest inputs S st k) r.region.object r.index r.region.word r.region.ty r.holder r.there (region_within types f rest inputs S st k o r) r.small element (parts_at types element) vector_parts vector_at.buffer vector_at.owned
+  module _ (unmoved : MayLack types f inputs S st r.region.object → ⊥) where
+    abbrev vector_at : IsOpened types f rest inputs S st k o r (ty.Vector element) element
+    vector_at = vector_opened types f rest inputs S st k o r unmoved element is_vector
 
-  pub held_type : held.0.ty ≡ element
-  unfolding held
-  held_type =
-      buffer_type types k.ordered (hand_of rest st) st.world.content (store_of types f rest inputs S st k) r.region.object r.index r.region.word r.region.ty r.holder r.there (region_within types f rest inputs S st k o r) r.small element (parts_at types element) vector_parts vector_at.buffer vector_at.owned
+    pub held : (x : Object) × (at st.world.content.objects (vector_opened types f rest inputs S st k o r unmoved element is_vector).buffer ≡ Some x)
+    held =
+        buffer types k.ordered (hand_of rest st) st.world.content (store_of types f rest inputs S st k) r.region.object r.index r.region.word r.region.ty r.holder r.there (region_within types f rest inputs S st k o r) r.small element (parts_at types element) vector_parts vector_at.buffer vector_at.owned
 
-  -- all of the buffer
-  abbrev pub elements_region : Region
-  elements_region = record { object = (vector_opened types f rest inputs S st k o r element is_vector).buffer; word = 0; ty = held.0.ty }
+    pub held_type : held.0.ty ≡ element
+    unfolding held
+    held_type =
+        buffer_type types k.ordered (hand_of rest st) st.world.content (store_of types f rest inputs S st k) r.region.object r.index r.region.word r.region.ty r.holder r.there (region_within types f rest inputs S st k o r) r.small element (parts_at types element) vector_parts vector_at.buffer vector_at.owned
 
-  -- what its elements have, as long as nothing that lives beneath it is left out
-  module _ (out : ℕ → Type 0) (never : (m : ℕ) (q : Object) → at st.world.content.objects m ≡ Some q → Beneath (kinds_of types) st.world.content (foot_of types elements_region) m → out m → ⊥) where
-    free_of : (p : Parts) → parts_at types held.0.ty ≡ p → (j : ℕ) (t : Slot) → slice_get held.0.slots j ≡ Some t → IsFree types p out t.words
-    free_of (Text id) typed j t slot = λ m e.
-        let old = ap listed (owned_is st.world.content vector_at.buffer j 0 held.0 held.1 ∙ ap (λ (x : Option Slot). owned_in (word_in x 0)) slot ∙ e) in
-        let l = buffer_lives types k.ordered (hand_of rest st) st.world.content (store_of types f rest inputs S st k) vector_at.buffer j 0 held.0.ty held.0 held.1 (within_self types held.0.ty) (slot_within held.0.slots j t slot) (Text id) typed m old in
-        never m l.0 l.1 (buffer_low types k.ordered (hand_of rest st) st.world.content (store_of types f rest inputs S st k) vector_at.buffer j 0 held.0.ty held.0 held.1 (within_self types held.0.ty) (slot_within held.0.slots j t slot) (Text id) typed m old)
-    free_of Single typed j t slot = tt
-    free_of Raw typed j t slot = tt
-    free_of Iterates typed j t slot = tt
-    free_of Views typed j t slot = tt
-    free_of (Vector id item) typed j t slot = tt
-    free_of (Unique id target) typed j t slot = tt
-    free_of (Member first others) typed j t slot = tt
-    free_of NoMember typed j t slot = tt
+    -- all of the buffer
+    abbrev pub elements_region : Region
+    elements_region = record { object = (vector_opened types f rest inputs S st k o r unmoved element is_vector).buffer; word = 0; ty = held.0.ty }
 
-    held_free : AreFree types (parts_at types element) out held.0.slots
-    held_free j t here = (
-      subst (λ (id : TyId). HasBuffers (parts_at types id) t.words) held_type (k.buffered vector_at.buffer j held.0 t held.1 here),
-      free_of (parts_at types element) (ap (parts_at types) held_type) j t here,
-    )
+    -- it isn't bare, since the vector owns it
+    pub not_bare : MayLack types f inputs S st vector_at.buffer → ⊥
+    not_bare =
+        low_whole types f rest inputs S st k r.region vector_at.buffer
+        (buffer_low types k.ordered (hand_of rest st) st.world.content (store_of types f rest inputs S st k) r.region.object r.index r.region.word r.region.ty r.holder r.there (region_within types f rest inputs S st k o r) r.small
+        (Vector element (parts_at types element)) vector_parts vector_at.buffer (ap listed vector_at.owned))
 
-    pub all_free : AreFree types (parts_at types element) out (slots_at st.world.content vector_at.buffer)
-    all_free j t slot = held_free j t (sym (ap (λ (x : Option Object). slice_get (slots_if x) j) held.1) ∙ slot)
+    -- what its elements have, as long as nothing that lives beneath it is left out
+    module _ (out : ℕ → Type 0) (never : (m : ℕ) (q : Object) → at st.world.content.objects m ≡ Some q → Beneath (kinds_of types) st.world.content (foot_of types elements_region) m → out m → ⊥) where
+      free_of : (p : Parts) → parts_at types held.0.ty ≡ p → (j : ℕ) (t : Slot) → slice_get held.0.slots j ≡ Some t → IsFree types p out t.words
+      free_of (Text id) typed j t slot = λ m e.
+          let old = ap listed (owned_is st.world.content vector_at.buffer j 0 held.0 held.1 ∙ ap (λ (x : Option Slot). owned_in (word_in x 0)) slot ∙ e) in
+          let l = buffer_lives types k.ordered (hand_of rest st) st.world.content (store_of types f rest inputs S st k) vector_at.buffer j 0 held.0.ty held.0 held.1 (within_self types held.0.ty) (slot_within held.0.slots j t slot) (Text id) typed m old in
+          never m l.0 l.1 (buffer_low types k.ordered (hand_of rest st) st.world.content (store_of types f rest inputs S st k) vector_at.buffer j 0 held.0.ty held.0 held.1 (within_self types held.0.ty) (slot_within held.0.slots j t slot) (Text id) typed m old)
+      free_of Single typed j t slot = tt
+      free_of Raw typed j t slot = tt
+      free_of Iterates typed j t slot = tt
+      free_of Views typed j t slot = tt
+      free_of (Vector id item) typed j t slot = tt
+      free_of (Unique id target) typed j t slot = tt
+      free_of (Member first others) typed j t slot = tt
+      free_of NoMember typed j t slot = tt
 
-  -- one of them is erased
-  pub elements_shut : (index : ℕ) → index < size_of st.world.content vector_at.buffer → IsShut types vector_at.buffer (length held.0.slots) (erased (parts_at types element) vector_at.buffer index st.world.content)
-  elements_shut index small =
-      erased_shut types (parts_at types element) (whole_parts types k.plain element) vector_at.buffer index st.world.content k.buffered held.0 held.1 (ap (parts_at types) held_type)
-      (held_free (λ m. ⊥ ⊎ (m ≡ vector_at.buffer))
-      (λ m q there low out. ⊎_elim (λ none. none) (λ same. not_itself types k.ordered (hand_of rest st) st.world.content (store_of types f rest inputs S st k) elements_region (subst (Beneath (kinds_of types) st.world.content (foot_of types elements_region)) same low)) out))
-      (k.stands.store.forest.births vector_at.buffer held.0 held.1)
-      (let e = ap (λ (x : Option Object). length (slots_if x)) held.1 in omega (arith, e, small))
+      held_free : AreFree types (parts_at types element) out held.0.slots
+      held_free j t here = (
+        subst (λ (id : TyId). HasBuffers (parts_at types id) t.words) held_type (k.buffered vector_at.buffer j held.0 t not_bare held.1 here),
+        free_of (parts_at types element) (ap (parts_at types) held_type) j t here,
+      )
+
+      pub all_free : AreFree types (parts_at types element) out (slots_at st.world.content vector_at.buffer)
+      all_free j t slot = held_free j t (sym (ap (λ (x : Option Object). slice_get (slots_if x) j) held.1) ∙ slot)
+
+    -- one of them is erased
+    pub elements_shut : (index : ℕ) → index < size_of st.world.content vector_at.buffer → IsShut types (MayLack types f inputs S st) vector_at.buffer (length held.0.slots) (erased (parts_at types element) vector_at.buffer index st.world.content)
+    elements_shut index small =
+        erased_shut types (MayLack types f inputs S st) (parts_at types element) (whole_parts types k.plain element) vector_at.buffer index st.world.content k.buffered held.0 held.1 (ap (parts_at types) held_type)
+        (held_free (λ m. MayLack types f inputs S st m ⊎ (m ≡ vector_at.buffer))
+        (λ m q there low out. ⊎_elim (λ lacks. low_whole types f rest inputs S st k elements_region m low lacks) (λ same. not_itself types k.ordered (hand_of rest st) st.world.content (store_of types f rest inputs S st k) elements_region (subst (Beneath (kinds_of types) st.world.content (foot_of types elements_region)) same low)) out))
+        (k.stands.store.forest.births vector_at.buffer held.0 held.1)
+        (let e = ap (λ (x : Option Object). length (slots_if x)) held.1 in omega (arith, e, small))

@@ -1,7 +1,7 @@
 -- Where a number is saved, a value is copied, or a local comes to life, in a frame without structs, each vector and each string has its buffer; and what
 -- is touched lies beneath what the frame names.
-use Rattle.std.proofs.Common.{◌≡◌, inr, ℕ, suc, ◌+◌, ◌*◌, Bool, true, false, List, [], ◌∷◌, Option, Some, None, refl, sym, ap, subst, ◌∙◌, ◌≤◌, arith}
-use Rattle.std.specs.Prelude.{ℤ, cond, if◌then◌else◌, nat_lt, slice_get}
+use Rattle.std.proofs.Common.{◌≡◌, inr, ℕ, suc, ◌+◌, ◌*◌, Bool, true, false, List, [], ◌∷◌, Option, Some, None, refl, sym, ap, subst, ◌∙◌, ◌≤◌, arith, length, ◌≢◌, ◌<◌}
+use Rattle.std.specs.Prelude.{ℤ, cond, nat_lt, slice_get, if◌then◌else◌}
 use Rattle.std.proofs.lemmas.Bool.{false≢true}
 use Rattle.life_types.specs.TypeTests.{is_pointer, is_value, is_void}
 use Rattle.life_types.specs.Trees.{IsOrdered}
@@ -14,16 +14,20 @@ use Rattle.life_core.specs.declared.program.Local.{Local}
 use Rattle.life_core.specs.declared.program.LocalKind.{LocalKind}
 use Rattle.life_core.specs.Function.{Function}
 use Rattle.life_core.specs.Holdings.{Holding, Blank, AnObject, ANumber, APointer, AView, held_by, held_if, sort_of}
-use Rattle.life_core.specs.Operands.{Operand}
+use Rattle.life_core.specs.Operands.{Operand, whole}
+use Rattle.life_core.specs.Operands as named
 use Rattle.life_core.specs.Step.{Copy, Live, Save}
 use Rattle.life_pset.specs.declared.element.Fact.{Fact}
+use Rattle.life_pset.specs.declared.element.AbsPlace.{AbsPlace}
 use Rattle.life_pset.specs.declared.element.Root.{Root}
-use Rattle.life_proper.specs.Placed.{is_const_place, type_of}
+use Rattle.life_pset.specs.declared.element.Root.TheVariants as root
+use Rattle.life_pset.specs.Places.{path}
+use Rattle.life_proper.specs.Placed.{type_of, is_const_place}
 use Rattle.life_store.specs.Births.{born_object, born_owner, live_as, live_local, live_of, live_over, with_value_object}
 use Rattle.life_store.specs.Cells.{at}
 use Rattle.life_store.specs.Content.{Object, live_words_of, newborn, resized, with_birth, with_object, with_word, Content}
 use Rattle.life_store.specs.Doing.{copied_to, does, on_character, replaced, saved}
-use Rattle.life_store.specs.Effects.{Effect, Next, Traps, Setting, cell, put_cell, put_content, word_of_number}
+use Rattle.life_store.specs.Effects.{Effect, Next, Traps, Setting, cell, put_cell, put_content, word_of_number, Faults, Strays}
 use Rattle.life_store.specs.Held.{words_at}
 use Rattle.life_store.specs.Owners.{copied, fresh, object_with, born_pointer, empty_view}
 use Rattle.life_store.specs.Parts.{Parts, Single, Raw, Iterates, Views, Text, Vector, Unique, Member, NoMember, characters_type, operand_parts, operand_type, parts_at, parts_if, parts_of, width}
@@ -42,81 +46,108 @@ use Rattle.life_forest.proofs.StandingChanges.{on_number_next}
 use Rattle.life_forest.proofs.StandingCopies.{on_character_next}
 use Rattle.life_forest.proofs.StandingNumbers.{on_place_each}
 use Rattle.life_forest.proofs.TypedSteps.{operand_of, value_solid}
-use Rattle.life_cover.specs.Buffered.{AreBuffered}
-use Rattle.life_cover.proofs.Buffering.{IsBufferOwner, all_in, birth_but, none_out, set_but, single_have}
+use Rattle.life_cover.specs.Buffered.{AreBut}
+use Rattle.life_cover.specs.Frames.{RootStands}
+use Rattle.life_cover.specs.Inputs.{frame_foot, may_change, StandsAt}
+use Rattle.life_cover.specs.Lacking.{MayLack}
+use Rattle.life_cover.specs.Regions.{Lies, Region}
+use Rattle.life_cover.proofs.Buffering.{IsBufferOwner, birth_but, set_but, single_have, Have, but_more, but_one}
 use Rattle.life_cover.proofs.Copies.{IsWhole, whole_parts}
 use Rattle.life_cover.proofs.CopyKinds.{IsCopyable, copy_right, reached_holds}
 use Rattle.life_cover.proofs.HeldElements.{vector_operand, vector_parts}
-use Rattle.life_cover.proofs.KeptBuffers.{IsBuffered, at_start, by_next, holder_born, holder_parts, is_owner, text_operand, text_parts}
-use Rattle.life_cover.proofs.KnownFrames.{IsKnownFrame, IsRight, reach_at, used_right, hand_of, store_of}
+use Rattle.life_cover.proofs.KeptBuffers.{at_start, by_next, holder_born, holder_parts, is_owner, text_operand, text_parts}
+use Rattle.life_cover.proofs.KnownFrames.{IsKnownFrame, IsRight, reach_at, used_right, hand_of, store_of, solid_type, whole_location}
 use Rattle.life_cover.proofs.Reaching.{IsReached, Reach, reached, fixed, outside, astray, spot_is}
-use Rattle.life_cover.proofs.Recopying.{IsCopied, IsOwningRow, born_buffered, copied_but, replaced_buffered}
-use Rattle.life_cover.proofs.Regrown.{wrote_single}
+use Rattle.life_cover.proofs.Recopying.{IsCopied, IsOwningRow, born_buffered, copied_but, replaced_buffered, replaced_one}
+use Rattle.life_cover.proofs.Regrown.{wrote_single, wrote_type}
 use Rattle.life_cover.proofs.SaveKinds.{value_there, saved_touches, words_touches}
-use Rattle.life_cover.proofs.Behind.{IsBehind, behind_cell, behind_content, behind_pointer, behind_same, both_got, both_next, right_next}
+use Rattle.life_cover.proofs.Behind.{IsBehind, behind_cell, behind_content, behind_pointer, behind_same, both_got, both_next, right_next, no_local, behind_more}
 use Rattle.life_cover.proofs.Sparing.{nothing_spares, change_spares}
 use Rattle.life_cover.proofs.Births.{IsNew, owner_new, value_touches}
 use Rattle.life_cover.proofs.Unkilled.{no_foot}
-use Rattle.life_cover.specs.Inputs.{frame_foot, may_change, StandsAt}
-use Rattle.life_cover.specs.Regions.{Region}
+use Rattle.life_cover.proofs.Unkept.{reached_owning}
+use Rattle.life_rules.specs.Keeping.{kept_through}
 use Rattle.life_contract.specs.Signatures.{Signature}
+use Rattle.life_contract.specs.Located.{located}
 use Rattle.life_types.specs.declared.place.Place.{Place}
 use Rattle.std.proofs.lemmas.List.Elements.{Contains-append_left}
 use Rattle.life_rules.specs.Diagnosing.{used_in}
-use Rattle.life_rules.specs.Keeping.{kept_through}
-use Rattle.life_cover.proofs.Unkept.{reached_owning}
+
+next_more : (e : Effect) (A B : State → Type 0) → OnNext e A → ((after : State) → A after → B after) → OnNext e B
+next_more (Next after) A B h more = more after h
+next_more (Traps kind) A B h more = tt
+next_more (Faults kind) A B h more = tt
+next_more Strays A B h more = tt
+
+-- what may be bare, and isn't named by this local
+abbrev pub ReplacedBare : Types → Function → (rest : ℕ → ℕ) (inputs : Root → Option Region) (S : Fact → Type 0) → State → (x : ℕ) → ℕ → Type 0
+ReplacedBare types f rest inputs S st x n = MayLack types f inputs S st n × (slice_get st.cells x ≡ Some (Named n) → ⊥)
 
 module _ (types : Types) (f : Function) (rest : ℕ → ℕ) (inputs : Root → Option Region) (S : Fact → Type 0) (st : State) (k : IsKnownFrame types f rest inputs S st) (o : Operand) (s : Setting) where
   -- ---- a number is saved
 
   module _ (value : is_value (type_of types f o) ≡ true) where
-    saved_buffered : (r : IsReached types f st (StandsAt inputs) (may_change types f) S o) (word : ℕ) → AreBuffered types (with_object r.region.object (with_word r.index r.region.word word r.holder) st.world.content)
+    saved_buffered : (r : IsReached types f st (StandsAt inputs) (may_change types f) S o) (word : ℕ) → AreBut types (MayLack types f inputs S st) (with_object r.region.object (with_word r.index r.region.word word r.holder) st.world.content)
     saved_buffered r word =
-        all_in types (with_object r.region.object (with_word r.index r.region.word word r.holder) st.world.content)
-        (set_but types (λ n. ⊥) r.region.object (with_word r.index r.region.word word r.holder) st.world.content (with_object r.region.object (with_word r.index r.region.word word r.holder) st.world.content)
-        (inr (single_have types (with_word r.index r.region.word word r.holder) (holder_parts types f rest inputs S st k o r s Single (value_there types f rest inputs S st k o r value)))) refl (none_out types st.world.content k.buffered))
+        set_but types (MayLack types f inputs S st) r.region.object (with_word r.index r.region.word word r.holder) st.world.content (with_object r.region.object (with_word r.index r.region.word word r.holder) st.world.content)
+        (inr (single_have types (with_word r.index r.region.word word r.holder) (holder_parts types f rest inputs S st k o r s Single (value_there types f rest inputs S st k o r value)))) refl k.buffered
 
-    found_saved : Reach types f st (StandsAt inputs) (may_change types f) S o → (z : ℤ) → OnNext (on_found (locate types f o st) (λ n i object. Next (saved z n i (operand_word types f o st) object st))) (IsBehind types f inputs st)
+    found_saved : Reach types f st (StandsAt inputs) (may_change types f) S o → (z : ℤ) → OnNext (on_found (locate types f o st) (λ n i object. Next (saved z n i (operand_word types f o st) object st))) (IsBehind types f inputs (MayLack types f inputs S st) no_local st)
     found_saved (reached r) z =
-        subst (λ found. OnNext (on_found found (λ n i object. Next (saved z n i (operand_word types f o st) object st))) (IsBehind types f inputs st)) (sym r.found)
-        (subst (λ w. IsBehind types f inputs st (put_content (with_object r.region.object (with_word r.index w (word_of_number z) r.holder) st.world.content) st)) (sym r.word)
-        (behind_content types f inputs st (with_object r.region.object (with_word r.index r.region.word (word_of_number z) r.holder) st.world.content) (saved_buffered r (word_of_number z))
+        subst (λ found. OnNext (on_found found (λ n i object. Next (saved z n i (operand_word types f o st) object st))) (IsBehind types f inputs (MayLack types f inputs S st) no_local st)) (sym r.found)
+        (subst (λ w. IsBehind types f inputs (MayLack types f inputs S st) no_local st (put_content (with_object r.region.object (with_word r.index w (word_of_number z) r.holder) st.world.content) st)) (sym r.word)
+        (behind_content types f inputs (MayLack types f inputs S st) no_local st (with_object r.region.object (with_word r.index r.region.word (word_of_number z) r.holder) st.world.content) (saved_buffered r (word_of_number z))
         (nothing_spares types f rest inputs S st k (with_object r.region.object (with_word r.index r.region.word (word_of_number z) r.holder) st.world.content) (saved_touches types f rest inputs S st k o r value (word_of_number z)))))
-    found_saved (fixed c e single) z = subst (λ found. OnNext (on_found found (λ n i object. Next (saved z n i (operand_word types f o st) object st))) (IsBehind types f inputs st)) (sym e) tt
-    found_saved (outside e) z = subst (λ found. OnNext (on_found found (λ n i object. Next (saved z n i (operand_word types f o st) object st))) (IsBehind types f inputs st)) (sym e) tt
-    found_saved (astray e) z = subst (λ found. OnNext (on_found found (λ n i object. Next (saved z n i (operand_word types f o st) object st))) (IsBehind types f inputs st)) (sym e) tt
+    found_saved (fixed c e single) z = subst (λ found. OnNext (on_found found (λ n i object. Next (saved z n i (operand_word types f o st) object st))) (IsBehind types f inputs (MayLack types f inputs S st) no_local st)) (sym e) tt
+    found_saved (outside e) z = subst (λ found. OnNext (on_found found (λ n i object. Next (saved z n i (operand_word types f o st) object st))) (IsBehind types f inputs (MayLack types f inputs S st) no_local st)) (sym e) tt
+    found_saved (astray e) z = subst (λ found. OnNext (on_found found (λ n i object. Next (saved z n i (operand_word types f o st) object st))) (IsBehind types f inputs (MayLack types f inputs S st) no_local st)) (sym e) tt
 
-    pub save_behind : Reach types f st (StandsAt inputs) (may_change types f) S o → (q : ℕ) → OnNext (does s types f (Save o q) st) (IsBehind types f inputs st)
-    save_behind reach q = on_number_next (cell st q) (λ z. on_found (locate types f o st) (λ n i object. Next (saved z n i (operand_word types f o st) object st))) (IsBehind types f inputs st) (found_saved reach)
+    pub save_behind : Reach types f st (StandsAt inputs) (may_change types f) S o → (q : ℕ) → OnNext (does s types f (Save o q) st) (IsBehind types f inputs (MayLack types f inputs S st) no_local st)
+    save_behind reach q = on_number_next (cell st q) (λ z. on_found (locate types f o st) (λ n i object. Next (saved z n i (operand_word types f o st) object st))) (IsBehind types f inputs (MayLack types f inputs S st) no_local st) (found_saved reach)
 
   -- ---- a copy is written where an operand is reached
 
   module _ (r : IsReached types f st (StandsAt inputs) (may_change types f) S o) where
-    value_written : parts_at types r.region.ty ≡ Single → (ws : List ℕ) → OnNext (copied_to s Single (record { object = r.region.object; index = r.index; word = r.region.word }) ws st) (IsBuffered types)
-    value_written single ws =
-        all_in types (replaced Single (record { object = r.region.object; index = r.index; word = r.region.word }) (ws, st.world.content))
-        (wrote_single types r.region.object r.index r.region.word ws st.world.content (λ x there. ap (λ (y : Object). parts_at types y.ty) (some_same_here x there) ∙ holder_parts types f rest inputs S st k o r s Single single) (none_out types st.world.content k.buffered))
-      where
-        some_same_here : (x : Object) → at st.world.content.objects r.region.object ≡ Some x → x ≡ r.holder
-        some_same_here x there = some_same (sym there ∙ r.there)
+    -- the buffers are there, and where it is all of an object of one slot, that one isn't bare
+    abbrev IsWritten : State → Type 0
+    IsWritten after = AreBut types (MayLack types f inputs S st) after.world.content × (length r.holder.slots ≡ 1 → (q : Object) → at after.world.content.objects r.region.object ≡ Some q → Have types q)
 
-    owner_written : (p : Parts) → parts_at types r.region.ty ≡ p → width p ≡ 1 → IsBufferOwner types p → ((ws : List ℕ) → IsOwningRow p ws → (b : ℕ) × (ws ≡ suc b ∷ [])) → (ws : List ℕ) → OnNext (copied_to s p (record { object = r.region.object; index = r.index; word = r.region.word }) ws st) (IsBuffered types)
+    same_holder : (x : Object) → at st.world.content.objects r.region.object ≡ Some x → x ≡ r.holder
+    same_holder x there = some_same (sym there ∙ r.there)
+
+    value_written : parts_at types r.region.ty ≡ Single → (ws : List ℕ) → OnNext (copied_to s Single (record { object = r.region.object; index = r.index; word = r.region.word }) ws st) IsWritten
+    value_written single ws = (
+      wrote_single types (MayLack types f inputs S st) r.region.object r.index r.region.word ws st.world.content (λ x there. ap (λ (y : Object). parts_at types y.ty) (same_holder x there) ∙ holder_parts types f rest inputs S st k o r s Single single) k.buffered,
+      λ one q there.
+          let x = wrote_type types (MayLack types f inputs S st) r.region.object r.index r.region.word ws st.world.content r.region.object q there in
+          single_have types q (ap (parts_at types) (sym x.2) ∙ ap (λ (y : Object). parts_at types y.ty) (same_holder x.0 x.1) ∙ holder_parts types f rest inputs S st k o r s Single single),
+    )
+
+    owner_written : (p : Parts) → parts_at types r.region.ty ≡ p → width p ≡ 1 → IsBufferOwner types p → ((ws : List ℕ) → IsOwningRow p ws → (b : ℕ) × (ws ≡ suc b ∷ [])) → (ws : List ℕ) → OnNext (copied_to s p (record { object = r.region.object; index = r.index; word = r.region.word }) ws st) IsWritten
     owner_written p typed one owner row ws =
-        on_got_next (copied s p ws st.world.content) (λ v. Next (put_content (replaced p (record { object = r.region.object; index = r.index; word = r.region.word }) v) st)) (IsCopied types k.ordered s p (λ n. ⊥) st.world.content) (IsBuffered types)
-        (copied_but types k.ordered s p (rank_of types r.region.ty) (subst IsWhole typed (whole_parts types k.plain r.region.ty)) (subst (IsMade types k.ordered (rank_of types r.region.ty)) typed (made_at types k.ordered r.region.ty)) (λ n. ⊥) ws st.world.content (none_out types st.world.content k.buffered))
-        (λ v copy. at_start types f rest inputs S st k o r s (λ spot. AreBuffered types (replaced p spot v))
-        (replaced_buffered types k.ordered s p row r.region.object r.index st.world.content v copy (holder_born types f rest inputs S st k o r s) (is_owner types f rest inputs S st k o r s p typed one owner)))
+        on_got_next (copied s p ws st.world.content) (λ v. Next (put_content (replaced p (record { object = r.region.object; index = r.index; word = r.region.word }) v) st)) (IsCopied types k.ordered s p (MayLack types f inputs S st) st.world.content) IsWritten
+        (copied_but types k.ordered s p (rank_of types r.region.ty) (subst IsWhole typed (whole_parts types k.plain r.region.ty)) (subst (IsMade types k.ordered (rank_of types r.region.ty)) typed (made_at types k.ordered r.region.ty)) (MayLack types f inputs S st) ws st.world.content k.buffered)
+        (λ v copy. at_start types f rest inputs S st k o r s (λ spot. AreBut types (MayLack types f inputs S st) (replaced p spot v) × (length r.holder.slots ≡ 1 → (q : Object) → at (replaced p spot v).objects r.region.object ≡ Some q → Have types q)) (
+          replaced_buffered types k.ordered s (MayLack types f inputs S st) p row r.region.object r.index st.world.content v copy (holder_born types f rest inputs S st k o r s) (is_owner types f rest inputs S st k o r s p typed one owner),
+          λ single q there.
+              replaced_one types k.ordered s p row (MayLack types f inputs S st) r.region.object st.world.content v copy (holder_born types f rest inputs S st k o r s) (is_owner types f rest inputs S st k o r s p typed one owner)
+              (λ x is. ap (λ (y : Object). length y.slots) (same_holder x is) ∙ single) q
+              (subst (λ i. at (replaced p (record { object = r.region.object; index = i; word = 0 }) v).objects r.region.object ≡ Some q) (first (length r.holder.slots) single r.small) there),
+        ))
+      where
+        first : (n : ℕ) → n ≡ 1 → r.index < n → r.index ≡ 0
+        first n e lt = omega (arith, e, lt)
 
-    by_parts : (p : Parts) → operand_parts types f o ≡ p → ((ws : List ℕ) → OnNext (copied_to s p (record { object = r.region.object; index = r.index; word = r.region.word }) ws st) (IsBuffered types))
-        → (ws : List ℕ) → OnNext (copied_to s (operand_parts types f o) (record { object = r.region.object; index = r.index; word = r.region.word }) ws st) (IsBuffered types)
-    by_parts p is each ws = subst (λ (q : Parts). OnNext (copied_to s q (record { object = r.region.object; index = r.index; word = r.region.word }) ws st) (IsBuffered types)) (sym is) (each ws)
+    by_parts : (p : Parts) → operand_parts types f o ≡ p → ((ws : List ℕ) → OnNext (copied_to s p (record { object = r.region.object; index = r.index; word = r.region.word }) ws st) IsWritten)
+        → (ws : List ℕ) → OnNext (copied_to s (operand_parts types f o) (record { object = r.region.object; index = r.index; word = r.region.word }) ws st) IsWritten
+    by_parts p is each ws = subst (λ (q : Parts). OnNext (copied_to s q (record { object = r.region.object; index = r.index; word = r.region.word }) ws st) IsWritten) (sym is) (each ws)
 
-    by_value : (u : Ty) → type_of types f o ≡ u → is_value u ≡ true → (ws : List ℕ) → OnNext (copied_to s (operand_parts types f o) (record { object = r.region.object; index = r.index; word = r.region.word }) ws st) (IsBuffered types)
+    by_value : (u : Ty) → type_of types f o ≡ u → is_value u ≡ true → (ws : List ℕ) → OnNext (copied_to s (operand_parts types f o) (record { object = r.region.object; index = r.index; word = r.region.word }) ws st) IsWritten
     by_value u is value =
         let of : IsOfType types (operand_type types f o) u = operand_of types k.ordered k.once 0 [] f k.shaped o u is (value_solid u value) in
         by_parts Single (ap (parts_if types) of.is ∙ value_parts types k.ordered of.number u of.there value) (value_written (value_there types f rest inputs S st k o r (ap is_value is ∙ value)))
 
-    written : (u : Ty) → type_of types f o ≡ u → is_void u ≡ false → is_pointer u ≡ false → IsCopyable u → (ws : List ℕ) → OnNext (copied_to s (operand_parts types f o) (record { object = r.region.object; index = r.index; word = r.region.word }) ws st) (IsBuffered types)
+    written : (u : Ty) → type_of types f o ≡ u → is_void u ≡ false → is_pointer u ≡ false → IsCopyable u → (ws : List ℕ) → OnNext (copied_to s (operand_parts types f o) (record { object = r.region.object; index = r.index; word = r.region.word }) ws st) IsWritten
     written ty.Bool is solid pointer can = by_value ty.Bool is refl
     written ty.Char is solid pointer can = by_value ty.Char is refl
     written ty.Int is solid pointer can = by_value ty.Int is refl
@@ -132,23 +163,55 @@ module _ (types : Types) (f : Function) (rest : ℕ → ℕ) (inputs : Root → 
     written ty.Void is solid pointer can = absurd (false≢true (sym solid))
     written _ is solid pointer can = absurd (false≢true (sym pointer))
 
-    copied_over : (from : Operand) → ((ws : List ℕ) → OnNext (copied_to s (operand_parts types f o) (record { object = r.region.object; index = r.index; word = r.region.word }) ws st) (IsBuffered types))
+    copied_over : (from : Operand) → ((ws : List ℕ) → OnNext (copied_to s (operand_parts types f o) (record { object = r.region.object; index = r.index; word = r.region.word }) ws st) IsWritten)
         → OnNext (on_place (locate types f from st) (λ m i object. copied_to s (operand_parts types f o) (record { object = r.region.object; index = r.index; word = r.region.word }) (words_at st.world.content m i (operand_word types f from st) (width (operand_parts types f o))) st)
-        (λ c. on_character s.texts c (λ z. copied_to s (operand_parts types f o) (record { object = r.region.object; index = r.index; word = r.region.word }) (word_of_number z ∷ []) st))) (IsBuffered types)
+        (λ c. on_character s.texts c (λ z. copied_to s (operand_parts types f o) (record { object = r.region.object; index = r.index; word = r.region.word }) (word_of_number z ∷ []) st))) IsWritten
     copied_over from each =
         on_place_each (locate types f from st) (λ m i object. copied_to s (operand_parts types f o) (record { object = r.region.object; index = r.index; word = r.region.word }) (words_at st.world.content m i (operand_word types f from st) (width (operand_parts types f o))) st)
-        (λ c. on_character s.texts c (λ z. copied_to s (operand_parts types f o) (record { object = r.region.object; index = r.index; word = r.region.word }) (word_of_number z ∷ []) st)) (IsBuffered types)
+        (λ c. on_character s.texts c (λ z. copied_to s (operand_parts types f o) (record { object = r.region.object; index = r.index; word = r.region.word }) (word_of_number z ∷ []) st)) IsWritten
         (λ m i object. each (words_at st.world.content m i (operand_word types f from st) (width (operand_parts types f o))))
-        (λ c. on_character_next s.texts c (λ z. copied_to s (operand_parts types f o) (record { object = r.region.object; index = r.index; word = r.region.word }) (word_of_number z ∷ []) st) (IsBuffered types) (λ z. each (word_of_number z ∷ [])))
+        (λ c. on_character_next s.texts c (λ z. copied_to s (operand_parts types f o) (record { object = r.region.object; index = r.index; word = r.region.word }) (word_of_number z ∷ []) st) IsWritten (λ z. each (word_of_number z ∷ [])))
 
-  copy_buffered : Reach types f st (StandsAt inputs) (may_change types f) S o → (from : Operand) → is_void (type_of types f o) ≡ false → is_pointer (type_of types f o) ≡ false → IsCopyable (type_of types f o) → OnNext (does s types f (Copy o from) st) (IsBuffered types)
+  -- a local that is written by its name isn't bare
+  abbrev pub CopiedBare : Operand → ℕ → Type 0
+  CopiedBare (named.Name l) n = ReplacedBare types f rest inputs S st l.local n
+  CopiedBare (named.Through p members) n = MayLack types f inputs S st n
+
+  written_bare : (q : Operand) → is_void (type_of types f q) ≡ false → (r : IsReached types f st (StandsAt inputs) (may_change types f) S q) (after : State) → AreBut types (MayLack types f inputs S st) after.world.content
+      → (length r.holder.slots ≡ 1 → (x : Object) → at after.world.content.objects r.region.object ≡ Some x → Have types x) → AreBut types (CopiedBare q) after.world.content
+  written_bare (named.Through p members) solid r after h have = h
+  written_bare (named.Name l) solid r after h have = by (whole_location types k.plain f l (solid_type types f rest inputs S st k (named.Name l) solid))
+    where
+      at_root : whole l.local ≡ l → (r.place.root ≡ root.Local l.local) × (path r.place ≡ [])
+      at_root is = (ap (λ (a : AbsPlace). a.root) (r.by ∙ ap located (sym is)), ap path (r.by ∙ ap located (sym is)))
+
+      by : whole l.local ≡ l → AreBut types (CopiedBare (named.Name l)) after.world.content
+      by is =
+          let a = at_root is in
+          let start : r.lies.start ≡ r.region = subst (λ (ss : List ℕ). Lies types st.world.content ss r.lies.start r.region) a.1 r.lies.lies in
+          let stands = subst (λ (ro : Root). RootStands types f (StandsAt inputs) st.cells ro r.lies.start) a.0 r.lies.stands in
+          let named_it : slice_get st.cells l.local ≡ Some (Named r.region.object) = stands.0 ∙ ap (λ (z : Region). Some (Named z.object)) start in
+          let v = k.stands.frame.objects l.local r.region.object named_it in
+          but_more types (λ n. MayLack types f inputs S st n × (n ≢ r.region.object)) (CopiedBare (named.Name l)) after.world.content
+          (λ n b. (b.0, λ e. b.1 (same (some_same (sym e ∙ named_it)))))
+          (but_one types (MayLack types f inputs S st) r.region.object after.world.content (have (ap (λ (x : Object). length x.slots) (some_same (sym r.there ∙ v.there)) ∙ ap length v.one)) h)
+        where
+          same : {i j : ℕ} → Named i ≡ Named j → i ≡ j
+          same e = cc
+
+  copy_buffered : Reach types f st (StandsAt inputs) (may_change types f) S o → (from : Operand) → is_void (type_of types f o) ≡ false → is_pointer (type_of types f o) ≡ false → IsCopyable (type_of types f o) → OnNext (does s types f (Copy o from) st) (λ after. AreBut types (CopiedBare o) after.world.content)
   copy_buffered reach from solid pointer can =
-      by_next types f inputs S st o reach go (IsBuffered types) (λ r. subst (λ e. OnNext e (IsBuffered types)) (sym (spot_is types f st (StandsAt inputs) (may_change types f) S o r go)) (copied_over r from (written r (type_of types f o) refl solid pointer can)))
+      by_next types f inputs S st o reach go (λ after. AreBut types (CopiedBare o) after.world.content)
+      (λ r. subst (λ e. OnNext e (λ after. AreBut types (CopiedBare o) after.world.content)) (sym (spot_is types f st (StandsAt inputs) (may_change types f) S o r go))
+      (next_more (copied_over_at r from) (IsWritten r) (λ after. AreBut types (CopiedBare o) after.world.content) (copied_over r from (written r (type_of types f o) refl solid pointer can)) (λ after h. written_bare o solid r after h.0 h.1)))
     where
       go : Spot → Effect
       go spot =
           on_place (locate types f from st) (λ m i object. copied_to s (operand_parts types f o) spot (words_at st.world.content m i (operand_word types f from st) (width (operand_parts types f o))) st)
           (λ c. on_character s.texts c (λ z. copied_to s (operand_parts types f o) spot (word_of_number z ∷ []) st))
+
+      copied_over_at : (r : IsReached types f st (StandsAt inputs) (may_change types f) S o) → Operand → Effect
+      copied_over_at r q = go (record { object = r.region.object; index = r.index; word = r.region.word })
 
 -- .. and what is touched is what is owned there
 module _ (types : Types) (f : Function) (rest : ℕ → ℕ) (inputs : Root → Option Region) (S : Fact → Type 0) (st : State) (k : IsKnownFrame types f rest inputs S st) (sigs : List Signature) (n : ℕ) (place : Place) (S' : Fact → Type 0) (s : Setting) (to from : Operand)
@@ -156,9 +219,9 @@ module _ (types : Types) (f : Function) (rest : ℕ → ℕ) (inputs : Root → 
   abbrev IsSpared : State → Type 0
   IsSpared after = (after.cells ≡ st.cells) × Touches (kinds_of types) (frame_foot types f inputs st.cells) st.world.content after.world.content
 
-  pub copy_behind : is_pointer (type_of types f to) ≡ false → IsCopyable (type_of types f to) → OnNext (does s types f (Copy to from) st) (IsBehind types f inputs st)
+  pub copy_behind : is_pointer (type_of types f to) ≡ false → IsCopyable (type_of types f to) → OnNext (does s types f (Copy to from) st) (IsBehind types f inputs (CopiedBare types f rest inputs S st k to s to) no_local st)
   copy_behind pointer can =
-      both_next (does s types f (Copy to from) st) (IsBuffered types) IsSpared (IsBehind types f inputs st)
+      both_next (does s types f (Copy to from) st) (λ after. AreBut types (CopiedBare types f rest inputs S st k to s to) after.world.content) IsSpared (IsBehind types f inputs (CopiedBare types f rest inputs S st k to s to) no_local st)
       (copy_buffered types f rest inputs S st k to s (reach_at types f rest inputs S st k to solid_to (λ q h. used_right sigs types n f place (Copy to from) S right.clean q (Contains-append_left (used_in to) (used_in from) q h))) from solid_to pointer can)
       (right_next (does s types f (Copy to from) st) IsSpared
       (copy_right types f rest inputs S st k sigs n place S' s to from free right solid_to solid_from alike IsSpared
@@ -169,7 +232,7 @@ module _ (types : Types) (f : Function) (rest : ℕ → ℕ) (inputs : Root → 
             (reached_owning sigs types n f place (Copy to from) S right.clean to (λ x. ap (λ b. if b then kept_through types n f place x to else []) owns) k.ordered k.plain inputs st k.given.each r (r.change free) (reached_holds types f rest inputs S st k sigs n place S' s to from free right solid_to solid_from alike r owns))
             d touch,
       )) pointer can))
-      (λ after buffered h. behind_same types f inputs st after h.0 buffered h.1)
+      (λ after buffered h. behind_same types f inputs (CopiedBare types f rest inputs S st k to s to) no_local st after h.0 buffered h.1)
 
 -- ---- a local comes to life
 
@@ -205,62 +268,67 @@ pub object_parts : (types : Types) (ordered : IsOrdered types) (f : Function) (x
 object_parts types ordered f x l there object = parts_made types ordered l.ty ∙ object_single types (slice_get types.types l.ty.0) l.kind (sym (ap (held_by types) there) ∙ object)
 
 module _ (types : Types) (f : Function) (rest : ℕ → ℕ) (inputs : Root → Option Region) (S : Fact → Type 0) (st : State) (k : IsKnownFrame types f rest inputs S st) (s : Setting) (x : ℕ) (form : Form) where
-  -- where only a new object came
-  new_behind : (m : ℕ) (d : Content) → st.world.content.births ≤ m → AreBuffered types d → Touches (kinds_of types) no_foot st.world.content d → IsBehind types f inputs st (put_cell x (Named m) (put_content d st))
-  new_behind m d new buffered touch = behind_cell types f inputs st x (Named m) d (λ n e. subst (λ j. st.world.content.births ≤ j) (same e) new) buffered (nothing_spares types f rest inputs S st k d touch)
+  module _ (empty : (n : ℕ) → slice_get st.cells x ≡ Some (Named n) → ⊥) where
+    -- where only a new object came
+    new_behind : (m : ℕ) (d : Content) → st.world.content.births ≤ m → AreBut types (MayLack types f inputs S st) d → Touches (kinds_of types) no_foot st.world.content d → IsBehind types f inputs (MayLack types f inputs S st) no_local st (put_cell x (Named m) (put_content d st))
+    new_behind m d new buffered touch = behind_cell types f inputs (MayLack types f inputs S st) no_local st x empty (Named m) d (λ n e. subst (λ j. st.world.content.births ≤ j) (same e) new) buffered (nothing_spares types f rest inputs S st k d touch)
+      where
+        same : {i j : ℕ} → Named i ≡ Named j → i ≡ j
+        same e = cc
+
+    owner_born : (ty : TyId) → OnNext (born_owner s ty (parts_at types ty) form x st) (IsBehind types f inputs (MayLack types f inputs S st) no_local st)
+    owner_born ty =
+        on_got_next (object_with s ty (parts_at types ty) (fresh s form (parts_at types ty)) st.world.content) (λ b. Next (put_cell x (Named b.0) (put_content b.1 st))) (λ b. AreBut types (MayLack types f inputs S st) b.1 × IsNew types st.world.content b) (IsBehind types f inputs (MayLack types f inputs S st) no_local st)
+        (both_got (object_with s ty (parts_at types ty) (fresh s form (parts_at types ty)) st.world.content) (λ b. AreBut types (MayLack types f inputs S st) b.1) (IsNew types st.world.content)
+        (born_buffered types k.ordered s (MayLack types f inputs S st) form ty st.world.content (whole_parts types k.plain ty) k.buffered) (owner_new types k.ordered (hand_of rest st) st.world.content (store_of types f rest inputs S st k) ty s form))
+        (λ b h. new_behind b.0 b.1 h.1.0 h.0 h.1.1)
+
+    value_born : (ty : TyId) → parts_at types ty ≡ Single → OnNext (born_object s ty x st) (IsBehind types f inputs (MayLack types f inputs S st) no_local st)
+    value_born ty single = if_room (nat_lt s.given.cells (live_words_of st.world.content + (2 + 1 * 1)))
+      where
+        if_room : (b : Bool) → OnNext (cond b (Traps trap.Cells) (Next (put_cell x (Named st.world.content.births) (put_content (with_value_object ty st.world.content) st)))) (IsBehind types f inputs (MayLack types f inputs S st) no_local st)
+        if_room true = tt
+        if_room false =
+            new_behind st.world.content.births (with_value_object ty st.world.content) (omega arith)
+            (set_but types (MayLack types f inputs S st) st.world.content.births (resized (st.world.content.clock + 1) 1 0 (newborn ty 1 1 st.world.content.clock)) (with_birth ty 1 1 st.world.content) (with_value_object ty st.world.content)
+            (inr (single_have types (resized (st.world.content.clock + 1) 1 0 (newborn ty 1 1 st.world.content.clock)) single)) refl (birth_but types (MayLack types f inputs S st) ty 1 1 st.world.content k.buffered))
+            (value_touches types k.ordered (hand_of rest st) st.world.content (store_of types f rest inputs S st k) ty)
+
+    of_parts : (ty : TyId) (p : Parts) → parts_at types ty ≡ p → OnNext (live_of s ty p form x st) (IsBehind types f inputs (MayLack types f inputs S st) no_local st)
+    of_parts ty Single e = tt
+    of_parts ty Raw e = tt
+    of_parts ty Iterates e = behind_pointer types f inputs (MayLack types f inputs S st) no_local st k.buffered x empty Wild
+    of_parts ty Views e = behind_pointer types f inputs (MayLack types f inputs S st) no_local st k.buffered x empty empty_view
+    of_parts ty (Text id) e = subst (λ (p : Parts). OnNext (born_owner s ty p form x st) (IsBehind types f inputs (MayLack types f inputs S st) no_local st)) e (owner_born ty)
+    of_parts ty (Vector id element) e = subst (λ (p : Parts). OnNext (born_owner s ty p form x st) (IsBehind types f inputs (MayLack types f inputs S st) no_local st)) e (owner_born ty)
+    of_parts ty (Unique id target) e = subst (λ (p : Parts). OnNext (born_owner s ty p form x st) (IsBehind types f inputs (MayLack types f inputs S st) no_local st)) e (owner_born ty)
+    of_parts ty (Member first others) e = subst (λ (p : Parts). OnNext (born_owner s ty p form x st) (IsBehind types f inputs (MayLack types f inputs S st) no_local st)) e (owner_born ty)
+    of_parts ty NoMember e = tt
+
+    as_held : (h : Holding) (ty : TyId) → (h ≡ AnObject → parts_at types ty ≡ Single) → OnNext (live_as s types h ty form x st) (IsBehind types f inputs (MayLack types f inputs S st) no_local st)
+    as_held Blank ty single = of_parts ty (parts_at types ty) refl
+    as_held AnObject ty single = value_born ty (single refl)
+    as_held ANumber ty single = tt
+    as_held APointer ty single = behind_pointer types f inputs (MayLack types f inputs S st) no_local st k.buffered x empty (born_pointer form)
+    as_held AView ty single = behind_pointer types f inputs (MayLack types f inputs S st) no_local st k.buffered x empty empty_view
+
+  over_cell : (v : Option Cell) → slice_get st.cells x ≡ v → (h : Holding) (ty : TyId) → (h ≡ AnObject → parts_at types ty ≡ Single) → OnNext (live_over s types v h ty form x st) (IsBehind types f inputs (ReplacedBare types f rest inputs S st x) no_local st)
+  over_cell None e h ty single = tt
+  over_cell (Some Empty) e h ty single = next_more (live_as s types h ty form x st) (IsBehind types f inputs (MayLack types f inputs S st) no_local st) (IsBehind types f inputs (ReplacedBare types f rest inputs S st x) no_local st)
+      (as_held (λ n named. unlike n (some_same (sym e ∙ named))) h ty single)
+      (λ after. behind_more types f inputs (MayLack types f inputs S st) no_local (ReplacedBare types f rest inputs S st x) no_local st after (λ n b. (b, λ named. unlike n (some_same (sym e ∙ named)))) (λ y none. none))
     where
-      same : {i j : ℕ} → Named i ≡ Named j → i ≡ j
-      same e = cc
+      unlike : (n : ℕ) → Empty ≡ Named n → ⊥
+      unlike n is = cc
+  over_cell (Some (Named n)) e h ty single = tt
+  over_cell (Some (Number z)) e h ty single = tt
+  over_cell (Some (Points p)) e h ty single = tt
 
-  owner_born : (ty : TyId) → OnNext (born_owner s ty (parts_at types ty) form x st) (IsBehind types f inputs st)
-  owner_born ty =
-      on_got_next (object_with s ty (parts_at types ty) (fresh s form (parts_at types ty)) st.world.content) (λ b. Next (put_cell x (Named b.0) (put_content b.1 st))) (λ b. AreBuffered types b.1 × IsNew types st.world.content b) (IsBehind types f inputs st)
-      (both_got (object_with s ty (parts_at types ty) (fresh s form (parts_at types ty)) st.world.content) (λ b. AreBuffered types b.1) (IsNew types st.world.content)
-      (born_buffered types k.ordered s form ty st.world.content (whole_parts types k.plain ty) k.buffered) (owner_new types k.ordered (hand_of rest st) st.world.content (store_of types f rest inputs S st k) ty s form))
-      (λ b h. new_behind b.0 b.1 h.1.0 h.0 h.1.1)
-
-  value_born : (ty : TyId) → parts_at types ty ≡ Single → OnNext (born_object s ty x st) (IsBehind types f inputs st)
-  value_born ty single = if_room (nat_lt s.given.cells (live_words_of st.world.content + (2 + 1 * 1)))
-    where
-      if_room : (b : Bool) → OnNext (cond b (Traps trap.Cells) (Next (put_cell x (Named st.world.content.births) (put_content (with_value_object ty st.world.content) st)))) (IsBehind types f inputs st)
-      if_room true = tt
-      if_room false =
-          new_behind st.world.content.births (with_value_object ty st.world.content) (omega arith)
-          (all_in types (with_value_object ty st.world.content)
-          (set_but types (λ n. ⊥) st.world.content.births (resized (st.world.content.clock + 1) 1 0 (newborn ty 1 1 st.world.content.clock)) (with_birth ty 1 1 st.world.content) (with_value_object ty st.world.content)
-          (inr (single_have types (resized (st.world.content.clock + 1) 1 0 (newborn ty 1 1 st.world.content.clock)) single)) refl (birth_but types (λ n. ⊥) ty 1 1 st.world.content (none_out types st.world.content k.buffered))))
-          (value_touches types k.ordered (hand_of rest st) st.world.content (store_of types f rest inputs S st k) ty)
-
-  of_parts : (ty : TyId) (p : Parts) → parts_at types ty ≡ p → OnNext (live_of s ty p form x st) (IsBehind types f inputs st)
-  of_parts ty Single e = tt
-  of_parts ty Raw e = tt
-  of_parts ty Iterates e = behind_pointer types f inputs st k.buffered x Wild
-  of_parts ty Views e = behind_pointer types f inputs st k.buffered x empty_view
-  of_parts ty (Text id) e = subst (λ (p : Parts). OnNext (born_owner s ty p form x st) (IsBehind types f inputs st)) e (owner_born ty)
-  of_parts ty (Vector id element) e = subst (λ (p : Parts). OnNext (born_owner s ty p form x st) (IsBehind types f inputs st)) e (owner_born ty)
-  of_parts ty (Unique id target) e = subst (λ (p : Parts). OnNext (born_owner s ty p form x st) (IsBehind types f inputs st)) e (owner_born ty)
-  of_parts ty (Member first others) e = subst (λ (p : Parts). OnNext (born_owner s ty p form x st) (IsBehind types f inputs st)) e (owner_born ty)
-  of_parts ty NoMember e = tt
-
-  as_held : (h : Holding) (ty : TyId) → (h ≡ AnObject → parts_at types ty ≡ Single) → OnNext (live_as s types h ty form x st) (IsBehind types f inputs st)
-  as_held Blank ty single = of_parts ty (parts_at types ty) refl
-  as_held AnObject ty single = value_born ty (single refl)
-  as_held ANumber ty single = tt
-  as_held APointer ty single = behind_pointer types f inputs st k.buffered x (born_pointer form)
-  as_held AView ty single = behind_pointer types f inputs st k.buffered x empty_view
-
-  over_cell : (v : Option Cell) (h : Holding) (ty : TyId) → (h ≡ AnObject → parts_at types ty ≡ Single) → OnNext (live_over s types v h ty form x st) (IsBehind types f inputs st)
-  over_cell None h ty single = tt
-  over_cell (Some Empty) h ty single = as_held h ty single
-  over_cell (Some (Named n)) h ty single = tt
-  over_cell (Some (Number z)) h ty single = tt
-  over_cell (Some (Points p)) h ty single = tt
-
-  pub live_behind : OnNext (does s types f (Live x form) st) (IsBehind types f inputs st)
+  pub live_behind : OnNext (does s types f (Live x form) st) (IsBehind types f inputs (ReplacedBare types f rest inputs S st x) no_local st)
   live_behind = by_local (slice_get f.locals x) refl
     where
-      by_local : (o : Option Local) → slice_get f.locals x ≡ o → OnNext (live_local s types f (slice_get f.locals x) form x st) (IsBehind types f inputs st)
-      by_local None e = subst (λ (o : Option Local). OnNext (live_local s types f o form x st) (IsBehind types f inputs st)) (sym e) tt
+      by_local : (o : Option Local) → slice_get f.locals x ≡ o → OnNext (live_local s types f (slice_get f.locals x) form x st) (IsBehind types f inputs (ReplacedBare types f rest inputs S st x) no_local st)
+      by_local None e = subst (λ (o : Option Local). OnNext (live_local s types f o form x st) (IsBehind types f inputs (ReplacedBare types f rest inputs S st x) no_local st)) (sym e) tt
       by_local (Some l) e =
-          subst (λ (o : Option Local). OnNext (live_local s types f o form x st) (IsBehind types f inputs st)) (sym e)
-          (over_cell (cell st x) (sort_of types f x) l.ty (object_parts types k.ordered f x l e))
+          subst (λ (o : Option Local). OnNext (live_local s types f o form x st) (IsBehind types f inputs (ReplacedBare types f rest inputs S st x) no_local st)) (sym e)
+          (over_cell (cell st x) refl (sort_of types f x) l.ty (object_parts types k.ordered f x l e))

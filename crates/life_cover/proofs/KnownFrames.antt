@@ -17,7 +17,7 @@ use Rattle.life_core.specs.Operands.{Location, Operand, whole}
 use Rattle.life_core.specs.Operands as named
 use Rattle.life_core.specs.Step.{Step}
 use Rattle.life_pset.specs.Elements.{AreShort, elements_of}
-use Rattle.life_pset.specs.Shapes.{location_type, member_of, members_type, operand_type, target_type, ty_if}
+use Rattle.life_pset.specs.Shapes.{has_buffer, location_type, member_of, members_type, operand_type, target_type, ty_if}
 use Rattle.life_pset.specs.Shapes as shapes
 use Rattle.life_pset.specs.declared.element.Element.{Element}
 use Rattle.life_pset.specs.declared.element.Element.TheVariants as element
@@ -53,10 +53,11 @@ use Rattle.life_forest.proofs.SeenTypes.{pointee_points, pointer_solid}
 use Rattle.life_forest.proofs.Shaped.{IsShaped}
 use Rattle.life_forest.proofs.Slots.{register_only}
 use Rattle.life_forest.proofs.TypedSteps.{if_there}
-use Rattle.life_cover.specs.Buffered.{AreBuffered}
+use Rattle.life_cover.specs.Buffered.{AreBut}
 use Rattle.life_cover.specs.Frames.{FrameCovered, RootStands}
 use Rattle.life_cover.specs.Inputs.{AreGiven, StandsAt, frame_foot, may_change, owning}
 use Rattle.life_cover.specs.Kills.{Closed, IsUnnamed}
+use Rattle.life_cover.specs.Lacking.{IsUnmoved, MayLack}
 use Rattle.life_cover.specs.Regions.{Region}
 use Rattle.life_cover.specs.Roots.{AreRooted}
 use Rattle.life_cover.proofs.Inputs.{frame_rooted}
@@ -64,7 +65,8 @@ use Rattle.life_cover.proofs.PointerKinds.{IsClean, IsCleanOfTwo}
 use Rattle.life_cover.proofs.Reaching.{Reach, named_reach, through_reach, unranged_target}
 use Rattle.life_cover.proofs.Using.{NotInvalid}
 
--- the frame stands, each cell is of its local's sort, its inputs stand apart, the facts cover its pointers, and each vector and each string has its buffer
+-- the frame stands, each cell is of its local's sort, its inputs stand apart, the facts cover its pointers, and each vector and each string has its buffer, but for locals that
+-- facts say were moved from, and what other frames name
 pub record IsKnownFrame (types : Types) (f : Function) (rest : ℕ → ℕ) (inputs : Root → Option Region) (S : Fact → Type 0) (st : State) : Type 0 where
   pub ordered : IsOrdered types
   pub once : HasEachOnce types
@@ -75,13 +77,15 @@ pub record IsKnownFrame (types : Types) (f : Function) (rest : ℕ → ℕ) (inp
   pub poised : IsPoised types f st
   pub given : AreGiven types f inputs (frame_foot types f inputs st.cells) st.world.content
   pub covered : FrameCovered types f inputs S st
-  pub buffered : AreBuffered types st.world.content
+  pub buffered : AreBut types (MayLack types f inputs S st) st.world.content
 
--- nothing is wrong at the instruction, no fact points into an object that it gives over, and the facts behind it are what the rules give
+-- nothing is wrong at the instruction, no fact points into an object that it gives over, or says that it was moved from, and the facts behind it are
+-- what the rules give
 pub record IsRight (sigs : List Signature) (types : Types) (n : ℕ) (f : Function) (place : Place) (i : Step) (S S' : Fact → Type 0) : Type 0 where
   pub clean : IsClean sigs types n f place i S
   pub clean_of_two : IsCleanOfTwo sigs types n f place i S
   pub given : (x : ℕ) → object_at types f x ≡ true → Contains (given_step i) x → IsUnnamed S x
+  pub unmoved : (x : ℕ) → has_buffer (type_at types f x) ≡ true → Contains (given_step i) x → IsUnmoved S x
   pub closed : Closed sigs types f place i S S'
 
 -- ---- nothing is wrong with what it uses

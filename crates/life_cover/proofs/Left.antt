@@ -9,7 +9,7 @@ use Rattle.life_core.specs.Function.{Function}
 use Rattle.life_core.specs.Operands.{Location}
 use Rattle.life_core.specs.Operands as named
 use Rattle.life_core.specs.Step.{Step}
-use Rattle.life_pset.specs.Elements.{caused_elements, input_places, inputs_of, objects_from, owner_changed, step_elements}
+use Rattle.life_pset.specs.Elements.{caused_elements, input_places, inputs_of, objects_from, owner_changed, step_elements, elements_of}
 use Rattle.life_pset.specs.Places.{members_place, under}
 use Rattle.life_pset.specs.Table.{IsOf, table_of}
 use Rattle.life_pset.specs.declared.element.AbsPlace.{AbsPlace}
@@ -29,16 +29,16 @@ use Rattle.life_cover.specs.Kills.{Closed, LeftBy, is_hit}
 use Rattle.life_cover.specs.Regions.{Region}
 
 -- the element with a cause is one of the function's
-pub caused_of : (types : Types) (f : Function) (l : AbsPlace) (e e' : Element) → IsOf (table_of types f) (fact_at l e) → Contains (caused_elements f) e' → IsOf (table_of types f) (fact_at l e')
-caused_of types f l e e' of caused =
+pub caused_known : (types : Types) (f : Function) (e : Element) → Contains (caused_elements f) e → Contains (elements_of types f) e
+caused_known types f e caused =
     let objects = map element.At (objects_from types f.parameters 0 f.locals) in
     let inputs = map element.At (flat_map (input_places types) (inputs_of types f)) in
     let more = objects ++ (inputs ++ caused_elements f) in
-    (is_of_iff types f (fact_at l e')).1 (
-      ((is_of_iff types f (fact_at l e)).0 of).0,
-      in_tail element.Null (element.Own ∷ element.Static ∷ more) e' (in_tail element.Own (element.Static ∷ more) e' (in_tail element.Static more e'
-          (Contains-append_right objects (inputs ++ caused_elements f) e' (Contains-append_right inputs (caused_elements f) e' caused)))),
-    )
+    in_tail element.Null (element.Own ∷ element.Static ∷ more) e (in_tail element.Own (element.Static ∷ more) e (in_tail element.Static more e
+    (Contains-append_right objects (inputs ++ caused_elements f) e (Contains-append_right inputs (caused_elements f) e caused))))
+
+pub caused_of : (types : Types) (f : Function) (l : AbsPlace) (e e' : Element) → IsOf (table_of types f) (fact_at l e) → Contains (caused_elements f) e' → IsOf (table_of types f) (fact_at l e')
+caused_of types f l e e' of caused = (is_of_iff types f (fact_at l e')).1 (((is_of_iff types f (fact_at l e)).0 of).0, caused_known types f e' caused)
 
 hit_under : (a : AbsPlace) (e : Element) → is_hit (under a) e ≡ points_under a e
 hit_under a element.Null = refl

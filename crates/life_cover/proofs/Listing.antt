@@ -19,7 +19,7 @@ use Rattle.life_core.specs.Function.{Function}
 use Rattle.life_core.specs.Kinds.{has_kind, is_object}
 use Rattle.life_pset.specs.Elements.{caused_elements, elements_of, input_places, inputs_of, local_locations, local_place, locations_from, locations_of, object_places, objects_from, places_from, places_in, pointers_in}
 use Rattle.life_pset.specs.Places.{member_place, owned_place, stepped}
-use Rattle.life_pset.specs.Shapes.{is_variable, local_type, shape, shape_of, ty_if}
+use Rattle.life_pset.specs.Shapes.{is_variable, local_type, shape, shape_of, ty_if, is_variable_of}
 use Rattle.life_pset.specs.declared.element.AbsPlace.{AbsPlace}
 use Rattle.life_pset.specs.declared.element.Element.{Element}
 use Rattle.life_pset.specs.declared.element.Element.TheVariants as element
@@ -61,6 +61,16 @@ module _ (types : Types) (ordered : IsOrdered types) where
       (subst (λ (u : Local). Contains (local_locations types n first u) (local_place x)) (sym (some_same e)) (subst (λ y. Contains (local_locations types n y l) (local_place x)) here has))
   location_among n (m ∷ ls) first (suc k) x l is e has =
       Contains-append_right (local_locations types n first m) (locations_from types n (first + 1) ls) (local_place x) (location_among n ls (first + 1) k x l (omega (arith, is)) e has)
+
+  -- a vector or a string that is a local has facts
+  pub variable_listed : (f : Function) (x : ℕ) → is_variable_of types f.parameters x (slice_get f.locals x) ≡ true → Contains (locations_of types f) (local_place x)
+  variable_listed f x variable = go (slice_get f.locals x) refl variable
+    where
+      go : (o : Option Local) → slice_get f.locals x ≡ o → is_variable_of types f.parameters x o ≡ true → Contains (locations_of types f) (local_place x)
+      go None e h = absurd (false≢true h)
+      go (Some l) e h =
+          location_among f.parameters f.locals 0 x x l (omega arith) e
+          (subst (λ (b : Bool). Contains (if b then local_place x ∷ [] else pointers_in (local_place x) (tree_at types (shape types f.parameters x l))) (local_place x)) (sym h) (at_head (local_place x) []))
 
   -- a pointer that is a local has facts
   pub pointer_listed : (f : Function) (x : ℕ) → is_pointer (type_at types f x) ≡ true → Contains (locations_of types f) (local_place x)

@@ -54,7 +54,7 @@ two_named (v ∷ vs) (suc x) (suc y) n ne a b =
     omega (arith, f, h)
 
 -- what is beneath a region is owned
-beneath_owned : (types : Types) (c : Content) (a : Region) (n : ℕ) → Beneath (kinds_of types) c (foot_of types a) n → (m : ℕ) × (0 < owns_at (kinds_of types) c every m n)
+pub beneath_owned : (types : Types) (c : Content) (a : Region) (n : ℕ) → Beneath (kinds_of types) c (foot_of types a) n → (m : ℕ) × (0 < owns_at (kinds_of types) c every m n)
 beneath_owned types c a n (whole _ e) = absurd (false≢true e)
 beneath_owned types c a n (part m _ own) = (m, own_all (kinds_of types) c ((foot_of types a).part m) m n own)
 beneath_owned types c a n (under m _ low own) = (m, own)

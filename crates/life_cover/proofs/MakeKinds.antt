@@ -35,12 +35,13 @@ use Rattle.life_forest.proofs.Coming.{IfGot}
 use Rattle.life_forest.proofs.Following.{in_hand}
 use Rattle.life_forest.proofs.Members.{within_self}
 use Rattle.life_forest.specs.Values.{AllWide}
-use Rattle.life_cover.specs.Buffered.{AreBuffered, HasBuffers}
+use Rattle.life_cover.specs.Buffered.{HasBuffers, AreBut}
 use Rattle.life_cover.specs.Frames.{FrameCovered, RootStands, look_at}
 use Rattle.life_cover.specs.Inputs.{may_change, owning, StandsAt}
 use Rattle.life_cover.specs.Kills.{LeftBy}
 use Rattle.life_cover.specs.Regions.{IsAt, Region, foot_of}
-use Rattle.life_cover.proofs.Behind.{IsBehind, behind_content, both_got}
+use Rattle.life_cover.specs.Lacking.{MayLack}
+use Rattle.life_cover.proofs.Behind.{IsBehind, behind_content, both_got, no_local}
 use Rattle.life_cover.proofs.Changes.{place_cover}
 use Rattle.life_cover.proofs.Copies.{whole_parts}
 use Rattle.life_cover.proofs.KnownFrames.{IsKnownFrame, IsRight, hand_of, rooted_of, store_of}
@@ -56,8 +57,8 @@ use Rattle.life_cover.proofs.UniqueLocals.{IsUniqueLocal, on_location_local, uni
 use Rattle.life_cover.proofs.Using.{Faultless}
 
 -- what is known behind it
-abbrev pub IsMade : Types → Function → (inputs : Root → Option Region) → (S' : Fact → Type 0) → State → State → Type 0
-IsMade types f inputs S' st after = FrameCovered types f inputs S' after × IsBehind types f inputs st after
+abbrev pub IsMade : Types → Function → (inputs : Root → Option Region) → (S' : Fact → Type 0) → (bare over : ℕ → Type 0) → State → State → Type 0
+IsMade types f inputs S' bare over st after = FrameCovered types f inputs S' after × IsBehind types f inputs bare over st after
 
 module _ (types : Types) (f : Function) (rest : ℕ → ℕ) (inputs : Root → Option Region) (S : Fact → Type 0) (st : State) (k : IsKnownFrame types f rest inputs S st) (sigs : List Signature) (number : ℕ) (place : Place) (S' : Fact → Type 0) (s : Setting) (x : ℕ) (unique : is_unique (type_at types f x) ≡ true) where
   module _ (m : Made) (right : IsRight sigs types number f place (Make (whole x) m) S S') (n : ℕ) (named : cell st x ≡ Some (Named n)) where
@@ -86,8 +87,8 @@ module _ (types : Types) (f : Function) (rest : ℕ → ℕ) (inputs : Root → 
         apart : x ≢ y
         apart same = unlike (some_same (sym named ∙ ap (cell st) same ∙ e))
 
-    made_safe : (d : Content) → Touches (kinds_of types) (foot_of types region) st.world.content d → AreBuffered types d → IsMade types f inputs S' st (put_content d st)
-    made_safe d touch buffered = (covered d touch, behind_content types f inputs st d buffered (local_spares types f rest inputs S st k x n named u.number d touch))
+    made_safe : (d : Content) → Touches (kinds_of types) (foot_of types region) st.world.content d → AreBut types (MayLack types f inputs S st) d → IsMade types f inputs S' (MayLack types f inputs S st) no_local st (put_content d st)
+    made_safe d touch buffered = (covered d touch, behind_content types f inputs (MayLack types f inputs S st) no_local st d buffered (local_spares types f rest inputs S st k x n named u.number d touch))
 
     -- its parts need no buffer
     plain : (c : Content) → at c.objects n ≡ Some u.variable.object → (o : Object) → at c.objects n ≡ Some o → (ws : List ℕ) → HasBuffers (parts_at types o.ty) ws
@@ -115,42 +116,42 @@ module _ (types : Types) (f : Function) (rest : ℕ → ℕ) (inputs : Root → 
 
     -- ---- null
 
-    null_made : IsMade types f inputs S' st (put_content (replaced (location_parts types f (whole x)) (record { object = n; index = 0; word = 0 }) (owner_word None ∷ [], st.world.content)) st)
+    null_made : IsMade types f inputs S' (MayLack types f inputs S st) no_local st (put_content (replaced (location_parts types f (whole x)) (record { object = n; index = 0; word = 0 }) (owner_word None ∷ [], st.world.content)) st)
     null_made =
-        subst (λ (p : Parts). IsMade types f inputs S' st (put_content (replaced p (record { object = n; index = 0; word = 0 }) (owner_word None ∷ [], st.world.content)) st)) (sym parts_here)
+        subst (λ (p : Parts). IsMade types f inputs S' (MayLack types f inputs S st) no_local st (put_content (replaced p (record { object = n; index = 0; word = 0 }) (owner_word None ∷ [], st.world.content)) st)) (sym parts_here)
         (made_safe (replaced (parts_at types u.number) (record { object = n; index = 0; word = 0 }) (owner_word None ∷ [], st.world.content))
         (null_touches types k.ordered (hand_of rest st) st.world.content (store_of types f rest inputs S st k) n u.number u.variable.object u.variable.there within slot u.target u.parts)
-        (replaced_buffered types st.world.content n (parts_at types u.number) (owner_word None) (plain st.world.content u.variable.there) k.buffered))
+        (replaced_buffered types (MayLack types f inputs S st) st.world.content n (parts_at types u.number) (owner_word None) (plain st.world.content u.variable.there) k.buffered))
 
     -- ---- an object
 
     abbrev Remade : ℕ × Content → Type 0
     Remade b = IsRemade types k.ordered (hand_of rest st) st.world.content (store_of types f rest inputs S st k) n u.number u.variable.object u.variable.there within slot u.target u.parts b
 
-    remade_safe : (b : ℕ × Content) → Remade b → AreBuffered types b.1 → IsMade types f inputs S' st (remade (Unique u.target (parts_at types u.target)) (record { object = n; index = 0; word = 0 }) b st)
+    remade_safe : (b : ℕ × Content) → Remade b → AreBut types (MayLack types f inputs S st) b.1 → IsMade types f inputs S' (MayLack types f inputs S st) no_local st (remade (Unique u.target (parts_at types u.target)) (record { object = n; index = 0; word = 0 }) b st)
     remade_safe b h buffered =
-        subst (λ (p : Parts). IsMade types f inputs S' st (put_content (replaced p (record { object = n; index = 0; word = 0 }) (owner_word (Some b.0) ∷ [], b.1)) st)) u.parts
+        subst (λ (p : Parts). IsMade types f inputs S' (MayLack types f inputs S st) no_local st (put_content (replaced p (record { object = n; index = 0; word = 0 }) (owner_word (Some b.0) ∷ [], b.1)) st)) u.parts
         (made_safe (replaced (parts_at types u.number) (record { object = n; index = 0; word = 0 }) (owner_word (Some b.0) ∷ [], b.1)) h.touch
-        (replaced_buffered types b.1 n (parts_at types u.number) (owner_word (Some b.0)) (plain b.1 h.kept) buffered))
+        (replaced_buffered types (MayLack types f inputs S st) b.1 n (parts_at types u.number) (owner_word (Some b.0)) (plain b.1 h.kept) buffered))
 
-    object_made : (a : Attempt (ℕ × Content)) → IfGot a Remade → IfGot a (λ b. AreBuffered types b.1) → Faultless a → OnRight (on_got a (λ b. Next (remade (Unique u.target (parts_at types u.target)) (record { object = n; index = 0; word = 0 }) b st))) (IsMade types f inputs S' st)
+    object_made : (a : Attempt (ℕ × Content)) → IfGot a Remade → IfGot a (λ b. AreBut types (MayLack types f inputs S st) b.1) → Faultless a → OnRight (on_got a (λ b. Next (remade (Unique u.target (parts_at types u.target)) (record { object = n; index = 0; word = 0 }) b st))) (IsMade types f inputs S' (MayLack types f inputs S st) no_local st)
     object_made a one two right_a =
-        right_then a (λ b. Next (remade (Unique u.target (parts_at types u.target)) (record { object = n; index = 0; word = 0 }) b st)) (λ b. Remade b × AreBuffered types b.1) (IsMade types f inputs S' st)
-        (right_got a (λ b. Remade b × AreBuffered types b.1) (both_got a Remade (λ b. AreBuffered types b.1) one two) right_a) (λ b h. remade_safe b h.0 h.1)
+        right_then a (λ b. Next (remade (Unique u.target (parts_at types u.target)) (record { object = n; index = 0; word = 0 }) b st)) (λ b. Remade b × AreBut types (MayLack types f inputs S st) b.1) (IsMade types f inputs S' (MayLack types f inputs S st) no_local st)
+        (right_got a (λ b. Remade b × AreBut types (MayLack types f inputs S st) b.1) (both_got a Remade (λ b. AreBut types (MayLack types f inputs S st) b.1) one two) right_a) (λ b h. remade_safe b h.0 h.1)
 
-    fresh_made : OnRight (made_fresh s (location_parts types f (whole x)) (record { object = n; index = 0; word = 0 }) st) (IsMade types f inputs S' st)
+    fresh_made : OnRight (made_fresh s (location_parts types f (whole x)) (record { object = n; index = 0; word = 0 }) st) (IsMade types f inputs S' (MayLack types f inputs S st) no_local st)
     fresh_made =
-        subst (λ (p : Parts). OnRight (made_fresh s p (record { object = n; index = 0; word = 0 }) st) (IsMade types f inputs S' st)) (sym (parts_here ∙ u.parts))
+        subst (λ (p : Parts). OnRight (made_fresh s p (record { object = n; index = 0; word = 0 }) st) (IsMade types f inputs S' (MayLack types f inputs S st) no_local st)) (sym (parts_here ∙ u.parts))
         (object_made (object_with s u.target (parts_at types u.target) (fresh s form.Zero (parts_at types u.target)) st.world.content)
         (remade_fresh types k.ordered (hand_of rest st) st.world.content (store_of types f rest inputs S st k) n u.number u.variable.object u.variable.there within slot u.target u.parts in_the_hand u.variable.slot u.variable.one wide s form.Zero)
-        (born_buffered types k.ordered s form.Zero u.target st.world.content (whole_parts types k.plain u.target) k.buffered)
+        (born_buffered types k.ordered s (MayLack types f inputs S st) form.Zero u.target st.world.content (whole_parts types k.plain u.target) k.buffered)
         (object_faultless s u.target (parts_at types u.target) (fresh s form.Zero (parts_at types u.target)) st.world.content (fresh_faultless s form.Zero (parts_at types u.target))))
 
-    number_made : parts_at types u.target ≡ Single → (y : ℕ) → ((j : ℕ) → cell st y ≡ Some (Named j) → ⊥) → OnRight (made_of s types f (location_parts types f (whole x)) (record { object = n; index = 0; word = 0 }) y (cell st y) st) (IsMade types f inputs S' st)
+    number_made : parts_at types u.target ≡ Single → (y : ℕ) → ((j : ℕ) → cell st y ≡ Some (Named j) → ⊥) → OnRight (made_of s types f (location_parts types f (whole x)) (record { object = n; index = 0; word = 0 }) y (cell st y) st) (IsMade types f inputs S' (MayLack types f inputs S st) no_local st)
     number_made single y free =
-        subst (λ (p : Parts). OnRight (made_of s types f p (record { object = n; index = 0; word = 0 }) y (cell st y) st) (IsMade types f inputs S' st)) (sym (parts_here ∙ u.parts)) (over (cell st y) refl)
+        subst (λ (p : Parts). OnRight (made_of s types f p (record { object = n; index = 0; word = 0 }) y (cell st y) st) (IsMade types f inputs S' (MayLack types f inputs S st) no_local st)) (sym (parts_here ∙ u.parts)) (over (cell st y) refl)
       where
-        over : (v : Option Cell) → cell st y ≡ v → OnRight (made_of s types f (Unique u.target (parts_at types u.target)) (record { object = n; index = 0; word = 0 }) y v st) (IsMade types f inputs S' st)
+        over : (v : Option Cell) → cell st y ≡ v → OnRight (made_of s types f (Unique u.target (parts_at types u.target)) (record { object = n; index = 0; word = 0 }) y v st) (IsMade types f inputs S' (MayLack types f inputs S st) no_local st)
         over None e = tt
         over (Some Empty) e = tt
         over (Some (Points p)) e = tt
@@ -158,19 +159,19 @@ module _ (types : Types) (f : Function) (rest : ℕ → ℕ) (inputs : Root → 
         over (Some (Number z)) e =
             object_made (object_with s u.target (parts_at types u.target) (λ d. Got (word_of_number z ∷ [], d)) st.world.content)
             (remade_number types k.ordered (hand_of rest st) st.world.content (store_of types f rest inputs S st k) n u.number u.variable.object u.variable.there within slot u.target u.parts in_the_hand u.variable.slot u.variable.one wide s (word_of_number z) single)
-            (number_buffered types k.ordered s (word_of_number z) u.target st.world.content single k.buffered)
+            (number_buffered types k.ordered s (MayLack types f inputs S st) (word_of_number z) u.target st.world.content single k.buffered)
             (object_faultless s u.target (parts_at types u.target) (λ d. Got (word_of_number z ∷ [], d)) st.world.content (λ d. tt))
 
   -- ---- the kind
 
-  pub null_kind : IsRight sigs types number f place (Make (whole x) made.Null) S S' → OnRight (does s types f (Make (whole x) made.Null) st) (IsMade types f inputs S' st)
+  pub null_kind : IsRight sigs types number f place (Make (whole x) made.Null) S S' → OnRight (does s types f (Make (whole x) made.Null) st) (IsMade types f inputs S' (MayLack types f inputs S st) no_local st)
   null_kind right =
-      on_location_local types f rest inputs S st k x (λ spot. Next (put_content (replaced (location_parts types f (whole x)) spot (owner_word None ∷ [], st.world.content)) st)) (IsMade types f inputs S' st) (λ n named. null_made made.Null right n named)
+      on_location_local types f rest inputs S st k x (λ spot. Next (put_content (replaced (location_parts types f (whole x)) spot (owner_word None ∷ [], st.world.content)) st)) (IsMade types f inputs S' (MayLack types f inputs S st) no_local st) (λ n named. null_made made.Null right n named)
 
-  pub fresh_kind : IsRight sigs types number f place (Make (whole x) made.Zero) S S' → OnRight (does s types f (Make (whole x) made.Zero) st) (IsMade types f inputs S' st)
-  fresh_kind right = on_location_local types f rest inputs S st k x (λ spot. made_fresh s (location_parts types f (whole x)) spot st) (IsMade types f inputs S' st) (λ n named. fresh_made made.Zero right n named)
+  pub fresh_kind : IsRight sigs types number f place (Make (whole x) made.Zero) S S' → OnRight (does s types f (Make (whole x) made.Zero) st) (IsMade types f inputs S' (MayLack types f inputs S st) no_local st)
+  fresh_kind right = on_location_local types f rest inputs S st k x (λ spot. made_fresh s (location_parts types f (whole x)) spot st) (IsMade types f inputs S' (MayLack types f inputs S st) no_local st) (λ n named. fresh_made made.Zero right n named)
 
   pub number_kind : (y : ℕ) → IsRight sigs types number f place (Make (whole x) (made.Of y)) S S' → ((n : ℕ) (named : cell st x ≡ Some (Named n)) → parts_at types (unique_local types f rest inputs S st k x n named unique).target ≡ Single) → ((j : ℕ) → cell st y ≡ Some (Named j) → ⊥)
-      → OnRight (does s types f (Make (whole x) (made.Of y)) st) (IsMade types f inputs S' st)
+      → OnRight (does s types f (Make (whole x) (made.Of y)) st) (IsMade types f inputs S' (MayLack types f inputs S st) no_local st)
   number_kind y right single free =
-      on_location_local types f rest inputs S st k x (λ spot. made_of s types f (location_parts types f (whole x)) spot y (cell st y) st) (IsMade types f inputs S' st) (λ n named. number_made (made.Of y) right n named (single n named) y free)
+      on_location_local types f rest inputs S st k x (λ spot. made_of s types f (location_parts types f (whole x)) spot y (cell st y) st) (IsMade types f inputs S' (MayLack types f inputs S st) no_local st) (λ n named. number_made (made.Of y) right n named (single n named) y free)

@@ -32,6 +32,8 @@ use Rattle.life_cover.proofs.KnownFrames.{IsKnownFrame, IsRight, number_free, wh
 use Rattle.life_cover.proofs.MakeKinds.{IsMade, fresh_kind, null_kind, number_kind}
 use Rattle.life_cover.proofs.Pointers.{OnRight}
 use Rattle.life_cover.proofs.UniqueLocals.{unique_local}
+use Rattle.life_cover.proofs.Behind.{no_local}
+use Rattle.life_cover.specs.Lacking.{MayLack}
 use Rattle.life_cover.specs.Regions.{Region}
 
 -- what is made of a temporary that is an owner isn't spoken of
@@ -45,7 +47,7 @@ module _ (types : Types) (texts : ℕ) (fs : List Function) (f : Function) where
   no_void : (y : ℕ) → is_given types f ty.Void y ≡ true → ⊥
   no_void y e = false≢true (and_parts (not (slot_at types f y)) false (and_parts (not (result_at types f y)) (not (slot_at types f y) && false) (and_parts (object_at types f y) (not (result_at types f y) && (not (slot_at types f y) && false)) e).1).1).1
 
-  unique_of : (t : Ty) (m : Made) → is_made_for types texts fs f t m ≡ true → is_unique t ≡ true
+  pub unique_of : (t : Ty) (m : Made) → is_made_for types texts fs f t m ≡ true → is_unique t ≡ true
   unique_of t made.Null e = e
   unique_of t made.Zero e = e
   unique_of (ty.Unique target) (made.Of y) e = refl
@@ -65,7 +67,7 @@ module _ (types : Types) (texts : ℕ) (fs : List Function) (f : Function) where
           absurd (false≢true (sym v ∙ ap is_value (same_is t (type_at types f y) (and_parts (not (slot_at types f y)) _ (and_parts (not (result_at types f y)) _ (and_parts (object_at types f y) _ h).1).1).1) ∙ value))
 
 module _ (types : Types) (f : Function) (rest : ℕ → ℕ) (inputs : Root → Option Region) (S : Fact → Type 0) (st : State) (k : IsKnownFrame types f rest inputs S st) (sigs : List Signature) (number : ℕ) (place : Place) (S' : Fact → Type 0) (texts : ℕ) (fs : List Function) (s : Setting) where
-  by_made : (x : ℕ) (m : Made) → IsSpokenMade types f m → IsRight sigs types number f place (Make (whole x) m) S S' → is_made_for types texts fs f (type_at types f x) m ≡ true → OnRight (does s types f (Make (whole x) m) st) (IsMade types f inputs S' st)
+  by_made : (x : ℕ) (m : Made) → IsSpokenMade types f m → IsRight sigs types number f place (Make (whole x) m) S S' → is_made_for types texts fs f (type_at types f x) m ≡ true → OnRight (does s types f (Make (whole x) m) st) (IsMade types f inputs S' (MayLack types f inputs S st) no_local st)
   by_made x made.Null spoken right e = null_kind types f rest inputs S st k sigs number place S' s x e right
   by_made x made.Zero spoken right e = fresh_kind types f rest inputs S st k sigs number place S' s x e right
   by_made x (made.Of y) spoken right e =
@@ -83,7 +85,7 @@ module _ (types : Types) (f : Function) (rest : ℕ → ℕ) (inputs : Root → 
       any (ty.Unique target) is u = number_any types f (ty_of types target) y (of_target target is).1
       any _ is u = absurd (false≢true u)
 
-  pub make_right : (u : Location) (m : Made) → IsSpokenMade types f m → IsRight sigs types number f place (Make u m) S S' → is_made_for types texts fs f (type_in types f u) m ≡ true → OnRight (does s types f (Make u m) st) (IsMade types f inputs S' st)
+  pub make_right : (u : Location) (m : Made) → IsSpokenMade types f m → IsRight sigs types number f place (Make u m) S S' → is_made_for types texts fs f (type_in types f u) m ≡ true → OnRight (does s types f (Make u m) st) (IsMade types f inputs S' (MayLack types f inputs S st) no_local st)
   make_right u m spoken right e =
-      subst (λ (q : Location). IsRight sigs types number f place (Make q m) S S' → is_made_for types texts fs f (type_in types f q) m ≡ true → OnRight (does s types f (Make q m) st) (IsMade types f inputs S' st))
+      subst (λ (q : Location). IsRight sigs types number f place (Make q m) S S' → is_made_for types texts fs f (type_in types f q) m ≡ true → OnRight (does s types f (Make q m) st) (IsMade types f inputs S' (MayLack types f inputs S st) no_local st))
       (whole_location types k.plain f u (unique_solid types texts fs f (type_in types f u) (unique_of types texts fs f (type_in types f u) m e))) (by_made u.local m spoken) right e

@@ -1,5 +1,5 @@
--- A unique_ptr is moved to another one that is a local, as it is asked of well-formed instructions.
-use Rattle.std.proofs.Common.{◌≡◌, ℕ, Bool, true, false, List, refl, sym, subst, ◌∙◌, arith, Option}
+-- An owner is moved to another one that is a local, as it is asked of well-formed instructions: a unique_ptr, a vector or a string.
+use Rattle.std.proofs.Common.{◌≡◌, ℕ, Bool, true, false, List, refl, sym, subst, ◌∙◌, arith, ◌≢◌, ◌⊎◌, ⊎_elim, inl, inr, Option}
 use Rattle.std.specs.Prelude.{nat_eq, not}
 use Rattle.std.proofs.lemmas.Bool.{and_parts, false≢true}
 use Rattle.std.proofs.lemmas.Bool.Decides.{nat_tests}
@@ -13,28 +13,31 @@ use Rattle.life_core.specs.Operands.{Location, Operand, whole}
 use Rattle.life_core.specs.Operands as named
 use Rattle.life_core.specs.Step.{Move}
 use Rattle.life_pset.specs.declared.element.Fact.{Fact}
+use Rattle.life_pset.specs.Shapes.{has_buffer}
 use Rattle.life_pset.specs.declared.element.Root.{Root}
 use Rattle.life_contract.specs.Signatures.{Signature}
 use Rattle.life_proper.specs.OperandTypes.{is_owner, same}
 use Rattle.life_proper.specs.Placed.{is_const_place, object_at, result_at, type_at, type_in, type_of}
 use Rattle.life_proper.specs.WellFormed.{is_itself, is_well_formed_step}
 use Rattle.life_proper.proofs.HeldSorts.{same_is}
-use Rattle.life_store.specs.Doing.{does}
-use Rattle.life_store.specs.Effects.{Setting}
 use Rattle.life_store.specs.State.{State}
 use Rattle.life_forest.proofs.OneNumber.{same_solid}
-use Rattle.life_cover.proofs.KnownFrames.{IsKnownFrame, IsRight, typed, whole_location}
-use Rattle.life_cover.proofs.MakeKinds.{IsMade}
-use Rattle.life_cover.proofs.MoveKinds.{move_kind}
-use Rattle.life_cover.proofs.Pointers.{OnRight}
+use Rattle.life_cover.proofs.KnownFrames.{IsKnownFrame, IsRight, typed, whole_location, solid_type}
 use Rattle.life_cover.specs.Regions.{Region}
 
--- a vector or a string, and a place behind a pointer, aren't spoken of
-abbrev pub IsSpokenMove : Types → Function → Operand → Type 0
-IsSpokenMove types f (named.Name l) = is_unique (type_in types f l) ≡ true
-IsSpokenMove types f (named.Through p members) = ⊥
+-- a place behind a pointer isn't spoken of
+abbrev pub IsSpokenMove : Operand → Type 0
+IsSpokenMove (named.Name l) = Unit {0}
+IsSpokenMove (named.Through p members) = ⊥
 
-unique_solid : (t : Ty) → is_unique t ≡ true → is_void t ≡ false
+-- what is moved is a unique_ptr, a vector or a string
+owner_sort : (t : Ty) → is_owner t ≡ true → (is_unique t ≡ true) ⊎ (has_buffer t ≡ true)
+owner_sort ty.Text e = inr refl
+owner_sort (ty.Vector element) e = inr refl
+owner_sort (ty.Unique target) e = inl refl
+owner_sort _ e = absurd (false≢true e)
+
+pub unique_solid : (t : Ty) → is_unique t ≡ true → is_void t ≡ false
 unique_solid (ty.Unique target) e = refl
 unique_solid _ e = absurd (false≢true e)
 
@@ -45,22 +48,32 @@ not_true : (b : Bool) → not b ≡ true → b ≡ false
 not_true true e = absurd (false≢true e)
 not_true false e = refl
 
-module _ (types : Types) (f : Function) (rest : ℕ → ℕ) (inputs : Root → Option Region) (S : Fact → Type 0) (st : State) (k : IsKnownFrame types f rest inputs S st) (sigs : List Signature) (number : ℕ) (place : Place) (S' : Fact → Type 0) (texts : ℕ) (fs : List Function) (s : Setting) (y : ℕ) where
-  at_whole : (x : ℕ) → IsRight sigs types number f place (Move (named.Name (whole x)) y) S S' → is_unique (type_at types f x) ≡ true → same (type_of types f (named.Name (whole x))) (type_at types f y) ≡ true → is_itself types texts fs f y (named.Name (whole x)) ≡ false
-      → OnRight (does s types f (Move (named.Name (whole x)) y) st) (IsMade types f inputs S' st)
-  at_whole x right unique alike other =
-      move_kind types f rest inputs S st k sigs number place S' s x y right unique
-      (typed types f rest inputs S st k (named.Name (whole x)) (same_solid (type_of types f (named.Name (whole x))) (type_at types f y) alike) ∙ same_is (type_of types f (named.Name (whole x))) (type_at types f y) alike)
-      (λ h. false≢true (sym other ∙ subst (λ z. nat_eq x z ≡ true) h (eq_same x)))
+module _ (types : Types) (f : Function) (rest : ℕ → ℕ) (inputs : Root → Option Region) (S : Fact → Type 0) (st : State) (k : IsKnownFrame types f rest inputs S st) (sigs : List Signature) (number : ℕ) (place : Place) (S' : Fact → Type 0) (texts : ℕ) (fs : List Function) (y : ℕ) where
+  -- what is asked of whole locals
+  abbrev pub OfLocals : (is_sort : Ty → Bool) → (Operand → Type 0) → Type 0
+  OfLocals is_sort Q = (x : ℕ) → IsRight sigs types number f place (Move (named.Name (whole x)) y) S S' → is_sort (type_at types f x) ≡ true → type_at types f x ≡ type_at types f y → x ≢ y → Q (named.Name (whole x))
 
-  pub move_right : (to : Operand) → IsSpokenMove types f to → IsRight sigs types number f place (Move to y) S S' → is_well_formed_step types texts fs f (Move to y) ≡ true → OnRight (does s types f (Move to y) st) (IsMade types f inputs S' st)
-  move_right (named.Through p members) spoken right e = absurd spoken
-  move_right (named.Name l) spoken right e =
-      let outer = and_parts (is_owner (type_of types f (named.Name l))) _ e in
-      let object = and_parts (object_at types f y) _ outer.1 in
-      let alike = and_parts (same (type_of types f (named.Name l)) (type_at types f y)) _ object.1 in
-      let result = and_parts (not (result_at types f y)) _ alike.1 in
-      let itself = and_parts (not (is_itself types texts fs f y (named.Name l))) (not (is_const_place types f (named.Name l))) result.1 in
-      subst (λ (q : Location). IsRight sigs types number f place (Move (named.Name q) y) S S' → is_unique (type_in types f q) ≡ true → same (type_of types f (named.Name q)) (type_at types f y) ≡ true → is_itself types texts fs f y (named.Name q) ≡ false
-      → OnRight (does s types f (Move (named.Name q) y) st) (IsMade types f inputs S' st))
-      (whole_location types k.plain f l (unique_solid (type_in types f l) spoken)) (at_whole l.local) right spoken alike.0 (not_true (is_itself types texts fs f y (named.Name l)) itself.0)
+  module _ (Q : Operand → Type 0) (unique : OfLocals is_unique Q) (buffer : OfLocals has_buffer Q) where
+    at_whole : (x : ℕ) → IsRight sigs types number f place (Move (named.Name (whole x)) y) S S' → (is_unique (type_at types f x) ≡ true) ⊎ (has_buffer (type_at types f x) ≡ true) → same (type_of types f (named.Name (whole x))) (type_at types f y) ≡ true
+        → is_itself types texts fs f y (named.Name (whole x)) ≡ false → Q (named.Name (whole x))
+    at_whole x right sort alike other = ⊎_elim (λ is. unique x right is types_same apart) (λ is. buffer x right is types_same apart) sort
+      where
+        types_same : type_at types f x ≡ type_at types f y
+        types_same = typed types f rest inputs S st k (named.Name (whole x)) (same_solid (type_of types f (named.Name (whole x))) (type_at types f y) alike) ∙ same_is (type_of types f (named.Name (whole x))) (type_at types f y) alike
+
+        apart : x ≢ y
+        apart h = false≢true (sym other ∙ subst (λ z. nat_eq x z ≡ true) h (eq_same x))
+
+    pub by_move : (to : Operand) → IsSpokenMove to → IsRight sigs types number f place (Move to y) S S' → is_well_formed_step types texts fs f (Move to y) ≡ true → Q to
+    by_move (named.Through p members) spoken right e = absurd spoken
+    by_move (named.Name l) spoken right e =
+        let outer = and_parts (is_owner (type_of types f (named.Name l))) _ e in
+        let object = and_parts (object_at types f y) _ outer.1 in
+        let alike = and_parts (same (type_of types f (named.Name l)) (type_at types f y)) _ object.1 in
+        let result = and_parts (not (result_at types f y)) _ alike.1 in
+        let itself = and_parts (not (is_itself types texts fs f y (named.Name l))) (not (is_const_place types f (named.Name l))) result.1 in
+        let solid = same_solid (type_of types f (named.Name l)) (type_at types f y) alike.0 in
+        let sort = owner_sort (type_in types f l) (subst (λ (t : Ty). is_owner t ≡ true) (sym (typed types f rest inputs S st k (named.Name l) solid)) outer.0) in
+        subst (λ (q : Location). IsRight sigs types number f place (Move (named.Name q) y) S S' → (is_unique (type_in types f q) ≡ true) ⊎ (has_buffer (type_in types f q) ≡ true) → same (type_of types f (named.Name q)) (type_at types f y) ≡ true
+        → is_itself types texts fs f y (named.Name q) ≡ false → Q (named.Name q))
+        (whole_location types k.plain f l (solid_type types f rest inputs S st k (named.Name l) solid)) (at_whole l.local) right sort alike.0 (not_true (is_itself types texts fs f y (named.Name l)) itself.0)

@@ -37,7 +37,7 @@ use Rattle.life_cover.proofs.Inside.{in_region}
 abbrev pub both_feet : Types → Region → Region → Foot
 both_feet types a b = record { whole = λ n. false; part = λ m w. is_in_region types a m w || is_in_region types b m w }
 
-or_left : (a b : Bool) → a ≡ true → (a || b) ≡ true
+pub or_left : (a b : Bool) → a ≡ true → (a || b) ≡ true
 or_left true b e = refl
 or_left false b e = absurd (false≢true e)
 

@@ -28,21 +28,21 @@ module _ (types : Types) (f : Function) (st : State) (j : ℕ) where
   other_named (Some ty.Void) o lt = absurd (omega (arith, lt))
   other_named _ o lt = cell_named o lt
 
-  number_unnamed : (o : Option Cell) → 0 < times (named_in (number_or_zero o ∷ [])) j → ⊥
+  pub number_unnamed : (o : Option Cell) → 0 < times (named_in (number_or_zero o ∷ [])) j → ⊥
   number_unnamed None lt = omega (arith, lt)
   number_unnamed (Some Empty) lt = omega (arith, lt)
   number_unnamed (Some (Named n)) lt = omega (arith, lt)
   number_unnamed (Some (Number z)) lt = omega (arith, lt)
   number_unnamed (Some (Points p)) lt = omega (arith, lt)
 
-  pointer_unnamed : (o : Option Cell) → 0 < times (named_in (pointer_back o)) j → ⊥
+  pub pointer_unnamed : (o : Option Cell) → 0 < times (named_in (pointer_back o)) j → ⊥
   pointer_unnamed None lt = omega (arith, lt)
   pointer_unnamed (Some Empty) lt = omega (arith, lt)
   pointer_unnamed (Some (Named n)) lt = omega (arith, lt)
   pointer_unnamed (Some (Number z)) lt = omega (arith, lt)
   pointer_unnamed (Some (Points p)) lt = omega (arith, lt)
 
-  back_named : (t : Option Ty) (h : Holding) (o : Option Cell) → 0 < times (named_in (given_back t h o)) j → o ≡ Some (Named j)
+  pub back_named : (t : Option Ty) (h : Holding) (o : Option Cell) → 0 < times (named_in (given_back t h o)) j → o ≡ Some (Named j)
   back_named t Blank o lt = other_named t o lt
   back_named t AnObject o lt = absurd (omega (arith, lt))
   back_named t ANumber o lt = absurd (number_unnamed o lt)

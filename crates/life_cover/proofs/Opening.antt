@@ -39,6 +39,7 @@ use Rattle.life_cover.specs.Buffered.{HasBuffers}
 use Rattle.life_cover.specs.Covers.{IsSeenAs}
 use Rattle.life_cover.specs.Frames.{RootStands}
 use Rattle.life_cover.specs.Inputs.{IsAllOf, may_change, StandsAt}
+use Rattle.life_cover.specs.Lacking.{MayLack}
 use Rattle.life_cover.specs.Regions.{Goes, IsAt, IsTrue, Lies, Region, owned_in_type}
 use Rattle.life_cover.proofs.Buffers.{buffer_lives}
 use Rattle.life_cover.proofs.Inside.{goes_true, lies_true, owned_typed}
@@ -108,45 +109,56 @@ module _ (types : Types) (f : Function) (rest : ℕ → ℕ) (inputs : Root → 
       pub object : Object
       pub lives : at st.world.content.objects buffer ≡ Some object
 
-    buffered : (p : Parts) → parts_at types r.region.ty ≡ p → ((ws : List ℕ) → HasBuffers p ws → (b : ℕ) × (owned_in (slice_index ws 0) ≡ Some b)) → (b : ℕ) × (owned_at st.world.content (record { object = r.region.object; index = r.index; word = r.region.word }) ≡ Some b)
-    buffered p is has =
-        let s = slot_there r.holder.slots r.index r.small in
-        let all = region_all in
-        let ty : parts_at types r.holder.ty ≡ p = ap (parts_at types) (all.type r.holder r.there) ∙ is in
-        let b = has s.0.words (subst (λ (q : Parts). HasBuffers q s.0.words) ty (k.buffered r.region.object r.index r.holder s.0 r.there s.1)) in
-        (b.0, owned_is st.world.content r.region.object r.index r.region.word r.holder r.there ∙ ap (λ (x : Option Slot). owned_in (word_in x r.region.word)) s.1 ∙ ap (λ w. owned_in (slice_index s.0.words w)) all.word ∙ b.1)
+    -- its type is that of the object
+    pub record IsTyped (u : Ty) : Type 0 where
+      pub typed : operand_type types f o ≡ Some r.region.ty
+      pub there : slice_get types.types r.region.ty.0 ≡ Some u
 
-    opened_as : (u : Ty) (item : TyId) (p : Parts) → type_of types f o ≡ u → is_void u ≡ false → owned_in_type types (Some u) ≡ Some item → parts_of types (parts_at types) (Some u) ≡ p
-        → ((ws : List ℕ) → HasBuffers p ws → (b : ℕ) × (owned_in (slice_index ws 0) ≡ Some b)) → ((b : ℕ) (ws : List ℕ) → owned_in (slice_index ws 0) ≡ Some b → owned_of p ws ≡ b ∷ []) → width p ≡ 1 → IsOpened u item
-    opened_as u item p is solid owned parts has owns one =
+    pub owner_typed : (u : Ty) (item : TyId) → type_of types f o ≡ u → is_void u ≡ false → owned_in_type types (Some u) ≡ Some item → IsTyped u
+    owner_typed u item is solid owned =
         let of = operand_of types k.ordered k.once 0 [] f k.shaped o u is solid in
         let same : of.number ≡ r.region.ty = exact_owner types k.ordered k.once of.number r.region.ty u item of.there owned (subst (λ (t : Option TyId). IsSeenAs types t r.region.ty) of.is r.seen) in
-        let there : slice_get types.types r.region.ty.0 ≡ Some u = ap (λ (i : TyId). slice_get types.types i.0) (sym same) ∙ of.there in
-        let made : parts_at types r.region.ty ≡ p = parts_typed types k.ordered r.region.ty u there ∙ parts in
-        let b = buffered p made has in
-        let l = buffer_lives types k.ordered (hand_of rest st) st.world.content (store_of types f rest inputs S st k) r.region.object r.index r.region.word r.region.ty r.holder r.there
-        (lies_true types k.ordered (hand_of rest st) st.world.content (store_of types f rest inputs S st k) (path r.place) r.lies.start r.region ((rooted_of types f rest inputs S st k).fits r.place.root r.lies.start r.lies.stands) r.lies.lies r.holder r.there) r.small p made b.0
-        (subst (λ m. owned_of p (spot_words st.world.content (record { object = r.region.object; index = r.index; word = r.region.word }) m) ≡ b.0 ∷ []) (sym one)
-        (owns b.0 (spot_words st.world.content (record { object = r.region.object; index = r.index; word = r.region.word }) 1) b.1)) in record {
-          typed = of.is ∙ ap Some same;
-          there = there;
-          type = ap (owned_in_type types) there ∙ owned;
-          buffer = b.0;
-          owned = b.1;
-          object = l.0;
-          lives = l.1;
-        }
+        record { typed = of.is ∙ ap Some same; there = ap (λ (i : TyId). slice_get types.types i.0) (sym same) ∙ of.there }
 
-    pub vector_opened : (element : TyId) → type_of types f o ≡ ty.Vector element → IsOpened (ty.Vector element) element
-    vector_opened element is = opened_as (ty.Vector element) element (Vector element (parts_at types element)) is refl refl refl (λ ws h. h) (λ b ws e. ap listed e) refl
+    -- .. and it has a buffer, where it wasn't moved from
+    module _ (unmoved : MayLack types f inputs S st r.region.object → ⊥) where
+      buffered : (p : Parts) → parts_at types r.region.ty ≡ p → ((ws : List ℕ) → HasBuffers p ws → (b : ℕ) × (owned_in (slice_index ws 0) ≡ Some b)) → (b : ℕ) × (owned_at st.world.content (record { object = r.region.object; index = r.index; word = r.region.word }) ≡ Some b)
+      buffered p is has =
+          let s = slot_there r.holder.slots r.index r.small in
+          let all = region_all in
+          let ty : parts_at types r.holder.ty ≡ p = ap (parts_at types) (all.type r.holder r.there) ∙ is in
+          let b = has s.0.words (subst (λ (q : Parts). HasBuffers q s.0.words) ty (k.buffered r.region.object r.index r.holder s.0 unmoved r.there s.1)) in
+          (b.0, owned_is st.world.content r.region.object r.index r.region.word r.holder r.there ∙ ap (λ (x : Option Slot). owned_in (word_in x r.region.word)) s.1 ∙ ap (λ w. owned_in (slice_index s.0.words w)) all.word ∙ b.1)
 
-    pub text_opened : type_of types f o ≡ ty.Text → IsOpened ty.Text (characters_type types)
-    text_opened is = opened_as ty.Text (characters_type types) (Text (characters_type types)) is refl refl refl (λ ws h. h) (λ b ws e. ap listed e) refl
+      opened_as : (u : Ty) (item : TyId) (p : Parts) → type_of types f o ≡ u → is_void u ≡ false → owned_in_type types (Some u) ≡ Some item → parts_of types (parts_at types) (Some u) ≡ p
+          → ((ws : List ℕ) → HasBuffers p ws → (b : ℕ) × (owned_in (slice_index ws 0) ≡ Some b)) → ((b : ℕ) (ws : List ℕ) → owned_in (slice_index ws 0) ≡ Some b → owned_of p ws ≡ b ∷ []) → width p ≡ 1 → IsOpened u item
+      opened_as u item p is solid owned parts has owns one =
+          let at_type = owner_typed u item is solid owned in
+          let made : parts_at types r.region.ty ≡ p = parts_typed types k.ordered r.region.ty u at_type.there ∙ parts in
+          let b = buffered p made has in
+          let l = buffer_lives types k.ordered (hand_of rest st) st.world.content (store_of types f rest inputs S st k) r.region.object r.index r.region.word r.region.ty r.holder r.there
+          (lies_true types k.ordered (hand_of rest st) st.world.content (store_of types f rest inputs S st k) (path r.place) r.lies.start r.region ((rooted_of types f rest inputs S st k).fits r.place.root r.lies.start r.lies.stands) r.lies.lies r.holder r.there) r.small p made b.0
+          (subst (λ m. owned_of p (spot_words st.world.content (record { object = r.region.object; index = r.index; word = r.region.word }) m) ≡ b.0 ∷ []) (sym one)
+          (owns b.0 (spot_words st.world.content (record { object = r.region.object; index = r.index; word = r.region.word }) 1) b.1)) in record {
+            typed = at_type.typed;
+            there = at_type.there;
+            type = ap (owned_in_type types) at_type.there ∙ owned;
+            buffer = b.0;
+            owned = b.1;
+            object = l.0;
+            lives = l.1;
+          }
 
-    pub opened : (u : Ty) → type_of types f o ≡ u → (item : TyId) → owned_in_type types (Some u) ≡ Some item → has_buffer u ≡ true → IsOpened u item
-    opened ty.Text is item e h = subst (IsOpened ty.Text) (some_same e) (text_opened is)
-    opened (ty.Vector element) is item e h = subst (IsOpened (ty.Vector element)) (some_same e) (vector_opened element is)
-    opened _ is item e h = absurd (false≢true h)
+      pub vector_opened : (element : TyId) → type_of types f o ≡ ty.Vector element → IsOpened (ty.Vector element) element
+      vector_opened element is = opened_as (ty.Vector element) element (Vector element (parts_at types element)) is refl refl refl (λ ws h. h) (λ b ws e. ap listed e) refl
+
+      pub text_opened : type_of types f o ≡ ty.Text → IsOpened ty.Text (characters_type types)
+      text_opened is = opened_as ty.Text (characters_type types) (Text (characters_type types)) is refl refl refl (λ ws h. h) (λ b ws e. ap listed e) refl
+
+      pub opened : (u : Ty) → type_of types f o ≡ u → (item : TyId) → owned_in_type types (Some u) ≡ Some item → has_buffer u ≡ true → IsOpened u item
+      opened ty.Text is item e h = subst (IsOpened ty.Text) (some_same e) (text_opened is)
+      opened (ty.Vector element) is item e h = subst (IsOpened (ty.Vector element)) (some_same e) (vector_opened element is)
+      opened _ is item e h = absurd (false≢true h)
 
     -- the place of what it has
     pub opens_place : is_void (type_of types f o) ≡ false → ((x : Fact) → S x → IsOf (table_of types f) x) → (item : TyId) → owned_in_type types (slice_get types.types r.region.ty.0) ≡ Some item

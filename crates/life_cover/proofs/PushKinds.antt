@@ -44,6 +44,7 @@ use Rattle.life_cover.specs.Frames.{FrameCovered, RootStands, look_at}
 use Rattle.life_cover.specs.Inputs.{frame_foot, may_change, owning, StandsAt}
 use Rattle.life_cover.specs.Kills.{Guards, IsUnnamed, Names}
 use Rattle.life_cover.specs.Regions.{IsAt, Region, foot_of}
+use Rattle.life_cover.specs.Lacking.{MayLack}
 use Rattle.life_cover.proofs.Buffers.{own}
 use Rattle.life_cover.proofs.Guarding.{under_place}
 use Rattle.life_cover.proofs.HeldElements.{vector_operand}
@@ -57,6 +58,8 @@ use Rattle.life_cover.proofs.Pointers.{IfRight, OnRight}
 use Rattle.life_cover.proofs.Putting.{set_other}
 use Rattle.life_cover.proofs.Reaching.{IsReached, by_reach, spot_is}
 use Rattle.life_cover.proofs.PushedObjects.{pushed_foot, pushed_touches}
+use Rattle.life_cover.proofs.Lacking.{owner_whole}
+use Rattle.life_rules.proofs.Giving.{at_head}
 
 -- what is beneath both is beneath one
 split : (types : Types) (c : Content) (r : Region) (m n : ℕ) → Beneath (kinds_of types) c (pushed_foot types r m) n → Beneath (kinds_of types) c (foot_of types r) n ⊎ Beneath (kinds_of types) c (all_of (m ∷ [])) n
@@ -140,8 +143,11 @@ module _ (types : Types) (f : Function) (rest : ℕ → ℕ) (inputs : Root → 
 
   module _ (sigs : List Signature) (number : ℕ) (place : Place) (S' : Fact → Type 0) (s : Setting) (o : Operand) (item : TyId) (is_vector : type_of types f o ≡ ty.Vector item) (typed : local_type types f x ≡ Some item) (right : IsRight sigs types number f place (Changes o (PushBack x)) S S') (free : is_const_place types f o ≡ false) where
     module _ (r : IsReached types f st (StandsAt inputs) (may_change types f) S o) where
+      unmoved : MayLack types f inputs S st r.region.object → ⊥
+      unmoved = owner_whole types f rest inputs S st k o r (ap is_void is_vector) sigs number place (Changes o (PushBack x)) S' right (at_head o [])
+
       abbrev h : IsOpened types f rest inputs S st k o r (ty.Vector item) item
-      h = vector_opened types f rest inputs S st k o r item is_vector
+      h = vector_opened types f rest inputs S st k o r unmoved item is_vector
 
       -- what is left is covered
       left_covered : (d : Content) → Touches (kinds_of types) (pushed_foot types r.region m) st.world.content d → FrameCovered types f inputs S' (put_cell x Empty (put_content d st))
@@ -175,7 +181,7 @@ module _ (types : Types) (f : Function) (rest : ℕ → ℕ) (inputs : Root → 
           (after_edit (pushed s item (parts_at types item) (record { object = r.region.object; index = r.index; word = r.region.word }) h.buffer (consumed (parts_at types item) m) st.world.content)
           (right_more (pushed s item (parts_at types item) (record { object = r.region.object; index = r.index; word = r.region.word }) h.buffer (consumed (parts_at types item) m) st.world.content) (Touches (kinds_of types) (pushed_foot types r.region m) st.world.content)
           (λ d. FrameCovered types f inputs S' (put_cell x Empty (put_content d st)))
-          (right_got (pushed s item (parts_at types item) (record { object = r.region.object; index = r.index; word = r.region.word }) h.buffer (consumed (parts_at types item) m) st.world.content) (Touches (kinds_of types) (pushed_foot types r.region m) st.world.content) (pushed_touches types f rest inputs S st k s o item is_vector x m named typed r (change_owning types f rest inputs S st k sigs number place S' o free right r h.type))
+          (right_got (pushed s item (parts_at types item) (record { object = r.region.object; index = r.index; word = r.region.word }) h.buffer (consumed (parts_at types item) m) st.world.content) (Touches (kinds_of types) (pushed_foot types r.region m) st.world.content) (pushed_touches types f rest inputs S st k s o item is_vector x m named typed (right.unmoved x) r unmoved (change_owning types f rest inputs S st k sigs number place S' o free right r h.type))
           (pushed_faultless s item (parts_at types item) (record { object = r.region.object; index = r.index; word = r.region.word }) h.buffer (consumed (parts_at types item) m) st.world.content))
           left_covered))))
         where

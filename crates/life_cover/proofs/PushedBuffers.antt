@@ -17,8 +17,8 @@ use Rattle.life_forest.specs.Values.{AllWide}
 use Rattle.life_forest.proofs.Above.{with_words_type}
 use Rattle.life_forest.proofs.Coming.{IfGot, got_then, if_room}
 use Rattle.life_forest.proofs.Widths.{count-resized, wide-resized}
-use Rattle.life_cover.specs.Buffered.{AreBuffered, HasBuffers}
-use Rattle.life_cover.proofs.Buffering.{AreBut, Each, Have, IsOwnerAt, all_in, birth_but, each_take, have_in, owns_but, resized_but, set_but, without_but, without_leaves}
+use Rattle.life_cover.specs.Buffered.{AreBut, HasBuffers}
+use Rattle.life_cover.proofs.Buffering.{Each, Have, IsOwnerAt, birth_but, each_take, have_in, owns_but, resized_but, set_but, without_but, without_leaves}
 use Rattle.life_cover.proofs.Copies.{IsWhole, slot_within}
 use Rattle.life_cover.proofs.ErasedBuffers.{EachOf, count_filled, first_filled}
 use Rattle.life_cover.proofs.OwnersStay.{read_word}
@@ -120,8 +120,8 @@ module _ (types : Types) where
 
   -- ---- a vector whose elements are of this type, in a buffer, and an object that gives its value over
 
-  module _ (s : Setting) (ty : TyId) (p : Parts) (is : IsWhole p) (typed : parts_at types ty ≡ p) (b : ℕ) (c : Content) (h : AreBuffered types c) (o : Object) (there : at c.objects b ≡ Some o) (type : o.ty ≡ ty) (wide : AllWide (width p) o.slots) (word : o.width ≡ width p) (born : b < c.births)
-      (m : ℕ) (m_born : m < c.births) (apart : b ≢ m) (old : AreFree types p (λ k. ⊥ ⊎ (k ≡ c.births)) (slots_at c b)) (old_m : AreFree types p (λ k. (⊥ ⊎ (k ≡ c.births)) ⊎ (k ≡ m)) (slots_at c b)) where
+  module _ (bare : ℕ → Type 0) (s : Setting) (ty : TyId) (p : Parts) (is : IsWhole p) (typed : parts_at types ty ≡ p) (b : ℕ) (c : Content) (h : AreBut types bare c) (o : Object) (there : at c.objects b ≡ Some o) (type : o.ty ≡ ty) (wide : AllWide (width p) o.slots) (word : o.width ≡ width p) (born : b < c.births)
+      (clear : bare b → ⊥) (m : ℕ) (m_born : m < c.births) (apart : b ≢ m) (old : AreFree types p (λ k. bare k ⊎ (k ≡ c.births)) (slots_at c b)) (old_m : AreFree types p (λ k. (bare k ⊎ (k ≡ c.births)) ⊎ (k ≡ m)) (slots_at c b)) where
     -- the buffer with room for one more
     pub record IsRoomy (f : ℕ × Content) : Type 0 where
       pub object : Object
@@ -130,7 +130,7 @@ module _ (types : Types) where
       pub front : EachOf (HasBuffers p) (size_of c b) object.slots
       pub fits : length object.slots ≤ size_of c b + 1
       pub last : (t : Slot) → slice_get object.slots (size_of c b) ≡ Some t → length t.words ≡ width p
-      pub buffers : AreBut types (λ k. ⊥ ⊎ (k ≡ f.0)) f.1
+      pub buffers : AreBut types (λ k. bare k ⊎ (k ≡ f.0)) f.1
       pub either : (f.0 ≡ b) ⊎ (f.0 ≡ c.births)
       pub number : f.0 < f.1.births
       pub births : c.births ≤ f.1.births
@@ -145,7 +145,7 @@ module _ (types : Types) where
     size_is = ap (λ (x : Option Object). length (slots_if x)) there
 
     old_each : Each (HasBuffers p) o.slots
-    old_each i t e = subst (λ (q : Parts). HasBuffers q t.words) (ap (parts_at types) type ∙ typed) (h b i o t there e)
+    old_each i t e = subst (λ (q : Parts). HasBuffers q t.words) (ap (parts_at types) type ∙ typed) (h b i o t clear there e)
 
     room_here : IsRoomy (b, resized_at b (size_of c b + 1) (size_of c b) c)
     room_here =
@@ -158,7 +158,7 @@ module _ (types : Types) where
           fits = let e = count-resized o.width (c.clock + 1) (size_of c b + 1) (size_of c b) o.slots (omega arith) (let n = size_is in omega (arith, n)) in omega (arith, e);
           last = λ t e. wide_at o.width (size_of c b) (resized_slots o.width (c.clock + 1) (size_of c b + 1) (size_of c b) o.slots) t
               (wide-resized o.width (c.clock + 1) (size_of c b + 1) (size_of c b) o.slots (subst (λ n. AllWide n o.slots) (sym word) wide)) e ∙ word;
-          buffers = set_but types (λ k. ⊥ ⊎ (k ≡ b)) b (resized (c.clock + 1) (size_of c b + 1) (size_of c b) o) c (with_resize b (size_of c b + 1) (size_of c b) o c) (inl (inr refl)) refl (λ k i q t free at_k slot. h k i q t at_k slot);
+          buffers = set_but types (λ k. bare k ⊎ (k ≡ b)) b (resized (c.clock + 1) (size_of c b + 1) (size_of c b) o) c (with_resize b (size_of c b + 1) (size_of c b) o c) (inl (inr refl)) refl (λ k i q t free at_k slot. h k i q t (λ gone. free (inl gone)) at_k slot);
           either = inl refl;
           number = born;
           births = omega arith;
@@ -176,16 +176,16 @@ module _ (types : Types) where
       new : IsSized c ty (width p) (size_of c b + 1) (c.births, resized_at c.births (size_of c b + 1) 0 (with_birth ty (width p) capacity c))
       new = sized_is c ty (width p) capacity (size_of c b + 1)
 
-      first_but : (out : ℕ → Type 0) → out c.births → AreBut types out (resized_at c.births (size_of c b + 1) 0 (with_birth ty (width p) capacity c))
-      first_but out has = resized_but types out c.births (size_of c b + 1) 0 (with_birth ty (width p) capacity c) has (birth_but types out ty (width p) capacity c (λ k i q t free at_k slot. h k i q t at_k slot))
+      first_but : (out : ℕ → Type 0) → ((k : ℕ) → bare k → out k) → out c.births → AreBut types out (resized_at c.births (size_of c b + 1) 0 (with_birth ty (width p) capacity c))
+      first_but out more has = resized_but types out c.births (size_of c b + 1) 0 (with_birth ty (width p) capacity c) has (birth_but types out ty (width p) capacity c (λ k i q t free at_k slot. h k i q t (λ gone. free (more k gone)) at_k slot))
 
-      took : AreTaken types p (λ k. ⊥ ⊎ (k ≡ c.births)) c.births (length (slots_at c b)) (resized_at c.births (size_of c b + 1) 0 (with_birth ty (width p) capacity c)) (taken_slots p (slots_at c b) (resized_at c.births (size_of c b + 1) 0 (with_birth ty (width p) capacity c)))
-      took = slots_taken types p is (λ k. ⊥ ⊎ (k ≡ c.births)) c.births (inr refl) (slots_at c b) old first (let n = new.births in omega (arith, n)) (first_but (λ k. ⊥ ⊎ (k ≡ c.births)) (inr refl))
+      took : AreTaken types p (λ k. bare k ⊎ (k ≡ c.births)) c.births (length (slots_at c b)) (resized_at c.births (size_of c b + 1) 0 (with_birth ty (width p) capacity c)) (taken_slots p (slots_at c b) (resized_at c.births (size_of c b + 1) 0 (with_birth ty (width p) capacity c)))
+      took = slots_taken types p is (λ k. bare k ⊎ (k ≡ c.births)) c.births (inr refl) (slots_at c b) old first (let n = new.births in omega (arith, n)) (first_but (λ k. bare k ⊎ (k ≡ c.births)) (λ k gone. inl gone) (inr refl))
 
       -- what gives its value over is as it was
       m_took : at rows.1.objects m ≡ at c.objects m
       m_took =
-          (slots_taken types p is (λ k. (⊥ ⊎ (k ≡ c.births)) ⊎ (k ≡ m)) m (inr refl) (slots_at c b) old_m first (let n = new.births in omega (arith, n, m_born)) (first_but (λ k. (⊥ ⊎ (k ≡ c.births)) ⊎ (k ≡ m)) (inl (inr refl)))).same
+          (slots_taken types p is (λ k. (bare k ⊎ (k ≡ c.births)) ⊎ (k ≡ m)) m (inr refl) (slots_at c b) old_m first (let n = new.births in omega (arith, n, m_born)) (first_but (λ k. (bare k ⊎ (k ≡ c.births)) ⊎ (k ≡ m)) (λ k gone. inl (inl gone)) (inl (inr refl)))).same
           ∙ new.others m m_born
 
       abbrev filled_one : Object
@@ -207,8 +207,8 @@ module _ (types : Types) where
             front = subst (λ n. EachOf (HasBuffers p) n (filled_slots new.object.slots rows.0)) (took.count_is) (first_filled (HasBuffers p) new.object.slots rows.0 took.has);
             fits = let a = count_filled new.object.slots rows.0 in let e = new.count in omega (arith, a, e);
             last = λ t e. wide_at (width p) (size_of c b) new.object.slots t new.wide (sym (past_filled new.object.slots rows.0 (size_of c b) (let n = took.count_is in omega (arith, n))) ∙ e);
-            buffers = without_but types (λ k. ⊥ ⊎ (k ≡ c.births)) b (with_object c.births filled_one rows.1)
-                (set_but types (λ k. ⊥ ⊎ (k ≡ c.births)) c.births filled_one rows.1 (with_object c.births filled_one rows.1) (inl (inr refl)) refl took.buffers);
+            buffers = without_but types (λ k. bare k ⊎ (k ≡ c.births)) b (with_object c.births filled_one rows.1)
+                (set_but types (λ k. bare k ⊎ (k ≡ c.births)) c.births filled_one rows.1 (with_object c.births filled_one rows.1) (inl (inr refl)) refl took.buffers);
             either = inr refl;
             number = let a = new.births in let e = took.older.births in omega (arith, a, e);
             births = let a = new.births in let e = took.older.births in omega (arith, a, e);
@@ -231,17 +231,17 @@ module _ (types : Types) where
 
     -- ---- the value is given over
 
-    module _ (om : Object) (sl : Slot) (m_there : at c.objects m ≡ Some om) (one_slot : om.slots ≡ sl ∷ []) (has : HasBuffers p sl.words) (m_wide : length sl.words ≡ width p) (free : IsFree types p (λ k. (k ≡ b) ⊎ (k ≡ c.births)) sl.words)
+    module _ (om : Object) (sl : Slot) (m_there : at c.objects m ≡ Some om) (one_slot : om.slots ≡ sl ∷ []) (has : HasBuffers p sl.words) (m_wide : length sl.words ≡ width p) (free : IsFree types p (λ k. bare k ⊎ ((k ≡ b) ⊎ (k ≡ c.births))) sl.words)
         (n i : ℕ) (n_born : n < c.births) (n_apart : b ≢ n) (owner : IsOwnerAt types c n) where
       module _ (f : ℕ × Content) (r : IsRoomy f) where
         words : slot_words f.1 m 0 ≡ sl.words
         words = ap (λ (x : Option Object). words_if (slice_get (slots_if x) 0)) (r.given ∙ m_there) ∙ ap (λ (ss : List Slot). words_if (slice_get ss 0)) one_slot
 
-        is_free : (k : ℕ) → (⊥ ⊎ (k ≡ f.0)) → (k ≡ b) ⊎ (k ≡ c.births)
-        is_free k (inl none) = absurd none
-        is_free k (inr e) = ⊎_elim (λ old. inl (e ∙ old)) (λ new. inr (e ∙ new)) r.either
+        is_free : (k : ℕ) → (bare k ⊎ (k ≡ f.0)) → bare k ⊎ ((k ≡ b) ⊎ (k ≡ c.births))
+        is_free k (inl none) = inl none
+        is_free k (inr e) = inr (⊎_elim (λ old. inl (e ∙ old)) (λ new. inr (e ∙ new)) r.either)
 
-        free_there : (q : Parts) (ws : List ℕ) → IsFree types q (λ k. (k ≡ b) ⊎ (k ≡ c.births)) ws → IsFree types q (λ k. ⊥ ⊎ (k ≡ f.0)) ws
+        free_there : (q : Parts) (ws : List ℕ) → IsFree types q (λ k. bare k ⊎ ((k ≡ b) ⊎ (k ≡ c.births))) ws → IsFree types q (λ k. bare k ⊎ (k ≡ f.0)) ws
         free_there (Text id) ws h = λ k e gone. h k e (is_free k gone)
         free_there Single ws h = tt
         free_there Raw ws h = tt
@@ -252,8 +252,8 @@ module _ (types : Types) where
         free_there (Member one more) ws h = tt
         free_there NoMember ws h = tt
 
-        took_m : IsTaken types p (λ k. ⊥ ⊎ (k ≡ f.0)) f.0 f.1 (taken p sl.words f.1)
-        took_m = taken_but types p is (λ k. ⊥ ⊎ (k ≡ f.0)) f.0 (inr refl) sl.words has (free_there p sl.words free) f.1 r.number r.buffers
+        took_m : IsTaken types p (λ k. bare k ⊎ (k ≡ f.0)) f.0 f.1 (taken p sl.words f.1)
+        took_m = taken_but types p is (λ k. bare k ⊎ (k ≡ f.0)) f.0 (inr refl) sl.words has (free_there p sl.words free) f.1 r.number r.buffers
 
         abbrev behind : Content
         behind = without m (taken p sl.words f.1).1
@@ -280,16 +280,15 @@ module _ (types : Types) where
         put_have : Have types new_one
         put_have = value_put p is r.object (size_of c b) (taken p sl.words f.1).0 r.parts r.front r.fits r.last took_m.has (taken_wide p is sl.words f.1 m_wide)
 
-        given_over : AreBuffered types (put_last (record { object = n; index = i; word = 0 }) f.0 (size_of c b) (consumed p m f.1))
+        given_over : AreBut types bare (put_last (record { object = n; index = i; word = 0 }) f.0 (size_of c b) (consumed p m f.1))
         given_over =
-            subst (λ (ws : List ℕ). AreBuffered types (put_last (record { object = n; index = i; word = 0 }) f.0 (size_of c b) ((taken p ws f.1).0, without m (taken p ws f.1).1))) (sym words)
-            (subst (λ (x : Option Object). AreBuffered types (wrote_if x f.0 (size_of c b) 0 (taken p sl.words f.1).0 (owns (record { object = n; index = i; word = 0 }) f.0 behind))) (sym last_there)
-            (all_in types (with_object f.0 new_one (owns (record { object = n; index = i; word = 0 }) f.0 behind))
-            (have_in types (λ k. ⊥) f.0 (with_object f.0 new_one (owns (record { object = n; index = i; word = 0 }) f.0 behind))
+            subst (λ (ws : List ℕ). AreBut types bare (put_last (record { object = n; index = i; word = 0 }) f.0 (size_of c b) ((taken p ws f.1).0, without m (taken p ws f.1).1))) (sym words)
+            (subst (λ (x : Option Object). AreBut types bare (wrote_if x f.0 (size_of c b) 0 (taken p sl.words f.1).0 (owns (record { object = n; index = i; word = 0 }) f.0 behind))) (sym last_there)
+            (have_in types bare f.0 (with_object f.0 new_one (owns (record { object = n; index = i; word = 0 }) f.0 behind))
             (λ q e. subst (Have types) (some_same (sym (at-set_same (owns (record { object = n; index = i; word = 0 }) f.0 behind).objects f.0 f.0 new_one refl) ∙ e)) put_have)
-            (set_but types (λ k. ⊥ ⊎ (k ≡ f.0)) f.0 new_one (owns (record { object = n; index = i; word = 0 }) f.0 behind) (with_object f.0 new_one (owns (record { object = n; index = i; word = 0 }) f.0 behind)) (inl (inr refl)) refl
-            (owns_but types (λ k. ⊥ ⊎ (k ≡ f.0)) n i f.0 behind (λ q e. owner q (r.same n q n_born n_apart (took_m.older.same n q (let a = r.births in omega (arith, a, n_born)) (without_leaves types m (taken p sl.words f.1).1 n q e))))
-            (without_but types (λ k. ⊥ ⊎ (k ≡ f.0)) m (taken p sl.words f.1).1 took_m.buffers))))))
+            (set_but types (λ k. bare k ⊎ (k ≡ f.0)) f.0 new_one (owns (record { object = n; index = i; word = 0 }) f.0 behind) (with_object f.0 new_one (owns (record { object = n; index = i; word = 0 }) f.0 behind)) (inl (inr refl)) refl
+            (owns_but types (λ k. bare k ⊎ (k ≡ f.0)) n i f.0 behind (λ q e. owner q (r.same n q n_born n_apart (took_m.older.same n q (let a = r.births in omega (arith, a, n_born)) (without_leaves types m (taken p sl.words f.1).1 n q e))))
+            (without_but types (λ k. bare k ⊎ (k ≡ f.0)) m (taken p sl.words f.1).1 took_m.buffers)))))
 
-      pub object_buffered : IfGot (pushed s ty p (record { object = n; index = i; word = 0 }) b (consumed p m) c) (AreBuffered types)
-      object_buffered = got_then (with_room s ty p b c) (λ f. Got (put_last (record { object = n; index = i; word = 0 }) f.0 (size_of c b) (consumed p m f.1))) IsRoomy (AreBuffered types) room given_over
+      pub object_buffered : IfGot (pushed s ty p (record { object = n; index = i; word = 0 }) b (consumed p m) c) (AreBut types bare)
+      object_buffered = got_then (with_room s ty p b c) (λ f. Got (put_last (record { object = n; index = i; word = 0 }) f.0 (size_of c b) (consumed p m f.1))) IsRoomy (AreBut types bare) room given_over

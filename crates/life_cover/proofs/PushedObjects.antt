@@ -1,7 +1,7 @@
 -- Behind an object that is pushed to a vector of a frame without structs, and gives its value over, each vector and each string has its buffer; and
 -- what is touched lies beneath what the frame names.
-use Rattle.std.proofs.Common.{◌≡◌, ◌≢◌, ⊎_elim, ℕ, ◌<◌, true, List, length, Option, Some, refl, sym, ap, subst, ◌∙◌, arith, ◌⊎◌, ◌+◌, ◌∷◌, []}
-use Rattle.std.specs.Prelude.{slice_get, slice_set}
+use Rattle.std.proofs.Common.{◌≡◌, ◌≢◌, ⊎_elim, ℕ, ◌<◌, true, List, length, Option, Some, refl, sym, ap, subst, ◌∙◌, arith, ◌⊎◌, ◌+◌, ◌∷◌, [], true}
+use Rattle.std.specs.Prelude.{slice_get, slice_set, Contains}
 use Rattle.life_types.specs.Types.{Types}
 use Rattle.life_types.specs.declared.ty.Ty.TheVariants as ty
 use Rattle.life_types.specs.declared.ty.TyId.{TyId}
@@ -10,8 +10,9 @@ use Rattle.life_core.specs.Function.{Function}
 use Rattle.life_core.specs.Operands.{Operand}
 use Rattle.life_core.specs.Step.{Changes, PushBack}
 use Rattle.life_pset.specs.declared.element.Fact.{Fact}
+use Rattle.life_pset.specs.Shapes.{has_buffer}
 use Rattle.life_pset.specs.declared.element.Root.{Root}
-use Rattle.life_proper.specs.Placed.{type_of}
+use Rattle.life_proper.specs.Placed.{type_of, type_at}
 use Rattle.life_store.specs.Cells.{at}
 use Rattle.life_store.specs.Content.{Slot, Object, Content, word_in}
 use Rattle.life_store.specs.Doing.{does, edits, pushes}
@@ -41,12 +42,13 @@ use Rattle.life_forest.proofs.Below.{is_positive}
 use Rattle.life_forest.proofs.Counting.{one_same}
 use Rattle.life_forest.proofs.Frames.{less_in_hand, named_put}
 use Rattle.life_forest.proofs.Following.{in_hand}
-use Rattle.life_cover.specs.Buffered.{AreBuffered, HasBuffers}
+use Rattle.life_cover.specs.Buffered.{HasBuffers, AreBut}
 use Rattle.life_cover.specs.Inputs.{may_change, owning, StandsAt}
 use Rattle.life_cover.specs.Regions.{Region, foot_of}
+use Rattle.life_cover.specs.Lacking.{IsUnmoved, MayLack}
 use Rattle.life_cover.proofs.Buffers.{buffer_lives, buffer_low, low, foot_covers, buffer, own}
 use Rattle.life_cover.proofs.Copies.{whole_parts}
-use Rattle.life_cover.proofs.HeldElements.{all_free, elements_region, held, held_type, vector_operand, vector_parts}
+use Rattle.life_cover.proofs.HeldElements.{all_free, elements_region, held, held_type, vector_operand, vector_parts, not_bare}
 use Rattle.life_cover.proofs.Inside.{beneath_lesser, not_itself}
 use Rattle.life_cover.proofs.KeptBuffers.{at_start, by_change, holder_born, is_owner}
 use Rattle.life_cover.proofs.KnownFrames.{IsKnownFrame, hand_of, store_of}
@@ -59,6 +61,8 @@ use Rattle.life_cover.proofs.Rebuffering.{IsFree}
 use Rattle.life_cover.proofs.SaveKinds.{region_within}
 use Rattle.life_cover.proofs.Behind.{behind_empty, both_got, IsBehind}
 use Rattle.life_cover.proofs.Sparing.{pushed_spares}
+use Rattle.life_cover.proofs.Lacking.{low_whole, local_whole}
+use Rattle.life_rules.proofs.Giving.{at_head}
 
 -- ---- what is touched
 
@@ -93,7 +97,8 @@ module _ (types : Types) (ordered : IsOrdered types) (hand : ℕ → ℕ) (c : C
 
 -- ---- in a frame
 
-module _ (types : Types) (f : Function) (rest : ℕ → ℕ) (inputs : Root → Option Region) (S : Fact → Type 0) (st : State) (k : IsKnownFrame types f rest inputs S st) (s : Setting) (o : Operand) (item : TyId) (is_vector : type_of types f o ≡ ty.Vector item) (x m : ℕ) (named : cell st x ≡ Some (Named m)) (typed : local_type types f x ≡ Some item) where
+module _ (types : Types) (f : Function) (rest : ℕ → ℕ) (inputs : Root → Option Region) (S : Fact → Type 0) (st : State) (k : IsKnownFrame types f rest inputs S st) (s : Setting) (o : Operand) (item : TyId) (is_vector : type_of types f o ≡ ty.Vector item) (x m : ℕ) (named : cell st x ≡ Some (Named m)) (typed : local_type types f x ≡ Some item)
+    (fresh : has_buffer (type_at types f x) ≡ true → Contains (x ∷ []) x → IsUnmoved S x) where
   variable : IsVariable st.world.content (local_type types f x) m
   variable = k.stands.frame.objects x m named
 
@@ -107,8 +112,12 @@ module _ (types : Types) (f : Function) (rest : ℕ → ℕ) (inputs : Root → 
   slot_there : slice_get variable.object.slots 0 ≡ Some variable.slot
   slot_there = ap (λ (ss : List Slot). slice_get ss 0) variable.one
 
+  -- it wasn't moved from
+  given_whole : MayLack types f inputs S st m → ⊥
+  given_whole = local_whole types f rest inputs S st k x m named (λ buffer. fresh buffer (at_head x []))
+
   m_has : HasBuffers (parts_at types item) variable.slot.words
-  m_has = subst (λ (id : TyId). HasBuffers (parts_at types id) variable.slot.words) m_type (k.buffered m 0 variable.object variable.slot variable.there slot_there)
+  m_has = subst (λ (id : TyId). HasBuffers (parts_at types id) variable.slot.words) m_type (k.buffered m 0 variable.object variable.slot given_whole variable.there slot_there)
 
   m_wide : length variable.slot.words ≡ width (parts_at types item)
   m_wide = let fit = k.stands.store.fit m variable.object variable.there in (subst (AllWide variable.object.width) variable.one fit.slots).0 ∙ fit.width ∙ ap (width_at types) m_type
@@ -117,12 +126,12 @@ module _ (types : Types) (f : Function) (rest : ℕ → ℕ) (inputs : Root → 
   abbrev region : Region
   region = record { object = m; word = 0; ty = variable.object.ty }
 
-  module _ (r : IsReached types f st (StandsAt inputs) (may_change types f) S o) (own : owning types f r.place.root ≡ true) where
+  module _ (r : IsReached types f st (StandsAt inputs) (may_change types f) S o) (unmoved : MayLack types f inputs S st r.region.object → ⊥) (own : owning types f r.place.root ≡ true) where
     abbrev h : IsOpened types f rest inputs S st k o r (ty.Vector item) item
-    h = vector_opened types f rest inputs S st k o r item is_vector
+    h = vector_opened types f rest inputs S st k o r unmoved item is_vector
 
-    abbrev elements : (y : Object) × (at st.world.content.objects (vector_opened types f rest inputs S st k o r item is_vector).buffer ≡ Some y)
-    elements = held types f rest inputs S st k o r item is_vector
+    abbrev elements : (y : Object) × (at st.world.content.objects (vector_opened types f rest inputs S st k o r unmoved item is_vector).buffer ≡ Some y)
+    elements = held types f rest inputs S st k o r item is_vector unmoved
 
     -- the store, where what is given over is in the hand by itself
     in_two : IsStore types (λ j. times (m ∷ []) j + (times (named_in (slice_set st.cells x Empty)) j + rest j)) st.world.content
@@ -130,26 +139,27 @@ module _ (types : Types) (f : Function) (rest : ℕ → ℕ) (inputs : Root → 
         less_in_hand types (hand_of rest st) (λ j. times (m ∷ []) j + (times (named_in (slice_set st.cells x Empty)) j + rest j)) st.world.content
         (λ j. let e = named_put st.cells x (Named m) Empty j named in omega (arith, e)) (store_of types f rest inputs S st k)
 
-    pub pushed_touches : IfGot (pushed s item (parts_at types item) (record { object = r.region.object; index = r.index; word = r.region.word }) (vector_opened types f rest inputs S st k o r item is_vector).buffer (consumed (parts_at types item) m) st.world.content)
+    pub pushed_touches : IfGot (pushed s item (parts_at types item) (record { object = r.region.object; index = r.index; word = r.region.word }) (vector_opened types f rest inputs S st k o r unmoved item is_vector).buffer (consumed (parts_at types item) m) st.world.content)
         (Touches (kinds_of types) (pushed_foot types r.region m) st.world.content)
     pushed_touches =
         object_touches types k.ordered (λ j. times (named_in (slice_set st.cells x Empty)) j + rest j) st.world.content m in_two r.region.object r.index r.region.word r.region.ty r.holder r.there (region_within types f rest inputs S st k o r) r.small
         item (vector_parts types f rest inputs S st k o r item is_vector) h.buffer h.owned variable.object variable.slot variable.there variable.one m_type s
 
     -- a string there has another buffer than the vector
-    free_of : (p : Parts) → parts_at types variable.object.ty ≡ p → IsFree types p (λ j. (j ≡ h.buffer) ⊎ (j ≡ st.world.content.births)) variable.slot.words
+    free_of : (p : Parts) → parts_at types variable.object.ty ≡ p → IsFree types p (λ j. MayLack types f inputs S st j ⊎ ((j ≡ h.buffer) ⊎ (j ≡ st.world.content.births))) variable.slot.words
     free_of (Text id) is = λ j e out.
         let old = ap listed (owned_is st.world.content m 0 0 variable.object variable.there ∙ ap (λ (t : Option Slot). owned_in (word_in t 0)) slot_there ∙ e) in
         let small : 0 < length variable.object.slots = (let one = ap length variable.one in omega (arith, one)) in
         let l = buffer_lives types k.ordered (hand_of rest st) st.world.content (store_of types f rest inputs S st k) m 0 0 variable.object.ty variable.object variable.there (within_self types variable.object.ty) small (Text id) is j old in
         let beneath = buffer_low types k.ordered (hand_of rest st) st.world.content (store_of types f rest inputs S st k) m 0 0 variable.object.ty variable.object variable.there (within_self types variable.object.ty) small (Text id) is j old in
-        ⊎_elim
+        ⊎_elim (λ lacks. low_whole types f rest inputs S st k region j beneath lacks)
+        (λ either. ⊎_elim
         (λ same.
         let less = beneath_lesser types k.ordered (hand_of rest st) st.world.content (store_of types f rest inputs S st k) region j beneath variable.object l.0 variable.there l.1 in
         let one = ap (λ (q : Object). rank_of types q.ty) (some_same (sym l.1 ∙ ap (at st.world.content.objects) same ∙ elements.1)) in
-        let two = ap (rank_of types) (held_type types f rest inputs S st k o r item is_vector ∙ sym m_type) in
+        let two = ap (rank_of types) (held_type types f rest inputs S st k o r item is_vector unmoved ∙ sym m_type) in
         omega (arith, less, one, two))
-        (λ new. let old_one = k.stands.store.forest.births j l.0 l.1 in omega (arith, old_one, new)) out
+        (λ new. let old_one = k.stands.store.forest.births j l.0 l.1 in omega (arith, old_one, new)) either) out
     free_of Single is = tt
     free_of Raw is = tt
     free_of Iterates is = tt
@@ -175,34 +185,34 @@ module _ (types : Types) (f : Function) (rest : ℕ → ℕ) (inputs : Root → 
     unborn j q there e = let old = k.stands.store.forest.births j q there in omega (arith, old, e)
 
     fit_word : elements.0.width ≡ width (parts_at types item)
-    fit_word = (k.stands.store.fit h.buffer elements.0 elements.1).width ∙ ap (width_at types) (held_type types f rest inputs S st k o r item is_vector)
+    fit_word = (k.stands.store.fit h.buffer elements.0 elements.1).width ∙ ap (width_at types) (held_type types f rest inputs S st k o r item is_vector unmoved)
 
-    pushed_one : IfGot (pushed s item (parts_at types item) (record { object = r.region.object; index = r.index; word = r.region.word }) h.buffer (consumed (parts_at types item) m) st.world.content) (AreBuffered types)
+    pushed_one : IfGot (pushed s item (parts_at types item) (record { object = r.region.object; index = r.index; word = r.region.word }) h.buffer (consumed (parts_at types item) m) st.world.content) (AreBut types (MayLack types f inputs S st))
     pushed_one =
-        at_start types f rest inputs S st k o r s (λ spot. IfGot (pushed s item (parts_at types item) spot h.buffer (consumed (parts_at types item) m) st.world.content) (AreBuffered types))
-        (object_buffered types s item (parts_at types item) (whole_parts types k.plain item) refl h.buffer st.world.content k.buffered elements.0 elements.1 (held_type types f rest inputs S st k o r item is_vector)
-        (subst (λ n. AllWide n elements.0.slots) fit_word (k.stands.store.fit h.buffer elements.0 elements.1).slots) fit_word (k.stands.store.forest.births h.buffer elements.0 elements.1) m born apart
-        (all_free types f rest inputs S st k o r item is_vector (λ j. ⊥ ⊎ (j ≡ st.world.content.births)) (λ j q there beneath out. ⊎_elim (λ none. none) (λ new. unborn j q there new) out))
-        (all_free types f rest inputs S st k o r item is_vector (λ j. (⊥ ⊎ (j ≡ st.world.content.births)) ⊎ (j ≡ m))
-        (λ j q there beneath out. ⊎_elim (λ left. ⊎_elim (λ none. none) (λ new. unborn j q there new) left)
-        (λ same. named_free types f rest st k.stands.store k.stands.frame x m (elements_region types f rest inputs S st k o r item is_vector) named (subst (Beneath (kinds_of types) st.world.content (foot_of types (elements_region types f rest inputs S st k o r item is_vector))) same beneath)) out))
-        variable.object variable.slot variable.there variable.one m_has m_wide (subst (λ (id : TyId). IsFree types (parts_at types id) (λ j. (j ≡ h.buffer) ⊎ (j ≡ st.world.content.births)) variable.slot.words) m_type (free_of (parts_at types variable.object.ty) refl))
+        at_start types f rest inputs S st k o r s (λ spot. IfGot (pushed s item (parts_at types item) spot h.buffer (consumed (parts_at types item) m) st.world.content) (AreBut types (MayLack types f inputs S st)))
+        (object_buffered types (MayLack types f inputs S st) s item (parts_at types item) (whole_parts types k.plain item) refl h.buffer st.world.content k.buffered elements.0 elements.1 (held_type types f rest inputs S st k o r item is_vector unmoved)
+        (subst (λ n. AllWide n elements.0.slots) fit_word (k.stands.store.fit h.buffer elements.0 elements.1).slots) fit_word (k.stands.store.forest.births h.buffer elements.0 elements.1) (not_bare types f rest inputs S st k o r item is_vector unmoved) m born apart
+        (all_free types f rest inputs S st k o r item is_vector unmoved (λ j. MayLack types f inputs S st j ⊎ (j ≡ st.world.content.births)) (λ j q there beneath out. ⊎_elim (λ lacks. low_whole types f rest inputs S st k (elements_region types f rest inputs S st k o r item is_vector unmoved) j beneath lacks) (λ new. unborn j q there new) out))
+        (all_free types f rest inputs S st k o r item is_vector unmoved (λ j. (MayLack types f inputs S st j ⊎ (j ≡ st.world.content.births)) ⊎ (j ≡ m))
+        (λ j q there beneath out. ⊎_elim (λ left. ⊎_elim (λ lacks. low_whole types f rest inputs S st k (elements_region types f rest inputs S st k o r item is_vector unmoved) j beneath lacks) (λ new. unborn j q there new) left)
+        (λ same. named_free types f rest st k.stands.store k.stands.frame x m (elements_region types f rest inputs S st k o r item is_vector unmoved) named (subst (Beneath (kinds_of types) st.world.content (foot_of types (elements_region types f rest inputs S st k o r item is_vector unmoved))) same beneath)) out))
+        variable.object variable.slot variable.there variable.one m_has m_wide (subst (λ (id : TyId). IsFree types (parts_at types id) (λ j. MayLack types f inputs S st j ⊎ ((j ≡ h.buffer) ⊎ (j ≡ st.world.content.births))) variable.slot.words) m_type (free_of (parts_at types variable.object.ty) refl))
         r.region.object r.index (holder_born types f rest inputs S st k o r s) holder_apart (is_owner types f rest inputs S st k o r s (Vector item (parts_at types item)) (vector_parts types f rest inputs S st k o r item is_vector) refl (λ ws j e. (j, e))))
 
-    after_edit : (a : Attempt Content) → IfGot a (λ d. AreBuffered types d × Touches (kinds_of types) (pushed_foot types r.region m) st.world.content d) → OnNext (on_next (on_got a (λ d. Next (put_content d st))) (λ after. Next (put_cell x Empty after))) (IsBehind types f inputs st)
-    after_edit (Got d) e = behind_empty types f inputs st x d e.0 (pushed_spares types f rest inputs S st k o r own m (in_hand st.cells x m named) d e.1)
+    after_edit : (a : Attempt Content) → IfGot a (λ d. AreBut types (MayLack types f inputs S st) d × Touches (kinds_of types) (pushed_foot types r.region m) st.world.content d) → OnNext (on_next (on_got a (λ d. Next (put_content d st))) (λ after. Next (put_cell x Empty after))) (IsBehind types f inputs (MayLack types f inputs S st) (λ y. x ≡ y) st)
+    after_edit (Got d) e = behind_empty types f inputs (MayLack types f inputs S st) (λ y. x ≡ y) st x (λ n is. refl) d e.0 (pushed_spares types f rest inputs S st k o r own m (in_hand st.cells x m named) d e.1)
     after_edit (GotTrap kind) e = tt
     after_edit (GotFault kind) e = tt
     after_edit GotLost e = tt
 
-    pub object_pushed : OnNext (does s types f (Changes o (PushBack x)) st) (IsBehind types f inputs st)
+    pub object_pushed : OnNext (does s types f (Changes o (PushBack x)) st) (IsBehind types f inputs (MayLack types f inputs S st) (λ y. x ≡ y) st)
     object_pushed =
-        by_change types f rest inputs S st k o r s (Vector item (parts_at types item)) (vector_operand types f rest inputs S st k o r item is_vector) (PushBack x)
-        (subst (λ (v : Option Cell). OnNext (pushes s types f (Vector item (parts_at types item)) (record { object = r.region.object; index = r.index; word = r.region.word }) x v st) (IsBehind types f inputs st)) (sym named)
-        (subst (λ (p : Parts). OnNext (on_next (edits s (Vector item (parts_at types item)) (record { object = r.region.object; index = r.index; word = r.region.word }) (Push (consumed p m)) st) (λ after. Next (put_cell x Empty after))) (IsBehind types f inputs st)) (sym (ap (parts_if types) typed))
-        (subst (λ w. OnNext (on_next (on_got (got_or w (GotFault fault.Moved)) go) (λ after. Next (put_cell x Empty after))) (IsBehind types f inputs st)) (sym h.owned)
+        by_change types f rest inputs S st k o r s (λ y. x ≡ y) (Vector item (parts_at types item)) (vector_operand types f rest inputs S st k o r item is_vector) (PushBack x)
+        (subst (λ (v : Option Cell). OnNext (pushes s types f (Vector item (parts_at types item)) (record { object = r.region.object; index = r.index; word = r.region.word }) x v st) (IsBehind types f inputs (MayLack types f inputs S st) (λ y. x ≡ y) st)) (sym named)
+        (subst (λ (p : Parts). OnNext (on_next (edits s (Vector item (parts_at types item)) (record { object = r.region.object; index = r.index; word = r.region.word }) (Push (consumed p m)) st) (λ after. Next (put_cell x Empty after))) (IsBehind types f inputs (MayLack types f inputs S st) (λ y. x ≡ y) st)) (sym (ap (parts_if types) typed))
+        (subst (λ w. OnNext (on_next (on_got (got_or w (GotFault fault.Moved)) go) (λ after. Next (put_cell x Empty after))) (IsBehind types f inputs (MayLack types f inputs S st) (λ y. x ≡ y) st)) (sym h.owned)
         (after_edit (pushed s item (parts_at types item) (record { object = r.region.object; index = r.index; word = r.region.word }) h.buffer (consumed (parts_at types item) m) st.world.content)
-        (both_got (pushed s item (parts_at types item) (record { object = r.region.object; index = r.index; word = r.region.word }) h.buffer (consumed (parts_at types item) m) st.world.content) (AreBuffered types) (Touches (kinds_of types) (pushed_foot types r.region m) st.world.content)
+        (both_got (pushed s item (parts_at types item) (record { object = r.region.object; index = r.index; word = r.region.word }) h.buffer (consumed (parts_at types item) m) st.world.content) (AreBut types (MayLack types f inputs S st)) (Touches (kinds_of types) (pushed_foot types r.region m) st.world.content)
         pushed_one pushed_touches)))))
       where
         go : ℕ → Effect

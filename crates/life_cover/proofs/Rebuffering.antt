@@ -15,8 +15,8 @@ use Rattle.life_store.proofs.CellLemmas.{none_some, some_same, unset_cases}
 use Rattle.life_forest.specs.Values.{AllWide}
 use Rattle.life_forest.proofs.Coming.{IfGot, got_then, if_room}
 use Rattle.life_forest.proofs.Widths.{count-blank, wide-resized}
-use Rattle.life_cover.specs.Buffered.{AreBuffered, HasBuffers}
-use Rattle.life_cover.proofs.Buffering.{AreBut, IsOwnerAt, all_in, birth_but, have_in, none_out, owns_but, rename_but, resized_but, set_but, single_have, without_but}
+use Rattle.life_cover.specs.Buffered.{AreBut, HasBuffers}
+use Rattle.life_cover.proofs.Buffering.{IsOwnerAt, birth_but, have_in, owns_but, rename_but, resized_but, set_but, single_have, without_but}
 use Rattle.life_cover.proofs.Copies.{IsWhole}
 
 -- ---- what was there and is there is as it was
@@ -111,29 +111,28 @@ module _ (types : Types) where
 
   -- ---- a string is written anew
 
-  pub rewritten_buffered : (s : Setting) (ty : TyId) (n i b : ℕ) (words : List ℕ) (c : Content) → parts_at types ty ≡ Single → n < c.births → IsOwnerAt types c n → AreBuffered types c → IfGot (rewritten s ty (record { object = n; index = i; word = 0 }) b words c) (AreBuffered types)
-  rewritten_buffered s ty n i b words c single born owner h =
-      got_then (sized_birth s ty 1 (length words) c) (λ f. Got (owns (record { object = n; index = i; word = 0 }) f.0 (without b (filled f.0 (map one_word words) f.1)))) (λ f. IsSized c ty 1 (length words) f × AreBut types (λ k. ⊥ ⊎ (k ≡ f.0)) f.1) (AreBuffered types)
-      (sized_but s ty 1 (length words) c (λ k. ⊥) (none_out types c h))
+  pub rewritten_buffered : (bare : ℕ → Type 0) (s : Setting) (ty : TyId) (n i b : ℕ) (words : List ℕ) (c : Content) → parts_at types ty ≡ Single → n < c.births → IsOwnerAt types c n → AreBut types bare c → IfGot (rewritten s ty (record { object = n; index = i; word = 0 }) b words c) (AreBut types bare)
+  rewritten_buffered bare s ty n i b words c single born owner h =
+      got_then (sized_birth s ty 1 (length words) c) (λ f. Got (owns (record { object = n; index = i; word = 0 }) f.0 (without b (filled f.0 (map one_word words) f.1)))) (λ f. IsSized c ty 1 (length words) f × AreBut types (λ k. bare k ⊎ (k ≡ f.0)) f.1) (AreBut types bare)
+      (sized_but s ty 1 (length words) c bare h)
       (λ f k.
       let number = k.0.number in
       let new : c.births ≤ f.0 = omega (arith, number) in
       let older = older_without c (filled f.0 (map one_word words) f.1) b (older_filled c f.1 f.0 (map one_word words) new k.0.older) in
-      all_in types (owns (record { object = n; index = i; word = 0 }) f.0 (without b (filled f.0 (map one_word words) f.1)))
-      (owns_but types (λ j. ⊥) n i f.0 (without b (filled f.0 (map one_word words) f.1)) (λ o there. owner o (older.same n o born there))
-      (without_but types (λ j. ⊥) b (filled f.0 (map one_word words) f.1)
-      (single_in (λ j. ⊥) f.0 (filled f.0 (map one_word words) f.1) (λ o there. ap (parts_at types) (filled_type f (map one_word words) k.0 o there) ∙ single) (filled_out f (map one_word words) k.1)))))
+      owns_but types bare n i f.0 (without b (filled f.0 (map one_word words) f.1)) (λ o there. owner o (older.same n o born there))
+      (without_but types bare b (filled f.0 (map one_word words) f.1)
+      (single_in bare f.0 (filled f.0 (map one_word words) f.1) (λ o there. ap (parts_at types) (filled_type f (map one_word words) k.0 o there) ∙ single) (filled_out f (map one_word words) k.1))))
     where
       filled_type : (f : ℕ × Content) (rows : List (List ℕ)) → IsSized c ty 1 (length words) f → (o : Object) → at (filled f.0 rows f.1).objects f.0 ≡ Some o → o.ty ≡ ty
       filled_type f rows sized o there =
           ap (λ (x : Object). x.ty) (some_same (sym there ∙ ap (λ (x : Option Object). at (filled_if x f.0 rows f.1).objects f.0) sized.there ∙ at-set_same f.1.objects f.0 f.0 (record (sized.object) { slots = filled_slots sized.object.slots rows }) refl)) ∙ sized.type
 
-      filled_out : (f : ℕ × Content) (rows : List (List ℕ)) → AreBut types (λ k. ⊥ ⊎ (k ≡ f.0)) f.1 → AreBut types (λ k. ⊥ ⊎ (k ≡ f.0)) (filled f.0 rows f.1)
+      filled_out : (f : ℕ × Content) (rows : List (List ℕ)) → AreBut types (λ k. bare k ⊎ (k ≡ f.0)) f.1 → AreBut types (λ k. bare k ⊎ (k ≡ f.0)) (filled f.0 rows f.1)
       filled_out f rows but = go (at f.1.objects f.0)
         where
-          go : (o : Option Object) → AreBut types (λ k. ⊥ ⊎ (k ≡ f.0)) (filled_if o f.0 rows f.1)
+          go : (o : Option Object) → AreBut types (λ k. bare k ⊎ (k ≡ f.0)) (filled_if o f.0 rows f.1)
           go None = but
-          go (Some o) = set_but types (λ k. ⊥ ⊎ (k ≡ f.0)) f.0 (record o { slots = filled_slots o.slots rows }) f.1 (with_object f.0 (record o { slots = filled_slots o.slots rows }) f.1) (inl (inr refl)) refl but
+          go (Some o) = set_but types (λ k. bare k ⊎ (k ≡ f.0)) f.0 (record o { slots = filled_slots o.slots rows }) f.1 (with_object f.0 (record o { slots = filled_slots o.slots rows }) f.1) (inl (inr refl)) refl but
 
   -- ---- values are taken into another buffer
 

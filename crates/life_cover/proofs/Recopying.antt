@@ -5,7 +5,7 @@ use Rattle.life_types.specs.Trees.{IsOrdered}
 use Rattle.life_types.specs.Types.{Types}
 use Rattle.life_types.specs.declared.ty.TyId.{TyId}
 use Rattle.life_core.specs.declared.instr.Form.{Form}
-use Rattle.life_store.specs.Cells.{at, at-set_other, set}
+use Rattle.life_store.specs.Cells.{at, at-set_other, set, at-set_same}
 use Rattle.life_store.specs.Content.{Slot, Object, Content, live_words_of, newborn, set_slot, with_birth, with_object, written}
 use Rattle.life_store.specs.Doing.{replaced}
 use Rattle.life_store.specs.Effects.{Attempt, Got, Setting, then_get}
@@ -21,8 +21,8 @@ use Rattle.life_forest.proofs.Above.{with_words_type}
 use Rattle.life_forest.proofs.Coming.{IfGot, got_then, if_room}
 use Rattle.life_forest.proofs.Laying.{IsMade}
 use Rattle.life_forest.proofs.Stores.{if_such}
-use Rattle.life_cover.specs.Buffered.{AreBuffered, HasBuffers}
-use Rattle.life_cover.proofs.Buffering.{AreBut, Each, Have, IsOwnerAt, all_in, birth_but, ended_but, ended_leaves, filled_but, none_out, owns_but}
+use Rattle.life_cover.specs.Buffered.{AreBut, HasBuffers}
+use Rattle.life_cover.proofs.Buffering.{Each, Have, IsOwnerAt, birth_but, ended_but, ended_leaves, filled_but, owns_but}
 use Rattle.life_cover.proofs.Copies.{IsWhole}
 use Rattle.life_cover.proofs.OwnersStay.{read_word}
 use Rattle.life_cover.proofs.Rebuffering.{IsSized, sized_but}
@@ -71,6 +71,13 @@ row_has Iterates ws h = tt
 row_has Views ws h = tt
 row_has (Unique ty target) ws h = tt
 row_has NoMember ws h = tt
+
+-- its one slot gets the words
+pub one_written : (P : List ℕ → Type 0) (ss : List Slot) (v : ℕ) → length ss ≡ 1 → ((t : Slot) → slice_get ss 0 ≡ Some t → P (slice_set t.words 0 v)) → Each P (set_slot ss 0 (option_map (written 0 v) (slice_get ss 0)))
+one_written P [] v one new i u e = absurd (omega (arith, one))
+one_written P (t ∷ []) v one new zero u e = subst (λ (x : Slot). P x.words) (some_same e) (new t refl)
+one_written P (t ∷ []) v one new (suc i) u e = absurd (none_some e)
+one_written P (t ∷ r ∷ ss) v one new i u e = absurd (omega (arith, one))
 
 module _ (types : Types) (ordered : IsOrdered types) (s : Setting) where
   pub record IsCopied (p : Parts) (out : ℕ → Type 0) (d : Content) (v : Words) : Type 0 where
@@ -139,15 +146,38 @@ module _ (types : Types) (ordered : IsOrdered types) (s : Setting) where
 
   -- ---- a copy is written to a place
 
-  pub replaced_buffered : (p : Parts) → ((ws : List ℕ) → IsOwningRow p ws → (b : ℕ) × (ws ≡ suc b ∷ [])) → (n i : ℕ) (c : Content) (v : Words) → IsCopied p (λ k. ⊥) c v → n < c.births → IsOwnerAt types c n → AreBuffered types (replaced p (record { object = n; index = i; word = 0 }) v)
-  replaced_buffered p row n i c v copy born owner =
+  pub replaced_buffered : (bare : ℕ → Type 0) (p : Parts) → ((ws : List ℕ) → IsOwningRow p ws → (b : ℕ) × (ws ≡ suc b ∷ [])) → (n i : ℕ) (c : Content) (v : Words) → IsCopied p bare c v → n < c.births → IsOwnerAt types c n → AreBut types bare (replaced p (record { object = n; index = i; word = 0 }) v)
+  replaced_buffered bare p row n i c v copy born owner =
       let b = row v.0 copy.row in
       let e = ended p (spot_words v.1 (record { object = n; index = i; word = 0 }) (width p)) v.1 in
-      subst (λ (ws : List ℕ). AreBuffered types (wrote_if (at (ended p (spot_words v.1 (record { object = n; index = i; word = 0 }) (width p)) v.1).objects n) n i 0 ws (ended p (spot_words v.1 (record { object = n; index = i; word = 0 }) (width p)) v.1))) (sym b.1)
-      (all_in types (wrote_if (at (ended p (spot_words v.1 (record { object = n; index = i; word = 0 }) (width p)) v.1).objects n) n i 0 (suc b.0 ∷ []) (ended p (spot_words v.1 (record { object = n; index = i; word = 0 }) (width p)) v.1))
-      (owns_but types (λ k. ⊥) n i b.0 (ended p (spot_words v.1 (record { object = n; index = i; word = 0 }) (width p)) v.1)
+      subst (λ (ws : List ℕ). AreBut types bare (wrote_if (at (ended p (spot_words v.1 (record { object = n; index = i; word = 0 }) (width p)) v.1).objects n) n i 0 ws (ended p (spot_words v.1 (record { object = n; index = i; word = 0 }) (width p)) v.1))) (sym b.1)
+      (owns_but types bare n i b.0 (ended p (spot_words v.1 (record { object = n; index = i; word = 0 }) (width p)) v.1)
       (λ o there. owner o (sym (copy.more.same n born) ∙ ended_leaves types p (spot_words v.1 (record { object = n; index = i; word = 0 }) (width p)) v.1 n o there))
-      (ended_but types (λ k. ⊥) p (spot_words v.1 (record { object = n; index = i; word = 0 }) (width p)) v.1 copy.buffers)))
+      (ended_but types bare p (spot_words v.1 (record { object = n; index = i; word = 0 }) (width p)) v.1 copy.buffers))
+
+  -- .. so an object of one slot has its buffer
+  pub replaced_one : (p : Parts) → ((ws : List ℕ) → IsOwningRow p ws → (b : ℕ) × (ws ≡ suc b ∷ [])) → (bare : ℕ → Type 0) (n : ℕ) (c : Content) (v : Words) → IsCopied p bare c v → n < c.births → IsOwnerAt types c n → ((o : Object) → at c.objects n ≡ Some o → length o.slots ≡ 1)
+      → (q : Object) → at (replaced p (record { object = n; index = 0; word = 0 }) v).objects n ≡ Some q → Have types q
+  replaced_one p row bare n c v copy born owner one q there = by_row (row v.0 copy.row)
+    where
+      left : Content
+      left = ended p (spot_words v.1 (record { object = n; index = 0; word = 0 }) (width p)) v.1
+
+      was : (o : Object) → at left.objects n ≡ Some o → at c.objects n ≡ Some o
+      was o is = sym (copy.more.same n born) ∙ ended_leaves types p (spot_words v.1 (record { object = n; index = 0; word = 0 }) (width p)) v.1 n o is
+
+      have : (b : ℕ) (o : Object) → at left.objects n ≡ Some o → Have types (with_words 0 0 (suc b ∷ []) o)
+      have b o is =
+          let at_c = was o is in
+          one_written (HasBuffers (parts_at types o.ty)) o.slots (suc b) (one o at_c)
+          (λ t e. (owner o at_c).0 (slice_set t.words 0 (suc b)) b (ap owned_in (read_word t.words 0 (suc b) ((owner o at_c).1 0 t e))))
+
+      by_row : (b : ℕ) × (v.0 ≡ suc b ∷ []) → Have types q
+      by_row b = go (at left.objects n) refl (subst (λ (ws : List ℕ). at (wrote_if (at left.objects n) n 0 0 ws left).objects n ≡ Some q) b.1 there)
+        where
+          go : (x : Option Object) → at left.objects n ≡ x → at (wrote_if x n 0 0 (suc b.0 ∷ []) left).objects n ≡ Some q → Have types q
+          go None e is = absurd (none_some (sym e ∙ is))
+          go (Some o) e is = subst (Have types) (some_same (sym (at-set_same left.objects n n (with_words 0 0 (suc b.0 ∷ []) o) refl) ∙ is)) (have b.0 o e)
 
   -- ---- an object of one slot comes to life
 
@@ -169,10 +199,10 @@ module _ (types : Types) (ordered : IsOrdered types) (s : Setting) where
   fresh_but form (Vector ty element) is out d h = born_buffer (Vector ty element) ty (width element) (λ b. (b, refl)) out d h
 
   -- words that are written give a value its buffers
-  written_in : (n : ℕ) (ws : List ℕ) (d : Content) → ((o : Object) → at d.objects n ≡ Some o → Have types (with_words 0 0 ws o)) → AreBut types (λ k. ⊥ ⊎ (k ≡ n)) d → AreBut types (λ k. ⊥) (wrote n 0 0 ws d)
-  written_in n ws d new h = go (at d.objects n) refl
+  written_in : (bare : ℕ → Type 0) (n : ℕ) (ws : List ℕ) (d : Content) → ((o : Object) → at d.objects n ≡ Some o → Have types (with_words 0 0 ws o)) → AreBut types (λ k. bare k ⊎ (k ≡ n)) d → AreBut types bare (wrote n 0 0 ws d)
+  written_in bare n ws d new h = go (at d.objects n) refl
     where
-      go : (x : Option Object) → at d.objects n ≡ x → AreBut types (λ k. ⊥) (wrote_if x n 0 0 ws d)
+      go : (x : Option Object) → at d.objects n ≡ x → AreBut types bare (wrote_if x n 0 0 ws d)
       go None e k i o t free there slot = h k i o t (λ gone. ⊎_elim free (λ is. none_some (sym e ∙ ap (at d.objects) (sym is) ∙ there)) gone) there slot
       go (Some x) e k i o t free there slot =
           ⊎_elim
@@ -182,13 +212,6 @@ module _ (types : Types) (ordered : IsOrdered types) (s : Setting) where
 
   plain_have : (o : Object) (ws : List ℕ) (p : Parts) → parts_at types o.ty ≡ p → ((us : List ℕ) → HasBuffers p us) → Have types (with_words 0 0 ws o)
   plain_have o ws p typed each i t e = subst (λ (q : Parts). HasBuffers q t.words) (sym (ap (parts_at types) (with_words_type 0 0 ws o) ∙ typed)) (each t.words)
-
-  -- its one slot gets the words
-  one_written : (P : List ℕ → Type 0) (ss : List Slot) (v : ℕ) → length ss ≡ 1 → ((t : Slot) → slice_get ss 0 ≡ Some t → P (slice_set t.words 0 v)) → Each P (set_slot ss 0 (option_map (written 0 v) (slice_get ss 0)))
-  one_written P [] v one new i u e = absurd (omega (arith, one))
-  one_written P (t ∷ []) v one new zero u e = subst (λ (x : Slot). P x.words) (some_same e) (new t refl)
-  one_written P (t ∷ []) v one new (suc i) u e = absurd (none_some e)
-  one_written P (t ∷ r ∷ ss) v one new i u e = absurd (omega (arith, one))
 
   owner_have : (p : Parts) (o : Object) (ws : List ℕ) (b : ℕ) → ws ≡ suc b ∷ [] → parts_at types o.ty ≡ p → length o.slots ≡ 1 → ((t : Slot) → slice_get o.slots 0 ≡ Some t → 0 < length t.words) → ((us : List ℕ) (m : ℕ) → owned_in (slice_index us 0) ≡ Some m → HasBuffers p us) → Have types (with_words 0 0 ws o)
   owner_have p o ws b is typed one some owner =
@@ -212,24 +235,24 @@ module _ (types : Types) (ordered : IsOrdered types) (s : Setting) where
   row_have NoMember o ws typed one wide row = plain_have o ws NoMember typed (λ us. tt)
 
   -- an object with a value that has its buffers
-  pub with_buffered : (value : Content → Attempt Words) (ty : TyId) (c : Content) → ((out : ℕ → Type 0) (d : Content) → AreBut types out d → IfGot (value d) (IsCopied (parts_at types ty) out d)) → AreBuffered types c → IfGot (object_with s ty (parts_at types ty) value c) (λ b. AreBuffered types b.1)
-  with_buffered value ty c each h =
-      got_then (sized_birth s ty (width (parts_at types ty)) 1 c) (λ b. then_get (value b.1) (λ v. Got (b.0, wrote b.0 0 0 v.0 v.1))) (λ f. IsSized c ty (width (parts_at types ty)) 1 f × AreBut types (λ k. ⊥ ⊎ (k ≡ f.0)) f.1) (λ b. AreBuffered types b.1)
-      (sized_but types s ty (width (parts_at types ty)) 1 c (λ k. ⊥) (none_out types c h))
-      (λ f k. got_then (value f.1) (λ v. Got (f.0, wrote f.0 0 0 v.0 v.1)) (IsCopied (parts_at types ty) (λ j. ⊥ ⊎ (j ≡ f.0)) f.1) (λ b. AreBuffered types b.1)
-      (each (λ j. ⊥ ⊎ (j ≡ f.0)) f.1 k.1)
-      (λ v made. all_in types (wrote f.0 0 0 v.0 v.1) (written_in f.0 v.0 v.1 (λ o there.
+  pub with_buffered : (bare : ℕ → Type 0) (value : Content → Attempt Words) (ty : TyId) (c : Content) → ((out : ℕ → Type 0) (d : Content) → AreBut types out d → IfGot (value d) (IsCopied (parts_at types ty) out d)) → AreBut types bare c → IfGot (object_with s ty (parts_at types ty) value c) (λ b. AreBut types bare b.1)
+  with_buffered bare value ty c each h =
+      got_then (sized_birth s ty (width (parts_at types ty)) 1 c) (λ b. then_get (value b.1) (λ v. Got (b.0, wrote b.0 0 0 v.0 v.1))) (λ f. IsSized c ty (width (parts_at types ty)) 1 f × AreBut types (λ k. bare k ⊎ (k ≡ f.0)) f.1) (λ b. AreBut types bare b.1)
+      (sized_but types s ty (width (parts_at types ty)) 1 c bare h)
+      (λ f k. got_then (value f.1) (λ v. Got (f.0, wrote f.0 0 0 v.0 v.1)) (IsCopied (parts_at types ty) (λ j. bare j ⊎ (j ≡ f.0)) f.1) (λ b. AreBut types bare b.1)
+      (each (λ j. bare j ⊎ (j ≡ f.0)) f.1 k.1)
+      (λ v made. written_in bare f.0 v.0 v.1 (λ o there.
       let number = k.0.number in
       let births = k.0.births in
       let same : k.0.object ≡ o = some_same (sym (made.more.same f.0 (omega (arith, number, births)) ∙ k.0.there) ∙ there) in
       subst (λ (x : Object). Have types (with_words 0 0 v.0 x)) same
-      (row_have (parts_at types ty) k.0.object v.0 (ap (parts_at types) k.0.type) k.0.count (λ t e. slot_wide k.0.object.slots t (width (parts_at types ty)) k.0.wide e) made.row)) made.buffers)))
+      (row_have (parts_at types ty) k.0.object v.0 (ap (parts_at types) k.0.type) k.0.count (λ t e. slot_wide k.0.object.slots t (width (parts_at types ty)) k.0.wide e) made.row)) made.buffers))
 
   -- as it comes to life
-  pub born_buffered : (form : Form) (ty : TyId) (c : Content) → IsWhole (parts_at types ty) → AreBuffered types c → IfGot (object_with s ty (parts_at types ty) (fresh s form (parts_at types ty)) c) (λ b. AreBuffered types b.1)
-  born_buffered form ty c is h = with_buffered (fresh s form (parts_at types ty)) ty c (fresh_but form (parts_at types ty) is) h
+  pub born_buffered : (bare : ℕ → Type 0) (form : Form) (ty : TyId) (c : Content) → IsWhole (parts_at types ty) → AreBut types bare c → IfGot (object_with s ty (parts_at types ty) (fresh s form (parts_at types ty)) c) (λ b. AreBut types bare b.1)
+  born_buffered bare form ty c is h = with_buffered bare (fresh s form (parts_at types ty)) ty c (fresh_but form (parts_at types ty) is) h
 
   -- .. with a number
-  pub number_buffered : (word : ℕ) (ty : TyId) (c : Content) → parts_at types ty ≡ Single → AreBuffered types c → IfGot (object_with s ty (parts_at types ty) (λ d. Got (word ∷ [], d)) c) (λ b. AreBuffered types b.1)
-  number_buffered word ty c single h =
-      with_buffered (λ d. Got (word ∷ [], d)) ty c (λ out d k. record { row = subst (λ (p : Parts). IsOwningRow p (word ∷ [])) (sym single) tt; buffers = k; more = more_self d }) h
+  pub number_buffered : (bare : ℕ → Type 0) (word : ℕ) (ty : TyId) (c : Content) → parts_at types ty ≡ Single → AreBut types bare c → IfGot (object_with s ty (parts_at types ty) (λ d. Got (word ∷ [], d)) c) (λ b. AreBut types bare b.1)
+  number_buffered bare word ty c single h =
+      with_buffered bare (λ d. Got (word ∷ [], d)) ty c (λ out d k. record { row = subst (λ (p : Parts). IsOwningRow p (word ∷ [])) (sym single) tt; buffers = k; more = more_self d }) h

@@ -15,22 +15,22 @@ use Rattle.life_store.proofs.CellLemmas.{set_cases, some_same}
 use Rattle.life_forest.proofs.Above.{with_words_type}
 use Rattle.life_forest.proofs.Coming.{IfGot, got_then, if_room}
 use Rattle.life_forest.proofs.Stores.{if_such}
-use Rattle.life_cover.specs.Buffered.{AreBuffered, HasBuffers}
-use Rattle.life_cover.proofs.Buffering.{AreBut, IsOwnerAt, all_in, birth_but, filled_but, none_out, owns_but, resized_but, set_but, single_have, without_but, without_leaves}
+use Rattle.life_cover.specs.Buffered.{AreBut, HasBuffers}
+use Rattle.life_cover.proofs.Buffering.{IsOwnerAt, birth_but, filled_but, owns_but, resized_but, set_but, single_have, without_but, without_leaves}
 use Rattle.life_cover.proofs.Copies.{IsWhole}
 use Rattle.life_cover.proofs.Rebuffering.{AreFree, AreTaken, IsOlder, IsSized, older_filled, older_then, older_without, single_in, sized_is, slots_taken}
 
-module _ (types : Types) where
+module _ (types : Types) (bare : ℕ → Type 0) where
   -- ---- growth
 
   -- the new buffer, and what is left
   pub record IsGrown (ty : TyId) (c : Content) (f : ℕ × Content) : Type 0 where
     pub number : f.0 ≡ c.births
     pub type : (o : Object) → at f.1.objects f.0 ≡ Some o → o.ty ≡ ty
-    pub buffers : AreBut types (λ k. ⊥) f.1
+    pub buffers : AreBut types bare f.1
     pub older : IsOlder c f.1
 
-  module _ (s : Setting) (ty : TyId) (element : Parts) (is : IsWhole element) (typed : parts_at types ty ≡ element) (b capacity size : ℕ) (c : Content) (old : AreFree types element (λ k. ⊥ ⊎ (k ≡ c.births)) (slots_at c b)) (h : AreBuffered types c) where
+  module _ (s : Setting) (ty : TyId) (element : Parts) (is : IsWhole element) (typed : parts_at types ty ≡ element) (b capacity size : ℕ) (c : Content) (old : AreFree types element (λ k. bare k ⊎ (k ≡ c.births)) (slots_at c b)) (h : AreBut types bare c) where
     abbrev pub begun : Content
     begun = resized_at c.births size 0 (with_birth ty (width element) capacity c)
 
@@ -40,10 +40,10 @@ module _ (types : Types) where
     abbrev pub vs : List (List ℕ) × Content
     vs = taken_slots element (slots_at c b) (resized_at c.births size 0 (with_birth ty (width element) capacity c))
 
-    pub took : AreTaken types element (λ k. ⊥ ⊎ (k ≡ c.births)) c.births (length (slots_at c b)) (resized_at c.births size 0 (with_birth ty (width element) capacity c)) (taken_slots element (slots_at c b) (resized_at c.births size 0 (with_birth ty (width element) capacity c)))
+    pub took : AreTaken types element (λ k. bare k ⊎ (k ≡ c.births)) c.births (length (slots_at c b)) (resized_at c.births size 0 (with_birth ty (width element) capacity c)) (taken_slots element (slots_at c b) (resized_at c.births size 0 (with_birth ty (width element) capacity c)))
     took =
-        slots_taken types element is (λ k. ⊥ ⊎ (k ≡ c.births)) c.births (inr refl) (slots_at c b) old (resized_at c.births size 0 (with_birth ty (width element) capacity c)) (let n = sized.births in omega (arith, n))
-        (resized_but types (λ k. ⊥ ⊎ (k ≡ c.births)) c.births size 0 (with_birth ty (width element) capacity c) (inr refl) (birth_but types (λ k. ⊥ ⊎ (k ≡ c.births)) ty (width element) capacity c (λ k i o t free there slot. h k i o t there slot)))
+        slots_taken types element is (λ k. bare k ⊎ (k ≡ c.births)) c.births (inr refl) (slots_at c b) old (resized_at c.births size 0 (with_birth ty (width element) capacity c)) (let n = sized.births in omega (arith, n))
+        (resized_but types (λ k. bare k ⊎ (k ≡ c.births)) c.births size 0 (with_birth ty (width element) capacity c) (inr refl) (birth_but types (λ k. bare k ⊎ (k ≡ c.births)) ty (width element) capacity c (λ k i o t free there slot. h k i o t (λ gone. free (inl gone)) there slot)))
 
     pub new_there : at (taken_slots element (slots_at c b) (resized_at c.births size 0 (with_birth ty (width element) capacity c))).1.objects c.births ≡ Some sized.object
     new_there = took.same ∙ sized.there
@@ -56,21 +56,21 @@ module _ (types : Types) where
         ap (λ (x : Object). x.ty) (some_same (sym there ∙ ap (λ (x : Option Object). at (filled_if x c.births vs.0 vs.1).objects c.births) new_there ∙ at-set_same vs.1.objects c.births c.births (record (sized.object) { slots = filled_slots sized.object.slots vs.0 }) refl))
         ∙ sized.type
 
-    filled_buffers : (size ≤ length (slots_at c b)) ⊎ (element ≡ Single) → AreBut types (λ k. ⊥) (filled c.births vs.0 vs.1)
+    filled_buffers : (size ≤ length (slots_at c b)) ⊎ (element ≡ Single) → AreBut types bare (filled c.births vs.0 vs.1)
     filled_buffers (inl le) =
-        filled_but types (λ k. ⊥) c.births vs.0 vs.1 (λ o there. let n = ap (λ (x : Object). length x.slots) (new_is o there) in let m = sized.count in let r = took.count_is in omega (arith, n, m, r, le))
+        filled_but types bare c.births vs.0 vs.1 (λ o there. let n = ap (λ (x : Object). length x.slots) (new_is o there) in let m = sized.count in let r = took.count_is in omega (arith, n, m, r, le))
         (λ o there i ws e. subst (λ (q : Parts). HasBuffers q ws) (sym (ap (λ (x : Object). parts_at types x.ty) (sym (new_is o there)) ∙ ap (parts_at types) sized.type ∙ typed)) (took.has i ws e)) took.buffers
-    filled_buffers (inr single) = single_in types (λ k. ⊥) c.births (filled c.births vs.0 vs.1) (λ o there. ap (parts_at types) (new_type o there) ∙ typed ∙ single) (go (at vs.1.objects c.births))
+    filled_buffers (inr single) = single_in types bare c.births (filled c.births vs.0 vs.1) (λ o there. ap (parts_at types) (new_type o there) ∙ typed ∙ single) (go (at vs.1.objects c.births))
       where
-        go : (o : Option Object) → AreBut types (λ k. ⊥ ⊎ (k ≡ c.births)) (filled_if o c.births vs.0 vs.1)
+        go : (o : Option Object) → AreBut types (λ k. bare k ⊎ (k ≡ c.births)) (filled_if o c.births vs.0 vs.1)
         go None = took.buffers
-        go (Some o) = set_but types (λ k. ⊥ ⊎ (k ≡ c.births)) c.births (record o { slots = filled_slots o.slots vs.0 }) vs.1 (with_object c.births (record o { slots = filled_slots o.slots vs.0 }) vs.1) (inl (inr refl)) refl took.buffers
+        go (Some o) = set_but types (λ k. bare k ⊎ (k ≡ c.births)) c.births (record o { slots = filled_slots o.slots vs.0 }) vs.1 (with_object c.births (record o { slots = filled_slots o.slots vs.0 }) vs.1) (inl (inr refl)) refl took.buffers
 
     result : (size ≤ length (slots_at c b)) ⊎ (element ≡ Single) → IsGrown ty c (c.births, without b (filled c.births vs.0 vs.1))
     result fits = record {
       number = refl;
       type = λ o there. new_type o (without_leaves types b (filled c.births vs.0 vs.1) c.births o there);
-      buffers = without_but types (λ k. ⊥) b (filled c.births vs.0 vs.1) (filled_buffers fits);
+      buffers = without_but types bare b (filled c.births vs.0 vs.1) (filled_buffers fits);
       older = older_without c (filled c.births vs.0 vs.1) b (older_filled c vs.1 c.births vs.0 (omega arith) (older_then c begun vs.1 sized.older took.older));
     }
 
@@ -81,16 +81,16 @@ module _ (types : Types) where
         (λ f e. subst (λ (g : ℕ × Content). IsGrown ty c (g.0, without b (filled_by g.0 (taken_slots element (slots_at c b) (resized_at g.0 size 0 g.1))))) (sym e) (result fits))
 
   -- room is made
-  pub reserved_buffered : (s : Setting) (ty : TyId) (element : Parts) → IsWhole element → parts_at types ty ≡ element → (n i b count : ℕ) (c : Content) → AreFree types element (λ k. ⊥ ⊎ (k ≡ c.births)) (slots_at c b) → n < c.births → IsOwnerAt types c n → AreBuffered types c
-      → IfGot (reserved s ty element (record { object = n; index = i; word = 0 }) b count c) (AreBuffered types)
+  pub reserved_buffered : (s : Setting) (ty : TyId) (element : Parts) → IsWhole element → parts_at types ty ≡ element → (n i b count : ℕ) (c : Content) → AreFree types element (λ k. bare k ⊎ (k ≡ c.births)) (slots_at c b) → n < c.births → IsOwnerAt types c n → AreBut types bare c
+      → IfGot (reserved s ty element (record { object = n; index = i; word = 0 }) b count c) (AreBut types bare)
   reserved_buffered s ty element is typed n i b count c old born owner h = go (nat_lt (capacity_of c b) count)
     where
-      go : (more : Bool) → IfGot (cond more (then_get (regrown s ty element b count (size_of c b) c) (λ f. Got (owns (record { object = n; index = i; word = 0 }) f.0 f.1))) (Got c)) (AreBuffered types)
+      go : (more : Bool) → IfGot (cond more (then_get (regrown s ty element b count (size_of c b) c) (λ f. Got (owns (record { object = n; index = i; word = 0 }) f.0 f.1))) (Got c)) (AreBut types bare)
       go false = h
       go true =
-          got_then (regrown s ty element b count (size_of c b) c) (λ f. Got (owns (record { object = n; index = i; word = 0 }) f.0 f.1)) (IsGrown ty c) (AreBuffered types)
+          got_then (regrown s ty element b count (size_of c b) c) (λ f. Got (owns (record { object = n; index = i; word = 0 }) f.0 f.1)) (IsGrown ty c) (AreBut types bare)
           (regrown_buffered s ty element is typed b count (size_of c b) c old h (inl (omega arith)))
-          (λ f g. all_in types (owns (record { object = n; index = i; word = 0 }) f.0 f.1) (owns_but types (λ j. ⊥) n i f.0 f.1 (λ o there. owner o (g.older.same n o born there)) g.buffers))
+          (λ f g. owns_but types bare n i f.0 f.1 (λ o there. owner o (g.older.same n o born there)) g.buffers)
 
   -- ---- a number is added
 
@@ -103,42 +103,41 @@ module _ (types : Types) where
           ⊎_elim (λ same. (x, ap (at d.objects) (sym same.0) ∙ e, sym (with_words_type i w ws x) ∙ ap (λ (y : Object). y.ty) (some_same (sym same.1 ∙ there)))) (λ other. (o, sym other.1 ∙ there, refl))
           (set_cases d.objects n k (with_words i w ws x))
 
-  pub wrote_single : (f i w : ℕ) (ws : List ℕ) (d : Content) → ((o : Object) → at d.objects f ≡ Some o → parts_at types o.ty ≡ Single) → AreBut types (λ k. ⊥) d → AreBut types (λ k. ⊥) (wrote f i w ws d)
+  pub wrote_single : (f i w : ℕ) (ws : List ℕ) (d : Content) → ((o : Object) → at d.objects f ≡ Some o → parts_at types o.ty ≡ Single) → AreBut types bare d → AreBut types bare (wrote f i w ws d)
   wrote_single f i w ws d single h =
-      single_in types (λ k. ⊥) f (wrote f i w ws d) (λ o there. let x = wrote_type f i w ws d f o there in ap (parts_at types) (sym x.2) ∙ single x.0 x.1) (go (at d.objects f))
+      single_in types bare f (wrote f i w ws d) (λ o there. let x = wrote_type f i w ws d f o there in ap (parts_at types) (sym x.2) ∙ single x.0 x.1) (go (at d.objects f))
     where
-      go : (x : Option Object) → AreBut types (λ k. ⊥ ⊎ (k ≡ f)) (wrote_if x f i w ws d)
-      go None k j o t free there slot = h k j o t (λ e. e) there slot
+      go : (x : Option Object) → AreBut types (λ k. bare k ⊎ (k ≡ f)) (wrote_if x f i w ws d)
+      go None k j o t free there slot = h k j o t (λ gone. free (inl gone)) there slot
       go (Some x) k j o t free there slot =
-          set_but types (λ m. ⊥ ⊎ (m ≡ f)) f (with_words i w ws x) d (with_object f (with_words i w ws x) d) (inl (inr refl)) refl (λ m n q u out here at_u. h m n q u (λ e. e) here at_u) k j o t free there slot
+          set_but types (λ m. bare m ⊎ (m ≡ f)) f (with_words i w ws x) d (with_object f (with_words i w ws x) d) (inl (inr refl)) refl (λ m n q u clear here at_u. h m n q u (λ gone. clear (inl gone)) here at_u) k j o t free there slot
 
-  module _ (s : Setting) (ty : TyId) (single : parts_at types ty ≡ Single) (b : ℕ) (c : Content) (h : AreBuffered types c) where
+  module _ (s : Setting) (ty : TyId) (single : parts_at types ty ≡ Single) (b : ℕ) (c : Content) (h : AreBut types bare c) where
     record IsRoom (f : ℕ × Content) : Type 0 where
       pub type : (o : Object) → at f.1.objects f.0 ≡ Some o → o.ty ≡ ty
-      pub buffers : AreBut types (λ k. ⊥) f.1
+      pub buffers : AreBut types bare f.1
       -- all but b is as it was
       pub same : (k : ℕ) (o : Object) → k < c.births → b ≢ k → at f.1.objects k ≡ Some o → at c.objects k ≡ Some o
 
-    pub pushed_buffered : (type : (o : Object) → at c.objects b ≡ Some o → o.ty ≡ ty) (old : AreFree types Single (λ k. ⊥ ⊎ (k ≡ c.births)) (slots_at c b)) (n i : ℕ) (ws : List ℕ) → n < c.births → b ≢ n → IsOwnerAt types c n
-        → IfGot (pushed s ty Single (record { object = n; index = i; word = 0 }) b (λ d. (ws, d)) c) (AreBuffered types)
+    pub pushed_buffered : (type : (o : Object) → at c.objects b ≡ Some o → o.ty ≡ ty) (old : AreFree types Single (λ k. bare k ⊎ (k ≡ c.births)) (slots_at c b)) (n i : ℕ) (ws : List ℕ) → n < c.births → b ≢ n → IsOwnerAt types c n
+        → IfGot (pushed s ty Single (record { object = n; index = i; word = 0 }) b (λ d. (ws, d)) c) (AreBut types bare)
     pushed_buffered type old n i ws born apart owner =
-        got_then (with_room s ty Single b c) (λ f. Got (put_last (record { object = n; index = i; word = 0 }) f.0 (size_of c b) (ws, f.1))) IsRoom (AreBuffered types) room
+        got_then (with_room s ty Single b c) (λ f. Got (put_last (record { object = n; index = i; word = 0 }) f.0 (size_of c b) (ws, f.1))) IsRoom (AreBut types bare) room
         (λ f r.
-        all_in types (put_last (record { object = n; index = i; word = 0 }) f.0 (size_of c b) (ws, f.1))
-        (wrote_single f.0 (size_of c b) 0 ws (owns (record { object = n; index = i; word = 0 }) f.0 f.1)
+        wrote_single f.0 (size_of c b) 0 ws (owns (record { object = n; index = i; word = 0 }) f.0 f.1)
         (λ o there. let x = wrote_type n i 0 (suc f.0 ∷ []) f.1 f.0 o there in ap (parts_at types) (sym x.2 ∙ r.type x.0 x.1) ∙ single)
-        (owns_but types (λ k. ⊥) n i f.0 f.1 (λ o there. owner o (r.same n o born apart there)) r.buffers)))
+        (owns_but types bare n i f.0 f.1 (λ o there. owner o (r.same n o born apart there)) r.buffers))
       where
         same_room : IsRoom (b, resized_at b (size_of c b + 1) (size_of c b) c)
         same_room = go (at c.objects b) refl
           where
             go : (x : Option Object) → at c.objects b ≡ x → IsRoom (b, resized_if x b (size_of c b + 1) (size_of c b) c)
-            go None e = record { type = type; buffers = none_out types c h; same = λ k o lt ne there. there }
+            go None e = record { type = type; buffers = h; same = λ k o lt ne there. there }
             go (Some x) e = record {
               type = λ o there. ap (λ (y : Object). y.ty) (some_same (sym there ∙ at-set_same c.objects b b (resized (c.clock + 1) (size_of c b + 1) (size_of c b) x) refl)) ∙ type x e;
               buffers =
-                  set_but types (λ k. ⊥) b (resized (c.clock + 1) (size_of c b + 1) (size_of c b) x) c (with_resize b (size_of c b + 1) (size_of c b) x c)
-                  (inr (single_have types (resized (c.clock + 1) (size_of c b + 1) (size_of c b) x) (ap (parts_at types) (type x e) ∙ single))) refl (none_out types c h);
+                  set_but types bare b (resized (c.clock + 1) (size_of c b + 1) (size_of c b) x) c (with_resize b (size_of c b + 1) (size_of c b) x c)
+                  (inr (single_have types (resized (c.clock + 1) (size_of c b + 1) (size_of c b) x) (ap (parts_at types) (type x e) ∙ single))) refl (h);
               same = λ k o lt ne there. sym (at-set_other c.objects b k (resized (c.clock + 1) (size_of c b + 1) (size_of c b) x) ne) ∙ there;
             }
 

@@ -35,11 +35,11 @@ use Rattle.life_forest.proofs.Replacing.{replaced_touches}
 use Rattle.life_forest.proofs.Spots.{lies_at, spot_known}
 use Rattle.life_forest.proofs.Steps.{alive_le, own_all, touches_then}
 use Rattle.life_forest.proofs.Stores.{flat_lower, if_such}
-use Rattle.life_cover.specs.Buffered.{AreBuffered, HasBuffers}
+use Rattle.life_cover.specs.Buffered.{AreBut, HasBuffers}
 use Rattle.life_cover.specs.Regions.{Region, foot_of}
 use Rattle.life_cover.specs.Uniques.{had_by}
 use Rattle.life_cover.proofs.Beside.{kept_object}
-use Rattle.life_cover.proofs.Buffering.{AreBut, all_in, ended_but, ended_leaves, none_out, set_but}
+use Rattle.life_cover.proofs.Buffering.{ended_but, ended_leaves, set_but}
 use Rattle.life_cover.proofs.Buffers.{foot_covers}
 use Rattle.life_cover.proofs.Inside.{in_region}
 use Rattle.life_cover.proofs.OwnersStay.{word_written}
@@ -81,21 +81,21 @@ module _ (types : Types) where
   -- ---- buffers
 
   -- an object that needs none
-  pub replaced_buffered : (c : Content) (n : ℕ) (p : Parts) (v : ℕ) → ((o : Object) → at c.objects n ≡ Some o → (ws : List ℕ) → HasBuffers (parts_at types o.ty) ws) → AreBuffered types c
-      → AreBuffered types (replaced p (record { object = n; index = 0; word = 0 }) (v ∷ [], c))
-  replaced_buffered c n p v plain buffered = all_in types (replaced p (record { object = n; index = 0; word = 0 }) (v ∷ [], c)) (go (at left.objects n) refl)
+  pub replaced_buffered : (bare : ℕ → Type 0) (c : Content) (n : ℕ) (p : Parts) (v : ℕ) → ((o : Object) → at c.objects n ≡ Some o → (ws : List ℕ) → HasBuffers (parts_at types o.ty) ws) → AreBut types bare c
+      → AreBut types bare (replaced p (record { object = n; index = 0; word = 0 }) (v ∷ [], c))
+  replaced_buffered bare c n p v plain buffered = go (at left.objects n) refl
     where
       left : Content
       left = ended p (spot_words c (record { object = n; index = 0; word = 0 }) (width p)) c
 
-      but : AreBut types (λ k. ⊥) (ended p (spot_words c (record { object = n; index = 0; word = 0 }) (width p)) c)
-      but = ended_but types (λ k. ⊥) p (spot_words c (record { object = n; index = 0; word = 0 }) (width p)) c (none_out types c buffered)
+      but : AreBut types bare (ended p (spot_words c (record { object = n; index = 0; word = 0 }) (width p)) c)
+      but = ended_but types bare p (spot_words c (record { object = n; index = 0; word = 0 }) (width p)) c buffered
 
-      go : (x : Option Object) → at (ended p (spot_words c (record { object = n; index = 0; word = 0 }) (width p)) c).objects n ≡ x → AreBut types (λ k. ⊥) (replaced p (record { object = n; index = 0; word = 0 }) (v ∷ [], c))
-      go None e = subst (λ (y : Option Object). AreBut types (λ k. ⊥) (wrote_if y n 0 0 (v ∷ []) left)) (sym e) but
+      go : (x : Option Object) → at (ended p (spot_words c (record { object = n; index = 0; word = 0 }) (width p)) c).objects n ≡ x → AreBut types bare (replaced p (record { object = n; index = 0; word = 0 }) (v ∷ [], c))
+      go None e = subst (λ (y : Option Object). AreBut types bare (wrote_if y n 0 0 (v ∷ []) left)) (sym e) but
       go (Some x) e =
-          subst (λ (y : Option Object). AreBut types (λ k. ⊥) (wrote_if y n 0 0 (v ∷ []) left)) (sym e)
-          (set_but types (λ k. ⊥) n (with_word 0 0 v x) left (with_object n (with_word 0 0 v x) left)
+          subst (λ (y : Option Object). AreBut types bare (wrote_if y n 0 0 (v ∷ []) left)) (sym e)
+          (set_but types bare n (with_word 0 0 v x) left (with_object n (with_word 0 0 v x) left)
           (inr (λ i s slot. plain x (ended_leaves types p (spot_words c (record { object = n; index = 0; word = 0 }) (width p)) c n x e) s.words)) refl but)
 
 -- ---- what is touched

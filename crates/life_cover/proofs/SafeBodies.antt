@@ -37,6 +37,7 @@ use Rattle.life_forest.proofs.Slots.{ArePointsFormed}
 use Rattle.life_forest.proofs.Holding.{KeepsWaiting}
 use Rattle.life_forest.proofs.Keeping.{keeps_then}
 use Rattle.life_cover.specs.Frames.{FrameCovered}
+use Rattle.life_cover.specs.Lacking.{MayLack}
 use Rattle.life_cover.specs.Regions.{Region}
 use Rattle.life_cover.proofs.Branches.{IsCoveredBy, test_covered}
 use Rattle.life_cover.proofs.Edges.{FactsAt, Passes, clean_at, clean_of_two_at, closed_at, failed_passes, held_passes}
@@ -47,6 +48,9 @@ use Rattle.life_cover.proofs.Unnamed.{derived_unnamed, given_away}
 use Rattle.life_cover.proofs.Owning.{IsOwn, own_behind}
 use Rattle.life_cover.proofs.Arguments.{AreSlotless}
 use Rattle.life_cover.proofs.CallKinds.{IsPlainTarget}
+use Rattle.life_cover.proofs.Buffering.{but_more}
+use Rattle.life_cover.proofs.StillLacking.{passed_lacking}
+use Rattle.life_cover.proofs.Unmoved.{derived_unmoved, given_never}
 use Rattle.life_forest.specs.Typed.{IsStore}
 use Rattle.life_core.specs.declared.program.FnId.{FnId}
 use Rattle.life_core.specs.Operands.{Argument, Location}
@@ -105,6 +109,7 @@ module _ (types : Types) (ordered : IsOrdered types) (once : HasEachOnce types) 
   right_at b q place i here = record {
     clean = clean_at sigs types f number none i b place (goes (Some q)) here;
     clean_of_two = clean_of_two_at sigs types f number none i b place (goes (Some q)) here;
+    unmoved = λ x buffer has. derived_unmoved types plain sigs texts fs f points x (given_never types texts fs f points x kept b (record { spot = spot_at place (Action i); leads = goes (Some q) }) here has) b;
     given = λ x object has. derived_unnamed sigs types f kept x (given_away types f b (record { spot = spot_at place (Action i); leads = goes (Some q) }) x here object has) b;
     closed = closed_at sigs types f i b q place here;
   }
@@ -148,11 +153,12 @@ module _ (types : Types) (ordered : IsOrdered types) (once : HasEachOnce types) 
 
   -- a state that stays as it is is safe at the point to which a branch leads, with what the branch passes on
   branch_safe : (b : ℕ) (place : Place) (t : Test) (held failed : Option ℕ) (branch : Option Bool) (to : Option ℕ) (st : State) → numbered (code_of f) b ≡ Some (record { spot = spot_at place (Question t); leads = parts held failed })
-      → Contains (parts held failed) (record { branch = branch; to = to }) → IsSome to → IsSafeAt sigs types f rest inputs before given b st → FrameCovered types f inputs (LeadFacts to) st → InvAt (IsSafeAt sigs types f rest inputs before given) to st
-  branch_safe b place t held failed branch None st here among is inv covered = absurd (false≢true is)
-  branch_safe b place t held failed branch (Some q) st here among is inv covered = record {
+      → Contains (parts held failed) (record { branch = branch; to = to }) → IsSome to → IsSafeAt sigs types f rest inputs before given b st → ((n : ℕ) → MayLack types f inputs (FactsAt sigs types f b) st n → MayLack types f inputs (LeadFacts to) st n)
+      → FrameCovered types f inputs (LeadFacts to) st → InvAt (IsSafeAt sigs types f rest inputs before given) to st
+  branch_safe b place t held failed branch None st here among is inv lacks covered = absurd (false≢true is)
+  branch_safe b place t held failed branch (Some q) st here among is inv lacks covered = record {
     reached = goes_on {l = record { spot = spot_at place (Question t); leads = parts held failed }} inv.reached here among refl;
-    safe = record { sound = inv.safe.sound; given = inv.safe.given; covered = covered; buffered = inv.safe.buffered };
+    safe = record { sound = inv.safe.sound; given = inv.safe.given; covered = covered; buffered = but_more types (MayLack types f inputs (FactsAt sigs types f b) st) (MayLack types f inputs (FactsAt sigs types f q) st) st.world.content lacks inv.safe.buffered };
     own = inv.own;
     waits = inv.waits;
   }
@@ -170,8 +176,11 @@ module _ (types : Types) (ordered : IsOrdered types) (once : HasEachOnce types) 
       let on = ready.leads_on b (ready_of st) l inv.reached here in
       verdict_good held failed st (test_at types f t n st) (held_answers types ordered once some names texts fs f formed points ready rest b st l t n inv.reached here refl inv.safe.sound)
       (test_covered types f inputs (FactsAt sigs types f b) st (LeadFacts held) (LeadFacts failed) inv.safe.covered plain texts fs t n (points b l here) (held_facts b place t held failed here) (failed_facts b place t held failed here))
-      (λ covered. branch_safe b place t held failed (Some true) held st here (0, omega arith, refl) on.0 inv covered)
-      (λ covered. branch_safe b place t held failed (Some false) failed st here (1, omega arith, refl) on.1.0 inv covered)
+      (λ covered. branch_safe b place t held failed (Some true) held st here (0, omega arith, refl) on.0 inv (lacking (LeadFacts held) true (held_facts b place t held failed here)) covered)
+      (λ covered. branch_safe b place t held failed (Some false) failed st here (1, omega arith, refl) on.1.0 inv (lacking (LeadFacts failed) false (failed_facts b place t held failed here)) covered)
+    where
+      lacking : (S' : Fact → Type 0) (branch : Bool) → Passes t branch (FactsAt sigs types f b) S' → (m : ℕ) → MayLack types f inputs (FactsAt sigs types f b) st m → MayLack types f inputs S' st m
+      lacking S' branch passes = passed_lacking types f rest inputs plain texts fs (FactsAt sigs types f b) S' st t branch (points b (record { spot = spot_at place (Question t); leads = parts held failed }) here) passes
 
   -- ---- the whole
 

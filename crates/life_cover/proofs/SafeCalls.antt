@@ -1,7 +1,7 @@
 -- A call that hands over no slot makes no fault, if none of the callee does, and the caller is safe behind it.
 use Rattle.std.proofs.Common.{◌≡◌, ◌⊎◌, inl, inr, ℕ, ◌+◌, ◌≤◌, ◌<◌, Bool, true, false, if◌then◌else◌, List, [], ◌∷◌, ◌++◌, Option, Some, None, refl, sym, ap, subst, ◌∙◌, arith}
-use Rattle.std.specs.Prelude.{drop, length, option_map, slice_get, ◌&&◌, ◌||◌, ◌-◌}
-use Rattle.std.proofs.lemmas.Bool.{and_parts, false≢true}
+use Rattle.std.specs.Prelude.{Contains, drop, flat_map, length, option_map, slice_get, ◌&&◌, ◌||◌, ◌-◌}
+use Rattle.std.proofs.lemmas.Bool.{and_parts, false≢true, ne_eqb}
 use Rattle.std.proofs.lemmas.Option.{slice_get-map}
 use Rattle.life_types.specs.Pointees.{ty_of}
 use Rattle.life_types.specs.Trees.{IsOrdered}
@@ -20,18 +20,20 @@ use Rattle.life_core.specs.Ready.{AreBits, Ready}
 use Rattle.life_core.specs.Step.{Call}
 use Rattle.life_core.specs.Touched.{by_members, if_object, target_births}
 use Rattle.life_core.specs.Tree.{Action}
-use Rattle.life_pset.specs.Elements.{AreShort, elements_of}
+use Rattle.life_pset.specs.Elements.{AreShort, elements_of, local_place}
+use Rattle.life_pset.specs.Places.{is_within, members_place}
 use Rattle.life_pset.specs.Shapes.{members_type, ty_if}
 use Rattle.life_pset.specs.Shapes as shapes
 use Rattle.life_pset.specs.declared.element.Fact.{Fact}
 use Rattle.life_pset.specs.declared.element.Root.{Root}
 use Rattle.life_contract.specs.Signatures.{Signature, signature_of}
-use Rattle.life_proper.specs.GivenOver.{all_keep_given}
+use Rattle.life_proper.specs.GivenOver.{all_keep_given, given_argument}
 use Rattle.life_proper.specs.OperandTypes.{are_alike, same, takes}
 use Rattle.life_proper.specs.Placed.{is_number, object_at, type_at, type_in}
 use Rattle.life_proper.specs.WellFormed.{are_arguments_for, goes_to, have_own_slots, is_call, is_whole, types_taken}
 use Rattle.life_proper.specs.WellFormedPrograms.{is_well_formed_function}
 use Rattle.life_proper.proofs.SortedNodes.{formed_parts}
+use Rattle.life_rules.specs.Calling.{is_in_target}
 use Rattle.life_rules.specs.Diagnosing.{IsDiagnosed}
 use Rattle.life_rules.specs.declared.diag.Diag.{Diag}
 use Rattle.life_store.specs.Calls.{first_given, lent, result_given, slot_count, taken_back, target_given, all_handed}
@@ -41,7 +43,7 @@ use Rattle.life_store.specs.Meaning.{Back, Barred, Called, Callee, Quit, act, ca
 use Rattle.life_store.specs.State.{Cell, Empty, Named, Number, Pointer, Points, State, Target, To, World, is_there, ready_of}
 use Rattle.life_store.proofs.CellLemmas.{some_same}
 use Rattle.life_store.proofs.Going.{GoodEffect, paid_good}
-use Rattle.life_forest.specs.Forest.{Touches}
+use Rattle.life_forest.specs.Forest.{Beneath, Touches}
 use Rattle.life_forest.specs.Frames.{HasStore, OnNext, named_in}
 use Rattle.life_forest.specs.Kinds.{kinds_of}
 use Rattle.life_forest.specs.Owned.{times}
@@ -62,8 +64,18 @@ use Rattle.life_forest.proofs.Shaped.{IsShaped, locals_shaped}
 use Rattle.life_forest.proofs.Slots.{ArePointsFormed}
 use Rattle.life_forest.proofs.GivenSlots.{slot_types}
 use Rattle.life_forest.proofs.Counting.{one_same}
+use Rattle.life_forest.proofs.Steps.{beneath_more}
 use Rattle.life_cover.proofs.GivenOn.{given_behind}
-use Rattle.life_cover.specs.Buffered.{AreBuffered}
+use Rattle.life_cover.specs.Buffered.{AreBut}
+use Rattle.life_cover.specs.Kills.{IsUnnamed}
+use Rattle.life_cover.specs.Lacking.{IsLoose, IsSpared, MayLack}
+use Rattle.life_cover.proofs.Behind.{IsBehind, any_local, behind_more}
+use Rattle.life_cover.proofs.Buffering.{but_more}
+use Rattle.life_cover.proofs.CallCovers.{call_within}
+use Rattle.life_cover.proofs.CalledBuffers.{called_spared}
+use Rattle.life_cover.proofs.HandedLoose.{handed_loose}
+use Rattle.life_cover.proofs.Mutated.{mutated_from}
+use Rattle.life_cover.proofs.StillLacking.{StillLacks, lacks_on}
 use Rattle.life_cover.proofs.Arguments.{AreSlotless, IsAimedBy, aimed_by, passed}
 use Rattle.life_cover.proofs.CallKinds.{IsCalled, IsPlainTarget, given_object, nothing_returned, nothing_taken, pointer_given, result_taken}
 use Rattle.life_cover.proofs.Edges.{FactsAt}
@@ -73,18 +85,18 @@ use Rattle.life_cover.proofs.KnownFrames.{IsKnownFrame, IsRight, number_free, po
 use Rattle.life_cover.proofs.Looks.{TakesAll, takes_across}
 use Rattle.life_cover.proofs.ResultTypes.{result_typed}
 use Rattle.life_cover.proofs.SafeBodies.{CallsAreSafe, IsSafeAt, IsLeftSafe, IsSafeStop, IsSpokenBody, SafeAnswer, effect_good, right_at}
-use Rattle.life_cover.specs.Frames.{look_at}
+use Rattle.life_cover.specs.Frames.{FrameCovered, look_at}
 use Rattle.life_cover.specs.Inputs.{AreGiven, entry_inputs, foot_with, frame_foot, mutated}
 use Rattle.life_cover.specs.Passed.{ArePassed, IsPromised}
 use Rattle.life_cover.specs.Regions.{Region}
 
 -- ---- what a call gives back
 
--- each vector and each string has its buffer, what was touched lies beneath what was given or is an owner behind a mutating input, what is named was given
+-- each vector and each string has its buffer to which anybody comes, what was touched lies beneath what was given or is an owner behind a mutating input, what is named was given
 -- or is new, and a result that is a pointer is as it was promised
 abbrev pub SafeCalled : Types → Function → (inputs : Root → Option Region) → (given : List ℕ) → Content → Called → Type 0
 SafeCalled types g inputs given c (Back n w values) =
-    AreBuffered types w.content
+    AreBut types (IsLoose types inputs (named_in values) w.content) w.content
     × (Touches (kinds_of types) (foot_with types (mutated types g inputs) given) c w.content
     × (((j : ℕ) → 0 < times (named_in values) j → (0 < times given j) ⊎ (c.births ≤ j)) × ((p : Pointer) → is_pointer (ty_of types g.result) ≡ true → slice_get values 0 ≡ Some (Points p) → IsPromised types g inputs w.content p)))
 SafeCalled types g inputs given c (Barred kind) = Unit {0}
@@ -92,16 +104,21 @@ SafeCalled types g inputs given c (Quit stop w) = IsSafeStop stop
 
 -- .. where its inputs stand apart, and it is handed what its parameters may be given
 abbrev pub SafeCallee : Types → List Function → Callee → Type 0
-SafeCallee types fs call = (k : ℕ) (g : Function) (rest : ℕ → ℕ) (xs : List Cell) (n : ℕ) (w : World) → slice_get fs k ≡ Some g → AreHandedTo types w.content (types_held types g) xs → IsStore types (λ j. times (named_in xs) j + rest j) w.content → AreBuffered types w.content
+SafeCallee types fs call = (k : ℕ) (g : Function) (rest : ℕ → ℕ) (xs : List Cell) (n : ℕ) (w : World) → slice_get fs k ≡ Some g → AreHandedTo types w.content (types_held types g) xs → IsStore types (λ j. times (named_in xs) j + rest j) w.content
+    → AreBut types (IsLoose types (entry_inputs w.content xs) (named_in xs) w.content) w.content
     → AreGiven types g (entry_inputs w.content xs) (foot_with types (mutated types g (entry_inputs w.content xs)) (named_in xs)) w.content → ArePassed types g w.content xs → SafeCalled types g (entry_inputs w.content xs) (named_in xs) w.content (call k xs n w)
+
+-- the facts cover all pointers behind it, and the buffers are there
+abbrev IsTaken : Types → Function → (inputs : Root → Option Region) → (S : Fact → Type 0) → State → State → Type 0
+IsTaken types f inputs S st after = FrameCovered types f inputs S after × (AreBut types (MayLack types f inputs S after) after.world.content × IsBehind types f inputs any_local any_local st after)
 
 -- the frame goes on, and is safe
 call_goes : (types : Types) (f : Function) (rest : ℕ → ℕ) (inputs : Root → Option Region) (S : Fact → Type 0) (bits : Ready) (st : State) (w : World) (e : Effect) → HasStore types rest st → AreGiven types f inputs (frame_foot types f inputs st.cells) st.world.content → GivesOn types f rest w.content bits e
-    → KeepsWaiting types rest st.world.content w.content → OnNext e (IsCalled types f inputs S st) → GoesSafe types f rest inputs S bits st e
+    → KeepsWaiting types rest st.world.content w.content → OnNext e (IsTaken types f inputs S st) → GoesSafe types f rest inputs S bits st e
 call_goes types f rest inputs S bits st w (Next after) store given g waits h = record {
-  safe = record { sound = g.sound; given = given_behind types f rest inputs st after store given h.1; covered = h.0; buffered = h.1.buffered };
+  safe = record { sound = g.sound; given = given_behind types f rest inputs any_local any_local st after store given h.1.1; covered = h.0; buffered = h.1.0 };
   bits = g.bits;
-  behind = h.1;
+  behind = h.1.1;
   waits = keeps_then types (λ n. rest n ≡ 0) st.world.content w.content after.world.content waits g.waits;
 }
 call_goes types f rest inputs S bits st w (Traps kind) store given g waits h = tt
@@ -147,6 +164,13 @@ module _ (types : Types) (ordered : IsOrdered types) (once : HasEachOnce types) 
 
       left_hand : (j : ℕ) → times (named_in (lent types f xs st).cells) j + times (named_in over) j ≡ times (named_in st.cells) j
       left_hand = (callers.loan types ordered once some names texts fs f formed points ready rest before s call callees free kept b place target g xs x here n st sound_at gf is args into).hand
+
+      -- what is named elsewhere meanwhile
+      abbrev waiting : ℕ → ℕ
+      waiting j = times (named_in (lent types f xs st).cells) j + rest j
+
+      over_store : IsStore types (λ j. times (named_in over) j + waiting j) st.world.content
+      over_store = less_in_hand types (λ j. times (named_in st.cells) j + rest j) (λ j. times (named_in over) j + waiting j) st.world.content (λ j. let a = left_hand j in omega (arith, a)) inv.safe.sound.stands.store
 
       shaped_g : IsShaped types gf
       shaped_g = locals_shaped types ordered names gf (formed_parts types names texts fs gf (all_formed g.0 gf is)).locals
@@ -219,15 +243,47 @@ module _ (types : Types) (ordered : IsOrdered types) (once : HasEachOnce types) 
             callee_given types f rest inputs (FactsAt sigs types f b) st known_at sigs number place (FactsAt sigs types f q) target g xs right over gf (heads g.0 gf is) shaped_g aims
             (given_object types f rest inputs (FactsAt sigs types f b) st known_at sigs number place (FactsAt sigs types f q) target g xs right over spoken_of.1 handed_each)
 
+        over_given : (m : ℕ) → 0 < times (named_in over) m → (y : ℕ) × (cell st y ≡ Some (Named m)) × IsUnnamed (FactsAt sigs types f b) y
+        over_given = given_object types f rest inputs (FactsAt sigs types f b) st known_at sigs number place (FactsAt sigs types f q) target g xs right over spoken_of.1 handed_each
+
+        -- the callee doesn't come to what may be bare
+        given_whole : (m : ℕ) → MayLack types f inputs (FactsAt sigs types f b) st m → IsLoose types (entry_inputs st.world.content over) (named_in over) st.world.content m
+        given_whole = handed_loose types f rest inputs (FactsAt sigs types f b) st known_at sigs number place (FactsAt sigs types f q) target g xs right over gf (heads g.0 gf is) shaped_g aims over_given spoken_of.1 handed_each left_hand
+
         -- ---- behind the call
 
         abbrev left : World → State
         left w = record { world = w; cells = (lent types f xs st).cells }
 
         module _ (w : World) (vs : List Cell) (back : IsBack types w.content gf.result (slot_types types (types_taken gf)) vs) (h : SafeCalled types gf (entry_inputs st.world.content over) (named_in over) st.world.content (Back 0 w vs)) where
-          by_target : (t : Option Location) → target ≡ t → OnNext (target_given s types f t vs (left w)) (IsCalled types f inputs (FactsAt sigs types f q) st)
+          -- what may be bare then
+          abbrev Loose : ℕ → Type 0
+          Loose m = IsLoose types (entry_inputs st.world.content over) (named_in vs) w.content m × (times (named_in (lent types f xs st).cells) m ≡ 0) × IsSpared inputs m
+
+          abbrev Left : ℕ → Type 0
+          Left m = MayLack types f inputs (FactsAt sigs types f b) st m ⊎ (IsLoose types (entry_inputs st.world.content over) (named_in vs) w.content m × (waiting m ≡ 0) × IsSpared inputs m)
+
+          abbrev Given : ℕ → Type 0
+          Given y = Contains (flat_map given_argument xs) y
+
+          -- what the callee may touch lies nowhere above what inputs stand for
+          input_apart : (r : Root) (a : Region) → inputs r ≡ Some a
+              → (a.object < st.world.content.births) × (Beneath (kinds_of types) st.world.content (foot_with types (mutated types gf (entry_inputs st.world.content over)) (named_in over)) a.object → ⊥)
+          input_apart r a stands = (
+            known_at.given.born r a stands,
+            λ low. known_at.given.free r a stands
+                (beneath_more (kinds_of types) (λ j. times (named_in st.cells) j + rest j) st.world.content known_at.stands.store.forest (foot_with types (mutated types gf (entry_inputs st.world.content over)) (named_in over)) (frame_foot types f inputs st.cells) a.object
+                (call_within types f rest inputs (FactsAt sigs types f b) st known_at sigs number place (FactsAt sigs types f q) target g xs right over gf (heads g.0 gf is) shaped_g aims over_given) (known_at.given.born r a stands) low),
+          )
+
+          buffers : AreBut types Left w.content
+          buffers =
+              called_spared types plain waiting (mutated types gf (entry_inputs st.world.content over)) (named_in over) st.world.content w.content over_store h.1.0 (MayLack types f inputs (FactsAt sigs types f b) st)
+              (IsLoose types (entry_inputs st.world.content over) (named_in vs) w.content) known_at.buffered h.0 (λ a among l. let m = mutated_from types gf (entry_inputs st.world.content over) a among in l.spared m.0 a m.1 refl) inputs input_apart
+
+          by_target : (t : Option Location) → target ≡ t → OnNext (target_given s types f t vs (left w)) (IsCalled types f inputs (FactsAt sigs types f q) Left Given Loose st)
           by_target None at_t =
-              nothing_taken types f rest inputs (FactsAt sigs types f b) st known_at sigs number place (FactsAt sigs types f q) target g xs right over gf (heads g.0 gf is) shaped_g aims spoken_of.1 handed_each left_less left_hand w h.1.0 h.0 at_t
+              nothing_taken types f rest inputs (FactsAt sigs types f b) st known_at sigs number place (FactsAt sigs types f q) target g xs right over gf (heads g.0 gf is) shaped_g aims spoken_of.1 handed_each left_less left_hand w h.1.0 Left buffers vs at_t
           by_target (Some l) at_t = of_result back.given
             where
               plain_target : IsPlainTarget types f (Some l)
@@ -239,37 +295,67 @@ module _ (types : Types) (ordered : IsOrdered types) (once : HasEachOnce types) 
                   let i = one_same j j refl in
                   omega (arith, a, i)
 
-              of_cell : (v : Cell) → vs ≡ v ∷ back.others → IsHandedTo types w.content gf.result v → OnNext (result_given s types f l l.members v (left w)) (IsCalled types f inputs (FactsAt sigs types f q) st)
+              of_cell : (v : Cell) → vs ≡ v ∷ back.others → IsHandedTo types w.content gf.result v → OnNext (result_given s types f l l.members v (left w)) (IsCalled types f inputs (FactsAt sigs types f q) Left Given Loose st)
               of_cell Empty one suits = absurd suits
               of_cell (Named m) one suits =
-                  result_taken types f rest inputs (FactsAt sigs types f b) st known_at sigs number place (FactsAt sigs types f q) target g xs right over gf (heads g.0 gf is) shaped_g aims spoken_of.1 handed_each left_less left_hand w h.1.0 h.0 l at_t plain_target (nameless l at_t plain_target) (Named m)
-                  (λ j e. h.1.1.0 j (named_first j (Named m) e one)) (λ p e. unlike p e) s tt
+                  result_taken types f rest inputs (FactsAt sigs types f b) st known_at sigs number place (FactsAt sigs types f q) target g xs right over gf (heads g.0 gf is) shaped_g aims spoken_of.1 handed_each left_less left_hand w h.1.0 Left buffers vs l at_t plain_target (nameless l at_t plain_target) (Named m)
+                  (λ j e. h.1.1.0 j (named_first j (Named m) e one)) (λ j e. named_first j (Named m) e one) (λ p e. unlike p e) s tt
                 where
                   unlike : (p : Pointer) → Named m ≡ Points p → ⊥
                   unlike p e = cc
               of_cell (Number z) one suits =
-                  result_taken types f rest inputs (FactsAt sigs types f b) st known_at sigs number place (FactsAt sigs types f q) target g xs right over gf (heads g.0 gf is) shaped_g aims spoken_of.1 handed_each left_less left_hand w h.1.0 h.0 l at_t plain_target (nameless l at_t plain_target) (Number z)
-                  (λ j e. h.1.1.0 j (named_first j (Number z) e one)) (λ p e. unlike p e) s tt
+                  result_taken types f rest inputs (FactsAt sigs types f b) st known_at sigs number place (FactsAt sigs types f q) target g xs right over gf (heads g.0 gf is) shaped_g aims spoken_of.1 handed_each left_less left_hand w h.1.0 Left buffers vs l at_t plain_target (nameless l at_t plain_target) (Number z)
+                  (λ j e. h.1.1.0 j (named_first j (Number z) e one)) (λ j e. named_first j (Number z) e one) (λ p e. unlike p e) s tt
                 where
                   unlike : (p : Pointer) → Number z ≡ Points p → ⊥
                   unlike p e = cc
               of_cell (Points p) one suits =
-                  pointer_given types f rest inputs (FactsAt sigs types f b) st known_at sigs number place (FactsAt sigs types f q) target g xs right over gf (heads g.0 gf is) shaped_g aims spoken_of.1 handed_each left_less left_hand w h.1.0 h.0 l at_t plain_target (nameless l at_t plain_target) p
+                  pointer_given types f rest inputs (FactsAt sigs types f b) st known_at sigs number place (FactsAt sigs types f q) target g xs right over gf (heads g.0 gf is) shaped_g aims spoken_of.1 handed_each left_less left_hand w h.1.0 Left buffers vs l at_t plain_target (nameless l at_t plain_target) p
                   (target_points l at_t plain_target suits.0) suits.0 (result_look l at_t plain_target suits.0) (h.1.1.1 p suits.0 (ap (λ (us : List Cell). slice_get us 0) one)) s
 
-              of_result : IsResult types w.content gf.result back.first → OnNext (first_given s types f vs l (left w)) (IsCalled types f inputs (FactsAt sigs types f q) st)
+              of_result : IsResult types w.content gf.result back.first → OnNext (first_given s types f vs l (left w)) (IsCalled types f inputs (FactsAt sigs types f q) Left Given Loose st)
               of_result (inl void) = absurd (no_void l at_t plain_target (ty_of types gf.result) void.0 (into_l l at_t plain_target))
               of_result (inr r) =
                   let one : vs ≡ r.0 ∷ back.others = back.are ∙ ap (λ (us : List Cell). us ++ back.others) r.1 in
-                  subst (λ (us : List Cell). OnNext (first_given s types f us l (left w)) (IsCalled types f inputs (FactsAt sigs types f q) st)) (sym one) (of_cell r.0 one r.2)
+                  subst (λ (us : List Cell). OnNext (first_given s types f us l (left w)) (IsCalled types f inputs (FactsAt sigs types f q) Left Given Loose st)) (sym one) (of_cell r.0 one r.2)
 
-          taken_safe : OnNext (taken_back s types f target xs vs (left w)) (IsCalled types f inputs (FactsAt sigs types f q) st)
-          taken_safe =
-              subst (λ (e : Effect). OnNext (on_next e (target_given s types f target vs)) (IsCalled types f inputs (FactsAt sigs types f q) st)) (sym (nothing_returned types f st xs spoken_of.1 (drop (length vs - slot_count xs) vs) (left w)))
+          taken_all : OnNext (taken_back s types f target xs vs (left w)) (IsCalled types f inputs (FactsAt sigs types f q) Left Given Loose st)
+          taken_all =
+              subst (λ (e : Effect). OnNext (on_next e (target_given s types f target vs)) (IsCalled types f inputs (FactsAt sigs types f q) Left Given Loose st)) (sym (nothing_returned types f st xs spoken_of.1 (drop (length vs - slot_count xs) vs) (left w)))
               (by_target target refl)
 
-        abbrev waiting : ℕ → ℕ
-        waiting j = times (named_in (lent types f xs st).cells) j + rest j
+          -- a local that names something isn't given the result
+          unwritten : (y m : ℕ) → cell st y ≡ Some (Named m) → is_in_target target (local_place y) ≡ false
+          unwritten y m named = go target refl
+            where
+              go : (t : Option Location) → target ≡ t → is_in_target t (local_place y) ≡ false
+              go None at_t = refl
+              go (Some l) at_t =
+                  let plain_target : IsPlainTarget types f (Some l) = subst (IsPlainTarget types f) at_t spoken_of.0 in
+                  ap (λ ms. is_within (members_place (local_place l.local) ms) (local_place y)) plain_target.0
+                  ∙ ap (λ c. c && true) (ne_eqb l.local y (λ same. nameless l at_t plain_target m (ap (cell st) same ∙ named)))
+
+          still : (m : ℕ) → MayLack types f inputs (FactsAt sigs types f b) st m → StillLacks types f rest inputs (FactsAt sigs types f b) st sigs number place (FactsAt sigs types f q) (Call target g xs) right Left Given m
+          still m lacks = record { lacks = lacks; kept = λ moved over. right.unmoved moved.local moved.owner over moved.cause moved.holds; unwritten = λ moved. unwritten moved.local m moved.names }
+
+          taken_safe : OnNext (taken_back s types f target xs vs (left w)) (IsTaken types f inputs (FactsAt sigs types f q) st)
+          taken_safe = go (taken_back s types f target xs vs (left w)) taken_all
+            where
+              by_case : (after : State) → IsBehind types f inputs Left Given st after → ((m : ℕ) → Loose m → IsLoose types inputs (named_in after.cells) after.world.content m) → (m : ℕ) → Left m → MayLack types f inputs (FactsAt sigs types f q) after m
+              by_case after behind loose m (inl lacks) = lacks_on types f rest inputs (FactsAt sigs types f b) st sigs number place (FactsAt sigs types f q) (Call target g xs) right Left Given after behind m (still m lacks)
+              by_case after behind loose m (inr l) = inr (loose m (l.0, (let z = l.1 in omega (arith, z)), l.2))
+
+              go : (e : Effect) → OnNext e (IsCalled types f inputs (FactsAt sigs types f q) Left Given Loose st) → OnNext e (IsTaken types f inputs (FactsAt sigs types f q) st)
+              go (Next after) t = (
+                t.0,
+                (
+                  but_more types Left (MayLack types f inputs (FactsAt sigs types f q) after) after.world.content (by_case after t.1.0 t.1.1) t.1.0.buffered,
+                  behind_more types f inputs Left Given any_local any_local st after (λ m c. tt) (λ y c. tt) t.1.0,
+                ),
+              )
+              go (Traps kind) t = tt
+              go (Faults kind) t = tt
+              go Strays t = tt
 
         returned : x.next ≡ Some q → (r : Called) → GoodCalled types gf (λ j. times (named_in (lent types f xs st).cells) j + rest j) st.world.content r → SafeCalled types gf (entry_inputs st.world.content over) (named_in over) st.world.content r
             → SafeAnswer sigs types f rest inputs before given x (came_back s types f place target xs st r)
@@ -289,10 +375,7 @@ module _ (types : Types) (ordered : IsOrdered types) (once : HasEachOnce types) 
         called_at next =
             subst (λ (o : Option (List Cell)). SafeAnswer sigs types f rest inputs before given x (came_back s types f place target xs st (call_with call g.0 o n (lent types f xs st).world))) (sym handed_all)
             (subst (λ (w : World). SafeAnswer sigs types f rest inputs before given x (came_back s types f place target xs st (call g.0 over n w))) (sym left_world)
-            (returned next (call g.0 over n st.world) (callees g.0 gf waiting over n st.world is handed_suit over_store) (safe g.0 gf waiting over n st.world is handed_suit over_store inv.safe.buffered inputs_given handed_passed)))
-          where
-            over_store : IsStore types (λ j. times (named_in over) j + waiting j) st.world.content
-            over_store = less_in_hand types (λ j. times (named_in st.cells) j + rest j) (λ j. times (named_in over) j + waiting j) st.world.content (λ j. let a = left_hand j in omega (arith, a)) inv.safe.sound.stands.store
+            (returned next (call g.0 over n st.world) (callees g.0 gf waiting over n st.world is handed_suit over_store) (safe g.0 gf waiting over n st.world is handed_suit over_store (but_more types (MayLack types f inputs (FactsAt sigs types f b) st) (IsLoose types (entry_inputs st.world.content over) (named_in over) st.world.content) st.world.content given_whole inv.safe.buffered) inputs_given handed_passed)))
 
       called : SafeAnswer sigs types f rest inputs before given x (act s types f call place (Call target g xs) n st)
       called = by_next x.next refl

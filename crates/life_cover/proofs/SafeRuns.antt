@@ -1,5 +1,5 @@
 -- A run of an admitted entry, of a program without structs whose calls hand over no slot and of which nothing is diagnosed, ends in no fault.
-use Rattle.std.proofs.Common.{◌≡◌, ℕ, zero, suc, ◌+◌, Bool, true, false, List, [], ◌∷◌, length, Option, Some, refl, sym, ap, subst, ◌∙◌, arith}
+use Rattle.std.proofs.Common.{◌≡◌, inr, ⊎_elim, ℕ, zero, suc, ◌+◌, Bool, true, false, List, [], ◌∷◌, length, Option, Some, refl, sym, ap, subst, ◌∙◌, arith}
 use Rattle.std.specs.Prelude.{ℤ, not, option_map, slice_get}
 use Rattle.std.proofs.lemmas.Bool.{and_parts, false≢true}
 use Rattle.std.proofs.lemmas.Option.{slice_get-map}
@@ -42,6 +42,7 @@ use Rattle.life_forest.specs.Typed.{IsStore}
 use Rattle.life_forest.specs.Forest.{Foot}
 use Rattle.life_forest.proofs.EnteredFrames.{GivesOn, AreTaking}
 use Rattle.life_forest.proofs.EntryFrames.{entry_gives, taking_all, types_held}
+use Rattle.life_forest.proofs.Below.{positive_is}
 use Rattle.life_forest.proofs.Frames.{less_in_hand}
 use Rattle.life_forest.proofs.HandedOver.{AreHandedTo}
 use Rattle.life_forest.specs.Settled.{IsPoised}
@@ -55,7 +56,11 @@ use Rattle.life_forest.proofs.Worked.{empty_store}
 use Rattle.life_forest.proofs.CallsGo.{GoesWell, calls_good}
 use Rattle.life_forest.proofs.CallersGo.{GoodCallee}
 use Rattle.life_cover.proofs.Inputs.{given_on}
-use Rattle.life_cover.specs.Buffered.{AreBuffered}
+use Rattle.life_cover.specs.Buffered.{AreBut}
+use Rattle.life_cover.specs.Lacking.{IsLoose, MayLack}
+use Rattle.life_cover.proofs.Buffering.{but_more}
+use Rattle.life_cover.proofs.LooseResults.{left_loose}
+use Rattle.life_cover.proofs.StillLacking.{loose_apart, loose_on}
 use Rattle.life_cover.proofs.SafeBodies.{IsSpokenBody, SafeAnswer, body_safe}
 use Rattle.life_cover.proofs.Edges.{FactsAt, clean_return}
 use Rattle.life_cover.proofs.Entered.{entered_covered}
@@ -63,7 +68,7 @@ use Rattle.life_cover.proofs.FramePoints.{IsSafe}
 use Rattle.life_cover.proofs.GivenInputs.{is_entered}
 use Rattle.life_cover.proofs.Begun.{IsBegun, frame_begun, parameters_begun}
 use Rattle.life_cover.proofs.NamedResults.{results_named}
-use Rattle.life_cover.proofs.Owning.{named_within}
+use Rattle.life_cover.proofs.Owning.{named_at, named_within}
 use Rattle.life_cover.proofs.ResultTypes.{promised_input, result_typed}
 use Rattle.life_cover.proofs.Returned.{result_cell, result_promised}
 use Rattle.life_cover.proofs.SafeCalls.{SafeCalled, SafeCallee, calls_safe}
@@ -107,7 +112,7 @@ pub record IsSafeFunction (types : Types) (fs : List Function) (number : ℕ) (f
 module _ (types : Types) (ordered : IsOrdered types) (once : HasEachOnce types) (some : HaveMembers types) (plain : types.structs ≡ []) (names texts : ℕ) (fs : List Function) (all : (k : ℕ) (g : Function) → slice_get fs k ≡ Some g → GoesWell types names texts fs g)
     (all_safe : (k : ℕ) (g : Function) → slice_get fs k ≡ Some g → IsSafeFunction types fs k g) (s : Setting) where
   module _ (call : Callee) (callees : GoodCallee types fs call) (safe : SafeCallee types fs call) (number : ℕ) (f : Function) (is : slice_get fs number ≡ Some f) (rest : ℕ → ℕ) (xs : List Cell) (n : ℕ) (w : World)
-      (suits : AreHandedTo types w.content (types_held types f) xs) (store : IsStore types (λ j. times (named_in xs) j + rest j) w.content) (buffered : AreBuffered types w.content)
+      (suits : AreHandedTo types w.content (types_held types f) xs) (store : IsStore types (λ j. times (named_in xs) j + rest j) w.content) (buffered : AreBut types (IsLoose types (entry_inputs w.content xs) (named_in xs) w.content) w.content)
       (apart : AreGiven types f (entry_inputs w.content xs) (foot_with types (mutated types f (entry_inputs w.content xs)) (named_in xs)) w.content) (passed : ArePassed types f w.content xs) where
     well : GoesWell types names texts fs f
     well = all number f is
@@ -126,6 +131,13 @@ module _ (types : Types) (ordered : IsOrdered types) (once : HasEachOnce types) 
 
     -- ---- at the entry
 
+    -- what is loose before is so then
+    still_loose : (st : State) → IsBegun types f inputs xs w.content st → (j : ℕ) → IsLoose types inputs (named_in xs) w.content j → IsLoose types inputs (named_in st.cells) st.world.content j
+    still_loose st begun j loose =
+        loose_on types inputs (named_in xs) w.content st.world.content (named_in st.cells) (foot_with types (mutated types f inputs) (named_in xs)) begun.own.touch
+        (λ m born lt. let y = named_at st.cells m lt in ⊎_elim (λ old. old) (λ new. absurd (omega (arith, born, new))) (begun.own.named y.0 m y.1)) j
+        (loose_apart types inputs (named_in xs) w.content (foot_with types (mutated types f inputs) (named_in xs)) (λ m e. positive_is (times (named_in xs) m) e) j loose) loose
+
     begun_safe_at : (st : State) → IsNext types f rest w.content (entry_ready f) st → IsBegun types f inputs xs w.content st → IsSafe types f rest inputs (FactsAt (signatures_of fs) types f 1) st
     begun_safe_at st next begun = record {
       sound = next.sound;
@@ -134,7 +146,7 @@ module _ (types : Types) (ordered : IsOrdered types) (once : HasEachOnce types) 
           (named_within types f inputs (named_in xs) (λ j. times (named_in xs) j + rest j) w.content store st begun.own);
       covered = λ y v e.
           entered_covered types ordered f shaped (signatures_of fs) (λ j. times (named_in xs) j + rest j) w.content xs store apart suits passed st.world.content begun.own.touch st.cells y v (begun.points y v e);
-      buffered = begun.buffered;
+      buffered = but_more types (IsLoose types inputs (named_in xs) w.content) (MayLack types f inputs (FactsAt (signatures_of fs) types f 1) st) st.world.content (λ j loose. inr (still_loose st begun j loose)) begun.buffered;
     }
 
     -- ---- where it is left
@@ -143,7 +155,7 @@ module _ (types : Types) (ordered : IsOrdered types) (once : HasEachOnce types) 
     finish_safe (Normal m st) g = absurd g
     finish_safe (Broke m st) g = absurd g
     finish_safe (Continued m st) g = absurd g
-    finish_safe (Returned m st) g = (g.safe.safe.buffered, (g.safe.own.touch, ((λ j lt. let y = results_named types f st j lt in g.safe.own.named y.0 j y.1), promised)))
+    finish_safe (Returned m st) g = (but_more types (MayLack types f inputs (FactsAt (signatures_of fs) types f g.point) st) (IsLoose types inputs (named_in (results types f st)) st.world.content) st.world.content (left_loose types plain names texts fs f well.formed well.points shaped rest inputs (signatures_of fs) g.point st g.safe.safe.sound g.safe.safe.given) g.safe.safe.buffered, (g.safe.own.touch, ((λ j lt. let y = results_named types f st j lt in g.safe.own.named y.0 j y.1), promised)))
       where
         poised_at : IsPoised types f st
         poised_at = poised types ordered once some names texts fs f well.formed well.points well.ready rest st g.safe.safe.sound
@@ -196,8 +208,8 @@ called_safe types f inputs given c entry before (Quit (Faulted kind place) w) g 
 called_safe types f inputs given c entry before (Quit Stray w) g = g
 called_safe types f inputs given c entry before (Quit Exhausted w) g = tt
 
-nothing_buffered : (types : Types) → AreBuffered types empty_content
-nothing_buffered types n i o s there slot = absurd (none_some (sym (at-none n) ∙ there))
+nothing_buffered : (types : Types) (bare : ℕ → Type 0) → AreBut types bare empty_content
+nothing_buffered types bare n i o s free there slot = absurd (none_some (sym (at-none n) ∙ there))
 
 pub safe_runs : (p : Program) (given : Given) (entry : ℕ) (f : Function) (input : List ℤ) (n : ℕ) → IsWellFormedProgram p → ((k : ℕ) (g : Function) → slice_get p.functions k ≡ Some g → HasReadyWays p.types g) → keeps_all_given p ≡ true → HandsPointerSlots p → p.types.structs ≡ []
     → ((k : ℕ) (g : Function) → slice_get p.functions k ≡ Some g → AreShort (elements_of p.types g) × IsSpokenBody p.types g) → ((d : Diag) → IsProgramDiagnosed p d → ⊥) → slice_get p.functions entry ≡ Some f → IsAdmitted p f input → IsNoFault (run_of given p entry f input n).outcome
@@ -206,7 +218,7 @@ safe_runs p given entry f input n well ready apart hands plain spoken none is ad
     (all_calls_safe (setting_of given p) p well.table well.once (have_members p.types (length p.names) p.members well.members) plain (length p.names) (length p.texts) each asked given.depth entry f (λ k. 0) (entry_arguments p.types f 0 f.parameters input) n (first_world f input) is
     (numbers_handed p.types f empty_content f.parameters f.locals 0 input admitted.values admitted.room admitted.enough solid)
     (less_in_hand p.types (λ k. 0) (λ k. times (named_in (entry_arguments p.types f 0 f.parameters input)) k + 0) empty_content (λ k. let z = none_named p.types f empty_content 0 f.parameters input k in omega (arith, z)) (empty_store p.types))
-    (nothing_buffered p.types) (nothing_entered p.types f (foot_with p.types (mutated p.types f (entry_inputs empty_content vs)) (named_in vs)) empty_content vs pointless) (λ q u e. absurd (pointless q u e)))
+    (nothing_buffered p.types (IsLoose p.types (entry_inputs empty_content vs) (named_in vs) empty_content)) (nothing_entered p.types f (foot_with p.types (mutated p.types f (entry_inputs empty_content vs)) (named_in vs)) empty_content vs pointless) (λ q u e. absurd (pointless q u e)))
   where
     -- the entry's arguments
     vs : List Cell

@@ -55,7 +55,7 @@ not_gone types f place (End xs) e none = not_among xs e none
 not_gone types f place i e none = unkilled (kills types f place i) e none
 
 module _ (sigs : List Signature) (types : Types) (f : Function) (place : Place) (i : Step) (S S' : Fact → Type 0) (closed : Closed sigs types f place i S S') where
-  stays : (l : AbsPlace) (e : Element) → IsNoPlace e → S (fact_at l e) → writes i l ≡ false → S' (fact_at l e)
+  pub stays : (l : AbsPlace) (e : Element) → IsNoPlace e → S (fact_at l e) → writes i l ≡ false → S' (fact_at l e)
   stays l e none s free =
       closed.one (fact_at l e) (fact_at l e) s (closed.of (fact_at l e) s)
       (Contains-append_left (unless (drops types f place i (fact_at l e)) (fact_at l e)) (killed_facts (kills types f place i) i (fact_at l e) ++ makes sigs types f place i (fact_at l e)) (fact_at l e)

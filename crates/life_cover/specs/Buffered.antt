@@ -1,4 +1,4 @@
--- Each vector and each string in a store has its buffer, where none was moved from.
+-- Each vector and each string in a store has its buffer, but in objects that may have been moved from.
 use Rattle.std.specs.Prelude.{◌≡◌, ℕ, List, Some, slice_get, slice_index, take, drop}
 use Rattle.life_types.specs.Types.{Types}
 use Rattle.life_store.specs.Cells.{at}
@@ -13,5 +13,6 @@ HasBuffers (Vector ty element) ws = (b : ℕ) × (owned_in (slice_index ws 0) �
 HasBuffers (Member first others) ws = HasBuffers first (take (width first) ws) × HasBuffers others (drop (width first) ws)
 HasBuffers _ ws = Unit {0}
 
-abbrev pub AreBuffered : Types → Content → Type 0
-AreBuffered types c = (n i : ℕ) (o : Object) (s : Slot) → at c.objects n ≡ Some o → slice_get o.slots i ≡ Some s → HasBuffers (parts_at types o.ty) s.words
+-- each object, but these
+abbrev pub AreBut : Types → (bare : ℕ → Type 0) → Content → Type 0
+AreBut types bare c = (n i : ℕ) (o : Object) (s : Slot) → (bare n → ⊥) → at c.objects n ≡ Some o → slice_get o.slots i ≡ Some s → HasBuffers (parts_at types o.ty) s.words

@@ -3,6 +3,7 @@ pub mod Covers
 pub mod Frames
 pub mod Inputs
 pub mod Kills
+pub mod Lacking
 pub mod Passed
 pub mod Regions
 pub mod Roots
