@@ -54,7 +54,7 @@ use Rattle.life_cover.proofs.EndKinds.{end_kind}
 use Rattle.life_cover.proofs.KnownFrames.{at_pointer, IsKnownFrame, IsRight, reach_at, used_right, whole_location}
 use Rattle.life_cover.proofs.LiveKinds.{live_kind}
 use Rattle.life_cover.proofs.MakeKinds.{IsMade}
-use Rattle.life_cover.proofs.MakeSteps.{IsSpokenMade, make_right}
+use Rattle.life_cover.proofs.MakeSteps.{IsMadeBy, make_right}
 use Rattle.life_cover.proofs.MoveSteps.{IsSpokenMove, by_move}
 use Rattle.life_cover.proofs.Looks.{view_range, HasItem, aims_single, const_kept, element_item, element_ranged, seen_at, spans_range, walks_single, whole_item}
 use Rattle.life_cover.proofs.NumberKinds.{IsPort, eval_kind, load_kind, port_kind, register_covered, same_kind, seen_size_kind}
@@ -100,7 +100,7 @@ pub not_false : (b : Bool) → not b ≡ true → b ≡ false
 not_false true e = absurd (false≢true e)
 not_false false e = refl
 
--- ---- the kinds of instructions that are spoken of: nothing is moved to a place behind a pointer, nothing is made of a temporary that owns, and no unique_ptr is opened
+-- ---- the kinds of instructions that are spoken of: nothing is moved to a place behind a pointer, and no unique_ptr is opened
 
 abbrev pub IsSpokenSource : Source → Type 0
 IsSpokenSource (named.Get u) = ⊥
@@ -113,7 +113,6 @@ IsElement _ = Unit {0}
 
 abbrev pub IsSpoken : Types → Function → Step → Type 0
 IsSpoken types f (Move to y) = IsSpokenMove to
-IsSpoken types f (Make u made) = IsSpokenMade types f made
 IsSpoken types f (Call target g xs) = ⊥
 IsSpoken types f (Aim p s) = IsSpokenSource s
 IsSpoken types f (step.Element p b w) = IsElement w
@@ -326,6 +325,7 @@ module _ (types : Types) (f : Function) (rest : ℕ → ℕ) (inputs : Root → 
   step_covered (Changes o c) spoken right e free ready =
       let both = and_parts (is_change_of types texts fs f (type_of types f o) c) (not (is_const_place types f o)) e in
       change_step types f rest inputs S st k sigs n place S' texts fs s o (not_false (is_const_place types f o) both.1) c (type_of types f o) refl right both.0
-  step_covered (Make u m) spoken right e free ready = right_weaker (does s types f (Make u m) st) (IsMade types f inputs S' (MayLack types f inputs S st) no_local st) (FrameCovered types f inputs S') (make_right types f rest inputs S st k sigs n place S' texts fs s u m spoken right e) (λ after h. h.0)
+  step_covered (Make u m) spoken right e free ready =
+      right_weaker (does s types f (Make u m) st) (IsMadeBy types f rest inputs S st k sigs n place S' texts fs s m) (FrameCovered types f inputs S') (make_right types f rest inputs S st k sigs n place S' texts fs s u m right e) (λ after h. h.0)
   step_covered (Call target g xs) spoken right e free ready = absurd spoken
   step_covered (Ports p) spoken right e free ready = port_kind types f rest inputs S st k sigs n place S' s p right (port_whole p e)

@@ -37,6 +37,7 @@ pub mod FrameSteps
 pub mod Fresh
 pub mod GivenBack
 pub mod GivenInputs
+pub mod GivenMade
 pub mod GivenOn
 pub mod GivenValues
 pub mod Guarding
@@ -57,6 +58,7 @@ pub mod LiveKinds
 pub mod Locals
 pub mod Looks
 pub mod LooseResults
+pub mod MadeOver
 pub mod MakeKinds
 pub mod MakeSteps
 pub mod Making

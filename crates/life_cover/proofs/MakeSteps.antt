@@ -1,6 +1,6 @@
--- A unique_ptr is made, as it is asked of well-formed instructions: null, fresh, or of a number.
-use Rattle.std.proofs.Common.{◌≡◌, ℕ, Bool, true, false, List, refl, sym, ap, subst, ◌∙◌, Option}
-use Rattle.std.specs.Prelude.{◌&&◌, if◌then◌else◌, not}
+-- A unique_ptr is made, as it is asked of well-formed instructions: null, fresh, of a number, or of what a temporary gives over.
+use Rattle.std.proofs.Common.{◌≡◌, ℕ, Bool, true, false, List, [], ◌∷◌, Option, Some, refl, sym, ap, subst, ◌∙◌}
+use Rattle.std.specs.Prelude.{Contains, ◌&&◌, if◌then◌else◌, not}
 use Rattle.std.proofs.lemmas.Bool.{and_parts, false≢true}
 use Rattle.life_types.specs.Pointees.{ty_of}
 use Rattle.life_types.specs.TypeTests.{is_unique, is_value, is_void}
@@ -17,29 +17,28 @@ use Rattle.life_core.specs.Step.{Make}
 use Rattle.life_pset.specs.declared.element.Fact.{Fact}
 use Rattle.life_pset.specs.declared.element.Root.{Root}
 use Rattle.life_contract.specs.Signatures.{Signature}
-use Rattle.life_proper.specs.OperandTypes.{owned_target}
-use Rattle.life_proper.specs.Placed.{is_consumed, is_given, is_number, is_number_of, object_at, result_at, slot_at, type_at, type_in}
+use Rattle.life_proper.specs.GivenOver.{given_made}
+use Rattle.life_proper.specs.OperandTypes.{owned_target, same}
+use Rattle.life_proper.specs.Placed.{is_consumed, is_given, is_number_of, object_at, result_at, slot_at, type_at, type_in}
 use Rattle.life_proper.specs.WellFormed.{is_made_for}
-use Rattle.life_proper.proofs.HeldSorts.{same_is}
+use Rattle.life_rules.proofs.Giving.{at_head}
 use Rattle.life_store.specs.Doing.{does}
-use Rattle.life_store.specs.Effects.{Setting}
-use Rattle.life_store.specs.State.{State}
+use Rattle.life_store.specs.Effects.{Effect, Setting, cell}
+use Rattle.life_store.specs.Parts.{local_type}
+use Rattle.life_store.specs.State.{Named, State}
 use Rattle.life_forest.proofs.OneNumber.{type_there}
 use Rattle.life_forest.proofs.ReadyCells.{number_any}
 use Rattle.life_forest.proofs.SeenTypes.{value_parts}
 use Rattle.life_forest.proofs.TypedSteps.{value_solid}
-use Rattle.life_cover.proofs.KnownFrames.{IsKnownFrame, IsRight, number_free, whole_location}
+use Rattle.life_cover.proofs.KnownFrames.{IsKnownFrame, IsRight, number_free, object_uncounted, whole_location}
+use Rattle.life_cover.proofs.Looks.{given_type}
+use Rattle.life_cover.proofs.MadeOver.{object_kind}
 use Rattle.life_cover.proofs.MakeKinds.{IsMade, fresh_kind, null_kind, number_kind}
-use Rattle.life_cover.proofs.Pointers.{OnRight}
-use Rattle.life_cover.proofs.UniqueLocals.{unique_local}
-use Rattle.life_cover.proofs.Behind.{no_local}
+use Rattle.life_cover.proofs.Pointers.{OnRight, right_weaker}
+use Rattle.life_cover.proofs.UniqueLocals.{unique_is, unique_local}
+use Rattle.life_cover.proofs.Behind.{behind_more, no_local}
 use Rattle.life_cover.specs.Lacking.{MayLack}
 use Rattle.life_cover.specs.Regions.{Region}
-
--- what is made of a temporary that is an owner isn't spoken of
-abbrev pub IsSpokenMade : Types → Function → Made → Type 0
-IsSpokenMade types f (made.Of y) = is_value (type_at types f y) ≡ true
-IsSpokenMade types f _ = Unit {0}
 
 module _ (types : Types) (texts : ℕ) (fs : List Function) (f : Function) where
   -- ---- its type
@@ -57,35 +56,69 @@ module _ (types : Types) (texts : ℕ) (fs : List Function) (f : Function) where
   unique_solid (ty.Unique target) e = refl
   unique_solid _ e = absurd (false≢true e)
 
-  -- what is consumed is a number where it is a value
-  consumed_number : (t : Ty) (y : ℕ) → is_value (type_at types f y) ≡ true → is_consumed types f t y ≡ true → (is_value t ≡ true) × (is_number_of types f t y ≡ true)
-  consumed_number t y value e = go (is_value t) refl e
-    where
-      go : (b : Bool) → is_value t ≡ b → (if b then is_number_of types f t y else is_given types f t y) ≡ true → (is_value t ≡ true) × (is_number_of types f t y ≡ true)
-      go true v h = (v, h)
-      go false v h =
-          absurd (false≢true (sym v ∙ ap is_value (same_is t (type_at types f y) (and_parts (not (slot_at types f y)) _ (and_parts (not (result_at types f y)) _ (and_parts (object_at types f y) _ h).1).1).1) ∙ value))
-
 module _ (types : Types) (f : Function) (rest : ℕ → ℕ) (inputs : Root → Option Region) (S : Fact → Type 0) (st : State) (k : IsKnownFrame types f rest inputs S st) (sigs : List Signature) (number : ℕ) (place : Place) (S' : Fact → Type 0) (texts : ℕ) (fs : List Function) (s : Setting) where
-  by_made : (x : ℕ) (m : Made) → IsSpokenMade types f m → IsRight sigs types number f place (Make (whole x) m) S S' → is_made_for types texts fs f (type_at types f x) m ≡ true → OnRight (does s types f (Make (whole x) m) st) (IsMade types f inputs S' (MayLack types f inputs S st) no_local st)
-  by_made x made.Null spoken right e = null_kind types f rest inputs S st k sigs number place S' s x e right
-  by_made x made.Zero spoken right e = fresh_kind types f rest inputs S st k sigs number place S' s x e right
-  by_made x (made.Of y) spoken right e =
-      let unique = unique_of types texts fs f (type_at types f x) (made.Of y) e in
-      number_kind types f rest inputs S st k sigs number place S' s x unique y right
-      (λ n named. let u = unique_local types f rest inputs S st k x n named unique in
-      let value = (of_target u.target u.is).0 in
-      value_parts types k.ordered u.target (ty_of types u.target) (type_there types u.target (ty_of types u.target) refl (value_solid (ty_of types u.target) value)) value)
-      (number_free types f rest inputs S st k y (any (type_at types f x) refl unique))
-    where
-      of_target : (target : TyId) → type_at types f x ≡ ty.Unique target → (is_value (ty_of types target) ≡ true) × (is_number_of types f (ty_of types target) y ≡ true)
-      of_target target is = consumed_number types texts fs f (ty_of types target) y spoken (subst (λ (t : Ty). is_consumed types f (owned_target types t) y ≡ true) is e)
+  -- what is known behind it
+  abbrev pub IsMadeBy : Made → State → Type 0
+  IsMadeBy m after = IsMade types f inputs S' (MayLack types f inputs S st) (λ z. Contains (given_made m) z) st after
 
-      any : (t : Ty) → type_at types f x ≡ t → is_unique t ≡ true → is_number types f y ≡ true
-      any (ty.Unique target) is u = number_any types f (ty_of types target) y (of_target target is).1
-      any _ is u = absurd (false≢true u)
+  -- more may be given over
+  more_over : (m : Made) (over : ℕ → Type 0) → ((z : ℕ) → over z → Contains (given_made m) z) → (e : Effect) → OnRight e (IsMade types f inputs S' (MayLack types f inputs S st) over st) → OnRight e (IsMadeBy m)
+  more_over m over gives e h =
+      right_weaker e (IsMade types f inputs S' (MayLack types f inputs S st) over st) (IsMadeBy m) h
+      (λ after a. (a.0, behind_more types f inputs (MayLack types f inputs S st) over (MayLack types f inputs S st) (λ z. Contains (given_made m) z) st after (λ n b. b) gives a.1))
 
-  pub make_right : (u : Location) (m : Made) → IsSpokenMade types f m → IsRight sigs types number f place (Make u m) S S' → is_made_for types texts fs f (type_in types f u) m ≡ true → OnRight (does s types f (Make u m) st) (IsMade types f inputs S' (MayLack types f inputs S st) no_local st)
-  make_right u m spoken right e =
-      subst (λ (q : Location). IsRight sigs types number f place (Make q m) S S' → is_made_for types texts fs f (type_in types f q) m ≡ true → OnRight (does s types f (Make q m) st) (IsMade types f inputs S' (MayLack types f inputs S st) no_local st))
-      (whole_location types k.plain f u (unique_solid types texts fs f (type_in types f u) (unique_of types texts fs f (type_in types f u) m e))) (by_made u.local m spoken) right e
+  -- ---- of an operand
+
+  module _ (x y : ℕ) (right : IsRight sigs types number f place (Make (whole x) (made.Of y)) S S') (e : is_made_for types texts fs f (type_at types f x) (made.Of y) ≡ true) where
+    unique : is_unique (type_at types f x) ≡ true
+    unique = unique_of types texts fs f (type_at types f x) (made.Of y) e
+
+    same_target : {a b : TyId} → ty.Unique a ≡ ty.Unique b → a ≡ b
+    same_target h = cc
+
+    module _ (target : TyId) (is : type_at types f x ≡ ty.Unique target) where
+      target_is : (n : ℕ) (named : cell st x ≡ Some (Named n)) → target ≡ (unique_local types f rest inputs S st k x n named unique).target
+      target_is n named = same_target (sym is ∙ (unique_local types f rest inputs S st k x n named unique).is)
+
+      consumed : (if is_value (ty_of types target) then is_number_of types f (ty_of types target) y else is_given types f (ty_of types target) y) ≡ true
+      consumed = subst (λ (t : Ty). is_consumed types f (owned_target types t) y ≡ true) is e
+
+      of_number : is_value (ty_of types target) ≡ true → OnRight (does s types f (Make (whole x) (made.Of y)) st) (IsMadeBy (made.Of y))
+      of_number value =
+          more_over (made.Of y) no_local (λ z none. absurd none) (does s types f (Make (whole x) (made.Of y)) st)
+          (number_kind types f rest inputs S st k sigs number place S' s x unique y right
+          (λ n named.
+          let id = (unique_local types f rest inputs S st k x n named unique).target in
+          let plain : is_value (ty_of types id) ≡ true = subst (λ (i : TyId). is_value (ty_of types i) ≡ true) (target_is n named) value in
+          value_parts types k.ordered id (ty_of types id) (type_there types id (ty_of types id) refl (value_solid (ty_of types id) plain)) plain)
+          (number_free types f rest inputs S st k y (number_any types f (ty_of types target) y (subst (λ b. (if b then is_number_of types f (ty_of types target) y else is_given types f (ty_of types target) y) ≡ true) value consumed))))
+
+      of_object : is_value (ty_of types target) ≡ false → OnRight (does s types f (Make (whole x) (made.Of y)) st) (IsMadeBy (made.Of y))
+      of_object other =
+          more_over (made.Of y) (λ z. y ≡ z) (λ z same. subst (Contains (y ∷ [])) same (at_head y [])) (does s types f (Make (whole x) (made.Of y)) st)
+          (object_kind types f rest inputs S st k sigs number place S' s x unique y outer.0 right (λ n named. typed ∙ ap Some (target_is n named)) (λ z there. object_uncounted types f rest inputs S st k y z outer.0 there))
+        where
+          outer : (object_at types f y ≡ true) × ((not (result_at types f y) && (not (slot_at types f y) && same (ty_of types target) (type_at types f y))) ≡ true)
+          outer = and_parts (object_at types f y) _ (subst (λ b. (if b then is_number_of types f (ty_of types target) y else is_given types f (ty_of types target) y) ≡ true) other consumed)
+
+          typed : local_type types f y ≡ Some target
+          typed = given_type types k.ordered k.once f k.shaped y target (and_parts (not (slot_at types f y)) _ (and_parts (not (result_at types f y)) _ outer.1).1).1
+
+      by_value : (value : Bool) → is_value (ty_of types target) ≡ value → OnRight (does s types f (Make (whole x) (made.Of y)) st) (IsMadeBy (made.Of y))
+      by_value true e = of_number e
+      by_value false e = of_object e
+
+    operand_made : OnRight (does s types f (Make (whole x) (made.Of y)) st) (IsMadeBy (made.Of y))
+    operand_made = let u = unique_is (type_at types f x) unique in by_value u.0 u.1 (is_value (ty_of types u.0)) refl
+
+  -- ---- each
+
+  by_made : (x : ℕ) (m : Made) → IsRight sigs types number f place (Make (whole x) m) S S' → is_made_for types texts fs f (type_at types f x) m ≡ true → OnRight (does s types f (Make (whole x) m) st) (IsMadeBy m)
+  by_made x made.Null right e = more_over made.Null no_local (λ z none. absurd none) (does s types f (Make (whole x) made.Null) st) (null_kind types f rest inputs S st k sigs number place S' s x e right)
+  by_made x made.Zero right e = more_over made.Zero no_local (λ z none. absurd none) (does s types f (Make (whole x) made.Zero) st) (fresh_kind types f rest inputs S st k sigs number place S' s x e right)
+  by_made x (made.Of y) right e = operand_made x y right e
+
+  pub make_right : (u : Location) (m : Made) → IsRight sigs types number f place (Make u m) S S' → is_made_for types texts fs f (type_in types f u) m ≡ true → OnRight (does s types f (Make u m) st) (IsMadeBy m)
+  make_right u m right e =
+      subst (λ (q : Location). IsRight sigs types number f place (Make q m) S S' → is_made_for types texts fs f (type_in types f q) m ≡ true → OnRight (does s types f (Make q m) st) (IsMadeBy m))
+      (whole_location types k.plain f u (unique_solid types texts fs f (type_in types f u) (unique_of types texts fs f (type_in types f u) m e))) (by_made u.local m) right e

@@ -62,7 +62,7 @@ use Rattle.life_cover.proofs.Lacking.{owner_whole}
 use Rattle.life_rules.proofs.Giving.{at_head}
 
 -- what is beneath both is beneath one
-split : (types : Types) (c : Content) (r : Region) (m n : ℕ) → Beneath (kinds_of types) c (pushed_foot types r m) n → Beneath (kinds_of types) c (foot_of types r) n ⊎ Beneath (kinds_of types) c (all_of (m ∷ [])) n
+pub split : (types : Types) (c : Content) (r : Region) (m n : ℕ) → Beneath (kinds_of types) c (pushed_foot types r m) n → Beneath (kinds_of types) c (foot_of types r) n ⊎ Beneath (kinds_of types) c (all_of (m ∷ [])) n
 split types c r m n (whole _ e) = inr (whole n e)
 split types c r m n (part q _ own) = inl (part q n own)
 split types c r m n (further q _ low own) = ⊎_elim (λ l. inl (further q n l own)) (λ l. inr (further q n l own)) (split types c r m q low)
@@ -134,7 +134,7 @@ module _ (types : Types) (f : Function) (rest : ℕ → ℕ) (inputs : Root → 
       go (root.Input q member) e stands = input_free (root.Input q member) at_r.start r stands inside low
       go (root.Local y) e stands = one_or_apart x y (λ same. unnamed a names (e ∙ ap (λ z. root.Local z) (sym same))) (λ ne. region_free y at_r.start r ne stands.0 inside low)
 
-  roots_left : (a : AbsPlace) (r : Region) → Names S a → RootStands types f (StandsAt inputs) st.cells a.root r → RootStands types f (StandsAt inputs) (slice_set st.cells x Empty) a.root r
+  pub roots_left : (a : AbsPlace) (r : Region) → Names S a → RootStands types f (StandsAt inputs) st.cells a.root r → RootStands types f (StandsAt inputs) (slice_set st.cells x Empty) a.root r
   roots_left a r names stands = go a.root refl stands
     where
       go : (ro : Root) → a.root ≡ ro → RootStands types f (StandsAt inputs) st.cells ro r → RootStands types f (StandsAt inputs) (slice_set st.cells x Empty) ro r

@@ -54,7 +54,7 @@ front_more : (P : List ℕ → Type 0) (w m : ℕ) (ss : List Slot) → Each P s
 front_more P w m ss h =
     front_taken P (length ss) (take (length ss) ss) _ (let e = length-take (length ss) ss in omega (arith, e)) (λ i s lt e. each_take P (length ss) ss h i s e)
 
-wide_at : (w i : ℕ) (ss : List Slot) (t : Slot) → AllWide w ss → slice_get ss i ≡ Some t → length t.words ≡ w
+pub wide_at : (w i : ℕ) (ss : List Slot) (t : Slot) → AllWide w ss → slice_get ss i ≡ Some t → length t.words ≡ w
 wide_at w i [] t h e = absurd (none_some e)
 wide_at w zero (x ∷ ss) t h e = subst (λ (y : Slot). length y.words ≡ w) (some_same e) h.0
 wide_at w (suc i) (x ∷ ss) t h e = wide_at w i ss t h.1 e
@@ -68,7 +68,7 @@ past_filled (s ∷ ss) (r ∷ rows) (suc i) le = past_filled ss rows i (omega (a
 
 -- ---- values that are given over
 
-taken_wide : (p : Parts) → IsWhole p → (ws : List ℕ) (d : Content) → length ws ≡ width p → length (taken p ws d).0 ≡ width p
+pub taken_wide : (p : Parts) → IsWhole p → (ws : List ℕ) (d : Content) → length ws ≡ width p → length (taken p ws d).0 ≡ width p
 taken_wide (Text ty) is ws d e = text (owned_in (slice_index ws 0))
   where
     object : (n : ℕ) (x : Option Object) → length (renamed_if x n d).0 ≡ 1
@@ -106,7 +106,7 @@ module _ (types : Types) where
         (subst (λ (r : Parts). Each (HasBuffers r) (set_slot q.slots size (option_map (written 0 (suc b)) (slice_get q.slots size)))) (sym typed)
         (last_written (HasBuffers p) q.slots size 0 (suc b) (λ t e. owner (slice_set t.words 0 (suc b)) b (ap owned_in (read_word t.words 0 (suc b) (let w = last t e in omega (arith, w, one))))) front fits))
 
-  value_put : (p : Parts) → IsWhole p → (q : Object) (size : ℕ) (ws : List ℕ) → parts_at types q.ty ≡ p → EachOf (HasBuffers p) size q.slots → length q.slots ≤ size + 1 → ((t : Slot) → slice_get q.slots size ≡ Some t → length t.words ≡ width p) → HasBuffers p ws → length ws ≡ width p
+  pub value_put : (p : Parts) → IsWhole p → (q : Object) (size : ℕ) (ws : List ℕ) → parts_at types q.ty ≡ p → EachOf (HasBuffers p) size q.slots → length q.slots ≤ size + 1 → ((t : Slot) → slice_get q.slots size ≡ Some t → length t.words ≡ width p) → HasBuffers p ws → length ws ≡ width p
       → Have types (with_words size 0 ws q)
   value_put (Text ty) is q size ws typed front fits last has wide = owner_put q size ws (Text ty) typed front fits last has.0 (one_word_of ws has.0 wide has.1) refl (λ us m e. (m, e))
   value_put (Vector ty element) is q size ws typed front fits last has wide = owner_put q size ws (Vector ty element) typed front fits last has.0 (one_word_of ws has.0 wide has.1) refl (λ us m e. (m, e))

@@ -199,7 +199,7 @@ module _ (types : Types) (ordered : IsOrdered types) (s : Setting) where
   fresh_but form (Vector ty element) is out d h = born_buffer (Vector ty element) ty (width element) (λ b. (b, refl)) out d h
 
   -- words that are written give a value its buffers
-  written_in : (bare : ℕ → Type 0) (n : ℕ) (ws : List ℕ) (d : Content) → ((o : Object) → at d.objects n ≡ Some o → Have types (with_words 0 0 ws o)) → AreBut types (λ k. bare k ⊎ (k ≡ n)) d → AreBut types bare (wrote n 0 0 ws d)
+  pub written_in : (bare : ℕ → Type 0) (n : ℕ) (ws : List ℕ) (d : Content) → ((o : Object) → at d.objects n ≡ Some o → Have types (with_words 0 0 ws o)) → AreBut types (λ k. bare k ⊎ (k ≡ n)) d → AreBut types bare (wrote n 0 0 ws d)
   written_in bare n ws d new h = go (at d.objects n) refl
     where
       go : (x : Option Object) → at d.objects n ≡ x → AreBut types bare (wrote_if x n 0 0 ws d)

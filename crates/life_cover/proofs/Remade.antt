@@ -100,6 +100,27 @@ module _ (types : Types) where
 
 -- ---- what is touched
 
+-- a new object is put into it, which is in the hand so far
+module _ (types : Types) (ordered : IsOrdered types) (hand : ℕ → ℕ) (n : ℕ) (id : TyId) (o : Object) (within : LiesWithin types o.ty 0 id) (lt : 0 < length o.slots) (ty : TyId) (is_unique : parts_at types id ≡ Unique ty (parts_at types ty)) (b : ℕ × Content)
+    (after : IsStore types (λ k. times (b.0 ∷ []) k + hand k) b.1) (kept : at b.1.objects n ≡ Some o) (q : Object) (there : at b.1.objects b.0 ≡ Some q) (type : q.ty ≡ ty) where
+  abbrev all_of_it : Region
+  all_of_it = record { object = n; word = 0; ty = id }
+
+  owner_flat : Flat b.1 (parts_at types id) (owner_word (Some b.0) ∷ [])
+  owner_flat = subst (λ r. Flat b.1 r (owner_word (Some b.0) ∷ [])) (sym is_unique) (flat_owner b.1 (Unique ty (parts_at types ty)) ty b.0 q (λ u. refl) there type)
+
+  pub put_touches : Touches (kinds_of types) (and_all (foot_of types (record { object = n; word = 0; ty = id })) (b.0 ∷ [])) b.1 (replaced (parts_at types id) (record { object = n; index = 0; word = 0 }) (owner_word (Some b.0) ∷ [], b.1))
+  put_touches =
+      let lies = lies_at types ordered (λ k. times (b.0 ∷ []) k + hand k) b.1 after n 0 0 id o kept within lt in
+      let wide : length (owner_word (Some b.0) ∷ []) ≡ width (parts_at types id) = sym (ap width is_unique) in
+      replaced_touches (kinds_of types) b.1 (record { object = n; index = 0; word = 0 }) (parts_at types id) o lies (owner_word (Some b.0) ∷ []) wide (λ k. times (b.0 ∷ []) k + hand k) hand after.forest
+      (spot_known types ordered (λ k. times (b.0 ∷ []) k + hand k) b.1 after n 0 0 id o kept within lt)
+      (flat_lower types ordered b.1 o.ty id 0 (owner_word (Some b.0) ∷ []) within wide owner_flat)
+      (λ k. let e = ap (λ r. times (owned_of r (owner_word (Some b.0) ∷ [])) k) is_unique in omega (arith, e))
+      (and_all (foot_of types all_of_it) (b.0 ∷ [])) (λ u le less. or_right (is_value ((kinds_of types).word o.ty u)) ((foot_of types all_of_it).part n u) (in_region types all_of_it n u (record { object = refl; first = le; last = less })))
+      (λ k own. value_beneath (kinds_of types) b.1 (record { object = n; index = 0; word = 0 }) (parts_at types id) o lies (and_all (foot_of types all_of_it) (b.0 ∷ [])) (foot_covers types n 0 0 id (parts_at types id) refl) k own)
+      (λ k born own. whole k (is_positive (times (b.0 ∷ []) k) (let e = ap (λ r. times (owned_of r (owner_word (Some b.0) ∷ [])) k) is_unique in omega (arith, e, own))))
+
 module _ (types : Types) (ordered : IsOrdered types) (hand : ℕ → ℕ) (c : Content) (store : IsStore types hand c) (n : ℕ) (id : TyId) (o : Object) (there : at c.objects n ≡ Some o) (within : LiesWithin types o.ty 0 id) (lt : 0 < length o.slots) (ty : TyId)
     (is_unique : parts_at types id ≡ Unique ty (parts_at types ty)) where
   abbrev spot : Spot
@@ -176,19 +197,8 @@ module _ (types : Types) (ordered : IsOrdered types) (hand : ℕ → ℕ) (c : C
             apart = hand_apart (kinds_of types) (λ k. times (b.0 ∷ []) k + hand k) b.1 (and_all (foot_of types region) (b.0 ∷ [])) n came.forest (omega (arith, in_hand))
                 (λ e. let new_b = came.fresh n (positive_is (times (b.0 ∷ []) n) e) in omega (arith, new_b, born_n))
 
-            flat : Flat b.1 (parts_at types id) (owner_word (Some b.0) ∷ [])
-            flat = subst (λ r. Flat b.1 r (owner_word (Some b.0) ∷ [])) (sym is_unique) (flat_owner b.1 (Unique ty (parts_at types ty)) ty b.0 new.object (λ u. refl) new.there new.type)
-
             second : Touches (kinds_of types) (and_all (foot_of types region) (b.0 ∷ [])) b.1 (replaced (parts_at types id) spot (owner_word (Some b.0) ∷ [], b.1))
-            second =
-                let lies = lies_at types ordered (λ k. times (b.0 ∷ []) k + hand k) b.1 after n 0 0 id o kept within lt in
-                replaced_touches (kinds_of types) b.1 spot (parts_at types id) o lies (owner_word (Some b.0) ∷ []) (wide (owner_word (Some b.0))) (λ k. times (b.0 ∷ []) k + hand k) hand came.forest
-                (spot_known types ordered (λ k. times (b.0 ∷ []) k + hand k) b.1 after n 0 0 id o kept within lt)
-                (flat_lower types ordered b.1 o.ty id 0 (owner_word (Some b.0) ∷ []) within (wide (owner_word (Some b.0))) flat)
-                (λ k. let e = ap (λ r. times (owned_of r (owner_word (Some b.0) ∷ [])) k) is_unique in omega (arith, e))
-                (and_all (foot_of types region) (b.0 ∷ [])) in_foot
-                (λ k own. value_beneath (kinds_of types) b.1 spot (parts_at types id) o lies (and_all (foot_of types region) (b.0 ∷ [])) (foot_covers types n 0 0 id (parts_at types id) refl) k own)
-                (λ k born own. whole k (is_positive (times (b.0 ∷ []) k) (let e = ap (λ r. times (owned_of r (owner_word (Some b.0) ∷ [])) k) is_unique in omega (arith, e, own))))
+            second = put_touches types ordered hand n id o within lt ty is_unique b after kept new.object new.there new.type
 
     -- without an operand
     pub remade_fresh : (form : Form) → IfGot (object_with s ty (parts_at types ty) (fresh s form (parts_at types ty)) c) IsRemade

@@ -41,7 +41,7 @@ use Rattle.life_cover.proofs.OwnersStay.{owner_kept}
 use Rattle.life_cover.proofs.Pointers.{OnRight}
 use Rattle.life_cover.proofs.Reaching.{IsReached}
 
-unique_is : (t : Ty) → is_unique t ≡ true → (target : TyId) × (t ≡ ty.Unique target)
+pub unique_is : (t : Ty) → is_unique t ≡ true → (target : TyId) × (t ≡ ty.Unique target)
 unique_is (ty.Unique target) e = (target, refl)
 unique_is _ e = absurd (false≢true e)
 

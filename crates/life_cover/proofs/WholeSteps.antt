@@ -67,7 +67,7 @@ use Rattle.life_cover.proofs.PushedObjects.{object_pushed}
 use Rattle.life_cover.proofs.Reaching.{IsReached, Reach}
 use Rattle.life_cover.proofs.Behind.{IsBehind, behind_input, behind_number, behind_pointer, behind_self, right_next, any_local, no_local, behind_more}
 use Rattle.life_cover.proofs.MakeKinds.{IsMade}
-use Rattle.life_cover.proofs.MakeSteps.{make_right, unique_of}
+use Rattle.life_cover.proofs.MakeSteps.{IsMadeBy, make_right, unique_of}
 use Rattle.life_cover.proofs.MoveSteps.{unique_solid, OfLocals, by_move}
 use Rattle.life_cover.proofs.Lacking.{owner_whole, variable_here}
 use Rattle.life_cover.proofs.Putting.{other_local}
@@ -389,11 +389,11 @@ module _ (types : Types) (f : Function) (rest : ℕ → ℕ) (inputs : Root → 
       go (Faults kind) h = tt
       go Strays h = tt
 
-  made_kept : (u : Location) (m : Made) → IsSpoken types f (Make u m) → (right : Right (Make u m)) → is_well_formed_step types texts fs f (Make u m) ≡ true → OnNext (does s types f (Make u m) st) IsKept
-  made_kept u m spoken right e =
-      plain_kept (Make u m) right no_local (λ y none. absurd none) (made_apart u m e)
-      (right_next (does s types f (Make u m) st) (IsBehind types f inputs (MayLack types f inputs S st) no_local st)
-      (right_weaker (does s types f (Make u m) st) (IsMade types f inputs S' (MayLack types f inputs S st) no_local st) (IsBehind types f inputs (MayLack types f inputs S st) no_local st) (make_right types f rest inputs S st k sigs n place S' texts fs s u m spoken right e) (λ after h. h.1)))
+  made_kept : (u : Location) (m : Made) → (right : Right (Make u m)) → is_well_formed_step types texts fs f (Make u m) ≡ true → OnNext (does s types f (Make u m) st) IsKept
+  made_kept u m right e =
+      plain_kept (Make u m) right (Gives (Make u m)) (λ y given. given) (made_apart u m e)
+      (right_next (does s types f (Make u m) st) (IsBehind types f inputs (MayLack types f inputs S st) (Gives (Make u m)) st)
+      (right_weaker (does s types f (Make u m) st) (IsMadeBy types f rest inputs S st k sigs n place S' texts fs s m) (IsBehind types f inputs (MayLack types f inputs S st) (Gives (Make u m)) st) (make_right types f rest inputs S st k sigs n place S' texts fs s u m right e) (λ after h. h.1)))
 
   taken_number : (p : Port) (r : ℕ) → p ≡ Takes r → is_port types texts fs f p ≡ true → is_number types f r ≡ true
   taken_number (Takes q) r is e = subst (λ z. is_number types f z ≡ true) (same is) (number_any types f ty.Long q e)
@@ -453,7 +453,7 @@ module _ (types : Types) (f : Function) (rest : ℕ → ℕ) (inputs : Root → 
   step_kept (Changes o c) spoken right e =
       let both = and_parts (is_change_of types texts fs f (type_of types f o) c) (not (is_const_place types f o)) e in
       plain_kept (Changes o c) right (Gives (Changes o c)) (λ y given. given) (erased_apart o c (type_of types f o) both.0) (change_behind o (not_false (is_const_place types f o) both.1) c right (type_of types f o) refl both.0)
-  step_kept (Make u m) spoken right e = made_kept u m spoken right e
+  step_kept (Make u m) spoken right e = made_kept u m right e
   step_kept (Call target g xs) spoken right e = absurd spoken
   step_kept (Ports p) spoken right e =
       plain_kept (Ports p) right no_local (λ y none. absurd none) (λ y buffer. refl)

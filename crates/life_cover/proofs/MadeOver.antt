@@ -1,0 +1,274 @@
+-- A unique_ptr that is a whole local of a frame without structs is given an object that has what a temporary of the frame had; what it had ends. There
+-- is no fault, the facts behind it cover all pointers of the frame, each vector and each string has its buffer, and what is touched lies beneath what
+-- the frame names.
+use Rattle.std.proofs.Common.{◌≡◌, ◌≢◌, ◌⊎◌, inr, ⊎_elim, ℕ, ◌+◌, ◌≤◌, ◌<◌, true, List, [], ◌∷◌, length, Option, Some, None, refl, sym, ap, subst, ◌∙◌, arith}
+use Rattle.std.specs.Prelude.{ℤ, slice_get, slice_set}
+use Rattle.std.proofs.lemmas.Bool.{false≢true}
+use Rattle.life_types.specs.TypeTests.{is_unique}
+use Rattle.life_types.specs.Types.{Types}
+use Rattle.life_types.specs.declared.place.Place.{Place}
+use Rattle.life_core.specs.declared.instr.Made.TheVariants as made
+use Rattle.life_core.specs.Function.{Function}
+use Rattle.life_core.specs.Operands as operands
+use Rattle.life_core.specs.Step.{Make}
+use Rattle.life_pset.specs.Elements.{changed, local_place}
+use Rattle.life_pset.specs.Places.{under}
+use Rattle.life_pset.specs.Shapes.{has_buffer}
+use Rattle.life_pset.specs.declared.element.Element.TheVariants as element
+use Rattle.life_pset.specs.declared.element.Fact.{Fact}
+use Rattle.life_pset.specs.declared.element.Root.{Root}
+use Rattle.life_contract.specs.Signatures.{Signature}
+use Rattle.life_proper.specs.Placed.{object_at, type_at}
+use Rattle.life_rules.specs.Carrying.{writes}
+use Rattle.life_rules.proofs.Giving.{at_head}
+use Rattle.life_store.specs.Cells.{at}
+use Rattle.life_store.specs.Content.{Content, Object, Slot, word_in}
+use Rattle.life_store.specs.Doing.{does, made_of, remade, replaced}
+use Rattle.life_store.specs.Effects.{Attempt, Got, GotFault, GotLost, GotTrap, Next, Setting, cell, on_got, put_cell, put_content}
+use Rattle.life_store.specs.Held.{owned_in, owner_word}
+use Rattle.life_store.specs.Kinds.{kind_in}
+use Rattle.life_store.specs.Owners.{Words, consumed, object_with}
+use Rattle.life_store.specs.Parts.{Iterates, Member, NoMember, Parts, Raw, Single, Text, Unique, Vector, Views, local_type, location_parts, parts_at, parts_if, width}
+use Rattle.life_store.specs.State.{Cell, Empty, Named, Number, Points, State}
+use Rattle.life_store.proofs.CellLemmas.{cell_cases, some_same}
+use Rattle.life_forest.specs.Forest.{Touches, all_of, whole}
+use Rattle.life_forest.specs.FrameTypes.{IsVariable}
+use Rattle.life_forest.specs.Frames.{named_in}
+use Rattle.life_forest.specs.Kinds.{kinds_of, owned_type, rank_of}
+use Rattle.life_forest.specs.Owned.{every, owns, times}
+use Rattle.life_forest.specs.Typed.{IsStore}
+use Rattle.life_forest.specs.Values.{listed}
+use Rattle.life_forest.specs.Within.{LiesWithin}
+use Rattle.life_forest.proofs.Above.{above_apart, above_unowned, owner_above}
+use Rattle.life_forest.proofs.Below.{is_positive, positive_is}
+use Rattle.life_forest.proofs.Coming.{IfGot}
+use Rattle.life_forest.proofs.Counting.{one_there}
+use Rattle.life_forest.proofs.Feet.{and_all}
+use Rattle.life_forest.proofs.Following.{in_hand}
+use Rattle.life_forest.proofs.Frames.{less_in_hand, named_put}
+use Rattle.life_forest.proofs.Given as given
+use Rattle.life_forest.proofs.Members.{within_self}
+use Rattle.life_forest.proofs.Steps.{touches_more, touches_then}
+use Rattle.life_cover.specs.Buffered.{AreBut, HasBuffers}
+use Rattle.life_cover.specs.Frames.{FrameCovered, RootStands, look_at}
+use Rattle.life_cover.specs.Inputs.{StandsAt, frame_foot, may_change, owning}
+use Rattle.life_cover.specs.Kills.{Guards, IsUnnamed, LeftBy}
+use Rattle.life_cover.specs.Lacking.{IsUnmoved, MayLack}
+use Rattle.life_cover.specs.Regions.{IsAt, Region, foot_of}
+use Rattle.life_cover.proofs.Behind.{behind_empty}
+use Rattle.life_cover.proofs.Buffers.{buffer_lives, buffer_low}
+use Rattle.life_cover.proofs.Copies.{whole_parts}
+use Rattle.life_cover.proofs.GivenMade.{given_buffered, given_touches}
+use Rattle.life_cover.proofs.Guarding.{under_place}
+use Rattle.life_cover.proofs.Killing.{cover_on}
+use Rattle.life_cover.proofs.KnownFrames.{IsKnownFrame, IsRight, hand_of, rooted_of, store_of}
+use Rattle.life_cover.proofs.Lacking.{local_whole, low_whole}
+use Rattle.life_cover.proofs.Left.{left_by_name}
+use Rattle.life_cover.proofs.LiveKinds.{object_faultless}
+use Rattle.life_cover.proofs.MakeKinds.{IsMade}
+use Rattle.life_cover.proofs.OwnerKinds.{right_got}
+use Rattle.life_cover.proofs.OwnersStay.{owned_is}
+use Rattle.life_cover.proofs.Pointers.{OnRight, right_then}
+use Rattle.life_cover.proofs.PushKinds.{elsewhere, roots_left, split}
+use Rattle.life_cover.proofs.PushedObjects.{pushed_foot}
+use Rattle.life_cover.proofs.Putting.{other_local}
+use Rattle.life_cover.proofs.Rebuffering.{IsFree}
+use Rattle.life_cover.proofs.Remade.{put_touches, replaced_buffered}
+use Rattle.life_cover.proofs.Sparing.{place_within}
+use Rattle.life_cover.proofs.UniqueLocals.{IsUniqueLocal, on_location_local, unique_local}
+
+module _ (types : Types) (f : Function) (rest : ℕ → ℕ) (inputs : Root → Option Region) (S : Fact → Type 0) (st : State) (k : IsKnownFrame types f rest inputs S st) (sigs : List Signature) (number : ℕ) (place : Place) (S' : Fact → Type 0) (s : Setting) (x : ℕ) (unique : is_unique (type_at types f x) ≡ true) (y : ℕ)
+    (object : object_at types f y ≡ true) (right : IsRight sigs types number f place (Make (operands.whole x) (made.Of y)) S S') where
+  module _ (n m : ℕ) (named_x : cell st x ≡ Some (Named n)) (named_y : cell st y ≡ Some (Named m)) (typed : local_type types f y ≡ Some (unique_local types f rest inputs S st k x n named_x unique).target) where
+    abbrev u : IsUniqueLocal types f rest inputs S st k x n
+    u = unique_local types f rest inputs S st k x n named_x unique
+
+    abbrev region : Region
+    region = record { object = n; word = 0; ty = (unique_local types f rest inputs S st k x n named_x unique).number }
+
+    abbrev p : Parts
+    p = parts_at types (unique_local types f rest inputs S st k x n named_x unique).target
+
+    at_x : IsAt types st.world.content (RootStands types f (StandsAt inputs) st.cells) (local_place x) region
+    at_x = record { start = region; stands = (named_x, refl, u.typed); lies = refl }
+
+    unnamed : IsUnnamed S y
+    unnamed = right.given y object (at_head y [])
+
+    unmoved : has_buffer (type_at types f y) ≡ true → IsUnmoved S y
+    unmoved buffer = right.unmoved y buffer (at_head y [])
+
+    -- ---- what gives its value over
+
+    v : IsVariable st.world.content (local_type types f y) m
+    v = k.stands.frame.objects y m named_y
+
+    m_type : v.object.ty ≡ u.target
+    m_type = some_same (sym v.type ∙ typed)
+
+    first_slot : slice_get v.object.slots 0 ≡ Some v.slot
+    first_slot = ap (λ (ss : List Slot). slice_get ss 0) v.one
+
+    m_has : HasBuffers p v.slot.words
+    m_has = subst (λ id. HasBuffers (parts_at types id) v.slot.words) m_type (k.buffered m 0 v.object v.slot (local_whole types f rest inputs S st k y m named_y unmoved) v.there first_slot)
+
+    -- what it has is neither bare nor new
+    m_free : (j : ℕ) → st.world.content.births ≤ j → IsFree types p (λ i. MayLack types f inputs S st i ⊎ (i ≡ j)) v.slot.words
+    m_free j new = subst (λ id. IsFree types (parts_at types id) (λ i. MayLack types f inputs S st i ⊎ (i ≡ j)) v.slot.words) m_type (of_parts (parts_at types v.object.ty) refl)
+      where
+        of_parts : (q : Parts) → parts_at types v.object.ty ≡ q → IsFree types q (λ i. MayLack types f inputs S st i ⊎ (i ≡ j)) v.slot.words
+        of_parts (Text id) is = λ i e out.
+            let owned = ap listed (owned_is st.world.content m 0 0 v.object v.there ∙ ap (λ (t : Option Slot). owned_in (word_in t 0)) first_slot ∙ e) in
+            let small : 0 < length v.object.slots = (let one = ap length v.one in omega (arith, one)) in
+            let l = buffer_lives types k.ordered (hand_of rest st) st.world.content (store_of types f rest inputs S st k) m 0 0 v.object.ty v.object v.there (within_self types v.object.ty) small (Text id) is i owned in
+            let beneath = buffer_low types k.ordered (hand_of rest st) st.world.content (store_of types f rest inputs S st k) m 0 0 v.object.ty v.object v.there (within_self types v.object.ty) small (Text id) is i owned in
+            ⊎_elim (λ lacks. low_whole types f rest inputs S st k (record { object = m; word = 0; ty = v.object.ty }) i beneath lacks) (λ same. let old = k.stands.store.forest.births i l.0 l.1 in absurd (omega (arith, old, same, new))) out
+        of_parts Single is = tt
+        of_parts Raw is = tt
+        of_parts Iterates is = tt
+        of_parts Views is = tt
+        of_parts (Vector id item) is = tt
+        of_parts (Unique id target) is = tt
+        of_parts (Member first others) is = tt
+        of_parts NoMember is = tt
+
+    -- ---- the store, where what is given over is in the hand by itself
+
+    abbrev left_hand : ℕ → ℕ
+    left_hand j = times (named_in (slice_set st.cells y Empty)) j + rest j
+
+    in_two : IsStore types (λ j. times (m ∷ []) j + (times (named_in (slice_set st.cells y Empty)) j + rest j)) st.world.content
+    in_two =
+        less_in_hand types (hand_of rest st) (λ j. times (m ∷ []) j + (times (named_in (slice_set st.cells y Empty)) j + rest j)) st.world.content
+        (λ j. let e = named_put st.cells y (Named m) Empty j named_y in omega (arith, e)) (store_of types f rest inputs S st k)
+
+    within : LiesWithin types u.variable.object.ty 0 u.number
+    within = subst (λ id. LiesWithin types id 0 u.number) (sym u.type) (within_self types u.number)
+
+    slot : 0 < length u.variable.object.slots
+    slot = let e = ap length u.variable.one in omega (arith, e)
+
+    lower : rank_of types v.object.ty < rank_of types u.variable.object.ty
+    lower =
+        subst (λ id. rank_of types id < rank_of types u.variable.object.ty) (sym m_type)
+        (owner_above types k.ordered (λ j. times (m ∷ []) j + (times (named_in (slice_set st.cells y Empty)) j + rest j)) st.world.content in_two n 0 u.number u.variable.object u.variable.there within u.target (let e = ap width u.parts in omega (arith, e))
+        (ap (λ (q : Parts). kind_in q 0) u.parts) (ap (λ (q : Parts). owned_type q 0) u.parts))
+
+    apart : n ≢ m
+    apart = above_apart types k.ordered (λ j. times (m ∷ []) j + (times (named_in (slice_set st.cells y Empty)) j + rest j)) st.world.content in_two n 0 u.number u.variable.object u.variable.there within m v.object v.there lower
+
+    unowned : owns (kinds_of types) every v.object n ≡ 0
+    unowned = above_unowned types k.ordered (λ j. times (m ∷ []) j + (times (named_in (slice_set st.cells y Empty)) j + rest j)) st.world.content in_two n 0 u.number u.variable.object u.variable.there within m v.object v.there lower
+
+    -- ---- the object that is made
+
+    -- it stands, the unique_ptr does so still, and nothing is touched but what gives its value over
+    record IsGivenObject (b : ℕ × Content) : Type 0 where
+      pub store : IsStore types (λ j. times (b.0 ∷ []) j + (times (named_in (slice_set st.cells y Empty)) j + rest j)) b.1
+      pub stands : given.Stands (unique_local types f rest inputs S st k x n named_x unique).target n (unique_local types f rest inputs S st k x n named_x unique).variable.object b
+      pub touch : Touches (kinds_of types) (all_of (m ∷ [])) st.world.content b.1
+      pub fresh : st.world.content.births ≤ b.0
+      pub buffered : AreBut types (MayLack types f inputs S st) b.1
+
+    abbrev value : Content → Attempt Words
+    value d = Got (consumed (parts_at types (unique_local types f rest inputs S st k x n named_x unique).target) m d)
+
+    gather : (a : Attempt (ℕ × Content)) → IfGot a (λ b. IsStore types (λ j. times (b.0 ∷ []) j + (times (named_in (slice_set st.cells y Empty)) j + rest j)) b.1) → IfGot a (given.Stands u.target n u.variable.object)
+        → IfGot a (λ b. Touches (kinds_of types) (all_of (m ∷ [])) st.world.content b.1 × (st.world.content.births ≤ b.0)) → IfGot a (λ b. AreBut types (MayLack types f inputs S st) b.1) → IfGot a IsGivenObject
+    gather (Got b) store stands touch buffered = record { store = store; stands = stands; touch = touch.0; fresh = touch.1; buffered = buffered }
+    gather (GotTrap kind) store stands touch buffered = tt
+    gather (GotFault kind) store stands touch buffered = tt
+    gather GotLost store stands touch buffered = tt
+
+    given_object : IfGot (object_with s u.target p value st.world.content) IsGivenObject
+    given_object =
+        gather (object_with s u.target p value st.world.content)
+        (given.given_over_store types k.ordered (λ j. times (named_in (slice_set st.cells y Empty)) j + rest j) st.world.content s u.target m v.object v.slot in_two v.there v.one m_type)
+        (given.given_over_stands types k.ordered (λ j. times (named_in (slice_set st.cells y Empty)) j + rest j) st.world.content s u.target m v.object v.slot n u.variable.object in_two v.there v.one m_type u.variable.there (λ e. apart (sym e)) unowned)
+        (given_touches types k.ordered (λ j. times (named_in (slice_set st.cells y Empty)) j + rest j) st.world.content m in_two v.object v.slot v.there v.one u.target m_type s)
+        (given_buffered types k.ordered (λ j. times (named_in (slice_set st.cells y Empty)) j + rest j) st.world.content m in_two v.object v.slot v.there v.one u.target m_type s (MayLack types f inputs S st) (whole_parts types k.plain u.target) m_has m_free k.buffered)
+
+    -- ---- and put into the unique_ptr
+
+    -- its parts need no buffer
+    bufferless : (c : Content) → at c.objects n ≡ Some u.variable.object → (o : Object) → at c.objects n ≡ Some o → (ws : List ℕ) → HasBuffers (parts_at types o.ty) ws
+    bufferless c kept o there ws = subst (λ (q : Parts). HasBuffers q ws) (sym (ap (λ (z : Object). parts_at types z.ty) (sym (some_same (sym kept ∙ there))) ∙ ap (parts_at types) u.type ∙ u.parts)) tt
+
+    left : LeftBy (RootStands types f (StandsAt inputs) st.cells) (under (local_place x)) (writes (Make (operands.whole x) (made.Of y))) S S'
+    left =
+        left_by_name sigs types f place (Make (operands.whole x) (made.Of y)) S S' right.closed (RootStands types f (StandsAt inputs) st.cells) (record { owner = local_place x; cause = changed place x }) refl (λ e. refl)
+        (at_head (element.Invalid (changed place x)) [])
+
+    guards : Guards types st.world.content (RootStands types f (StandsAt inputs) st.cells) S (under (local_place x)) (pushed_foot types region m)
+    guards a b names at_b low =
+        ⊎_elim (λ inner. under_place types k.ordered (hand_of rest st) st.world.content (store_of types f rest inputs S st k) (RootStands types f (StandsAt inputs) st.cells) (owning types f) (rooted_of types f rest inputs S st k) (local_place x) a region b refl at_x at_b inner)
+        (λ over. absurd (elsewhere types f rest inputs S st k y m named_y unnamed a b names at_b over)) (split types st.world.content region m b.object low)
+
+    module _ (d : Content) (touch : Touches (kinds_of types) (pushed_foot types region m) st.world.content d) where
+      covered : FrameCovered types f inputs S' (put_cell y Empty (put_content d st))
+      covered z w e = ⊎_elim
+          (λ same. absurd (empty same.1))
+          (λ other. cover_on types k.ordered (hand_of rest st) st.world.content d (store_of types f rest inputs S st k) (pushed_foot types region m) touch (RootStands types f (StandsAt inputs) st.cells) (RootStands types f (StandsAt inputs) (slice_set st.cells y Empty)) (may_change types f)
+          (rooted_of types f rest inputs S st k).fits (under (local_place x)) (writes (Make (operands.whole x) (made.Of y))) S S' left guards (λ a b names free stands. roots_left types f rest inputs S st k y m named_y unnamed a b names stands)
+          (local_place z) (look_at types f z) w (other_local x z (not_x z other.1)) (k.covered z w other.1))
+          (cell_cases st.cells y z Empty (Points w) e)
+        where
+          empty : Empty ≡ Points w → ⊥
+          empty h = cc
+
+          unlike : Named n ≡ Points w → ⊥
+          unlike h = cc
+
+          not_x : (j : ℕ) → cell st j ≡ Some (Points w) → x ≢ j
+          not_x j points same = unlike (some_same (sym named_x ∙ ap (cell st) same ∙ points))
+
+      spared : Touches (kinds_of types) (frame_foot types f inputs st.cells) st.world.content d
+      spared =
+          touches_more (kinds_of types) (hand_of rest st) st.world.content (store_of types f rest inputs S st k).forest (and_all (foot_of types region) (m ∷ [])) (frame_foot types f inputs st.cells) d touch
+          (record {
+            whole = λ j lt e. whole j (is_positive (times (named_in st.cells) j) (subst (λ i. 0 < times (named_in st.cells) i) (one_there m j (let q = positive_is (times (m ∷ []) j) e in omega (arith, q))) (in_hand st.cells y m named_y)));
+            part = (place_within types f rest inputs S st k (local_place x) region at_x refl).part;
+          })
+
+      made_safe : AreBut types (MayLack types f inputs S st) d → IsMade types f inputs S' (MayLack types f inputs S st) (λ z. y ≡ z) st (put_cell y Empty (put_content d st))
+      made_safe buffered = (covered, behind_empty types f inputs (MayLack types f inputs S st) (λ z. y ≡ z) st y (λ j is. refl) d buffered spared)
+
+    put_safe : (b : ℕ × Content) → IsGivenObject b → IsMade types f inputs S' (MayLack types f inputs S st) (λ z. y ≡ z) st (put_cell y Empty (remade (Unique u.target p) (record { object = n; index = 0; word = 0 }) b st))
+    put_safe b h =
+        subst (λ (q : Parts). IsMade types f inputs S' (MayLack types f inputs S st) (λ z. y ≡ z) st (put_cell y Empty (put_content (replaced q (record { object = n; index = 0; word = 0 }) (owner_word (Some b.0) ∷ [], b.1)) st))) u.parts
+        (made_safe (replaced (parts_at types u.number) (record { object = n; index = 0; word = 0 }) (owner_word (Some b.0) ∷ [], b.1))
+        (touches_then (kinds_of types) (hand_of rest st) st.world.content (store_of types f rest inputs S st k).forest (all_of (m ∷ [])) (and_all (foot_of types region) (b.0 ∷ [])) (pushed_foot types region m) b.1
+        (replaced (parts_at types u.number) (record { object = n; index = 0; word = 0 }) (owner_word (Some b.0) ∷ [], b.1)) h.touch
+        (put_touches types k.ordered (λ j. times (named_in (slice_set st.cells y Empty)) j + rest j) n u.number u.variable.object within slot u.target u.parts b h.store h.stands.other h.stands.object h.stands.there h.stands.type)
+        (record { whole = λ j lt e. whole j e; part = λ j lt. inr (λ w e. absurd (false≢true e)) })
+        (record {
+          whole = λ j lt e. let new = one_there b.0 j (let q = positive_is (times (b.0 ∷ []) j) e in omega (arith, q)) in let fresh = h.fresh in absurd (omega (arith, new, fresh, lt));
+          part = λ j lt. inr (λ w e. e);
+        }))
+        (replaced_buffered types (MayLack types f inputs S st) b.1 n (parts_at types u.number) (owner_word (Some b.0)) (bufferless b.1 h.stands.other) h.buffered))
+
+    object_made : OnRight (made_of s types f (Unique u.target p) (record { object = n; index = 0; word = 0 }) y (Some (Named m)) st) (IsMade types f inputs S' (MayLack types f inputs S st) (λ z. y ≡ z) st)
+    object_made =
+        subst (λ (q : Parts). OnRight (on_got (object_with s u.target p (λ d. Got (consumed q m d)) st.world.content) (λ b. Next (put_cell y Empty (remade (Unique u.target p) (record { object = n; index = 0; word = 0 }) b st)))) (IsMade types f inputs S' (MayLack types f inputs S st) (λ z. y ≡ z) st))
+        (sym (ap (parts_if types) typed))
+        (right_then (object_with s u.target p value st.world.content) (λ b. Next (put_cell y Empty (remade (Unique u.target p) (record { object = n; index = 0; word = 0 }) b st))) IsGivenObject (IsMade types f inputs S' (MayLack types f inputs S st) (λ z. y ≡ z) st)
+        (right_got (object_with s u.target p value st.world.content) IsGivenObject given_object (object_faultless s u.target p value st.world.content (λ d. tt)))
+        put_safe)
+
+  -- ---- the kind
+
+  pub object_kind : ((n : ℕ) (named : cell st x ≡ Some (Named n)) → local_type types f y ≡ Some (unique_local types f rest inputs S st k x n named unique).target) → ((z : ℤ) → cell st y ≡ Some (Number z) → ⊥)
+      → OnRight (does s types f (Make (operands.whole x) (made.Of y)) st) (IsMade types f inputs S' (MayLack types f inputs S st) (λ z. y ≡ z) st)
+  object_kind typed uncounted =
+      on_location_local types f rest inputs S st k x (λ spot. made_of s types f (location_parts types f (operands.whole x)) spot y (cell st y) st) (IsMade types f inputs S' (MayLack types f inputs S st) (λ z. y ≡ z) st)
+      (λ n named.
+      let u = unique_local types f rest inputs S st k x n named unique in
+      subst (λ (q : Parts). OnRight (made_of s types f q (record { object = n; index = 0; word = 0 }) y (cell st y) st) (IsMade types f inputs S' (MayLack types f inputs S st) (λ z. y ≡ z) st)) (sym (ap (parts_if types) u.typed ∙ u.parts)) (over n named (cell st y) refl))
+    where
+      over : (n : ℕ) (named : cell st x ≡ Some (Named n)) (w : Option Cell) → cell st y ≡ w
+          → OnRight (made_of s types f (Unique (unique_local types f rest inputs S st k x n named unique).target (parts_at types (unique_local types f rest inputs S st k x n named unique).target)) (record { object = n; index = 0; word = 0 }) y w st) (IsMade types f inputs S' (MayLack types f inputs S st) (λ z. y ≡ z) st)
+      over n named None e = tt
+      over n named (Some Empty) e = tt
+      over n named (Some (Points q)) e = tt
+      over n named (Some (Number z)) e = absurd (uncounted z e)
+      over n named (Some (Named m)) e = object_made n m named e (typed n named)
