@@ -9,7 +9,7 @@ use Rattle.life_core.specs.Holdings.{held_by}
 use Rattle.life_core.specs.Operands.{Argument, GivenOver, Location, PointerOf, Slot, Source, Value}
 use Rattle.life_core.specs.Operands as source
 use Rattle.life_core.specs.Served.{is_empty, is_served_argument, is_served_as, is_served_local, is_served_location, is_served_node, is_served_source, is_served_spot, is_served_step, is_served_target}
-use Rattle.life_core.specs.Step.{Aim, Call, Copy, Element, Make, Move, Step}
+use Rattle.life_core.specs.Step.{Aim, Call, Element, Move, Step}
 use Rattle.life_core.specs.Tree.{Node, spots}
 use Rattle.life_proper.specs.Placed.{is_slot_local, slot_at}
 use Rattle.life_proper.specs.ProperFunctions.{IsProperFunction}
@@ -68,11 +68,9 @@ module _ (types : Types) (f : Function) (locals : list_all (is_served_local type
   target_spoken (Some l) served = (empty_is l.members served, no_slot l.local)
 
   step_spoken : (i : Step) → is_served_step types f i ≡ true → IsSpokenAction types f i
-  step_spoken (Copy to from) served = absurd (false≢true served)
   step_spoken (Move to y) served = absurd (false≢true served)
   step_spoken (Aim p s) served = source_spoken s (and_parts (is_served_location p) (is_served_source s) served).1
   step_spoken (Element p b which) served = absurd (false≢true served)
-  step_spoken (Make u made) served = absurd (false≢true served)
   step_spoken (Call target g xs) served =
       let both = and_parts (is_served_target target) (list_all is_served_argument xs) served in
       (target_spoken target both.0, arguments_spoken xs both.1)
