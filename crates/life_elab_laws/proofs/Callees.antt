@@ -44,7 +44,7 @@ pub record IsReachedFunction (texts : ℕ) (so_far : Bool) (types : Types) (f : 
   pub result : is_served_result types f.result ≡ true
   pub parameters : are_reached_parameters so_far types (take (length f.parameters) f.locals) ≡ true
   pub variables : are_reached_variables so_far types f.locals ≡ true
-  pub body : is_reached_statement texts so_far types f.locals f.result f.body ≡ true
+  pub body : is_reached_statement texts so_far types f.locals f.body ≡ true
   -- whatever is served so far
   pub any : are_reached_variables false types f.locals ≡ true
 
@@ -52,7 +52,7 @@ pub reached_parts : (texts : ℕ) (so_far : Bool) (types : Types) (f : FunctionF
 reached_parts texts so_far types f b =
     let one = and_parts (is_served_result types f.result) _ b in
     let two = and_parts (are_reached_parameters so_far types (take (length f.parameters) f.locals)) _ one.1 in
-    let three = and_parts (are_reached_variables so_far types f.locals) (is_reached_statement texts so_far types f.locals f.result f.body) two.1 in
+    let three = and_parts (are_reached_variables so_far types f.locals) (is_reached_statement texts so_far types f.locals f.body) two.1 in
     record { result = one.0; parameters = two.0; variables = three.0; body = three.1; any = variables_any so_far types f.locals three.0 }
 
 pub handed_at : (so_far : Bool) (types : Types) (us : List TypedLocal) → are_reached_parameters so_far types us ≡ true → (n : ℕ) (id : TyId) → slice_get (map type_of us) n ≡ Some id → IsHandedType so_far types id

@@ -3,7 +3,7 @@ use Rattle.std.proofs.Common.{◌≡◌, ◌<◌, ℕ, Bool, true, false, ◌||�
 use Rattle.std.proofs.lemmas.Bool.{or_left, and_parts, false≢true}
 use Rattle.std.proofs.lemmas.Option.{slice_get_within}
 use Rattle.std.specs.Prelude.{pos, ℤ}
-use Rattle.life_types.specs.TypeTests.{is_raw, is_unique, is_value, is_reference}
+use Rattle.life_types.specs.TypeTests.{is_pointer, is_raw, is_reference, is_unique, is_value}
 use Rattle.life_types.specs.Types.{Types}
 use Rattle.life_types.specs.declared.place.Place.{Place}
 use Rattle.life_types.specs.declared.ty.Ty.{Ty}
@@ -43,7 +43,6 @@ use Rattle.life_elab_laws.proofs.PendingTemporaries.{ArePending, IsTemporary}
 use Rattle.life_elab_laws.proofs.TemporaryEnds.{TemporariesEnd}
 use Rattle.life_elab_laws.proofs.Ending.{set_blank}
 use Rattle.life_core.specs.Kinds.{has_kind, is_register, is_register_at}
-use Rattle.life_proper.specs.OperandTypes.{is_owner}
 use Rattle.life_types.specs.declared.ty.Ty.TheVariants as ty
 
 -- a place where temporaries end
@@ -178,7 +177,7 @@ module _ (types : Types) (texts : ℕ) (so_far : Bool) (fs : List Function) (f :
     tested_part (Some token) before can =
         subst (λ (r : State). Tests (Some token) s (behind_code place (test w.given) (taken s r))) (sym (behind_is types texts so_far fs f s w.state made.grown before token)) (ending_tests before can token)
 
-  -- a number is in a register, and a pointer is no owner
+  -- a number is in a register, and no temporary is a pointer
   number_spared : (t : Ty) (r : ℕ) (k j : List Known) → is_number_of types f t r ≡ true → Spares k j → known_at k r ≡ known.Ready → known_at j r ≡ known.Ready
   number_spared t r k j number spares there = spares r never ∙ there
     where
@@ -188,15 +187,14 @@ module _ (types : Types) (texts : ℕ) (so_far : Bool) (fs : List Function) (f :
   pointer_spared : (l : Location) (t : Ty) (n : ℕ) (k j : List Known) → is_raw t ≡ true → type_in types f l ≡ t → IsPointer l n k → Spares k j → known_at j l.local ≡ known.Ready
   pointer_spared l t n k j raw typed h spares = ap (λ (q : Location). known_at j q.local) h.is ∙ spares h.local never ∙ h.held
     where
-      no_owner : (u : Ty) → is_owner u ≡ true → (is_reference u ≡ false) × (is_raw u ≡ false)
-      no_owner ty.Text o = (refl, refl)
-      no_owner (ty.Vector element) o = (refl, refl)
-      no_owner (ty.Unique target) o = (refl, refl)
-      no_owner _ o = absurd (false≢true o)
+      no_pointer : (u : Ty) → is_pointer u ≡ false → (is_reference u ≡ false) × (is_raw u ≡ false)
+      no_pointer (ty.Reference target constant) plain = absurd (false≢true (sym plain))
+      no_pointer (ty.Raw target constant) plain = absurd (false≢true (sym plain))
+      no_pointer _ plain = (refl, refl)
 
       never : IsTemporary f.locals types.types h.local → ⊥
       never is =
-          let no = no_owner is.ty is.owner in
+          let no = no_pointer is.ty is.plain in
           false≢true (sym no.1 ∙ ap is_raw (sym (type_there types f h.local is.local is.ty is.there is.typed no.0)) ∙ ap (λ (q : Location). is_raw (type_in types f q)) (sym h.is) ∙ ap is_raw typed ∙ raw)
 
   pub non_zero_part : (place : Place) (ends : Option Place) (t : Ty) (value : State → Gives ℕ) (s : State) → ArePending s → TemporariesEnd types texts fs f

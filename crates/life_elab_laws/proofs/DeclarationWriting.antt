@@ -1,5 +1,5 @@
 -- What is written for a declaration is ready and well formed: the variable lives, and is given what typing lets it be given.
-use Rattle.std.proofs.Common.{◌≡◌, ◌<◌, ℕ, Bool, true, false, ◌&&◌, ◌||◌, cond, not, List, [], ◌∷◌, ◌++◌, length, slice_get, slice_set, Option, Some, None, refl, sym, ap, ◌∙◌, subst, unwrap_or, arith, append_assoc, inl, inr, nat_lt}
+use Rattle.std.proofs.Common.{◌≡◌, ◌<◌, ℕ, Bool, true, false, ◌&&◌, ◌||◌, cond, not, List, [], ◌∷◌, ◌++◌, length, slice_get, Option, Some, None, refl, sym, ap, ◌∙◌, subst, unwrap_or, arith, append_assoc, inl, inr, nat_lt}
 use Rattle.std.proofs.lemmas.Bool.{and_parts, false≢true, or_cases, and_from}
 use Rattle.life_types.specs.Pointees.{ty_of}
 use Rattle.life_types.specs.TypeTests.{is_value, is_view}
@@ -9,7 +9,6 @@ use Rattle.life_types.specs.declared.place.Place.{Place}
 use Rattle.life_types.specs.declared.ty.Ty.{Ty}
 use Rattle.life_types.specs.declared.ty.Ty.TheVariants as ty
 use Rattle.life_types.specs.declared.ty.TyId.{TyId}
-use Rattle.life_served.specs.Served.{needs_no_temporary}
 use Rattle.life_elab_laws.specs.Reached.{is_owner_of_values, is_reached_declaration, is_reached_declared, is_reached_expression, is_reached_initial, is_reached_variable, is_given_owner, is_reached_owner, is_reached_owned, is_text_there, is_owner_type, is_walker, is_reached_walker, is_span, is_walker_of_values, is_vector, is_reached_list, is_reached_form}
 use Rattle.life_typed.specs.BaseTypes.{type_at}
 use Rattle.life_typed.specs.Conversions.{is_place, fits}
@@ -30,7 +29,6 @@ use Rattle.life_proper.specs.declared.known.Known.{Known}
 use Rattle.life_proper.specs.declared.known.Known.TheVariants as known
 use Rattle.life_proper.specs.Knowing.{known_at}
 use Rattle.life_proper.specs.OperandTypes.{is_owner, is_range, keeps_const, same, takes}
-use Rattle.life_proper.proofs.ReadyTests.{one_known, uses_ready}
 use Rattle.life_proper.specs.WellFormed.{can_live, goes_to, is_source_of, is_change_of}
 use Rattle.life_well_typed.specs.Expressions.{IsExpression, parameter_types, IsMadeOf}
 use Rattle.life_well_typed.specs.Given.{is_given, is_number}
@@ -59,22 +57,22 @@ use Rattle.life_elab_laws.proofs.Declaring.{declared_does, its_local, new_below,
 use Rattle.life_elab_laws.proofs.Doing.{Does}
 use Rattle.life_elab_laws.proofs.ExpressionKinds.{variable_built}
 use Rattle.life_elab_laws.proofs.ExpressionForms.{IsWhole}
-use Rattle.life_elab_laws.proofs.ExpressionTypes.{IsAnswered, answers_nothing, answers_place, answers_raw, answers_value, seen_kind}
+use Rattle.life_elab_laws.proofs.ExpressionTypes.{answer_own, seen_kind}
 use Rattle.life_elab_laws.proofs.Expressions.{owner_expression, walker_expression, whole_expression, wholes}
 use Rattle.life_elab_laws.proofs.PointerForms.{points_whole, result_later}
 use Rattle.life_elab_laws.proofs.GivenKinds.{given_number, given_pointer, given_view}
-use Rattle.life_elab_laws.proofs.Falling.{Falls, Fills, falls_acts, falls_append, falls_filling}
+use Rattle.life_elab_laws.proofs.Falling.{Fills, falls_filling}
 use Rattle.life_elab_laws.proofs.Following.{Follows, follows_settled, settled}
 use Rattle.life_elab_laws.proofs.Filling.{aimed_filling, filling_fills, text_filling}
-use Rattle.life_elab_laws.proofs.FormedFits.{IsBoundTo, given_raw, given_reference, given_seen, given_owner, given_string, given_vector, given_walker}
+use Rattle.life_elab_laws.proofs.FormedFits.{IsBound, IsBoundTo, at_place, by_temporary, given_bound, given_raw, given_seen, given_owner, given_string, given_vector, given_walker}
 use Rattle.life_elab_laws.proofs.Gifts.{Gift, a_number, a_place, a_pointing, arguments, nothing, takes_from, a_pointer}
 use Rattle.life_elab_laws.proofs.Growing.{Begins, Grows, grows_none}
-use Rattle.life_elab_laws.proofs.Held.{blank_there, two_there}
-use Rattle.life_elab_laws.proofs.Knowledge.{at_set, beside_set}
+use Rattle.life_elab_laws.proofs.KeptTemporaries.{temporary_does}
 use Rattle.life_elab_laws.proofs.Locations.{is_location, is_pointed, seen_pointed}
 use Rattle.life_elab_laws.proofs.NewVariables.{bound_given, location_declared, owner_lives, raw_lives, reference_declared, reference_kept, value_goes, value_lives, value_saved, owner_declared, location_lives}
 use Rattle.life_elab_laws.proofs.Parts.{Makes, leaf_part, then_part}
 use Rattle.life_elab_laws.proofs.Reaching.{variable_any}
+use Rattle.life_elab_laws.proofs.Saving.{live_fills, saved_falls}
 use Rattle.life_elab_laws.proofs.Setting.{Setting}
 use Rattle.life_elab_laws.proofs.Shaping.{IsFineStep, fine_acts, fine_append}
 use Rattle.life_elab_laws.proofs.TypedKinds.{none_some}
@@ -139,9 +137,6 @@ module _ (a : Around) (types : Types) (texts : ℕ) (so_far : Bool) (fs : List F
 
     -- ---- it comes to life
 
-    live_fills : (x : ℕ) (k : List Known) → known_at k x ≡ known.Blank → Fills f k (Live x Plain) x
-    live_fills x k e = record { ready = one_known known.Blank k x (blank_there k x e); after = refl }
-
     live_fine : (s' : State) → can_live types texts fs f (length s'.locals) ≡ true → (so_far ≡ true → is_served_birth (sort_of types f (length s'.locals)) ≡ true) → IsFineStep types texts so_far fs f (Live (length s'.locals) Plain)
     live_fine s' lives born = record { given = refl; formed = lives; served = born }
 
@@ -153,7 +148,7 @@ module _ (a : Around) (types : Types) (texts : ℕ) (so_far : Bool) (fs : List F
         declared_does types texts so_far fs f a setting.front v in_loop can last u s (gives tt s) (nothing types texts so_far fs f) (Acts u.place (Live (length s.locals) Plain) ∷ []) h at any
         (leaf_part types texts so_far fs f tt s (nothing types texts so_far fs f) (λ b. tt) (λ b k alive. tt))
         (λ b q. fine_acts types texts so_far fs f u.place (Live (length s.locals) Plain) (live_fine s (lives b) (born b)))
-        (λ b k size q blank. falls_filling types f u.place (Live (length s.locals) Plain) (length s.locals) k (live_fills (length s.locals) k blank))
+        (λ b k size q blank. falls_filling types f u.place (Live (length s.locals) Plain) (length s.locals) k (live_fills types f (length s.locals) Plain k blank))
 
     -- an owner, by whatever builds it
     builds_does : (t : Ty) → slice_get a.program.types.types u.ty.0 ≡ Some t → is_owner_of_values a.program.types t ≡ true → (w : Gives Remaining) → so_far ≡ false → Builds a v.visible types texts so_far fs f setting t s w → Born (w.given (home a u) w.state).state
@@ -166,15 +161,6 @@ module _ (a : Around) (types : Types) (texts : ℕ) (so_far : Bool) (fs : List F
         (made.acts u.place (object_named (length w.state.locals)) (emit u.place (Live (length w.state.locals) made.form) (with_new (variable_local a u) w.state))))
 
     -- ---- an object
-
-    saved : (x r : ℕ) (k : List Known) → x < length k → known_at k x ≡ known.Blank → r < x → known_at k r ≡ known.Ready
-        → Falls types f (Acts u.place (Live x Plain) ∷ Acts u.place (Save (object_named x) r) ∷ []) k (slice_set k x known.Ready)
-    saved x r k lt blank lower number =
-        let j : List Known = slice_set k x known.Ready in
-        falls_append types f (Acts u.place (Live x Plain) ∷ []) (Acts u.place (Save (object_named x) r) ∷ []) k j j
-        (falls_filling types f u.place (Live x Plain) x k (live_fills x k blank))
-        (falls_acts types f u.place (Save (object_named x) r) j
-        (uses_ready j (r ∷ x ∷ []) [] (two_there j r x (beside_set k x r known.Ready (λ e. omega (arith, e, lower)) ∙ number) (at_set k x known.Ready lt))))
 
     -- a value is computed before it lives
     valued_does : (t : Ty) → slice_get a.program.types.types u.ty.0 ≡ Some t → is_value t ≡ true → (w : Gives ℕ) → Makes types texts so_far fs f None s w (a_number types texts so_far fs f t)
@@ -192,7 +178,7 @@ module _ (a : Around) (types : Types) (texts : ℕ) (so_far : Bool) (fs : List F
         fine_append types texts so_far fs f lives saves
         (fine_acts types texts so_far fs f u.place (Live x Plain) (live_fine w.state (value_lives a types texts so_far fs f setting.front u w.state b value) (λ so. value_born t is worth w.state made.grown b)))
         (fine_acts types texts so_far fs f u.place (Save (object_named x) w.given) (value_saved a types texts so_far fs f setting.front u w.state b value w.given q)))
-        (λ b k size q blank. saved x w.given k (omega (arith, size, below w.state made.grown b)) blank q.0 q.1))
+        (λ b k size q blank. saved_falls types f u.place x w.given k (omega (arith, size, below w.state made.grown b)) blank q.0 q.1))
 
     -- ---- what one instruction brings to life: a call, a pointer, a reference
 
@@ -225,13 +211,6 @@ module _ (a : Around) (types : Types) (texts : ℕ) (so_far : Bool) (fs : List F
       whole_is : IsWhole a v.visible types texts so_far fs f setting (whole_form e)
       whole_is = whole_expression a v.visible types texts so_far fs f setting (whole_form e) b he
 
-      -- what a call gives that is no place
-      own_answer : (result : Ty) → IsAnswered a.program.types result e.ty e.category → not (is_place e.category) ≡ true → result ≡ own_type e.ty
-      own_answer result (answers_nothing void own held) plain = void ∙ sym (ap own_type own)
-      own_answer result (answers_value w own held) plain = sym (ap own_type own)
-      own_answer result (answers_raw target constant raw w own held) plain = raw ∙ sym (ap own_type own)
-      own_answer result (answers_place target constant refers w own held) plain = absurd (false≢true (sym (ap (λ (c : Category). not (is_place c)) held) ∙ plain))
-
       abbrev GivenOne : Ty → State
       GivenOne t = (initial a scoped (uses a (whole_form e)) t behind s >> λ rest s. rest (home a u) s).state
 
@@ -247,7 +226,7 @@ module _ (a : Around) (types : Types) (texts : ℕ) (so_far : Bool) (fs : List F
         by_call_does c found same plain =
             let k = whole_is.calls c found in
             called_does t is worth c.function k.of e.place k.there
-            (result_later a v.visible types texts so_far fs f setting c.function k.of k.there ∙ own_answer (type_at a.program.types k.of.result) k.answers plain ∙ same_types (own_type e.ty) t same ∙ sym (type_is t is))
+            (result_later a v.visible types texts so_far fs f setting c.function k.of k.there ∙ answer_own a.program.types (type_at a.program.types k.of.result) e.ty e.category k.answers plain ∙ same_types (own_type e.ty) t same ∙ sym (type_is t is))
             (giving.arguments a (all_uses a c.arguments) c.delimiters (around.parameter_types a c.function) s) (k.hands s h.stands)
 
         -- a call is one where it needs no conversion and gives no reference
@@ -306,8 +285,8 @@ module _ (a : Around) (types : Types) (texts : ℕ) (so_far : Bool) (fs : List F
           })
           (λ b k q blank. filling_fills f (λ p. Aim p (Aimed w.given)) (length w.state.locals) k (aimed_filling f w.given (length w.state.locals) k q) (length w.state.locals) (reference_kept a types texts so_far fs f setting.front u w.state b target constant is worth)))
 
-      one_does : (so_far || not (is_owner (type_of a u.ty) || is_walker (type_of a u.ty))) ≡ true → needs_no_temporary (type_of a u.ty) e ≡ true → is_given a.program.types (type_of a u.ty) e ≡ true → Born (GivenOne (type_of a u.ty))
-      one_does plain temporary given = go (variable_type so_far a.program.types u.ty built)
+      one_does : (so_far || not (is_owner (type_of a u.ty) || is_walker (type_of a u.ty))) ≡ true → is_given a.program.types (type_of a u.ty) e ≡ true → Born (GivenOne (type_of a u.ty))
+      one_does plain given = go (variable_type so_far a.program.types u.ty built)
         where
           as_given : (t : Ty) → slice_get a.program.types.types u.ty.0 ≡ Some t → is_given a.program.types t e ≡ true
           as_given t is = subst (λ (x : Ty). is_given a.program.types x e ≡ true) (type_is t is) given
@@ -321,11 +300,12 @@ module _ (a : Around) (types : Types) (texts : ℕ) (so_far : Bool) (fs : List F
           go (a_view so is) = as_type ty.View is (view_does is (as_given ty.View is))
           go (a_walker so t is w) = absurd (false≢true (sym (ap (λ (x : Ty). so_far || not (is_owner x || is_walker x)) (type_is t is) ∙ ap (λ (b : Bool). b || not (is_owner t || is_walker t)) so ∙ ap (λ (b : Bool). not (b || is_walker t)) (walker_is a.program.types t w).owner ∙ ap not (walker_is a.program.types t w).walker) ∙ plain))
           go (an_owner so t is o) = absurd (false≢true (sym (ap (λ (x : Ty). so_far || not (is_owner x || is_walker x)) (type_is t is) ∙ ap (λ (b : Bool). b || not (is_owner t || is_walker t)) so ∙ ap (λ (b : Bool). not (b || is_walker t)) (owner_is a.program.types t o)) ∙ plain))
-          go (a_reference target constant is w) =
-              let r = ty.Reference target constant in
-              as_type r is
-              (reference_does target constant is w
-              (given_reference a.program.types target constant e w (subst (λ (x : Ty). needs_no_temporary x e ≡ true) (type_is r is) temporary) (as_given r is)))
+          go (a_reference target constant is w) = as_type (ty.Reference target constant) is (bound (given_bound a.program.types target constant e w (as_given (ty.Reference target constant) is)))
+            where
+              bound : IsBound a.program.types target constant e → Born (GivenOne (ty.Reference target constant))
+              bound (at_place there) = reference_does target constant is w there
+              bound (by_temporary none initial) =
+                  temporary_does a types texts so_far fs f setting v in_loop last u s h at any target constant is w e whole_is (given_number a.program.types (type_at a.program.types target) e w initial) behind none
 
     -- ---- an owner, or a view of one
 
@@ -565,10 +545,8 @@ module _ (a : Around) (types : Types) (texts : ℕ) (so_far : Bool) (fs : List F
     initial_does : (initial : Option InitialForm) (behind : Place) → is_reached_initial texts so_far (type_of a u.ty) initial ≡ true → IsInitialised a.program a.function.locals a.function.result v.visible (Some u) initial → Born (given_initial a u initial behind s)
     initial_does None behind b i = default_does i
     initial_does (Some (one e)) behind b i =
-        elim (or_cases ((so_far || not (is_owner (type_of a u.ty) || is_walker (type_of a u.ty))) && (is_reached_expression texts so_far e && needs_no_temporary (type_of a u.ty) e)) (is_reached_owned texts so_far (type_of a u.ty) e) b) [
-          | inl value ↦
-              let parts = and_parts (so_far || not (is_owner (type_of a u.ty) || is_walker (type_of a u.ty))) (is_reached_expression texts so_far e && needs_no_temporary (type_of a u.ty) e) value in
-              let both = and_parts (is_reached_expression texts so_far e) (needs_no_temporary (type_of a u.ty) e) parts.1 in one_does e both.0 i.1 behind parts.0 both.1 i.0
+        elim (or_cases ((so_far || not (is_owner (type_of a u.ty) || is_walker (type_of a u.ty))) && is_reached_expression texts so_far e) (is_reached_owned texts so_far (type_of a u.ty) e) b) [
+          | inl value ↦ let parts = and_parts (so_far || not (is_owner (type_of a u.ty) || is_walker (type_of a u.ty))) (is_reached_expression texts so_far e) value in one_does e parts.1 i.1 behind parts.0 i.0
           | inr owned ↦ owned_does e i.1 behind owned i.0
         ]
     initial_does (Some (several list)) behind b i = listed_does list behind b i

@@ -118,7 +118,7 @@ module _ (types : Types) (f : Function) (a : Around) (front : IsFront a.program.
 
     -- ---- the state
 
-    begins_old : Begins types f (with_new l s) → Begins types f s
+    pub begins_old : Begins types f (with_new l s) → Begins types f s
     begins_old b = record { locals = front_then s.locals (with_new l s).locals f.locals (front_append s.locals (l ∷ [])) b.locals; table = b.table }
 
     opened : (y : ℕ) → Contains (s.living ++ length s.locals ∷ []) y → y < length (s.locals ++ l ∷ [])
@@ -155,14 +155,12 @@ module _ (types : Types) (f : Function) (a : Around) (front : IsFront a.program.
     lives y (inl m) = let is = h.living y m in record {
       local = is.local;
       there = front_append s.locals (l ∷ []) y is.local is.there;
-      name = is.name;
-      named = is.named;
+      lasts = is.lasts;
     }
     lives y (inr (inl e)) = record {
       local = l;
       there = subst (λ (z : ℕ). slice_get (with_new l s).locals z ≡ Some l) e new_at;
-      name = u.name;
-      named = of.named;
+      lasts = named_lasts l u.name of.named;
     }
     lives y (inr (inr none)) = absurd none
 

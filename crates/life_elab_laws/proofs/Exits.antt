@@ -2,7 +2,6 @@
 use Rattle.std.proofs.Common.{◌≡◌, ℕ, zero, suc, Bool, true, false, List, [], ◌∷◌, length, slice_get, Some, None, refl, sym, ◌∙◌, subst, arith}
 use Rattle.std.proofs.lemmas.Bool.{and_from}
 use Rattle.life_types.specs.Types.{Types}
-use Rattle.life_types.specs.declared.ty.NameId.{NameId}
 use Rattle.life_core.specs.Function.{Function}
 use Rattle.life_core.specs.Tree.{Tree}
 use Rattle.life_core.specs.declared.program.Local.{Local}
@@ -28,9 +27,9 @@ module _ (f : Function) where
   MayKnow living None = Unit {0}
   MayKnow living (Some k) = Knows living k
 
-  -- a living variable has a name
-  abbrev pub AreNamed : List ℕ → Type 0
-  AreNamed living = (y : ℕ) → Among y living → (l : Local) × (name : NameId) × (slice_get f.locals y ≡ Some l) × (l.name ≡ Some name)
+  -- what lives isn't passing
+  abbrev pub AreLasting : List ℕ → Type 0
+  AreLasting living = (y : ℕ) → Among y living → (l : Local) × (slice_get f.locals y ≡ Some l) × (is_passing l ≡ false)
 
   -- what knows the same
   pub knows_same : (living : List ℕ) (k j : List Known) → length j ≡ length k → ((y : ℕ) → known_at j y ≡ known_at k y) → Knows living k → Knows living j

@@ -1,5 +1,5 @@
 -- The types of expressions that are built.
-use Rattle.std.proofs.Common.{◌≡◌, Bool, true, false, refl, sym, ap, ◌∙◌, subst, true≢false, Ok}
+use Rattle.std.proofs.Common.{◌≡◌, Bool, true, false, not, refl, sym, ap, ◌∙◌, subst, true≢false, Ok}
 use Rattle.std.proofs.lemmas.Bool.{false≢true}
 use Rattle.life_types.specs.TypeTests.{is_iterator, is_raw, is_text, is_unique, is_value, is_view}
 use Rattle.life_types.specs.Types.{Types}
@@ -7,6 +7,7 @@ use Rattle.life_types.specs.declared.ty.Ty.{Ty}
 use Rattle.life_types.specs.declared.ty.Ty.TheVariants as ty
 use Rattle.life_types.specs.declared.ty.TyId.{TyId}
 use Rattle.life_typed.specs.BaseTypes.{type_at}
+use Rattle.life_typed.specs.Conversions.{is_place}
 use Rattle.life_typed.specs.Operators.{is_condition, is_literal, is_nullable, negated, negated_type, promoted}
 use Rattle.life_typed.specs.TypedForm.{Typed}
 use Rattle.life_typed.specs.declared.typed_expr.Category.{Category}
@@ -99,6 +100,13 @@ answered_as types e t kind is = go kind
     go (gives_reference target constant refers w) =
         let here = as_type (ty.Reference target constant) refers in
         answers_place target constant refers w (ap (λ (x : Typed). x.ty) here) (ap (λ (x : Typed). x.category) here)
+
+-- what is given back that is no place has the type of the result
+pub answer_own : (types : Types) (result : Ty) (t : ExprType) (k : Category) → IsAnswered types result t k → not (is_place k) ≡ true → result ≡ own_type t
+answer_own types result t k (answers_nothing void own held) plain = void ∙ sym (ap own_type own)
+answer_own types result t k (answers_value w own held) plain = sym (ap own_type own)
+answer_own types result t k (answers_raw target constant raw w own held) plain = raw ∙ sym (ap own_type own)
+answer_own types result t k (answers_place target constant refers w own held) plain = absurd (false≢true (sym (ap (λ (c : Category). not (is_place c)) held) ∙ plain))
 
 -- what may be null and isn't a unique_ptr is a raw pointer
 pub nullable_raw : (u : Ty) → is_nullable u ≡ true → is_unique u ≡ false → is_raw u ≡ true

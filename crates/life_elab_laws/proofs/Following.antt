@@ -3,7 +3,6 @@ use Rattle.std.proofs.Common.{◌≡◌, ◌<◌, ◌≤◌, ◌||◌, ℕ, zero
 use Rattle.std.proofs.lemmas.Option.{none-some, slice_get_within}
 use Rattle.life_types.specs.TypeTests.{is_pointer, is_void}
 use Rattle.life_types.specs.Types.{Types}
-use Rattle.life_types.specs.declared.ty.NameId.{NameId}
 use Rattle.life_typed.specs.BaseTypes.{type_at}
 use Rattle.life_typed.specs.declared.typed_program.TypedLocal.{TypedLocal}
 use Rattle.life_core.specs.Function.{Function}
@@ -17,19 +16,19 @@ use Rattle.life_writer.specs.Around.{Around, result_local}
 use Rattle.life_writer.specs.Variables.{variable}
 use Rattle.life_writer.specs.Writing.{State}
 use Rattle.life_elab_laws.proofs.Among.{Among, Ascend, among_contains, contains_among}
-use Rattle.life_elab_laws.proofs.Exits.{AreNamed, Knows}
+use Rattle.life_elab_laws.proofs.Exits.{AreLasting, Knows}
 use Rattle.life_elab_laws.proofs.Fronts.{IsFront, front_itself, front_length, front_then, front_taken}
 use Rattle.life_elab_laws.proofs.Growing.{Begins, Grows, bare}
 use Rattle.life_elab_laws.proofs.Making.{Alive}
+use Rattle.life_elab_laws.proofs.Shaped.{is_passing}
 use Rattle.life_elab_laws.proofs.VariablePlaces.{IsVariableAt, Stands}
 use Rattle.life_elab_laws.proofs.PendingTemporaries.{none_pending}
 
--- the local of a living variable: it has a name
+-- the local of what lives: of a variable, or of a temporary that lives as long as one
 pub record IsLivingBare (s : State) (y : ℕ) : Type 0 where
   pub local : Local
   pub there : slice_get s.locals y ≡ Some local
-  pub name : NameId
-  pub named : local.name ≡ Some name
+  pub lasts : is_passing local ≡ false
 
 abbrev pub IsLiving : State → ℕ → Type 0
 IsLiving s y = IsLivingBare (bare s) y
@@ -108,8 +107,8 @@ module _ (types : Types) (f : Function) where
     blank = λ y l there lasts m. h.blank y l there lasts m (λ p. subst (Among y) none p);
   }
 
-  pub follows_named : (a : Around) (v : Visible) (s : State) → Follows a v s → Begins types f s → AreNamed f s.living
-  follows_named a v s h b y m = let is = h.living y m in (is.local, is.name, b.locals y is.local is.there, is.named)
+  pub follows_lasting : (a : Around) (v : Visible) (s : State) → Follows a v s → Begins types f s → AreLasting f s.living
+  follows_lasting a v s h b y m = let is = h.living y m in (is.local, b.locals y is.local is.there, is.lasts)
 
   pub follows_below : (a : Around) (v : Visible) (s : State) → Follows a v s → (y : ℕ) → Among y s.living → y < length s.locals
   follows_below a v s h y m = let is = h.living y m in slice_get_within s.locals y is.local is.there
@@ -206,7 +205,7 @@ module _ (types : Types) (f : Function) where
   }
     where
       later : (y : ℕ) → Among y s.living → IsLiving s' y
-      later y m = let is = h.living y m in record { local = is.local; there = locals y is.local is.there; name = is.name; named = is.named }
+      later y m = let is = h.living y m in record { local = is.local; there = locals y is.local is.there; lasts = is.lasts }
 
       moved : (x : ℕ) (u : TypedLocal) → Contains v.visible x → IsVariableAt a s x u → IsVariableAt a s' x u
       moved x u c is = record {

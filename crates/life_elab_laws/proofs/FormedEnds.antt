@@ -11,11 +11,11 @@ use Rattle.life_types.specs.declared.ty.Ty.TheVariants as ty
 use Rattle.life_types.specs.declared.ty.TyId.{TyId}
 use Rattle.life_typed.specs.BaseTypes.{type_at}
 use Rattle.life_core.specs.Function.{Function}
-use Rattle.life_core.specs.Kinds.{is_register}
+use Rattle.life_core.specs.Kinds.{is_object, is_register}
 use Rattle.life_core.specs.declared.program.Local.{Local}
 use Rattle.life_core.specs.declared.program.LocalKind.{LocalKind}
 use Rattle.life_core.specs.declared.program.LocalKind.TheVariants.{Object, Register, Range}
-use Rattle.life_elab_laws.proofs.Shaped.{AreShaped, shaped_at}
+use Rattle.life_elab_laws.proofs.Shaped.{AreShaped, is_passing, shaped_at}
 use Rattle.life_elab_laws.proofs.Following.{may_end}
 use Rattle.life_elab_laws.proofs.VariablePlaces.{IsVariableType, a_raw, a_reference, a_value, a_view, an_owner, variable_type, a_walker}
 use Rattle.life_proper.specs.Placed.{is_slot_local, result_at, slot_at}
@@ -53,34 +53,38 @@ owner_no_slot types (ty.Reference target constant) o = absurd (false≢true o)
 owner_no_slot types _ o = refl
 
 module _ (types : Types) (texts : ℕ) (so_far : Bool) (fs : List Function) (f : Function) (shaped : AreShaped types f.locals)
-    (nameless : (l : Local) → slice_get f.locals f.parameters ≡ Some l → is_void (ty_of types f.result) ≡ false → l.name ≡ None) where
-  -- a local with a name isn't the result
-  no_result : (y : ℕ) (l : Local) → slice_get f.locals y ≡ Some l → is_none l.name ≡ false → not (result_at types f y) ≡ true
-  no_result y l at named = go (is_void (ty_of types f.result)) (nat_eq y f.parameters) refl refl
+    (nameless : (l : Local) → slice_get f.locals f.parameters ≡ Some l → is_void (ty_of types f.result) ≡ false → l.name ≡ None)
+    (registers : (l : Local) → slice_get f.locals f.parameters ≡ Some l → is_void (ty_of types f.result) ≡ false → l.kind ≡ Register) where
+  -- a local that isn't passing isn't the result
+  no_result : (y : ℕ) (l : Local) → slice_get f.locals y ≡ Some l → is_passing l ≡ false → not (result_at types f y) ≡ true
+  no_result y l at lasts = go (is_void (ty_of types f.result)) (nat_eq y f.parameters) refl refl
     where
       one : (a b : ℕ) → nat_eq a b ≡ true → a ≡ b
       one a b h = grind (arith, nat_tests)
 
+      passes : slice_get f.locals f.parameters ≡ Some l → is_void (ty_of types f.result) ≡ false → is_passing l ≡ true
+      passes there vs = ap (λ (o : Option NameId). is_none o && not (is_object l.kind)) (nameless l there vs) ∙ ap (λ (k : LocalKind). not (is_object k)) (registers l there vs)
+
       go : (v e : Bool) → is_void (ty_of types f.result) ≡ v → nat_eq y f.parameters ≡ e → not (not v && e) ≡ true
       go true e vs es = refl
       go false false vs es = refl
-      go false true vs es =
-          absurd (false≢true (sym named ∙ ap is_none (nameless l (ap (slice_get f.locals) (sym (one y f.parameters es)) ∙ at) vs)))
+      go false true vs es = absurd (false≢true (sym lasts ∙ passes (ap (slice_get f.locals) (sym (one y f.parameters es)) ∙ at) vs))
 
-  -- a variable
-  pub variable_ends : (y : ℕ) (l : Local) → slice_get f.locals y ≡ Some l → is_none l.name ≡ false → may_end types f y ≡ true → can_end types texts fs f y ≡ true
-  variable_ends y l at named ends =
-      go (variable_type false types l.ty (shaped_at types f.locals y l shaped at (only_named l.kind l.name named)).built)
+  -- what lives
+  pub variable_ends : (y : ℕ) (l : Local) → slice_get f.locals y ≡ Some l → is_passing l ≡ false → may_end types f y ≡ true → can_end types texts fs f y ≡ true
+  variable_ends y l at lasts ends =
+      go (variable_type false types l.ty (shaped_at types f.locals y l shaped at (no_register l.kind (is_none l.name) lasts)).built)
     where
-      only_named : (k : LocalKind) (n : Option NameId) → is_none n ≡ false → (is_register k && is_none n) ≡ false
-      only_named Object n e = refl
-      only_named Register n e = e
-      only_named Range n e = refl
+      no_register : (k : LocalKind) (n : Bool) → (n && not (is_object k)) ≡ false → (is_register k && n) ≡ false
+      no_register Object n e = refl
+      no_register Register true e = e
+      no_register Register false e = refl
+      no_register Range n e = refl
 
       both : is_slot_type types (slice_get types.types l.ty.0) ≡ false → can_end types texts fs f y ≡ true
       both slot =
           and_from (may_end types f y) _ ends
-          (and_from (not (result_at types f y)) (not (slot_at types f y)) (no_result y l at named) (ap (λ (o : Option Local). not (is_slot_local types f o)) at ∙ ap not slot))
+          (and_from (not (result_at types f y)) (not (slot_at types f y)) (no_result y l at lasts) (ap (λ (o : Option Local). not (is_slot_local types f o)) at ∙ ap not slot))
 
       go : IsVariableType false types l.ty → can_end types texts fs f y ≡ true
       go (a_value t found v) = both (ap (is_slot_type types) found ∙ value_no_slot types t v)

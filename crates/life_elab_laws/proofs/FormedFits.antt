@@ -7,9 +7,8 @@ use Rattle.life_types.specs.Types.{Types}
 use Rattle.life_types.specs.contracts.ty.TyIdPartialEq.TheImpl.{ghosts as id}
 use Rattle.life_types.specs.declared.ty.Ty.TheVariants as ty
 use Rattle.life_types.specs.declared.ty.TyId.{TyId}
-use Rattle.life_served.specs.Served.{needs_no_temporary}
 use Rattle.life_typed.specs.BaseTypes.{type_at}
-use Rattle.life_typed.specs.Conversions.{fits, initialised, is_const_place, is_place_of, pointer_from, refused, unless, same_target}
+use Rattle.life_typed.specs.Conversions.{fits, fitting, initialised, is_const_place, is_place_of, pointer_from, refused, unless, same_target}
 use Rattle.life_typed.specs.TypedForm.{Typed}
 use Rattle.life_typed.specs.declared.misfit.Misfit.TheVariants.{General, Constant}
 use Rattle.life_typed.specs.declared.typed_expr.Category.{Category}
@@ -25,6 +24,7 @@ use Rattle.life_elab_laws.proofs.FormedVariables.{type_later}
 use Rattle.life_elab_laws.proofs.Fronts.{IsFront}
 use Rattle.life_elab_laws.proofs.Locations.{is_seen}
 use Rattle.life_elab_laws.proofs.OperandsThere.{value_same}
+use Rattle.life_elab_laws.proofs.Values.{by_values}
 use Rattle.life_types.specs.declared.ty.Ty.{Ty}
 use Rattle.life_elab_laws.specs.Reached.{is_owner_of_values, is_walker_of_values}
 
@@ -94,12 +94,7 @@ bound_place types target constant t (category.Place found held) is e =
           (subst (λ (i : TyId). id.eq i target ≡ true) one is);
     }
 
--- what is given to a reference without a temporary
-pub given_reference : (types : Types) (target : TyId) (constant : Bool) (e : Typed) → is_value (type_at types target) ≡ true → needs_no_temporary (ty.Reference target constant) e ≡ true
-    → is_given types (ty.Reference target constant) e ≡ true → IsBoundTo target constant e.category
-given_reference types target constant e worth place given = bound_place types target constant e.ty e.category place given
-
--- .. through which it may be changed: nothing else could be given
+-- what is given to a reference through which it may be changed
 pub given_changed : (types : Types) (target : TyId) (e : Typed) → is_given types (ty.Reference target false) e ≡ true → IsBoundTo target false e.category
 given_changed types target e given = go e.category refl given
   where
@@ -115,6 +110,22 @@ given_changed types target e given = go e.category refl given
         same : (b : Bool) → id.eq found target ≡ b → fits_at_all (cond b (unless held Constant) (refused e.ty)) ≡ true → IsBoundTo target false e.category
         same true is h = subst (IsBoundTo target false) (sym at) (bound_place types target false e.ty (category.Place found held) is (subst (λ (c : Category). fits_at_all (fits types (ty.Reference target false) e.ty c) ≡ true) at given))
         same false is h = absurd (none e.ty h)
+
+-- what a reference is given: a place that it is bound to, or what a temporary of its target is given
+pub data IsBound (types : Types) (target : TyId) (constant : Bool) (e : Typed) : Type 0 where
+  at_place : IsBoundTo target constant e.category → IsBound types target constant e
+  by_temporary : is_place_of e.category target ≡ false → is_given types (type_at types target) e ≡ true → IsBound types target constant e
+
+pub given_bound : (types : Types) (target : TyId) (constant : Bool) (e : Typed) → is_value (type_at types target) ≡ true → is_given types (ty.Reference target constant) e ≡ true → IsBound types target constant e
+given_bound types target false e worth given = at_place (given_changed types target e given)
+given_bound types target true e worth given = go (is_place_of e.category target) refl given
+  where
+    initial : (t : Ty) → is_value t ≡ true → fits_at_all (initialised types t e.ty e.category) ≡ true → is_given types t e ≡ true
+    initial = by_values (λ t. fits_at_all (initialised types t e.ty e.category) ≡ true → is_given types t e ≡ true) (λ h. h) (λ h. h) (λ h. h) (λ h. h) (λ h. h)
+
+    go : (b : Bool) → is_place_of e.category target ≡ b → fits_at_all (cond b fitting (initialised types (type_at types target) e.ty e.category)) ≡ true → IsBound types target true e
+    go true is h = at_place (bound_place types target true e.ty e.category is given)
+    go false is h = by_temporary is (initial (type_at types target) worth h)
 
 -- ---- owners
 

@@ -38,7 +38,8 @@ use Rattle.life_elab_laws.proofs.Fronts.{IsFront, front_length, passed_at}
 use Rattle.life_elab_laws.proofs.OperandsThere.{type_either}
 use Rattle.life_elab_laws.proofs.Reaching.{IsReachedType, variable_found}
 use Rattle.life_elab_laws.proofs.ResultTypes.{result_is}
-use Rattle.life_elab_laws.proofs.WrittenLocals.{AreWrittenLocals, IsIntermediate, IsOwn, fits_later, fits_local, fits_register, local_later, owner_local, register_local, FitsNameless}
+use Rattle.life_elab_laws.proofs.Values.{by_values}
+use Rattle.life_elab_laws.proofs.WrittenLocals.{AreWrittenLocals, IsIntermediate, IsOwn, fits_later, fits_local, fits_register, local_later, owner_local, register_local, FitsNameless, FitsTemporary}
 use Rattle.life_elab_laws.specs.Reached.{is_owner_of_values, is_walker_of_values}
 use Rattle.life_elab_laws.proofs.Shaped.{owner_later}
 
@@ -257,13 +258,15 @@ module _ (so_far : Bool) (p : ProgramForm) (of : FunctionForm) (T types : Types)
       owner_kept (ty.Vector element) o = refl
       owner_kept _ o = absurd (false≢true o)
 
+      temporary_fits : FitsTemporary so_far p.types is.ty → (fits_local types is.ty ≡ true) × (fits_kind Object is.ty ≡ true)
+      temporary_fits (inl value) = (by_values (λ t. fits_local types t ≡ true) refl refl refl refl refl is.ty value, by_values (λ t. fits_kind Object t ≡ true) refl refl refl refl refl is.ty value)
+      temporary_fits (inr o) = let owner = owner_later p.types types front is.ty o.1 in (owner_local types is.ty owner, owner_kept is.ty owner)
+
       go : FitsNameless so_far p.types l.kind is.ty → is_well_formed_local types names core.parameters x l ≡ true
       go (inl register) =
           let fit = fits_later so_far p.types types front is.ty register.1 in
           nameless_formed (register_local so_far types is.ty fit) (ap (λ (k : LocalKind). fits_kind k is.ty) register.0 ∙ fits_kept types so_far is.ty fit)
-      go (inr temporary) =
-          let owner = owner_later p.types types front is.ty temporary.2 in
-          nameless_formed (owner_local types is.ty owner) (ap (λ (k : LocalKind). fits_kind k is.ty) temporary.0 ∙ owner_kept is.ty owner)
+      go (inr temporary) = let fit = temporary_fits temporary.1 in nameless_formed fit.0 (ap (λ (k : LocalKind). fits_kind k is.ty) temporary.0 ∙ fit.1)
 
   own_formed : (x : ℕ) (l : Local) → slice_get core.locals x ≡ Some l → IsOwn (around p of) l → is_well_formed_local types names core.parameters x l ≡ true
   own_formed x l at is =

@@ -34,7 +34,8 @@ use Rattle.life_proper.specs.Placed as placed
 use Rattle.life_elab_laws.proofs.Gifts.{IsAt, IsPlaceOf}
 use Rattle.life_elab_laws.proofs.OperandsThere.{object_there, register_there, type_there, value_no_reference}
 
-keeps_all : (to : Bool) → keeps_const to false ≡ true
+-- what isn't const is taken as const or not
+pub keeps_all : (to : Bool) → keeps_const to false ≡ true
 keeps_all true = refl
 keeps_all false = refl
 

@@ -61,7 +61,7 @@ module _ (so_far : Bool) (p : ProgramForm) (form : FunctionForm) (T types : Type
     pub does : Does types texts so_far fs f (around p form) behind false s s'
     pub stopped : stops (trees s'.code) ≡ true
 
-  finished : (it : StmtForm) (s : State) → ends form.body ≡ ends it → IsBody p form it → is_reached_statement texts so_far p.types form.locals form.result it ≡ true → Follows types f (around p form) (with_parameters (length form.parameters)) s → HasRegister (around p form) s
+  finished : (it : StmtForm) (s : State) → ends form.body ≡ ends it → IsBody p form it → is_reached_statement texts so_far p.types form.locals it ≡ true → Follows types f (around p form) (with_parameters (length form.parameters)) s → HasRegister (around p form) s
       → IsFinished s (body (around p form) it s)
   finished (block items closing) s same h b follows register = go (ends (block items closing)) refl
     where

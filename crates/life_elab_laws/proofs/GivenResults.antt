@@ -1,6 +1,6 @@
--- What a return gives back: a value, a pointer that is given something, or a reference that is aimed at a place.
+-- What a return gives back: a value, a pointer that is given something, or a reference that is aimed at a place, which may be a temporary's.
 use Rattle.std.proofs.Common.{◌≡◌, ℕ, Bool, true, false, cond, List, slice_get, Option, Some, None, refl, sym, ap, ◌∙◌, subst}
-use Rattle.std.proofs.lemmas.Bool.{and_parts, false≢true}
+use Rattle.std.proofs.lemmas.Bool.{false≢true}
 use Rattle.life_types.specs.TypeTests.{is_unique, is_value, is_void}
 use Rattle.life_types.specs.Types.{Types, class}
 use Rattle.life_types.specs.declared.place.Place.{Place}
@@ -9,9 +9,9 @@ use Rattle.life_types.specs.declared.ty.Class.TheVariants as classes
 use Rattle.life_types.specs.declared.ty.Ty.{Ty}
 use Rattle.life_types.specs.declared.ty.Ty.TheVariants as ty
 use Rattle.life_types.specs.declared.ty.TyId.{TyId}
-use Rattle.life_served.specs.Served.{needs_no_temporary}
-use Rattle.life_elab_laws.specs.Reached.{is_reached_expression, is_reached_return}
+use Rattle.life_elab_laws.specs.Reached.{is_reached_expression, is_reached_if_any}
 use Rattle.life_typed.specs.BaseTypes.{type_at}
+use Rattle.life_typed.specs.Conversions.{is_place_of}
 use Rattle.life_typed.specs.TypedForm.{Typed, whole as whole_form}
 use Rattle.life_core.specs.Function.{Function}
 use Rattle.life_core.specs.Kinds.{is_register_at}
@@ -19,6 +19,7 @@ use Rattle.life_core.specs.Operands.{Operand, Place as Aimed, object_named, whol
 use Rattle.life_core.specs.Step.{Aim}
 use Rattle.life_core.specs.Tree.{Returns}
 use Rattle.life_proper.specs.Knowing.{known_at}
+use Rattle.life_proper.specs.OperandTypes.{keeps_const}
 use Rattle.life_proper.specs.Placed.{type_in}
 use Rattle.life_proper.specs.WellFormed.{is_source_of}
 use Rattle.life_type_stmt.specs.Simples.{named_in}
@@ -30,7 +31,6 @@ use Rattle.life_writer.specs.ExpressionForms.{uses}
 use Rattle.life_writer.specs.Giving as giving
 use Rattle.life_writer.specs.Pointers.{Pointing, pointed}
 use Rattle.life_writer.specs.Temporaries.{temporary}
-use Rattle.life_writer.specs.Uses.{Remaining}
 use Rattle.life_writer.specs.Using.{pointing, value}
 use Rattle.life_writer.specs.Writing.{State, Gives, ◌>>◌, emit, gives, mapped}
 use Rattle.life_elab.specs.StatementForms.{given_back, result, result_by, result_given}
@@ -42,8 +42,8 @@ use Rattle.life_elab_laws.proofs.ExpressionForms.{IsWhole}
 use Rattle.life_elab_laws.proofs.Expressions.{whole_expression}
 use Rattle.life_elab_laws.proofs.Filling.{aimed_filling, filling_fills}
 use Rattle.life_elab_laws.proofs.Following.{Follows, HasRegister, IsResultRegister}
-use Rattle.life_elab_laws.proofs.FormedFits.{IsBoundTo, given_raw, given_reference}
-use Rattle.life_elab_laws.proofs.FormedVariables.{reference_there, type_later}
+use Rattle.life_elab_laws.proofs.FormedFits.{IsBound, at_place, by_temporary, given_bound, given_raw}
+use Rattle.life_elab_laws.proofs.FormedVariables.{keeps_all, reference_there, type_later}
 use Rattle.life_elab_laws.proofs.Gifts.{Gift, IsAt, a_number, a_place, a_pointing, held_stays, nothing}
 use Rattle.life_elab_laws.proofs.GivenKinds.{given_number, given_pointer}
 use Rattle.life_elab_laws.proofs.Growing.{Begins, Grows}
@@ -57,6 +57,7 @@ use Rattle.life_elab_laws.proofs.ResultTypes.{IsResultType, gives_nothing, gives
 use Rattle.life_elab_laws.proofs.Returning.{back_given, result_returned, return_does}
 use Rattle.life_elab_laws.proofs.Setting.{Setting}
 use Rattle.life_elab_laws.proofs.TypedKinds.{value_simple}
+use Rattle.life_elab_laws.proofs.ValueTemporaries.{value_temporary}
 use Rattle.life_elab_laws.proofs.Values.{by_values}
 
 module _ (a : Around) (types : Types) (texts : ℕ) (so_far : Bool) (fs : List Function) (f : Function) (setting : Setting so_far a types fs f) (v : Visible) (in_loop : Bool) where
@@ -148,64 +149,73 @@ module _ (a : Around) (types : Types) (texts : ℕ) (so_far : Bool) (fs : List F
             (then_part types texts so_far fs f (nothing types texts so_far fs f) tt into s p (gives (result_local a) (emit e.place (pointed p.given (whole (result_local a))) p.state)) (a_pointing types texts so_far fs f e.ty) a_register h.stands.opened first second)
             (λ n k q. q.1) (given_back a e keyword token s) (by_type (ty.Raw target constant) raw)
 
-      -- a reference, at the place that it is bound to
-      module _ (target : TyId) (constant : Bool) (refers : t ≡ ty.Reference target constant) (w : is_value (type_at a.program.types target) ≡ true) (temporaries : needs_no_temporary t e ≡ true) where
-        bound : IsBoundTo target constant e.category
-        bound = given_reference a.program.types target constant e w (subst (λ (x : Ty). needs_no_temporary x e ≡ true) refers temporaries) (given_as (ty.Reference target constant) refers refl)
+      -- a reference, at a place that is written first
+      module _ (target : TyId) (constant : Bool) (refers : t ≡ ty.Reference target constant) (w : is_value (type_at a.program.types target) ≡ true) where
+        -- what is built where it isn't a place of the type
+        abbrev built : Gives Operand
+        built = mapped object_named (giving.given (uses a (whole_form e)) (type_of a target) token s >> λ rest s. rest (temporary e.place (type_of a target)) s)
 
-        abbrev o : Gives Operand
-        o = (uses a (whole_form e)).at s
+        abbrev back_by : Bool → State
+        back_by c = (cond c (mapped (giving.aimed_at e.place) ((uses a (whole_form e)).at s)) (mapped (giving.aimed_at e.place) built) >> λ rest s. rest (result a keyword) s).state
 
-        -- what would be built where it isn't a place of the type
-        abbrev kept_object : Gives Remaining
-        kept_object = giving.given (uses a (whole_form e)) (type_of a target) token s >> λ rest s. rest (temporary e.place (type_of a target)) s >> λ x s. gives (giving.aimed_at e.place (object_named x)) s
+        module _ (held : Bool) (kept_const : keeps_const constant held ≡ true) (o : Gives Operand) (stands_at : Makes types texts so_far fs f None s o (a_place types texts so_far fs f (type_at a.program.types target) held)) where
+          abbrev done : State
+          done = emit e.place (Aim (whole (result_local a)) (Aimed o.given)) o.state
 
-        stands_at : Makes types texts so_far fs f None s o (a_place types texts so_far fs f (type_at a.program.types target) bound.held)
-        stands_at = whole_is.names target bound.held bound.place w s h.stands
+          refers_there : Begins types f o.state → type_in types f (whole (result_local a)) ≡ ty.Reference target constant
+          refers_there b =
+              reference_there types f (result_local a) register.local target constant (b.locals (result_local a) register.local (there o.state stands_at.grown)) (typed_there o.state stands_at.grown b (ty.Reference target constant) refers)
+              (ap is_value (type_later a.program.types types setting.front target w) ∙ w)
 
-        refers_there : Begins types f o.state → type_in types f (whole (result_local a)) ≡ ty.Reference target constant
-        refers_there b =
-            reference_there types f (result_local a) register.local target constant (b.locals (result_local a) register.local (there o.state stands_at.grown)) (typed_there o.state stands_at.grown b (ty.Reference target constant) refers)
-            (ap is_value (type_later a.program.types types setting.front target w) ∙ w)
+          aims : Part types texts so_far fs f (a_place types texts so_far fs f (type_at a.program.types target) held) o.given into o.state (gives (result_local a) done) a_register
+          aims =
+              emit_part types texts so_far fs f (a_place types texts so_far fs f (type_at a.program.types target) held) o.given into o.state (gives (result_local a) o.state) e.place (λ x. Aim (whole x) (Aimed o.given)) (result_local a) a_register
+              (kept_targeted so_far types f o.state (result_local a) register.local (there o.state stands_at.grown) register.nameless register.kind)
+              (λ b q. (
+                record {
+                  given = refl;
+                  formed = ap (λ (x : Ty). is_source_of types texts fs f x (Aimed o.given)) (refers_there b) ∙ bound_given a types texts so_far fs f setting.front target constant held o.given w kept_const q;
+                  served = q.served;
+                },
+                tt,
+              ))
+              (λ x n k is q. filling_fills f (λ l. Aim l (Aimed o.given)) n k (aimed_filling f o.given n k q) x is)
+              (λ k lt ready. (lt, ready))
 
-        aims : Part types texts so_far fs f (a_place types texts so_far fs f (type_at a.program.types target) bound.held) o.given into o.state (gives (result_local a) (emit e.place (Aim (whole (result_local a)) (Aimed o.given)) o.state)) a_register
-        aims =
-            emit_part types texts so_far fs f (a_place types texts so_far fs f (type_at a.program.types target) bound.held) o.given into o.state (gives (result_local a) o.state) e.place (λ x. Aim (whole x) (Aimed o.given)) (result_local a) a_register
-            (kept_targeted so_far types f o.state (result_local a) register.local (there o.state stands_at.grown) register.nameless register.kind)
-            (λ b q. (
-              record {
-                given = refl;
-                formed = ap (λ (x : Ty). is_source_of types texts fs f x (Aimed o.given)) (refers_there b) ∙ bound_given a types texts so_far fs f setting.front target constant bound.held o.given w bound.kept q;
-                served = q.served;
-              },
-              tt,
-            ))
-            (λ x n k is q. filling_fills f (λ l. Aim l (Aimed o.given)) n k (aimed_filling f o.given n k q) x is)
-            (λ k lt ready. (lt, ready))
+          aimed_back : given_back a e keyword token s ≡ done → Back GivenBack
+          aimed_back same =
+              result_returned a types texts so_far fs f setting v in_loop s h register keyword token (gives (result_local a) done) a_register
+              (then_part types texts so_far fs f (nothing types texts so_far fs f) tt into s o (gives (result_local a) done) (a_place types texts so_far fs f (type_at a.program.types target) held) a_register h.stands.opened stands_at aims)
+              (λ n k q. q.1) (given_back a e keyword token s) same
+
+        by_place : is_place_of e.category target ≡ true → given_back a e keyword token s ≡ back_by true
+        by_place is = by_type (ty.Reference target constant) refers ∙ ap back_by is
+
+        by_building : is_place_of e.category target ≡ false → given_back a e keyword token s ≡ back_by false
+        by_building is = by_type (ty.Reference target constant) refers ∙ ap back_by is
 
         reference_returned : Back GivenBack
-        reference_returned =
-            result_returned a types texts so_far fs f setting v in_loop s h register keyword token (gives (result_local a) (emit e.place (Aim (whole (result_local a)) (Aimed o.given)) o.state)) a_register
-            (then_part types texts so_far fs f (nothing types texts so_far fs f) tt into s o (gives (result_local a) (emit e.place (Aim (whole (result_local a)) (Aimed o.given)) o.state)) (a_place types texts so_far fs f (type_at a.program.types target) bound.held) a_register h.stands.opened stands_at aims)
-            (λ n k q. q.1) (given_back a e keyword token s)
-            (by_type (ty.Reference target constant) refers
-            ∙ ap (λ (c : Bool). (cond c (mapped (giving.aimed_at e.place) o) kept_object >> λ rest s. rest (result a keyword) s).state) bound.here)
+        reference_returned = go (given_bound a.program.types target constant e w (given_as (ty.Reference target constant) refers refl))
+          where
+            go : IsBound a.program.types target constant e → Back GivenBack
+            go (at_place bound) = aimed_back bound.held bound.kept ((uses a (whole_form e)).at s) (whole_is.names target bound.held bound.place w s h.stands) (by_place bound.here)
+            go (by_temporary none initial) =
+                aimed_back false (keeps_all constant) built
+                (value_temporary a v.visible types texts so_far fs f setting (whole_form e) whole_is (type_at a.program.types target) w (given_number a.program.types (type_at a.program.types target) e w initial) token s h.stands)
+                (by_building none)
 
     -- ---- any return
 
-    pub returned_does : HasRegister a s → (keyword : Place) (given : Option Typed) (token : Place) → is_reached_return texts so_far t given ≡ true → IsReturned a.program a.function.locals a.function.result v.visible given
+    pub returned_does : HasRegister a s → (keyword : Place) (given : Option Typed) (token : Place) → is_reached_if_any texts so_far given ≡ true → IsReturned a.program a.function.locals a.function.result v.visible given
         → Back (left 0 keyword (Returns keyword) (result_given a given keyword token s))
     returned_does register keyword None token b r = return_does a types texts so_far fs f setting v in_loop s h (λ gives. false≢true (sym gives.0 ∙ r)) keyword
     returned_does register keyword (Some e) token b r = go (result_is a.program.types t setting.result)
       where
-        parts : (is_reached_expression texts so_far e ≡ true) × (needs_no_temporary t e ≡ true)
-        parts = and_parts (is_reached_expression texts so_far e) (needs_no_temporary t e) b
-
         there_is : IsResultRegister a s
         there_is = register r.0
 
         go : IsResultType a.program.types t → Back (left 0 keyword (Returns keyword) (result_given a (Some e) keyword token s))
         go (gives_nothing void) = absurd (false≢true (sym r.0 ∙ ap is_void void))
-        go (gives_value w) = value_returned there_is e keyword token parts.0 r w
-        go (gives_raw target constant raw w) = raw_returned there_is e keyword token parts.0 r target constant raw w
-        go (gives_reference target constant refers w) = reference_returned there_is e keyword token parts.0 r target constant refers w parts.1
+        go (gives_value w) = value_returned there_is e keyword token b r w
+        go (gives_raw target constant raw w) = raw_returned there_is e keyword token b r target constant raw w
+        go (gives_reference target constant refers w) = reference_returned there_is e keyword token b r target constant refers w

@@ -4,7 +4,7 @@ use Rattle.std.proofs.lemmas.Bool.{and_from, false≢true}
 use Rattle.std.specs.List.{list_all}
 use Rattle.life_types.specs.Pointees.{or_void, ty_of}
 use Rattle.life_types.specs.TypeTests.{is_value}
-use Rattle.life_types.specs.Types.{Types, is_slot_at, is_slot_target, is_slot_type}
+use Rattle.life_types.specs.Types.{Types, is_slot_at, is_slot_type}
 use Rattle.life_types.specs.declared.place.Place.{Place}
 use Rattle.life_types.specs.declared.ty.Ty.{Ty}
 use Rattle.life_types.specs.declared.ty.Ty.TheVariants as ty
@@ -39,8 +39,9 @@ use Rattle.life_elab_laws.proofs.Emitting.{new_targeted}
 use Rattle.life_elab_laws.proofs.ExpressionForms.{IsWhole, Standing}
 use Rattle.life_elab_laws.proofs.ExpressionTypes.{seen_kind}
 use Rattle.life_elab_laws.proofs.Filling.{aimed_filling, filling_fills}
-use Rattle.life_elab_laws.proofs.FormedFits.{given_changed, given_raw}
-use Rattle.life_elab_laws.proofs.FormedVariables.{reference_there, type_later}
+use Rattle.life_elab_laws.proofs.FormedEnds.{reference_no_slot}
+use Rattle.life_elab_laws.proofs.FormedFits.{IsBound, at_place, by_temporary, given_bound, given_raw}
+use Rattle.life_elab_laws.proofs.FormedVariables.{keeps_all, reference_there, type_later}
 use Rattle.life_elab_laws.proofs.Fronts.{IsFront, front_length, last_there}
 use Rattle.life_elab_laws.proofs.Gifts.{Gift, a_number, a_place, a_pointer, a_pointing, arguments, both, nothing as no_gift, takes_from}
 use Rattle.life_elab_laws.proofs.GivenKinds.{given_number, given_pointer, given_view}
@@ -56,18 +57,11 @@ use Rattle.life_elab_laws.proofs.PointerForms.{held_typed, own_typed, pointer_wh
 use Rattle.life_elab_laws.proofs.Setting.{Setting}
 use Rattle.life_elab_laws.proofs.Shaped.{value_later}
 use Rattle.life_elab_laws.proofs.Types.{type_added}
+use Rattle.life_elab_laws.proofs.ValueTemporaries.{value_temporary}
 use Rattle.life_elab_laws.proofs.Values.{by_values}
 use Rattle.life_elab_laws.proofs.VariablePlaces.{stands_later}
 use Rattle.life_elab_laws.proofs.WalkerSteps.{keeps_itself}
 use Rattle.life_elab_laws.proofs.WrittenLocals.{fits_below}
-
--- a reference to a value is no slot
-no_slot : (types : Types) (target : TyId) → is_value (type_at types target) ≡ true → is_slot_target (slice_get types.types target.0) ≡ false
-no_slot types target v = go (slice_get types.types target.0) v
-  where
-    go : (o : Option Ty) → is_value (unwrap_or o ty.Void) ≡ true → is_slot_target o ≡ false
-    go None v = refl
-    go (Some t) v = by_values (λ u. is_slot_target (Some u) ≡ false) refl refl refl refl refl t v
 
 -- what a table has has the type that is there
 found_type : (types : Types) (id : TyId) (t : Ty) → slice_get types.types id.0 ≡ Some t → type_at types id ≡ t
@@ -98,10 +92,10 @@ module _ (types : Types) (texts : ℕ) (so_far : Bool) (fs : List Function) (f :
 
   -- ---- a reference, which is aimed by a register
 
-  module _ (a : Around) (front : IsFront a.program.types.types types.types) (target : TyId) (held : Bool) (place : Place) (o : Operand) (s : State) (table : IsFront a.program.types.types s.types.types)
-      (worth : is_value (type_at a.program.types target) ≡ true) (kept : keeps_const false held ≡ true) where
+  module _ (a : Around) (front : IsFront a.program.types.types types.types) (target : TyId) (constant held : Bool) (place : Place) (o : Operand) (s : State) (table : IsFront a.program.types.types s.types.types)
+      (worth : is_value (type_at a.program.types target) ≡ true) (kept : keeps_const constant held ≡ true) where
     abbrev reference : Ty
-    reference = ty.Reference target false
+    reference = ty.Reference target constant
 
     abbrev w : Gives ℕ
     w = new_register place reference s
@@ -112,7 +106,7 @@ module _ (types : Types) (texts : ℕ) (so_far : Bool) (fs : List Function) (f :
     there : Begins types f w.state → type_in types f (whole w.given) ≡ reference
     there b =
         let l = added place reference s in
-        reference_there types f (length s.locals) l target false (b.locals (length s.locals) l (last_there s.locals l)) (b.table l.ty.0 reference (type_added s.types.types reference)) later
+        reference_there types f (length s.locals) l target constant (b.locals (length s.locals) l (last_there s.locals l)) (b.table l.ty.0 reference (type_added s.types.types reference)) later
 
     pub aimed_part : Part types texts so_far fs f (a_place types texts so_far fs f (type_at a.program.types target) held) o None s (gives (whole w.given) (emit place (Aim (whole w.given) (Aimed o)) w.state)) (a_pointer types texts so_far fs f reference)
     aimed_part =
@@ -121,7 +115,7 @@ module _ (types : Types) (texts : ℕ) (so_far : Bool) (fs : List Function) (f :
         (λ b h. let at = there b in (
           record {
             given = refl;
-            formed = ap (λ (t : Ty). is_source_of types texts fs f t (Aimed o)) at ∙ bound_given a types texts so_far fs f front target false held o worth kept h;
+            formed = ap (λ (t : Ty). is_source_of types texts fs f t (Aimed o)) at ∙ bound_given a types texts so_far fs f front target constant held o worth kept h;
             served = λ so. h.served so;
           },
           record { typed = at; kept = register_there types f (length s.locals) (added place reference s) (b.locals (length s.locals) (added place reference s) (last_there s.locals (added place reference s))) refl; served = λ so. refl },
@@ -177,10 +171,10 @@ module _ (a : Around) (visible : List ℕ) (types : Types) (texts : ℕ) (so_far
   aimed_to u t w = gives (whole (new_register u.place t w.state).given) (emit u.place (Aim (whole (new_register u.place t w.state).given) (Aimed w.given)) (new_register u.place t w.state).state)
 
   -- .. or at a temporary
-  abbrev bound_by : Uses → TyId → Place → State → Bool → Gives Argument
-  bound_by u target behind s c =
+  abbrev bound_by : Uses → TyId → Bool → Place → State → Bool → Gives Argument
+  bound_by u target constant behind s c =
       (cond c (mapped (giving.aimed_at u.place) (u.at s)) (giving.given u (type_at a.program.types target) behind s >> λ rest s. rest (temporary u.place (type_at a.program.types target)) s >> λ x s. gives (giving.aimed_at u.place (object_named x)) s))
-      >> λ rest s. mapped (λ r. PointerOf (whole r)) (rest (wanted u.place None (ty.Reference target false)) s)
+      >> λ rest s. mapped (λ r. PointerOf (whole r)) (rest (wanted u.place None (ty.Reference target constant)) s)
 
   pub first_handed : (e es : Form) (d : DelimitersForm) (id : TyId) (ids : List TyId) → IsWhole a visible types texts so_far fs f setting e → ((s : State) → Stood s → Hands ids s (giving.arguments a (all_uses a es) (behind_others d) ids s))
       → IsHandedType so_far a.program.types id → is_given a.program.types (type_at a.program.types id) (typed_in e) ≡ true → (s : State) → Stood s → Hands (id ∷ ids) s (giving.arguments a (all_uses a (e ⨟ es)) d (id ∷ ids) s)
@@ -221,17 +215,34 @@ module _ (a : Around) (visible : List ℕ) (types : Types) (texts : ℕ) (so_far
           as_type ty.View at
           (pointer_handed_part types texts so_far fs f id ty.View ty.View ids (pointer (uses a e) ty.View) (others_of es d ids) s (plain ty.View at refl) (later ty.View at) refl stands.opened first
           (behind_first_part (pointer (uses a e) ty.View s) (a_pointer types texts so_far fs f ty.View) first))
-      go (a_reference target at worth) =
-          let t = ty.Reference target false in
-          let bound = given_changed a.program.types target (typed_in e) (given_as t at) in
-          let w = (uses a e).at s in
-          let first = is.names target bound.held bound.place worth s stands in
-          let there = stands_later a visible s w.state first.grown stands in
-          let aim = aimed_part types texts so_far fs f a setting.front target bound.held (uses a e).place w.given w.state there.table worth bound.kept in
-          let v = aimed_to (uses a e) t w in
-          let all = then_part types texts so_far fs f (no_gift types texts so_far fs f) tt None s w v (a_place types texts so_far fs f (type_at a.program.types target) bound.held) (a_pointer types texts so_far fs f t) stands.opened first aim in
-          as_type t at
-          (subst (λ (c : Bool). Hands (id ∷ ids) s (bound_by (uses a e) target (behind_first d) s c >> λ x s. mapped (λ xs. x ∷ xs) (others_of es d ids s))) (sym (ap (λ (c : Category). is_place_of c target) (sym (held_typed a visible types texts so_far fs f setting e)) ∙ bound.here))
-          (pointer_handed_part types texts so_far fs f id t t ids (λ s. aimed_to (uses a e) t ((uses a e).at s)) (others_of es d ids) s (plain t at (no_slot types target (value_later a.program.types types setting.front target worth))) (later t at)
-          (and_from (same (ty_of types target) (ty_of types target)) (keeps_const false false) (value_same (ty_of types target) (ap is_value (type_later a.program.types types setting.front target worth) ∙ worth)) refl) stands.opened all
-          (behind_first_part v (a_pointer types texts so_far fs f t) all)))
+      go (a_reference target constant at worth) = as_type (ty.Reference target constant) at (bound_first target constant at worth (given_bound a.program.types target constant (typed_in e) worth (given_as (ty.Reference target constant) at)))
+        where
+          -- aimed at what is written first
+          aimed_first : (target : TyId) (constant held : Bool) (w : State → Gives Operand) → slice_get a.program.types.types id.0 ≡ Some (ty.Reference target constant) → is_value (type_at a.program.types target) ≡ true → keeps_const constant held ≡ true
+              → Makes types texts so_far fs f None s (w s) (a_place types texts so_far fs f (type_at a.program.types target) held)
+              → Hands (id ∷ ids) s (aimed_to (uses a e) (ty.Reference target constant) (w s) >> λ l s. mapped (λ xs. PointerOf l ∷ xs) (others_of es d ids s))
+          aimed_first target constant held w at worth kept first =
+              let t = ty.Reference target constant in
+              let there = stands_later a visible s (w s).state first.grown stands in
+              let aim = aimed_part types texts so_far fs f a setting.front target constant held (uses a e).place (w s).given (w s).state there.table worth kept in
+              let v = aimed_to (uses a e) t (w s) in
+              let all = then_part types texts so_far fs f (no_gift types texts so_far fs f) tt None s (w s) v (a_place types texts so_far fs f (type_at a.program.types target) held) (a_pointer types texts so_far fs f t) stands.opened first aim in
+              pointer_handed_part types texts so_far fs f id t t ids (λ s. aimed_to (uses a e) t (w s)) (others_of es d ids) s (plain t at (reference_no_slot types target constant (value_later a.program.types types setting.front target worth))) (later t at)
+              (and_from (same (ty_of types target) (ty_of types target)) (keeps_const constant constant) (value_same (ty_of types target) (ap is_value (type_later a.program.types types setting.front target worth) ∙ worth)) (keeps_itself constant)) stands.opened all
+              (behind_first_part v (a_pointer types texts so_far fs f t) all)
+
+          as_bound : (target : TyId) (constant c : Bool) → is_place_of (uses a e).category target ≡ c → Hands (id ∷ ids) s (bound_by (uses a e) target constant (behind_first d) s c >> λ x s. mapped (λ xs. x ∷ xs) (others_of es d ids s))
+              → Hands (id ∷ ids) s (bound_by (uses a e) target constant (behind_first d) s (is_place_of (uses a e).category target) >> λ x s. mapped (λ xs. x ∷ xs) (others_of es d ids s))
+          as_bound target constant c same part = subst (λ (c : Bool). Hands (id ∷ ids) s (bound_by (uses a e) target constant (behind_first d) s c >> λ x s. mapped (λ xs. x ∷ xs) (others_of es d ids s))) (sym same) part
+
+          seen_here : (target : TyId) → is_place_of (uses a e).category target ≡ is_place_of (typed_in e).category target
+          seen_here target = ap (λ (c : Category). is_place_of c target) (sym (held_typed a visible types texts so_far fs f setting e))
+
+          bound_first : (target : TyId) (constant : Bool) → slice_get a.program.types.types id.0 ≡ Some (ty.Reference target constant) → (worth : is_value (type_at a.program.types target) ≡ true) → IsBound a.program.types target constant (typed_in e)
+              → Hands (id ∷ ids) s (giving.argument a (uses a e) (ty.Reference target constant) (behind_first d) s >> λ x s. mapped (λ xs. x ∷ xs) (others_of es d ids s))
+          bound_first target constant at worth (at_place bound) =
+              as_bound target constant true (seen_here target ∙ bound.here) (aimed_first target constant bound.held (uses a e).at at worth bound.kept (is.names target bound.held bound.place worth s stands))
+          bound_first target constant at worth (by_temporary none initial) =
+              as_bound target constant false (seen_here target ∙ none)
+              (aimed_first target constant false (λ s. mapped object_named (giving.given (uses a e) (type_at a.program.types target) (behind_first d) s >> λ rest s. rest (temporary (uses a e).place (type_at a.program.types target)) s)) at worth (keeps_all constant)
+              (value_temporary a visible types texts so_far fs f setting e is (type_at a.program.types target) worth (given_number a.program.types (type_at a.program.types target) (typed_in e) worth initial) (behind_first d) s stands))

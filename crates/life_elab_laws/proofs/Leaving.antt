@@ -1,8 +1,7 @@
 -- Where variables end: at the end of a block, and before control goes elsewhere.
-use Rattle.std.proofs.Common.{◌≡◌, ℕ, Bool, true, List, [], ◌∷◌, ◌++◌, drop, length, reverse, take, Option, Some, is_none, sym, ap, ◌∙◌, subst, arith, append_assoc}
+use Rattle.std.proofs.Common.{◌≡◌, ℕ, Bool, true, List, [], ◌∷◌, ◌++◌, drop, length, reverse, take, Some, sym, ap, ◌∙◌, subst, arith, append_assoc}
 use Rattle.life_types.specs.Types.{Types}
 use Rattle.life_types.specs.declared.place.Place.{Place}
-use Rattle.life_types.specs.declared.ty.NameId.{NameId}
 use Rattle.life_core.specs.Function.{Function}
 use Rattle.life_core.specs.Tree.{Tree, trees}
 use Rattle.life_proper.specs.declared.known.Known.{Known}
@@ -33,14 +32,14 @@ use Rattle.life_elab_laws.proofs.Shaping.{IsFine, IsStated, stated_alone, stated
 module _ (types : Types) (texts : ℕ) (so_far : Bool) (fs : List Function) (f : Function) where
   -- all past so many
   module _ (a : Around) (setting : Setting so_far a types fs f) (v : Visible) (s : State) (h : Follows types f a v s) (b : Begins types f s) (n : ℕ) where
-    -- .. each is a variable, so it can end
+    -- .. each is a variable or a temporary, so it can end
     pub past_fine : (place : Place) (e : IsEnded types texts so_far fs f (reverse (drop n s.living)) place s) → IsFine types texts so_far fs f e.code
     past_fine place e = e.fine (all_among (can_end types texts fs f) (reverse (drop n s.living)) (λ y m. one y (among_drop n s.living y (reverse_among (drop n s.living) y m))))
       where
         one : (y : ℕ) → Among y s.living → can_end types texts fs f y ≡ true
         one y m =
             let is = h.living y m in
-            variable_ends types texts so_far fs f setting.shaped setting.nameless y is.local (b.locals y is.local is.there) (ap (λ (o : Option NameId). is_none o) is.named) (h.sorts b y m)
+            variable_ends types texts so_far fs f setting.shaped setting.nameless setting.registers y is.local (b.locals y is.local is.there) is.lasts (h.sorts b y m)
 
   -- ---- the end of a block
 

@@ -4,6 +4,7 @@ pub mod Among
 pub mod AppendForms
 pub mod BaseSteps
 pub mod Beginning
+pub mod BoundVariables
 pub mod Branching
 pub mod ServedReached
 pub mod BuiltVariables
@@ -50,6 +51,7 @@ pub mod Instructions
 pub mod ItemTokens
 pub mod JoinedForms
 pub mod KeptGiven
+pub mod KeptTemporaries
 pub mod Knowledge
 pub mod Leaving
 pub mod ListForms
@@ -78,6 +80,7 @@ pub mod Reaching
 pub mod ResultTypes
 pub mod Returning
 pub mod RowTypes
+pub mod Saving
 pub mod SeenForms
 pub mod ServedLocals
 pub mod Setting
@@ -98,6 +101,7 @@ pub mod TemporaryBirths
 pub mod TemporaryEnds
 pub mod TypedKinds
 pub mod Types
+pub mod ValueTemporaries
 pub mod Values
 pub mod VariablePlaces
 pub mod ViewForms

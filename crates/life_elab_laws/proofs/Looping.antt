@@ -18,14 +18,14 @@ use Rattle.life_writer.specs.Writing.{State, Gives, with_code, write}
 use Rattle.life_elab_laws.proofs.Among.{Among, among_or}
 use Rattle.life_elab_laws.proofs.Branching.{known_behind}
 use Rattle.life_elab_laws.proofs.Doing.{Acting, DoesLevel}
-use Rattle.life_elab_laws.proofs.Exits.{AreNamed, Knows, Leaves, MayKnow, MayLeave, forgotten_implied, leaves_joined, leaves_may, leaves_same, may_met, none_leaves}
+use Rattle.life_elab_laws.proofs.Exits.{AreLasting, Knows, Leaves, MayKnow, MayLeave, forgotten_implied, leaves_joined, leaves_may, leaves_same, may_met, none_leaves}
 use Rattle.life_elab_laws.proofs.Falling.{deciding}
-use Rattle.life_elab_laws.proofs.Following.{Adds, Follows, adds_then, begins_added, follows_again, follows_grown, follows_named, grows_adds, knows_alive, take_itself, visible_again}
+use Rattle.life_elab_laws.proofs.Following.{Adds, Follows, adds_then, begins_added, follows_again, follows_grown, follows_lasting, grows_adds, knows_alive, take_itself, visible_again}
 use Rattle.life_elab_laws.proofs.Fronts.{front_itself}
 use Rattle.life_elab_laws.proofs.GivingBack.{GivesResult, asks_known, known_may}
 use Rattle.life_elab_laws.proofs.Growing.{Begins}
 use Rattle.life_elab_laws.proofs.OrderedTypes.{order_then}
-use Rattle.life_elab_laws.proofs.Shaped.{AreShaped, shaped_at, is_passing, named_lasts}
+use Rattle.life_elab_laws.proofs.Shaped.{AreShaped, shaped_at, is_passing}
 use Rattle.life_elab_laws.proofs.Conditions.{Asked, AsksAll, Tests}
 use Rattle.life_elab_laws.proofs.Shaping.{stated_alone, stated_turns}
 use Rattle.life_elab_laws.proofs.WrittenLocals.{locals_added}
@@ -70,10 +70,10 @@ forgotten_at (u ∷ ls) (x ∷ k) zero l at e = rw here refl
 forgotten_at (u ∷ ls) (x ∷ k) (suc y) l at e = forgotten_at ls k y l at e
 
 module _ (types : Types) (texts : ℕ) (so_far : Bool) (fs : List Function) (f : Function) where
-  knows_forgotten : (living : List ℕ) (k : List Known) → AreNamed f living → Knows f living k → Knows f living (forgotten f.locals k)
-  knows_forgotten living k names knows = record {
+  knows_forgotten : (living : List ℕ) (k : List Known) → AreLasting f living → Knows f living k → Knows f living (forgotten f.locals k)
+  knows_forgotten living k lasting knows = record {
     sized = forgotten_length f.locals k ∙ knows.sized;
-    alive = λ y m. let is = names y m in forgotten_at f.locals k y is.0 is.2 (named_lasts is.0 is.1 is.3) ∙ knows.alive y m;
+    alive = λ y m. let is = lasting y m in forgotten_at f.locals k y is.0 is.1 is.2 ∙ knows.alive y m;
     blank = λ y l there lasts no. forgotten_at f.locals k y l there lasts ∙ knows.blank y l there lasts no;
   }
 
@@ -187,8 +187,8 @@ module _ (types : Types) (texts : ℕ) (so_far : Bool) (fs : List Function) (f :
         step_outside : take w.state.outside t.living ≡ take s.outside s.living
         step_outside = ap (take w.state.outside) body_living ∙ ap (λ (n : ℕ). take n s.living) test.grown.outside
 
-        names : AreNamed f s.living
-        names = follows_named types f a v s h (begins_added types f s w.state (grows_adds types f s w.state (test.level tt) test.grown) tested)
+        lasting : AreLasting f s.living
+        lasting = follows_lasting types f a v s h (begins_added types f s w.state (grows_adds types f s w.state (test.level tt) test.grown) tested)
 
         -- what is known at the head, in the body and in the step
         module _ (k : List Known) (knows : Knows f s.living k) where
@@ -196,7 +196,7 @@ module _ (types : Types) (texts : ℕ) (so_far : Bool) (fs : List Function) (f :
           head = forgotten f.locals k
 
           at_head : Knows f s.living head
-          at_head = knows_forgotten s.living k names knows
+          at_head = knows_forgotten s.living k lasting knows
 
           abbrev g : Asked types texts so_far fs f s w.state w.given head
           g = asks.goes head (knows_alive types f a v s h head at_head)

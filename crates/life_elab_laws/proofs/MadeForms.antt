@@ -1,5 +1,5 @@
 -- Owners that are made: what is found first, and the act that makes one of it, where a variable or a temporary has come to life.
-use Rattle.std.proofs.Common.{◌≡◌, ℕ, Bool, true, false, List, Contains, length, Option, None, sym, ap, ◌∙◌, subst, arith}
+use Rattle.std.proofs.Common.{◌≡◌, inr, ℕ, Bool, true, false, List, Contains, length, Option, None, sym, ap, ◌∙◌, subst, arith}
 use Rattle.life_types.specs.Trees.{HasPartsBelow}
 use Rattle.life_types.specs.Types.{Types}
 use Rattle.life_types.specs.declared.place.Place.{Place}
@@ -31,7 +31,7 @@ use Rattle.life_elab_laws.proofs.Parts.{Makes, Part, and_part, keep_part, seen_p
 use Rattle.life_elab_laws.proofs.PointerForms.{held_typed, own_typed}
 use Rattle.life_elab_laws.proofs.Setting.{Setting}
 use Rattle.life_elab_laws.proofs.Shaped.{owner_later}
-use Rattle.life_elab_laws.proofs.TemporaryBirths.{born, born_part}
+use Rattle.life_elab_laws.proofs.TemporaryBirths.{lived_part, lived_there}
 use Rattle.life_elab_laws.proofs.VariablePlaces.{stands_later}
 use Rattle.life_elab_laws.proofs.WrittenLocals.{owner_below}
 
@@ -87,10 +87,10 @@ module _ (a : Around) (visible : List ℕ) (types : Types) (texts : ℕ) (so_far
     within = owner_below a.program.types w.state.types (front_length a.program.types.types w.state.types.types later.table) t owner
 
     abbrev x : Gives Operand
-    x = born types texts so_far fs f place is.form t w.state wide v later.opened later.pends within
+    x = lived_there types texts so_far fs f place is.form t w.state (inr (wide, v)) later.opened later.pends within
 
     one : Makes types texts so_far fs f None w.state x (a_place types texts so_far fs f t false)
-    one = born_part types texts so_far fs f place is.form t w.state wide v later.opened later.pends within
+    one = lived_part types texts so_far fs f place is.form t w.state (inr (wide, v)) later.opened later.pends within
 
     abbrev done : State
     done = is.act place x.given x.state

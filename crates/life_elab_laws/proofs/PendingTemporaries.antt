@@ -1,9 +1,9 @@
--- The temporaries that end with the full expression that is being written: owners without names, the last one with the highest number.
-use Rattle.std.proofs.Common.{◌≡◌, ℕ, true, List, [], Contains, slice_get, Some, None, subst, sym}
+-- The temporaries that end with the full expression that is being written: objects without names, the last one with the highest number.
+use Rattle.std.proofs.Common.{◌≡◌, ℕ, false, List, [], Contains, slice_get, Some, None, subst, sym}
+use Rattle.life_types.specs.TypeTests.{is_pointer}
 use Rattle.life_types.specs.declared.ty.Ty.{Ty}
 use Rattle.life_core.specs.declared.program.Local.{Local}
 use Rattle.life_core.specs.declared.program.LocalKind.TheVariants.{Object}
-use Rattle.life_proper.specs.OperandTypes.{is_owner}
 use Rattle.life_writer.specs.Writing.{State}
 use Rattle.life_elab_laws.proofs.Among.{Among, Ascend}
 use Rattle.life_elab_laws.proofs.Fronts.{IsFront}
@@ -16,7 +16,7 @@ pub record IsTemporary (locals : List Local) (table : List Ty) (y : ℕ) : Type 
   pub kind : local.kind ≡ Object
   pub ty : Ty
   pub typed : slice_get table local.ty.0 ≡ Some ty
-  pub owner : is_owner ty ≡ true
+  pub plain : is_pointer ty ≡ false
 
 pub temporary_later : (locals more : List Local) (table wider : List Ty) (y : ℕ) → IsFront locals more → IsFront table wider → IsTemporary locals table y → IsTemporary more wider y
 temporary_later locals more table wider y front later is = record {
@@ -26,7 +26,7 @@ temporary_later locals more table wider y front later is = record {
   kind = is.kind;
   ty = is.ty;
   typed = later is.local.ty.0 is.ty is.typed;
-  owner = is.owner;
+  plain = is.plain;
 }
 
 -- all of them; none is a variable

@@ -1,7 +1,7 @@
 -- break, continue and return.
-use Rattle.std.proofs.Common.{◌≡◌, Bool, true, false, ◌||◌, ℕ, List, [], ◌∷◌, ◌++◌, drop, length, reverse, take, Option, Some, None, refl, sym, ap, ◌∙◌, subst, append_assoc}
+use Rattle.std.proofs.Common.{◌≡◌, Bool, true, false, ◌&&◌, ◌||◌, not, is_none, ℕ, List, [], ◌∷◌, ◌++◌, drop, length, reverse, take, Option, Some, None, refl, sym, ap, ◌∙◌, subst, append_assoc}
 use Rattle.std.proofs.lemmas.Bool.{and_from, false≢true}
-use Rattle.std.proofs.lemmas.Option.{none-some, same_Some}
+use Rattle.std.proofs.lemmas.Option.{same_Some}
 use Rattle.life_types.specs.TypeTests.{is_unique}
 use Rattle.life_types.specs.Types.{Types, class_at}
 use Rattle.life_types.specs.declared.place.Place.{Place}
@@ -16,6 +16,7 @@ use Rattle.life_core.specs.Function.{Function}
 use Rattle.life_core.specs.Touched.{nothing, result_uses}
 use Rattle.life_core.specs.Tree.{Tree, Breaks, Continues, Return, Returns, trees}
 use Rattle.life_core.specs.declared.program.Local.{Local}
+use Rattle.life_core.specs.declared.program.LocalKind.{LocalKind}
 use Rattle.life_proper.specs.declared.known.Known.{Known}
 use Rattle.life_proper.specs.declared.known.Known.TheVariants as known
 use Rattle.life_proper.specs.Checking.{Flow, before_next, flow, joined}
@@ -48,6 +49,7 @@ use Rattle.life_elab_laws.proofs.EndedTemporaries.{behind_is, ends_spare}
 use Rattle.life_elab_laws.proofs.TemporaryEnds.{TemporariesEnd, temporary_ends}
 use Rattle.life_core.specs.Kinds.{is_object}
 use Rattle.life_elab_laws.proofs.Setting.{GivesBack, Setting, asked, unasked}
+use Rattle.life_elab_laws.proofs.Shaped.{is_passing}
 use Rattle.life_elab_laws.proofs.Shaping.{stated_alone, stated_append}
 use Rattle.life_elab_laws.proofs.WrittenLocals.{locals_added}
 
@@ -156,15 +158,18 @@ module _ (a : Around) (types : Types) (texts : ℕ) (so_far : Bool) (fs : List F
       abbrev ending : List ℕ
       ending = reverse (drop 0 w.state.living)
 
-      -- its register isn't a variable's, so it stays where all variables end
+      -- its register is passing, so it stays where all that lives ends
       not_ending : Among (result_local a) ending → ⊥
-      not_ending m = named is.local register.local is.name (same_Some is.local register.local (sym is.there ∙ made.grown.locals (result_local a) register.local register.there)) is.named register.nameless
+      not_ending m = false≢true (sym is.lasts ∙ ap (λ (l : Local). is_passing l) same ∙ passing)
         where
           is : IsLiving r_state (result_local a)
           is = later.living (result_local a) (among_drop 0 w.state.living (result_local a) (reverse_among (drop 0 w.state.living) (result_local a) m))
 
-          named : (l u : Local) (name : NameId) → l ≡ u → l.name ≡ Some name → u.name ≡ None → ⊥
-          named l u name same e n = none-some name (sym n ∙ ap (λ (x : Local). x.name) (sym same) ∙ e)
+          same : is.local ≡ register.local
+          same = same_Some is.local register.local (sym is.there ∙ made.grown.locals (result_local a) register.local register.there)
+
+          passing : is_passing register.local ≡ true
+          passing = ap (λ (o : Option NameId). is_none o && not (is_object register.local.kind)) register.nameless ∙ ap (λ (k : LocalKind). not (is_object k)) register.kind
 
       module _ (d : IsEnded types texts so_far fs f ending keyword r_state) where
         abbrev back : List Tree

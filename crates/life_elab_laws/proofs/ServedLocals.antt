@@ -11,10 +11,11 @@ use Rattle.life_core.specs.Holdings.{held_by, held_if}
 use Rattle.life_core.specs.Served.{is_served_as, is_served_local}
 use Rattle.life_core.specs.declared.program.Local.{Local}
 use Rattle.life_core.specs.declared.program.LocalKind.{LocalKind}
-use Rattle.life_core.specs.declared.program.LocalKind.TheVariants.{Register}
+use Rattle.life_core.specs.declared.program.LocalKind.TheVariants.{Object, Register}
 use Rattle.life_writer.specs.Variables.{kind}
 use Rattle.life_elab_laws.proofs.FormedEnds.{reference_no_slot}
 use Rattle.life_elab_laws.proofs.Reaching.{IsReachedType}
+use Rattle.life_elab_laws.proofs.Values.{by_values}
 use Rattle.life_elab_laws.proofs.WrittenLocals.{fits_register}
 
 -- what each of a list passes, all do
@@ -37,6 +38,10 @@ module _ (types : Types) where
   register_served (ty.Raw target constant) h = refl
   register_served (ty.Reference target constant) h = refl
   register_served _ h = absurd (false≢true h)
+
+  -- a temporary
+  pub value_served : (t : Ty) → is_value t ≡ true → IsServedAs Object t
+  value_served = by_values (IsServedAs Object) refl refl refl refl refl
 
   pub variable_served : (so_far : Bool) → so_far ≡ true → (t : Ty) → IsReachedType so_far types t → IsServedAs (kind (class (Some t))) t × (fits_register true types t ≡ true)
   variable_served so_far so t (inr (inl v)) = absurd (false≢true (sym v.0 ∙ so))

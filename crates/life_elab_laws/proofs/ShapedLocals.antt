@@ -1,10 +1,12 @@
 -- What is written is shaped: it is a register without a name, a temporary or a variable, each of a type that is reached.
 use Rattle.std.proofs.Common.{◌≡◌, inl, inr, Bool, true, false, ◌&&◌, not, Option, is_none, unwrap_or, refl, sym, ap, ◌∙◌}
-use Rattle.std.proofs.lemmas.Bool.{false≢true}
+use Rattle.std.proofs.lemmas.Bool.{false≢true, or_left}
+use Rattle.life_types.specs.TypeTests.{is_value}
 use Rattle.life_types.specs.Types.{Types}
 use Rattle.life_types.specs.declared.ty.NameId.{NameId}
 use Rattle.life_types.specs.declared.ty.Ty.{Ty}
 use Rattle.life_types.specs.declared.ty.Ty.TheVariants as ty
+use Rattle.life_served.specs.Served.{is_pointing}
 use Rattle.life_core.specs.Kinds.{is_object, is_register}
 use Rattle.life_core.specs.declared.program.Local.{Local}
 use Rattle.life_core.specs.declared.program.LocalKind.{LocalKind}
@@ -13,9 +15,9 @@ use Rattle.life_writer.specs.Writing.{State}
 use Rattle.life_elab_laws.specs.Reached.{are_reached_variables, is_reached_variable}
 use Rattle.life_elab_laws.proofs.ExpressionKinds.{variable_built}
 use Rattle.life_elab_laws.proofs.Fronts.{IsFront}
-use Rattle.life_elab_laws.proofs.Reaching.{reaches, type_reached}
+use Rattle.life_elab_laws.proofs.Reaching.{IsReachedType, reaches, type_reached}
 use Rattle.life_elab_laws.proofs.Shaped.{AreShaped, IsShaped, all_shaped, named_lasts, owner_later, variable_later}
-use Rattle.life_elab_laws.proofs.WrittenLocals.{AreWrittenLocals, FitsNameless, IsIntermediate, IsOwn}
+use Rattle.life_elab_laws.proofs.WrittenLocals.{AreWrittenLocals, FitsNameless, FitsTemporary, IsIntermediate, IsOwn}
 
 -- .. in each table that the one so far begins
 module _ (so_far : Bool) (a : Around) (s : State) (whole : Types) (front : IsFront a.program.types.types whole.types) (later : IsFront s.types.types whole.types)
@@ -30,8 +32,12 @@ module _ (so_far : Bool) (a : Around) (s : State) (whole : Types) (front : IsFro
         lasts = ap (λ (k : LocalKind). is_none l.name && not (is_object k)) temporary.0 ∙ ap (λ (o : Option NameId). is_none o && false) is.nameless;
         built =
             ap (λ (o : Option Ty). reaches false whole (unwrap_or o ty.Void)) (later l.ty.0 is.ty is.typed)
-            ∙ type_reached false whole is.ty (inr (inr (inl (refl, owner_later a.program.types whole front is.ty temporary.2))));
+            ∙ type_reached false whole is.ty (reached temporary.1);
       }
+        where
+          reached : FitsTemporary so_far a.program.types is.ty → IsReachedType false whole is.ty
+          reached (inl value) = inl (or_left (is_value is.ty) (is_pointing whole is.ty) value)
+          reached (inr owner) = inr (inr (inl (refl, owner_later a.program.types whole front is.ty owner.1)))
 
   own_shaped : (l : Local) → IsOwn a l → IsShaped whole l
   own_shaped l is lasts = record {

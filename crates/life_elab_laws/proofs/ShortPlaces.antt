@@ -232,8 +232,8 @@ module _ (types : Types) where
       subst (λ (xs : List AbsPlace). AreShortInputs (inputs_among types x (shape_if types true id) 0 xs)) (sym (ap (λ (i : TyId). locations_in types k i (local_place x)) same ∙ no_locations k id w (local_place x))) tt
   handed_inputs so_far k x id (a_raw target constant at w) =
       pointer_inputs k x id (ty.Raw target constant) at (inl w) refl (λ n place. refl) (λ place. ap (λ (o : Option Ty). places_in place (tree_if types (target_of (or_void o)))) at ∙ one_place target w place)
-  handed_inputs so_far k x id (a_reference target at w) =
-      pointer_inputs k x id (ty.Reference target false) at (inl w) refl (λ n place. refl) (λ place. ap (λ (o : Option Ty). places_in place (tree_if types (target_of (or_void o)))) at ∙ one_place target w place)
+  handed_inputs so_far k x id (a_reference target constant at w) =
+      pointer_inputs k x id (ty.Reference target constant) at (inl w) refl (λ n place. refl) (λ place. ap (λ (o : Option Ty). places_in place (tree_if types (target_of (or_void o)))) at ∙ one_place target w place)
   handed_inputs so_far k x id (a_view so at) =
       pointer_inputs k x id ty.View at (inr (inl (refl, refl))) refl (λ n place. refl) (λ place. ap (λ (o : Option Ty). places_in place (tree_if types (target_of (or_void o)))) at)
 

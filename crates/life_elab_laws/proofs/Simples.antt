@@ -1,5 +1,5 @@
 -- Assignments, steps, and calls that stand alone.
-use Rattle.std.proofs.Common.{◌≡◌, inl, inr, ℕ, Bool, true, false, List, [], ◌∷◌, cond, length, not, Option, Some, None, refl, sym, ap, ◌∙◌, subst, ◌&&◌, ◌||◌}
+use Rattle.std.proofs.Common.{◌≡◌, inl, inr, ℕ, Bool, true, false, List, cond, length, not, Option, Some, None, refl, sym, ap, ◌∙◌, subst, ◌&&◌, ◌||◌}
 use Rattle.std.proofs.lemmas.Bool.{and_from, and_parts, false≢true, or_cases}
 use Rattle.std.specs.Prelude.{pos}
 use Rattle.life_types.specs.TypeTests.{is_value, is_void, is_text, is_view, is_iterator}
@@ -25,21 +25,15 @@ use Rattle.life_typed.specs.declared.typed_expr.Method.TheVariants as methods
 use Rattle.life_type_expr.specs.Lists.{fits_at_all}
 use Rattle.life_core.specs.Function.{Function}
 use Rattle.life_core.specs.Operands.{Location, Operand, Text, object_named}
-use Rattle.life_core.specs.Step.{Save, Advance}
-use Rattle.life_core.specs.Touched.{place_uses}
+use Rattle.life_core.specs.Step.{Advance}
 use Rattle.life_core.specs.declared.operation.Operation.TheVariants as operation
 use Rattle.life_core.specs.declared.operation.Operator.{Operator}
 use Rattle.life_proper.specs.OperandTypes.{is_promoted, keeps_const, same}
-use Rattle.life_proper.specs.Placed.{is_const_place, is_number_of, type_of}
-use Rattle.life_proper.specs.ReadyKnown.{are_known, is_known}
 use Rattle.life_proper.specs.WellFormed.{answer_of, is_itself}
-use Rattle.life_proper.specs.declared.known.Known.{Known}
-use Rattle.life_proper.specs.declared.known.Known.TheVariants as known
 use Rattle.life_well_typed.specs.Expressions.{IsExpression, parameter_types, IsMadeOf, typed_in}
 use Rattle.life_well_typed.specs.Given.{is_given, is_number}
 use Rattle.life_well_typed.specs.Members.{is_listed}
 use Rattle.life_well_typed.specs.Statements.{IsSimple}
-use Rattle.life_proper.proofs.ReadyTests.{uses_ready}
 use Rattle.life_writer.specs.Around.{Around, own_type}
 use Rattle.life_writer.specs.Around as around
 use Rattle.life_writer.specs.Assigning.{acted, assigned_by, owner_by, replaced_by}
@@ -65,12 +59,11 @@ use Rattle.life_elab_laws.proofs.Expressions.{asked_expression, owner_expression
 use Rattle.life_elab_laws.proofs.PointerForms.{placed_operand, pointer_whole, points_whole, result_later}
 use Rattle.life_elab_laws.proofs.FormedFits.{given_raw, given_seen, given_owner, given_string, given_walker, given_vector}
 use Rattle.life_elab_laws.proofs.Filling.{text_filling}
-use Rattle.life_elab_laws.proofs.Gifts.{Gift, IsPlaceOf, takes_from, a_number, a_place, a_pointer, a_pointing, arguments, both, nothing}
+use Rattle.life_elab_laws.proofs.Gifts.{Gift, takes_from, a_number, a_place, a_pointer, a_pointing, arguments, both, nothing}
 use Rattle.life_elab_laws.proofs.GivenKinds.{given_number, given_pointer, given_view}
-use Rattle.life_elab_laws.proofs.Held.{place_there, ready_there}
 use Rattle.life_elab_laws.proofs.Instructions.{acted_as_part, acted_part, as_type_part, constant_part, converted_part, literal_located_part, load_part, operator_part}
 use Rattle.life_elab_laws.proofs.Locations.{is_location, is_pointed, seen_pointed, location_is, view_location}
-use Rattle.life_elab_laws.proofs.Making.{IsHeld, IsOpen, IsPlace, Keeps, keeps_all, opened_later}
+use Rattle.life_elab_laws.proofs.Making.{IsOpen, Keeps, keeps_all, opened_later}
 use Rattle.life_elab_laws.proofs.Parts.{Makes, Part, and_part, gives_part, keep_part, leaf_part, seen_part, then_part, under_part}
 use Rattle.life_elab_laws.proofs.RowTypes.{promoted_is}
 use Rattle.life_elab_laws.proofs.Setting.{Setting}
@@ -87,6 +80,7 @@ use Rattle.life_type_expr.specs.Operands.{is_constant}
 use Rattle.life_elab_laws.proofs.ObjectForms.{IsObject, IsOwner}
 use Rattle.life_elab_laws.proofs.JoinedForms.{literal_builds}
 use Rattle.life_elab_laws.proofs.ListForms.{list_builds}
+use Rattle.life_elab_laws.proofs.Saving.{saved_part}
 use Rattle.life_elab_laws.proofs.MadeForms.{Builds, IsOwning, is_made, stands_there, temporary_dead, temporary_made}
 use Rattle.life_elab_laws.proofs.MoveSteps.{moves_part}
 use Rattle.life_elab_laws.proofs.OwnerSteps.{copies_part}
@@ -134,20 +128,6 @@ module _ (a : Around) (visible : List ℕ) (types : Types) (texts : ℕ) (so_far
   abbrev whole : (e : Typed) → is_reached_expression texts so_far e ≡ true → Whole e → IsWhole a visible types texts so_far fs f setting (whole_form e)
   whole e b h = whole_expression a visible types texts so_far fs f setting (whole_form e) b h
 
-  -- a number is saved at a place
-  saved_part : {A : Type 0} (P : Giving A) (x : A) (t : Ty) (r : ℕ) (o : Operand) (place : Place) (s : State) → (P.typed x → is_number_of types f t r ≡ true) → (P.typed x → IsPlaceOf types texts so_far fs f t false o)
-      → ((n : ℕ) (k : List Known) → P.ready x n k → IsHeld r n k × IsPlace o n k) → Part types texts so_far fs f P x None s (gives tt (emit place (Save o r) s)) no_gift
-  saved_part P x t r o place s number at ready =
-      acted_part types texts so_far fs f P x place (Save o r) s
-      (λ h. record {
-        given = refl;
-        formed = and_from (is_number_of types f (type_of types f o) r) (not (is_const_place types f o)) (ap (λ (u : Ty). is_number_of types f u r) (at h).typed ∙ number h) (at h).held;
-        served = (at h).served;
-      })
-      (λ n k p. let is = ready n k p in
-      uses_ready k (r ∷ place_uses o) [] (and_from (is_known known.Ready k r) (are_known known.Ready k (place_uses o)) (ready_there k r is.0.1) (place_there o n k is.1)))
-      (λ n m k p. keeps_all f m None k)
-
   -- what is written is a place of its own type that isn't const
   free_target : (target : Typed) (at : IsFree a.program.types target) → IsWhole a visible types texts so_far fs f setting (whole_form target) → is_value (own_type target.ty) ≡ true → (s : State) → Standing s
       → Makes types texts so_far fs f None s (operand (uses a (whole_form target)) s) (a_target (own_type target.ty))
@@ -168,7 +148,7 @@ module _ (a : Around) (visible : List ℕ) (types : Types) (texts : ℕ) (so_far
       let second = free_target target at to v w.state (stands_later a visible s w.state first.grown stands) in
       then_part types texts so_far fs f no_gift tt None s (gives (w.given, u.given) u.state) _ (both_of (a_value t) (a_target t)) no_gift stands.opened
       (and_part types texts so_far fs f no_gift tt s w u (a_value t) (a_target t) stands.opened first second)
-      (saved_part (both_of (a_value t) (a_target t)) (w.given, u.given) t w.given u.given equals u.state (λ h. h.0) (λ h. h.1) (λ n k p. p))
+      (saved_part types texts so_far fs f (both_of (a_value t) (a_target t)) (w.given, u.given) t w.given u.given equals u.state (λ h. h.0) (λ h. h.1) (λ n k p. p))
 
   -- a pointer, which is given what an expression gives it as one of a type
   pointer_given_part : (target e : Typed) (equals behind : Place) (s : State) (u : Ty) (source : ExprType) → is_location u ≡ true → ((s : State) → Standing s → Makes types texts so_far fs f None s (pointer (uses a (whole_form target)) (own (uses a (whole_form target))) s) (a_pointer types texts so_far fs f u))
@@ -247,7 +227,7 @@ module _ (a : Around) (visible : List ℕ) (types : Types) (texts : ℕ) (so_far
       let second = under_part types texts so_far fs f (a_value t) y.given (both_of P (a_value t)) (x, y.given) None y.state z (a_value u) (converted_part types texts so_far fs f t u place y.given y.state v later) (λ h. h.1) (λ n k h. h.1) in
       then_part types texts so_far fs f P x None s (gives ((x, y.given), z.given) z.state) _ (both_of (both_of P (a_value t)) (a_value u)) no_gift opened
       (keep_part types texts so_far fs f P x s (gives (x, y.given) y.state) z (both_of P (a_value t)) (a_value u) opened first second)
-      (saved_part (both_of (both_of P (a_value t)) (a_value u)) ((x, y.given), z.given) u z.given x.1 place z.state (λ h. h.1) (λ h. h.0.0.1) (λ n k h. (h.1, h.0.0.1)))
+      (saved_part types texts so_far fs f (both_of (both_of P (a_value t)) (a_value u)) ((x, y.given), z.given) u z.given x.1 place z.state (λ h. h.1) (λ h. h.0.0.1) (λ n k h. (h.1, h.0.0.1)))
 
   -- the right side, the place, what it holds, and the operator
   combined_part : (target e : Typed) (o : CompoundOperator) (place behind : Place) (t : Ty) (s : State) → IsWhole a visible types texts so_far fs f setting (whole_form target) → IsWhole a visible types texts so_far fs f setting (whole_form e) → IsFree a.program.types target

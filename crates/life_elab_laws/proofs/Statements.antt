@@ -111,7 +111,7 @@ module _ (a : Around) (types : Types) (texts : ℕ) (so_far : Bool) (fs : List F
   -- ---- any statement
 
   mutual
-    pub statement_does : (form : StmtForm) (in_loop : Bool) (v : Visible) (s : State) → is_reached_statement texts so_far a.program.types a.function.locals a.function.result form ≡ true → IsTyped form in_loop v → Follows types f a v s → HasRegister a s → IsDone form in_loop v s
+    pub statement_does : (form : StmtForm) (in_loop : Bool) (v : Visible) (s : State) → is_reached_statement texts so_far a.program.types a.function.locals form ≡ true → IsTyped form in_loop v → Follows types f a v s → HasRegister a s → IsDone form in_loop v s
     statement_does (block items closing) in_loop v s b h follows register =
         let inner = statement_does items in_loop v s b h follows register in
         let t = statement a items s in
@@ -127,14 +127,14 @@ module _ (a : Around) (types : Types) (texts : ℕ) (so_far : Bool) (fs : List F
     statement_does (sentence it semicolon) in_loop v s b h follows register =
         done_alone (sentence it semicolon) in_loop v s (simple_does a types texts so_far fs f setting v in_loop it semicolon s b h follows) (λ e. runs_on e) (λ before e. e)
     statement_does (branching branches last) in_loop v s b h follows register =
-        let parts = and_parts (is_reached_statement texts so_far a.program.types a.function.locals a.function.result branches) (is_reached_statement texts so_far a.program.types a.function.locals a.function.result last) b in
+        let parts = and_parts (is_reached_statement texts so_far a.program.types a.function.locals branches) (is_reached_statement texts so_far a.program.types a.function.locals last) b in
         let all = branches_do branches in_loop v s parts.0 h.0 follows register (statement a last) (after last (after branches v)) (ends last)
         (λ t later there.
         let end = statement_does last in_loop (after branches v) t parts.1 h.2 later there in
         record { does = level_of last in_loop (after branches v) t end h.1; stopped = end.over }) in
         done_alone (branching branches last) in_loop v s all.does all.stopped (λ before e. e)
     statement_does (while_loop keyword decides closing body) in_loop v s b h follows register =
-        let parts = and_parts (is_reached_expression texts so_far decides) (is_reached_statement texts so_far a.program.types a.function.locals a.function.result body) b in
+        let parts = and_parts (is_reached_expression texts so_far decides) (is_reached_statement texts so_far a.program.types a.function.locals body) b in
         done_alone (while_loop keyword decides closing body) in_loop v s
         (loop_done v (after body v) in_loop (condition (uses a (whole_form decides)) (ending closing)) (statement a body) (λ t. t) s follows register (decided v decides closing s parts.0 h.0 follows)
         (λ t later there. level_of body true v t (statement_does body true v t parts.1 h.2 later there) h.1)
@@ -144,7 +144,7 @@ module _ (a : Around) (types : Types) (texts : ℕ) (so_far : Bool) (fs : List F
     statement_does (for_loop keyword start first decides second stepping closing body) in_loop v s b h follows register =
         let one = and_parts (is_reached_start texts so_far a.program.types a.function.locals start) _ b in
         let two = and_parts (is_reached_if_any texts so_far decides) _ one.1 in
-        let three = and_parts (is_reached_step texts so_far stepping) (is_reached_statement texts so_far a.program.types a.function.locals a.function.result body) two.1 in
+        let three = and_parts (is_reached_step texts so_far stepping) (is_reached_statement texts so_far a.program.types a.function.locals body) two.1 in
         let v1 = after_start start v in
         let begins = begun v in_loop start first s one.0 h.0 follows in
         let s1 = started a start first s in
@@ -189,7 +189,7 @@ module _ (a : Around) (types : Types) (texts : ℕ) (so_far : Bool) (fs : List F
     statement_does no_more in_loop v s b h follows register =
         record { does = does_nothing types texts so_far fs f a v in_loop s follows; level = λ one. refl; over = λ e. runs_on e; last = λ before p e. p e }
     statement_does (chain first others) in_loop v s b h follows register =
-        let parts = and_parts (is_reached_statement texts so_far a.program.types a.function.locals a.function.result first) (is_reached_statement texts so_far a.program.types a.function.locals a.function.result others) b in
+        let parts = and_parts (is_reached_statement texts so_far a.program.types a.function.locals first) (is_reached_statement texts so_far a.program.types a.function.locals others) b in
         let t = statement a first s in
         let one = statement_does first in_loop v s parts.0 h.0 follows register in
         let two = statement_does others in_loop (after first v) t parts.1 h.1 one.does.follows (register_later a s t one.does.adds.locals one.does.adds.table register) in
@@ -201,12 +201,12 @@ module _ (a : Around) (types : Types) (texts : ℕ) (so_far : Bool) (fs : List F
         }
 
     -- the branches of an `if`, with what is done where no condition holds
-    pub branches_do : (branches : StmtForm) (in_loop : Bool) (v : Visible) (s : State) → is_reached_statement texts so_far a.program.types a.function.locals a.function.result branches ≡ true → AreBranches a.program a.function.locals a.function.result branches in_loop v
+    pub branches_do : (branches : StmtForm) (in_loop : Bool) (v : Visible) (s : State) → is_reached_statement texts so_far a.program.types a.function.locals branches ≡ true → AreBranches a.program a.function.locals a.function.result branches in_loop v
         → Follows types f a v s → HasRegister a s → (last : State → State) (x : Visible) (over : Bool)
         → ((t : State) → Follows types f a (after branches v) t → HasRegister a t → DoesOver x in_loop over t (last t)) → DoesOver x in_loop (all_end branches && over) s (branches_of a branches last s)
     branches_do (chain (branch keyword decides closing body) others) in_loop v s b h follows register last x over end =
-        let parts = and_parts (is_reached_expression texts so_far decides && is_reached_statement texts so_far a.program.types a.function.locals a.function.result body) (is_reached_statement texts so_far a.program.types a.function.locals a.function.result others) b in
-        let inner = and_parts (is_reached_expression texts so_far decides) (is_reached_statement texts so_far a.program.types a.function.locals a.function.result body) parts.0 in
+        let parts = and_parts (is_reached_expression texts so_far decides && is_reached_statement texts so_far a.program.types a.function.locals body) (is_reached_statement texts so_far a.program.types a.function.locals others) b in
+        let inner = and_parts (is_reached_expression texts so_far decides) (is_reached_statement texts so_far a.program.types a.function.locals body) parts.0 in
         let w = condition (uses a (whole_form decides)) (ending closing) s in
         let test = decided v decides closing s inner.0 h.0 follows in
         let ready = tested_follows types texts so_far fs f a v in_loop s w follows test in

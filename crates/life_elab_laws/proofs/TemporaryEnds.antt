@@ -11,16 +11,15 @@ use Rattle.life_core.specs.Function.{Function}
 use Rattle.life_core.specs.Kinds.{is_object}
 use Rattle.life_core.specs.declared.program.Local.{Local}
 use Rattle.life_core.specs.declared.program.LocalKind.TheVariants.{Register}
-use Rattle.life_proper.specs.OperandTypes.{is_owner}
 use Rattle.life_proper.specs.Placed.{is_slot_local, object_at, result_at, slot_at}
 use Rattle.life_proper.specs.Placed as placed
 use Rattle.life_proper.specs.WellFormed.{can_end}
 use Rattle.life_elab_laws.proofs.OperandsThere.{object_there}
 use Rattle.life_elab_laws.proofs.PendingTemporaries.{IsTemporary}
 
-owner_no_slot : (types : Types) (t : Ty) → is_owner t ≡ true → is_slot_type types (Some t) ≡ false
-owner_no_slot types (ty.Reference target constant) o = absurd (false≢true o)
-owner_no_slot types _ o = refl
+plain_no_slot : (types : Types) (t : Ty) → is_pointer t ≡ false → is_slot_type types (Some t) ≡ false
+plain_no_slot types (ty.Reference target constant) plain = absurd (false≢true (sym plain))
+plain_no_slot types _ plain = refl
 
 module _ (types : Types) (texts : ℕ) (fs : List Function) (f : Function) where
   -- .. of this function
@@ -31,7 +30,7 @@ module _ (types : Types) (texts : ℕ) (fs : List Function) (f : Function) where
   temporary_ends register y is =
       and_from (object_at types f y || is_pointer (placed.type_at types f y)) _ (or_left (object_at types f y) _ (object_there types f y is.local is.there is.kind))
       (and_from (not (result_at types f y)) (not (slot_at types f y)) (go (is_void (ty_of types f.result)) (nat_eq y f.parameters) refl refl)
-      (ap (λ (o : Option Local). not (is_slot_local types f o)) is.there ∙ ap not (ap (is_slot_type types) is.typed ∙ owner_no_slot types is.ty is.owner)))
+      (ap (λ (o : Option Local). not (is_slot_local types f o)) is.there ∙ ap not (ap (is_slot_type types) is.typed ∙ plain_no_slot types is.ty is.plain)))
     where
       one : (a b : ℕ) → nat_eq a b ≡ true → a ≡ b
       one a b h = grind (arith, nat_tests)

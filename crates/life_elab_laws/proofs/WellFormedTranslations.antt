@@ -13,7 +13,7 @@ use Rattle.life_core.specs.Function.{Function}
 use Rattle.life_core.specs.Served.{is_served, is_served_local, is_served_program, is_served_spot}
 use Rattle.life_core.specs.Tree.{spots}
 use Rattle.life_core.specs.declared.program.Local.{Local}
-use Rattle.life_core.specs.declared.program.LocalKind.TheVariants.{Register}
+use Rattle.life_core.specs.declared.program.LocalKind.TheVariants.{Object, Register}
 use Rattle.life_proper.specs.GivenOver.{all_keep_given, keeps_all_given}
 use Rattle.life_proper.specs.WellFormed.{is_well_formed_tree}
 use Rattle.life_proper.specs.WellFormedPrograms.{IsWellFormedProgram, are_well_formed_locals, is_name, is_result_of, is_well_formed_function, names_parameters}
@@ -27,11 +27,11 @@ use Rattle.life_elab.specs.Programs.{around, texts_of}
 use Rattle.life_elab_laws.proofs.ExpressionKinds.{variable_built}
 use Rattle.life_elab_laws.proofs.Fronts.{IsFront}
 use Rattle.life_elab_laws.proofs.Reaching.{variable_found}
-use Rattle.life_elab_laws.proofs.ServedLocals.{all_pass, local_served, register_served, variable_served}
+use Rattle.life_elab_laws.proofs.ServedLocals.{all_pass, local_served, register_served, value_served, variable_served}
 use Rattle.life_elab_laws.proofs.KeptGiven.{keeps_all}
 use Rattle.life_elab_laws.proofs.ProgramNames.{no_members, own_names}
 use Rattle.life_elab_laws.proofs.Programs.{IsWritten, each_written, front, grows, of_program, one_body, one_head, passed_by_all, whole, whole_order}
-use Rattle.life_elab_laws.proofs.WrittenLocals.{IsIntermediate, IsOwn, fits_later, fits_register}
+use Rattle.life_elab_laws.proofs.WrittenLocals.{IsIntermediate, IsOwn, fits_later, fits_register, value_fits}
 use Rattle.life_typed.specs.BaseTypes.{type_at}
 use Rattle.life_typed.specs.declared.basic.TheConstants.{CHAR}
 use Rattle.life_types.specs.declared.ty.Ty.TheVariants as ty
@@ -63,7 +63,10 @@ module _ (so_far : Bool) (p : ProgramForm) (typed : IsWellTyped p) (built : are_
           | inl register ↦
               let fits = fits_later true p.types types front_is is.ty (subst (λ (b : Bool). fits_register b p.types is.ty ≡ true) so register.1) in
               local_served types l Register is.ty register.0 (w.later l.ty.0 is.ty is.typed) fits (register_served types is.ty fits)
-          | inr temporary ↦ absurd (false≢true (sym temporary.1 ∙ so))
+          | inr temporary ↦ elim temporary.1 [
+            | inl value ↦ local_served types l Object is.ty temporary.0 (w.later l.ty.0 is.ty is.typed) (value_fits true types is.ty value) (value_served types is.ty value)
+            | inr owner ↦ absurd (false≢true (sym owner.0 ∙ so))
+          ]
         ]
         go (inr is) =
             let found = variable_found so_far p.types is.variable.ty (variable_built so_far p.types f.locals is.number is.variable (of_program so_far p typed built results chars n f at).built.variables is.there) in

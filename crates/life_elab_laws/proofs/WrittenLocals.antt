@@ -108,9 +108,13 @@ owner_below few table le ty.Text o = tt
 owner_below few table le (ty.Vector element) o = omega (arith, le, value_within few element o)
 owner_below few table le _ o = absurd (false≢true o)
 
--- a register, or a temporary: an owner of values
+-- a temporary: a value, or an owner of values where the program isn't served so far
+abbrev pub FitsTemporary : Bool → Types → Ty → Type 0
+FitsTemporary so_far types t = (is_value t ≡ true) ⊎ ((so_far ≡ false) × (is_owner_of_values types t ≡ true))
+
+-- a register, or a temporary
 abbrev pub FitsNameless : Bool → Types → LocalKind → Ty → Type 0
-FitsNameless so_far types k t = ((k ≡ Register) × (fits_register so_far types t ≡ true)) ⊎ ((k ≡ Object) × (so_far ≡ false) × (is_owner_of_values types t ≡ true))
+FitsNameless so_far types k t = ((k ≡ Register) × (fits_register so_far types t ≡ true)) ⊎ ((k ≡ Object) × FitsTemporary so_far types t)
 
 -- its type is in the table
 pub record IsIntermediate (so_far : Bool) (types table : Types) (l : Local) : Type 0 where

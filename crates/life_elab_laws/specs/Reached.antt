@@ -5,7 +5,7 @@ use Rattle.life_types.specs.Types.{Types}
 use Rattle.life_types.specs.declared.ty.Ty.{Ty}
 use Rattle.life_types.specs.declared.ty.Ty.TheVariants as ty
 use Rattle.life_types.specs.declared.ty.TyId.{TyId}
-use Rattle.life_served.specs.Served.{has_no_structs, is_served_parameter, is_served_result, is_served_variable, is_call, needs_no_temporary}
+use Rattle.life_served.specs.Served.{has_no_structs, is_served_result, is_served_variable, is_call}
 use Rattle.life_typed.specs.BaseTypes.{type_at}
 use Rattle.life_typed.specs.Programs.{FunctionForm, ProgramForm}
 use Rattle.life_typed.specs.TypedForm.{Form, Typed, number, character, boolean, text, null, local, call, paren, input, dereference, index, method, negate, not as negation, address_of, binary, text_of, typed, nothing, ◌⨟◌, whole, forms}
@@ -50,7 +50,7 @@ are_reached_variables so_far types (v ∷ vs) = is_reached_variable so_far types
 
 -- one that is served, and a view too, but in a program that is served so far
 abbrev pub is_reached_parameter : (so_far : Bool) → Types → TyId → Bool
-is_reached_parameter so_far types id = is_served_parameter types id || (not so_far && is_view (type_at types id))
+is_reached_parameter so_far types id = is_served_variable types id || (not so_far && is_view (type_at types id))
 
 abbrev pub are_reached_parameters : (so_far : Bool) → Types → List TypedLocal → Bool
 are_reached_parameters so_far types [] = true
@@ -217,11 +217,11 @@ module _ (texts : ℕ) (so_far : Bool) where
 
   abbrev pub is_reached_initial : Ty → Option InitialForm → Bool
   is_reached_initial t None = true
-  is_reached_initial t (Some (one e)) = ((so_far || not (is_owner t || is_walker t)) && (is_reached_expression e && needs_no_temporary t e)) || is_reached_owned t e
+  is_reached_initial t (Some (one e)) = ((so_far || not (is_owner t || is_walker t)) && is_reached_expression e) || is_reached_owned t e
   is_reached_initial t (Some (several list)) = is_reached_list t list
 
   abbrev pub is_reached_declared : Types → Option TypedLocal → Option InitialForm → Bool
-  is_reached_declared types None value = false
+  is_reached_declared types None value = true
   is_reached_declared types (Some v) value = is_reached_initial (type_at types v.ty) value
 
   abbrev pub is_reached_value : InitialForm → Bool
@@ -270,11 +270,6 @@ module _ (texts : ℕ) (so_far : Bool) where
 
   -- ---- statements
 
-  -- what is given back: a reference is aimed at a place of its type
-  abbrev pub is_reached_return : Ty → Option Typed → Bool
-  is_reached_return t None = true
-  is_reached_return t (Some e) = is_reached_expression e && needs_no_temporary t e
-
   -- in a function with these parameters and variables
   module _ (types : Types) (locals : List TypedLocal) where
     abbrev pub is_reached_declaration : DeclarationForm → Bool
@@ -285,26 +280,24 @@ module _ (texts : ℕ) (so_far : Bool) where
     is_reached_start (Some (declared_first d)) = is_reached_declaration d
     is_reached_start (Some (done_first it)) = is_reached_simple it
 
-    -- .. that gives back this
-    module _ (result : TyId) where
-      abbrev pub is_reached_statement : StmtForm → Bool
-      is_reached_statement (block items closing) = is_reached_statement items
-      is_reached_statement (empty place) = true
-      is_reached_statement (sentence it semicolon) = is_reached_simple it
-      is_reached_statement (branching branches last) = is_reached_statement branches && is_reached_statement last
-      is_reached_statement (while_loop keyword decides closing body) = is_reached_expression decides && is_reached_statement body
-      is_reached_statement (for_loop keyword start first decides second stepping closing body) =
-          is_reached_start start && (is_reached_if_any decides && (is_reached_step stepping && is_reached_statement body))
-      is_reached_statement (range_loop keyword x name colon range closing body) = false
-      is_reached_statement (loop_break keyword semicolon) = true
-      is_reached_statement (loop_continue keyword semicolon) = true
-      is_reached_statement (returned keyword value semicolon) = is_reached_return (type_at types result) value
-      is_reached_statement (print items semicolon) = are_reached_items items
-      is_reached_statement (assertion keyword decides closing semicolon) = is_reached_expression decides
-      is_reached_statement (branch keyword decides closing body) = is_reached_expression decides && is_reached_statement body
-      is_reached_statement (declaration d semicolon) = is_reached_declaration d
-      is_reached_statement no_more = true
-      is_reached_statement (chain first others) = is_reached_statement first && is_reached_statement others
+    abbrev pub is_reached_statement : StmtForm → Bool
+    is_reached_statement (block items closing) = is_reached_statement items
+    is_reached_statement (empty place) = true
+    is_reached_statement (sentence it semicolon) = is_reached_simple it
+    is_reached_statement (branching branches last) = is_reached_statement branches && is_reached_statement last
+    is_reached_statement (while_loop keyword decides closing body) = is_reached_expression decides && is_reached_statement body
+    is_reached_statement (for_loop keyword start first decides second stepping closing body) =
+        is_reached_start start && (is_reached_if_any decides && (is_reached_step stepping && is_reached_statement body))
+    is_reached_statement (range_loop keyword x name colon range closing body) = false
+    is_reached_statement (loop_break keyword semicolon) = true
+    is_reached_statement (loop_continue keyword semicolon) = true
+    is_reached_statement (returned keyword value semicolon) = is_reached_if_any value
+    is_reached_statement (print items semicolon) = are_reached_items items
+    is_reached_statement (assertion keyword decides closing semicolon) = is_reached_expression decides
+    is_reached_statement (branch keyword decides closing body) = is_reached_expression decides && is_reached_statement body
+    is_reached_statement (declaration d semicolon) = is_reached_declaration d
+    is_reached_statement no_more = true
+    is_reached_statement (chain first others) = is_reached_statement first && is_reached_statement others
 
 -- ---- functions and programs
 
@@ -312,7 +305,7 @@ abbrev pub is_reached_function : (texts : ℕ) (so_far : Bool) → Types → Fun
 is_reached_function texts so_far types f =
     is_served_result types f.result
     && (are_reached_parameters so_far types (take (length f.parameters) f.locals)
-    && (are_reached_variables so_far types f.locals && is_reached_statement texts so_far types f.locals f.result f.body))
+    && (are_reached_variables so_far types f.locals && is_reached_statement texts so_far types f.locals f.body))
 
 abbrev pub are_reached_functions : (texts : ℕ) (so_far : Bool) → Types → List FunctionForm → Bool
 are_reached_functions texts so_far types [] = true

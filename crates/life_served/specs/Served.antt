@@ -1,12 +1,11 @@
 -- Which programs are served so far: values, raw pointers and references to them, and literals that are printed.
-use Rattle.std.specs.Prelude.{ℕ, ◌-◌, ◌^◌, Bool, true, false, ◌&&◌, ◌||◌, List, [], ◌∷◌, drop, take, length, nat_lt, Option, Some, None, slice_get}
+use Rattle.std.specs.Prelude.{ℕ, ◌-◌, ◌^◌, Bool, true, false, ◌&&◌, ◌||◌, List, [], ◌∷◌, drop, length, nat_lt, Option, Some, None}
 use Rattle.life_types.specs.TypeTests.{is_value, is_void}
 use Rattle.life_types.specs.Types.{Types}
 use Rattle.life_types.specs.declared.ty.Ty.{Ty}
 use Rattle.life_types.specs.declared.ty.Ty.TheVariants as ty
 use Rattle.life_types.specs.declared.ty.TyId.{TyId}
 use Rattle.life_typed.specs.BaseTypes.{type_at}
-use Rattle.life_typed.specs.Conversions.{is_place_of}
 use Rattle.life_typed.specs.TypedForm.{Form, Typed, number, character, boolean, text, null, local, call, paren, input, dereference, negate, not as negation, address_of, binary, typed, nothing, ◌⨟◌, whole}
 use Rattle.life_typed.specs.TypedStatement.{StmtForm, DeclarationForm, ForStartForm, InitialForm, ItemForm, SimpleForm, one, several, assign, compound, step, discarded, declared_first, done_first, printed, line_end, block, empty, sentence, branching, while_loop, for_loop, range_loop, loop_break, loop_continue, returned, print, assertion, branch, declaration, no_more, chain}
 use Rattle.life_typed.specs.declared.typed_program.TypedLocal.{TypedLocal}
@@ -31,17 +30,7 @@ has_served_types types = all_point types (drop 8 types.types) && nat_lt (length 
 abbrev pub is_served_variable : Types → TyId → Bool
 is_served_variable types id = is_value (type_at types id) || is_pointing types (type_at types id)
 
--- a raw pointer to a value, or a reference through which one may be changed
-abbrev pub is_handed_pointer : Types → Ty → Bool
-is_handed_pointer types (ty.Raw target constant) = is_value (type_at types target)
-is_handed_pointer types (ty.Reference target false) = is_value (type_at types target)
-is_handed_pointer types _ = false
-
--- these and a value
-abbrev pub is_served_parameter : Types → TyId → Bool
-is_served_parameter types id = is_value (type_at types id) || is_handed_pointer types (type_at types id)
-
--- what is given back: what a variable may hold, or nothing
+-- what is given back: what a variable or a parameter may hold, or nothing
 abbrev pub is_served_result : Types → TyId → Bool
 is_served_result types id = is_void (type_at types id) || is_served_variable types id
 
@@ -81,23 +70,16 @@ abbrev pub is_call : Form → Bool
 is_call (call f arguments delimiters) = true
 is_call _ = false
 
--- a reference that isn't aimed at a place of its type would keep a temporary
-abbrev pub needs_no_temporary : Ty → Typed → Bool
-needs_no_temporary (ty.Reference target constant) e = is_place_of e.category target
-needs_no_temporary _ e = true
-
-abbrev pub is_served_initial : Ty → Option InitialForm → Bool
-is_served_initial t None = true
-is_served_initial t (Some (one e)) = is_served_expression e && needs_no_temporary t e
-is_served_initial t (Some (several list)) = false
-
-abbrev pub is_served_declared : Types → Option TypedLocal → Option InitialForm → Bool
-is_served_declared types None value = false
-is_served_declared types (Some v) value = is_served_initial (type_at types v.ty) value
-
 abbrev pub is_served_value : InitialForm → Bool
 is_served_value (one e) = is_served_expression e
 is_served_value (several list) = false
+
+abbrev pub is_served_initial : Option InitialForm → Bool
+is_served_initial None = true
+is_served_initial (Some value) = is_served_value value
+
+abbrev pub is_served_declaration : DeclarationForm → Bool
+is_served_declaration d = is_served_initial d.value
 
 abbrev pub is_served_simple : SimpleForm → Bool
 is_served_simple (assign target equals initial) = is_served_expression target && is_served_value initial
@@ -108,6 +90,11 @@ is_served_simple (discarded e) = is_call e.form && is_served_expression e
 abbrev pub is_served_step : Option SimpleForm → Bool
 is_served_step None = true
 is_served_step (Some it) = is_served_simple it
+
+abbrev pub is_served_start : Option ForStartForm → Bool
+is_served_start None = true
+is_served_start (Some (declared_first d)) = is_served_declaration d
+is_served_start (Some (done_first it)) = is_served_simple it
 
 -- ---- what is printed
 
@@ -126,49 +113,28 @@ module _ (texts : ℕ) where
   are_served_items [] = true
   are_served_items (i ∷ is) = is_served_item i && are_served_items is
 
--- ---- statements
+  -- ---- statements
 
--- what is given back: a reference is aimed at a place of its type
-abbrev pub is_served_return : Ty → Option Typed → Bool
-is_served_return t None = true
-is_served_return t (Some e) = is_served_expression e && needs_no_temporary t e
-
--- in a function with these parameters and variables
-module _ (types : Types) (locals : List TypedLocal) where
-  abbrev pub is_served_declaration : DeclarationForm → Bool
-  is_served_declaration d = is_served_declared types (slice_get locals d.local) d.value
-
-  abbrev pub is_served_start : Option ForStartForm → Bool
-  is_served_start None = true
-  is_served_start (Some (declared_first d)) = is_served_declaration d
-  is_served_start (Some (done_first it)) = is_served_simple it
-
-  -- .. that gives back this, in a program with so many texts
-  module _ (texts : ℕ) (result : TyId) where
-    abbrev pub is_served_statement : StmtForm → Bool
-    is_served_statement (block items closing) = is_served_statement items
-    is_served_statement (empty place) = true
-    is_served_statement (sentence it semicolon) = is_served_simple it
-    is_served_statement (branching branches last) = is_served_statement branches && is_served_statement last
-    is_served_statement (while_loop keyword decides closing body) = is_served_expression decides && is_served_statement body
-    is_served_statement (for_loop keyword start first decides second stepping closing body) =
-        is_served_start start && (is_served_if_any decides && (is_served_step stepping && is_served_statement body))
-    is_served_statement (range_loop keyword x name colon range closing body) = false
-    is_served_statement (loop_break keyword semicolon) = true
-    is_served_statement (loop_continue keyword semicolon) = true
-    is_served_statement (returned keyword value semicolon) = is_served_return (type_at types result) value
-    is_served_statement (print items semicolon) = are_served_items texts items
-    is_served_statement (assertion keyword decides closing semicolon) = is_served_expression decides
-    is_served_statement (branch keyword decides closing body) = is_served_expression decides && is_served_statement body
-    is_served_statement (declaration d semicolon) = is_served_declaration d
-    is_served_statement no_more = true
-    is_served_statement (chain first others) = is_served_statement first && is_served_statement others
+  abbrev pub is_served_statement : StmtForm → Bool
+  is_served_statement (block items closing) = is_served_statement items
+  is_served_statement (empty place) = true
+  is_served_statement (sentence it semicolon) = is_served_simple it
+  is_served_statement (branching branches last) = is_served_statement branches && is_served_statement last
+  is_served_statement (while_loop keyword decides closing body) = is_served_expression decides && is_served_statement body
+  is_served_statement (for_loop keyword start first decides second stepping closing body) =
+      is_served_start start && (is_served_if_any decides && (is_served_step stepping && is_served_statement body))
+  is_served_statement (range_loop keyword x name colon range closing body) = false
+  is_served_statement (loop_break keyword semicolon) = true
+  is_served_statement (loop_continue keyword semicolon) = true
+  is_served_statement (returned keyword value semicolon) = is_served_if_any value
+  is_served_statement (print items semicolon) = are_served_items items
+  is_served_statement (assertion keyword decides closing semicolon) = is_served_expression decides
+  is_served_statement (branch keyword decides closing body) = is_served_expression decides && is_served_statement body
+  is_served_statement (declaration d semicolon) = is_served_declaration d
+  is_served_statement no_more = true
+  is_served_statement (chain first others) = is_served_statement first && is_served_statement others
 
 -- ---- functions and programs
-
-abbrev pub are_served_parameters : Types → List TypedLocal → Bool
-are_served_parameters types [] = true
-are_served_parameters types (v ∷ vs) = is_served_parameter types v.ty && are_served_parameters types vs
 
 abbrev pub are_served_variables : Types → List TypedLocal → Bool
 are_served_variables types [] = true
@@ -176,9 +142,7 @@ are_served_variables types (v ∷ vs) = is_served_variable types v.ty && are_ser
 
 abbrev pub is_served_function : (texts : ℕ) → Types → FunctionForm → Bool
 is_served_function texts types f =
-    is_served_result types f.result
-    && (are_served_parameters types (take (length f.parameters) f.locals)
-    && (are_served_variables types f.locals && is_served_statement types f.locals texts f.result f.body))
+    is_served_result types f.result && (are_served_variables types f.locals && is_served_statement texts f.body)
 
 abbrev pub are_served_functions : (texts : ℕ) → Types → List FunctionForm → Bool
 are_served_functions texts types [] = true

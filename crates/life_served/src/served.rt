@@ -1,6 +1,6 @@
 // Which programs are served so far: values, raw pointers and references to them, and literals that are
 // printed.
-ghost use Rattle.std.specs.Prelude.{◌≡◌, length, map, take};
+ghost use Rattle.std.specs.Prelude.{◌≡◌, length, map};
 ghost use Rattle.life_typed.specs.BaseTypes.{type_at};
 ghost use Rattle.life_typed.specs.TypedForm.{Form, form_view, forms, typed_view, typed_views};
 ghost use Rattle.life_typed.specs.TypedStatement.{block_item_view, block_view, branch_view, declaration_view, for_start_view, initial_view, item_view, optional_view, simple_view, stmt_forms, stmt_view};
@@ -8,9 +8,8 @@ ghost use Rattle.life_served.specs.Served as spec;
 ghost use Rattle.life_typed.specs.Programs.{function_view, program_view};
 
 use life_typed::{
-    Category, ExprForm, Typed, TypedBlock, TypedBlockItem, TypedBranch, TypedDeclaration,
-    TypedExpr, TypedForStart, TypedFunction, TypedInitial, TypedItem, TypedLocal, TypedSimple,
-    TypedStmt,
+    ExprForm, Typed, TypedBlock, TypedBlockItem, TypedBranch, TypedDeclaration, TypedExpr,
+    TypedForStart, TypedFunction, TypedInitial, TypedItem, TypedLocal, TypedSimple, TypedStmt,
 };
 use life_types::{Ty, TyId, TypeTable, is_value, is_void};
 
@@ -58,29 +57,7 @@ fn is_served_variable(types: &TypeTable, id: TyId) -> bool
     is_value(ty) || is_pointing(types, ty)
 }
 
-// A raw pointer to a value, or a reference through which one may be changed.
-fn is_handed_pointer(types: &TypeTable, ty: Ty) -> bool
-    ensures { result ≡ spec.is_handed_pointer types.now ty }
-{
-    match ty {
-        Ty::Raw { target, .. } => is_value(type_at(types, target)),
-        Ty::Reference {
-            target,
-            constant: false,
-        } => is_value(type_at(types, target)),
-        _ => false,
-    }
-}
-
-// These and a value.
-fn is_served_parameter(types: &TypeTable, id: TyId) -> bool
-    ensures { result ≡ spec.is_served_parameter types.now id }
-{
-    let ty = type_at(types, id);
-    is_value(ty) || is_handed_pointer(types, ty)
-}
-
-// What is given back: what a variable may hold, or nothing.
+// What is given back: what a variable or a parameter may hold, or nothing.
 fn is_served_result(types: &TypeTable, id: TyId) -> bool
     ensures { result ≡ spec.is_served_result types.now id }
 {
@@ -142,32 +119,6 @@ fn is_served_if_any(expression: &Option<TypedExpr>) -> bool
     }
 }
 
-// A reference that isn't aimed at a place of its type would keep a temporary
-// (ISO/IEC 14882:2017 [dcl.init.ref]).
-fn needs_no_temporary(ty: Ty, expression: &TypedExpr) -> bool
-    ensures { result ≡ spec.needs_no_temporary ty (typed_view expression.now) }
-{
-    match ty {
-        Ty::Reference { target, .. } => match expression.category {
-            Category::Value => false,
-            Category::Place { ty, .. } => ty == target,
-        },
-        _ => true,
-    }
-}
-
-fn is_served_initial(ty: Ty, value: &Option<TypedInitial>) -> bool
-    ensures { result ≡ spec.is_served_initial ty (optional_view initial_view value.now) }
-{
-    match value {
-        None => true,
-        Some(TypedInitial::Expr(value)) => {
-            is_served_expression(value) && needs_no_temporary(ty, value)
-        }
-        Some(TypedInitial::List(_)) => false,
-    }
-}
-
 fn is_served_value(value: &TypedInitial) -> bool
     ensures { result ≡ spec.is_served_value (initial_view value.now) }
 {
@@ -175,6 +126,21 @@ fn is_served_value(value: &TypedInitial) -> bool
         TypedInitial::Expr(value) => is_served_expression(value),
         TypedInitial::List(_) => false,
     }
+}
+
+fn is_served_initial(value: &Option<TypedInitial>) -> bool
+    ensures { result ≡ spec.is_served_initial (optional_view initial_view value.now) }
+{
+    match value {
+        Some(value) => is_served_value(value),
+        None => true,
+    }
+}
+
+fn is_served_declaration(declaration: &TypedDeclaration) -> bool
+    ensures { result ≡ spec.is_served_declaration (declaration_view declaration.now) }
+{
+    is_served_initial(&declaration.value)
 }
 
 // Alone stands a call.
@@ -244,59 +210,28 @@ fn are_served_items(texts: usize, items: &[TypedItem]) -> bool
     true
 }
 
-fn is_served_declaration(
-    types: &TypeTable,
-    locals: &[TypedLocal],
-    declaration: &TypedDeclaration,
-) -> bool
-    ensures { result ≡ spec.is_served_declaration types.now locals.now (declaration_view declaration.now) }
-{
-    match locals.get(declaration.local as usize) {
-        Some(variable) => is_served_initial(type_at(types, variable.ty), &declaration.value),
-        None => false,
-    }
-}
-
-fn is_served_start(types: &TypeTable, locals: &[TypedLocal], start: &Option<TypedForStart>) -> bool
-    ensures { result ≡ spec.is_served_start types.now locals.now (optional_view for_start_view start.now) }
+fn is_served_start(start: &Option<TypedForStart>) -> bool
+    ensures { result ≡ spec.is_served_start (optional_view for_start_view start.now) }
 {
     match start {
-        Some(TypedForStart::Declaration(declaration)) => {
-            is_served_declaration(types, locals, declaration)
-        }
+        Some(TypedForStart::Declaration(declaration)) => is_served_declaration(declaration),
         Some(TypedForStart::Simple(simple)) => is_served_simple(simple),
         None => true,
     }
 }
 
-// What is given back: a reference is aimed at a place of its type.
-fn is_served_return(ty: Ty, value: &Option<TypedExpr>) -> bool
-    ensures { result ≡ spec.is_served_return ty (optional_view typed_view value.now) }
-{
-    match value {
-        Some(value) => is_served_expression(value) && needs_no_temporary(ty, value),
-        None => true,
-    }
-}
-
 #[cycle(statements)]
-fn is_served_statement(
-    types: &TypeTable,
-    locals: &[TypedLocal],
-    texts: usize,
-    gives: TyId,
-    statement: &TypedStmt,
-) -> bool
-    ensures { result ≡ spec.is_served_statement types.now locals.now texts gives (stmt_view statement.now) }
+fn is_served_statement(texts: usize, statement: &TypedStmt) -> bool
+    ensures { result ≡ spec.is_served_statement texts (stmt_view statement.now) }
 {
     match statement {
-        TypedStmt::Block(block) => is_served_block(types, locals, texts, gives, block),
+        TypedStmt::Block(block) => is_served_block(texts, block),
         TypedStmt::Empty(_) => true,
         TypedStmt::Simple { simple, .. } => is_served_simple(simple),
         TypedStmt::If { branches, last } => {
-            are_served_branches(types, locals, texts, gives, branches)
+            are_served_branches(texts, branches)
                 && match last {
-                    Some(last) => is_served_statement(types, locals, texts, gives, last),
+                    Some(last) => is_served_statement(texts, last),
                     None => true,
                 }
         }
@@ -304,35 +239,27 @@ fn is_served_statement(
             condition,
             body,
             ..
-        } => is_served_expression(condition)
-            && is_served_statement(types, locals, texts, gives, body),
+        } => is_served_expression(condition) && is_served_statement(texts, body),
         TypedStmt::For { head, body, .. } => {
-            is_served_start(types, locals, &head.start)
+            is_served_start(&head.start)
                 && (is_served_if_any(&head.condition)
-                    && (is_served_step(&head.step)
-                        && is_served_statement(types, locals, texts, gives, body)))
+                    && (is_served_step(&head.step) && is_served_statement(texts, body)))
         }
         TypedStmt::RangeFor { .. } => false,
         TypedStmt::Break { .. } => true,
         TypedStmt::Continue { .. } => true,
-        TypedStmt::Return { value, .. } => is_served_return(type_at(types, gives), value),
+        TypedStmt::Return { value, .. } => is_served_if_any(value),
         TypedStmt::Print { items, .. } => are_served_items(texts, items),
         TypedStmt::Assert { condition, .. } => is_served_expression(condition),
     }
 }
 
 #[cycle(statements)]
-fn is_served_block(
-    types: &TypeTable,
-    locals: &[TypedLocal],
-    texts: usize,
-    gives: TyId,
-    block: &TypedBlock,
-) -> bool
-    ensures { result ≡ spec.is_served_statement types.now locals.now texts gives (block_view block.now) }
+fn is_served_block(texts: usize, block: &TypedBlock) -> bool
+    ensures { result ≡ spec.is_served_statement texts (block_view block.now) }
 {
     'items: for item in &block.items {
-        if !is_served_block_item(types, locals, texts, gives, item) {
+        if !is_served_block_item(texts, item) {
             return false;
         }
     }
@@ -340,37 +267,21 @@ fn is_served_block(
 }
 
 #[cycle(statements)]
-fn is_served_block_item(
-    types: &TypeTable,
-    locals: &[TypedLocal],
-    texts: usize,
-    gives: TyId,
-    item: &TypedBlockItem,
-) -> bool
-    ensures { result ≡ spec.is_served_statement types.now locals.now texts gives (block_item_view item.now) }
+fn is_served_block_item(texts: usize, item: &TypedBlockItem) -> bool
+    ensures { result ≡ spec.is_served_statement texts (block_item_view item.now) }
 {
     match item {
-        TypedBlockItem::Declare { declaration, .. } => {
-            is_served_declaration(types, locals, declaration)
-        }
-        TypedBlockItem::Stmt(statement) => is_served_statement(
-            types, locals, texts, gives, statement,
-        ),
+        TypedBlockItem::Declare { declaration, .. } => is_served_declaration(declaration),
+        TypedBlockItem::Stmt(statement) => is_served_statement(texts, statement),
     }
 }
 
 #[cycle(statements)]
-fn are_served_branches(
-    types: &TypeTable,
-    locals: &[TypedLocal],
-    texts: usize,
-    gives: TyId,
-    branches: &[TypedBranch],
-) -> bool
-    ensures { result ≡ spec.is_served_statement types.now locals.now texts gives (stmt_forms (map branch_view branches.now)) }
+fn are_served_branches(texts: usize, branches: &[TypedBranch]) -> bool
+    ensures { result ≡ spec.is_served_statement texts (stmt_forms (map branch_view branches.now)) }
 {
     'branches: for branch in branches {
-        if !is_served_branch(types, locals, texts, gives, branch) {
+        if !is_served_branch(texts, branch) {
             return false;
         }
     }
@@ -378,28 +289,10 @@ fn are_served_branches(
 }
 
 #[cycle(statements)]
-fn is_served_branch(
-    types: &TypeTable,
-    locals: &[TypedLocal],
-    texts: usize,
-    gives: TyId,
-    branch: &TypedBranch,
-) -> bool
-    ensures { result ≡ spec.is_served_statement types.now locals.now texts gives (branch_view branch.now) }
+fn is_served_branch(texts: usize, branch: &TypedBranch) -> bool
+    ensures { result ≡ spec.is_served_statement texts (branch_view branch.now) }
 {
-    is_served_expression(&branch.condition)
-        && is_served_statement(types, locals, texts, gives, &branch.body)
-}
-
-fn are_served_parameters(types: &TypeTable, parameters: &[TypedLocal]) -> bool
-    ensures { result ≡ spec.are_served_parameters types.now parameters.now }
-{
-    'parameters: for parameter in parameters {
-        if !is_served_parameter(types, parameter.ty) {
-            return false;
-        }
-    }
-    true
+    is_served_expression(&branch.condition) && is_served_statement(texts, &branch.body)
 }
 
 fn are_served_variables(types: &TypeTable, variables: &[TypedLocal]) -> bool
@@ -413,35 +306,16 @@ fn are_served_variables(types: &TypeTable, variables: &[TypedLocal]) -> bool
     true
 }
 
-// A function's parameters, which are its first locals.
-fn parameters_of(function: &TypedFunction) -> &[TypedLocal]
-    ensures { result.now ≡ take (length function.now.parameters.items) function.now.locals.items }
-{
-    match function.locals.get(..function.parameters.len()) {
-        Some(parameters) => parameters,
-        None => &function.locals,
-    }
-}
-
 fn is_served_function(texts: usize, types: &TypeTable, function: &TypedFunction) -> bool
     ensures { result ≡ spec.is_served_function texts types.now (function_view function.now) }
 {
     is_served_result(types, function.result)
-        && (are_served_parameters(types, parameters_of(function))
-            && (are_served_variables(types, &function.locals)
-                && is_served_block(
-                    types,
-                    &function.locals,
-                    texts,
-                    function.result,
-                    &function.body,
-                )))
+        && (are_served_variables(types, &function.locals) && is_served_block(texts, &function.body))
 }
 
 /// Whether a program is served: each type in it is `void`, a value type, or a raw pointer or a
-/// reference to one; no parameter is a reference to const; there is no struct, no string literal but
-/// one that is printed, no loop over a range and no temporary. A table of types without numbers that
-/// are left counts as not served.
+/// reference to one; there is no struct, no string literal but one that is printed, and no loop over a
+/// range. A table of types without numbers that are left counts as not served.
 pub fn is_served(typed: &Typed) -> bool
     ensures { result ≡ spec.is_served (program_view typed.now) }
 {

@@ -5,10 +5,10 @@ use Rattle.life_served.proofs.served.+statements.Given as goal
 
 abbrev pub invariant-are_served_branches-branches : goal.invariant-are_served_branches-branches
 invariant-are_served_branches-branches l =
-    is_served_statement l.types l.locals l.texts l.gives (stmt_forms (map branch_view (drop l.branch-index l.branches)))
-    ≡ is_served_statement l.types l.locals l.texts l.gives (stmt_forms (map branch_view l.branches))
+    is_served_statement l.texts (stmt_forms (map branch_view (drop l.branch-index l.branches)))
+    ≡ is_served_statement l.texts (stmt_forms (map branch_view l.branches))
 
 abbrev pub invariant-is_served_block-items : goal.invariant-is_served_block-items
 invariant-is_served_block-items l =
-    is_served_statement l.types l.locals l.texts l.gives (stmt_forms (map block_item_view (drop l.item-index l.item-items)))
-    ≡ is_served_statement l.types l.locals l.texts l.gives (stmt_forms (map block_item_view l.item-items))
+    is_served_statement l.texts (stmt_forms (map block_item_view (drop l.item-index l.item-items)))
+    ≡ is_served_statement l.texts (stmt_forms (map block_item_view l.item-items))

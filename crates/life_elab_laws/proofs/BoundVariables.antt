@@ -1,0 +1,364 @@
+-- A reference that is declared with a temporary, which comes to life right before it and lives as long as it does.
+use Rattle.std.proofs.Common.{◌≡◌, ◌<◌, ◌⊎◌, inl, inr, ℕ, Bool, true, false, List, [], ◌∷◌, ◌++◌, Contains, length, slice_get, slice_set, take, Option, Some, None, refl, sym, ap, ◌∙◌, subst, arith, append_assoc, length-append}
+use Rattle.std.proofs.lemmas.Bool.{or_left}
+use Rattle.std.proofs.lemmas.List.Elements.{Contains-append_left, Contains-push_cases}
+use Rattle.std.proofs.lemmas.Option.{slice_get_within}
+use Rattle.life_types.specs.Trees.{HasPartsBelow}
+use Rattle.life_types.specs.TypeTests.{is_value}
+use Rattle.life_types.specs.Types.{Types, class}
+use Rattle.life_types.specs.declared.place.Place.{Place}
+use Rattle.life_types.specs.declared.ty.Ty.{Ty}
+use Rattle.life_types.specs.declared.ty.Ty.TheVariants as ty
+use Rattle.life_types.specs.declared.ty.TyId.{TyId}
+use Rattle.life_typed.specs.BaseTypes.{type_at}
+use Rattle.life_typed.specs.declared.typed_program.TypedLocal.{TypedLocal}
+use Rattle.life_core.specs.Function.{Function}
+use Rattle.life_core.specs.Holdings.{held_by, held_if}
+use Rattle.life_core.specs.Operands.{Place as Aimed, object_named, whole}
+use Rattle.life_core.specs.Served.{is_served_birth}
+use Rattle.life_core.specs.Step.{Aim, Live}
+use Rattle.life_core.specs.Tree.{Acts as Act, Tree, trees}
+use Rattle.life_core.specs.declared.instr.Form.TheVariants.{Plain}
+use Rattle.life_core.specs.declared.program.Local.{Local}
+use Rattle.life_core.specs.declared.program.LocalKind.TheVariants.{Object}
+use Rattle.life_proper.specs.Checking.{flow}
+use Rattle.life_proper.specs.Knowing.{known_at}
+use Rattle.life_proper.specs.Placed.{object_at}
+use Rattle.life_proper.specs.Placed as placed
+use Rattle.life_proper.specs.ReadyKnown.{can_leave}
+use Rattle.life_proper.specs.WellFormed.{can_end, goes_to, is_source_of}
+use Rattle.life_proper.specs.declared.known.Known.{Known}
+use Rattle.life_proper.specs.declared.known.Known.TheVariants as known
+use Rattle.life_well_typed.specs.Visible.{Visible, with_next}
+use Rattle.life_writer.specs.Around.{Around, result_local}
+use Rattle.life_writer.specs.Registers.{type_number, typed_with}
+use Rattle.life_writer.specs.Temporaries.{nameless_of, scoped}
+use Rattle.life_writer.specs.Variables.{end_pending, variable, variable_local}
+use Rattle.life_writer.specs.Writing.{Gives, State, with_code}
+use Rattle.life_elab_laws.specs.Reached.{is_reached_variable}
+use Rattle.life_elab_laws.proofs.Among.{Among, all_among, among_either, among_left, among_right, ascend_more}
+use Rattle.life_elab_laws.proofs.CallParts.{goes_object}
+use Rattle.life_elab_laws.proofs.Declaring.{adds_new, begins_old, follows_new, its_local, knows_new, new_below, with_new}
+use Rattle.life_elab_laws.proofs.Doing.{Acting, Does}
+use Rattle.life_elab_laws.proofs.EndSteps.{IsEnded, ended}
+use Rattle.life_elab_laws.proofs.EndedTemporaries.{ending, ends_alive, ends_apart, ends_below, ends_pending, ends_temporary}
+use Rattle.life_elab_laws.proofs.Ending.{blank_beside, blank_length, blank_set, ends_there, set_blank}
+use Rattle.life_elab_laws.proofs.Exits.{Knows, Leaves, knows_same, leaves_falling, leaves_may}
+use Rattle.life_elab_laws.proofs.Falling.{Falls, falls_append, falls_filling}
+use Rattle.life_elab_laws.proofs.Filling.{aimed_filling, filling_fills}
+use Rattle.life_elab_laws.proofs.Following.{Adds, Follows, IsLiving, adds_settled, adds_then, alive_knows, follows_below, follows_settled, knows_alive, may_end, settled}
+use Rattle.life_elab_laws.proofs.FormedVariables.{keeps_all, object_place}
+use Rattle.life_elab_laws.proofs.Fronts.{front_append, front_then, last_there}
+use Rattle.life_elab_laws.proofs.Gifts.{Gift, IsPlaceOf, nothing}
+use Rattle.life_elab_laws.proofs.GivingBack.{fine_known}
+use Rattle.life_elab_laws.proofs.Growing.{Begins}
+use Rattle.life_elab_laws.proofs.Knowledge.{at_set, beside_set, ready_set, set_length}
+use Rattle.life_elab_laws.proofs.NewVariables.{bound_given, reference_declared, reference_kept}
+use Rattle.life_elab_laws.proofs.OperandsThere.{object_there, type_there, value_no_reference}
+use Rattle.life_elab_laws.proofs.OrderedTypes.{order_then, type_ordered}
+use Rattle.life_elab_laws.proofs.Parts.{Makes, Runs}
+use Rattle.life_elab_laws.proofs.PendingTemporaries.{none_pending}
+use Rattle.life_elab_laws.proofs.Setting.{Setting}
+use Rattle.life_elab_laws.proofs.Shaping.{IsFine, IsFineStep, fine_acts, fine_append}
+use Rattle.life_elab_laws.proofs.TemporaryEnds.{TemporariesEnd, temporary_ends}
+use Rattle.life_elab_laws.proofs.Types.{type_added, types_before}
+use Rattle.life_elab_laws.proofs.Values.{by_values}
+use Rattle.life_elab_laws.proofs.VariablePlaces.{IsVariableAt}
+use Rattle.life_elab_laws.proofs.WrittenLocals.{AreWrittenLocals, fits_below, locals_added, own_added, register_pushed, value_fits}
+
+-- ---- the temporary lives, and nothing more is visible
+
+module _ (a : Around) (types : Types) (texts : ℕ) (so_far : Bool) (fs : List Function) (f : Function) (place : Place) (t : Ty) (worth : is_value t ≡ true) (s : State) where
+  abbrev pub temporary_local : Local
+  temporary_local = nameless_of Object place (type_number t (typed_with t s))
+
+  -- where it is there
+  abbrev pub with_temporary : State
+  with_temporary = ((scoped place t).begins s).state
+
+  within : HasPartsBelow s.types (length s.types.types) t
+  within = fits_below so_far s.types s.types (omega arith) t (value_fits so_far s.types t worth)
+
+  pub begins_before_it : Begins types f with_temporary → Begins types f s
+  begins_before_it b = record {
+    locals = front_then s.locals with_temporary.locals f.locals (front_append s.locals (temporary_local ∷ [])) b.locals;
+    table = front_then s.types.types with_temporary.types.types types.types (types_before s.types.types t) b.table;
+  }
+
+  module _ (b : Begins types f with_temporary) where
+    there : slice_get f.locals (length s.locals) ≡ Some temporary_local
+    there = b.locals (length s.locals) temporary_local (last_there s.locals temporary_local)
+
+    kept_object : object_at types f (length s.locals) ≡ true
+    kept_object = object_there types f (length s.locals) temporary_local there refl
+
+    kept_typed : placed.type_at types f (length s.locals) ≡ t
+    kept_typed = type_there types f (length s.locals) temporary_local t there (b.table temporary_local.ty.0 t (type_added s.types.types t)) (value_no_reference t worth)
+
+    pub kept_place : IsPlaceOf types texts so_far fs f t false (object_named (length s.locals))
+    kept_place = object_place types texts so_far fs f (length s.locals) t false kept_object kept_typed
+
+    pub temporary_below : length s.locals < length f.locals
+    temporary_below = slice_get_within f.locals (length s.locals) temporary_local there
+
+    -- it can live, and a call can give it its result
+    pub temporary_lives : IsFineStep types texts so_far fs f (Live (length s.locals) Plain)
+    temporary_lives = record {
+      given = refl;
+      formed = or_left (object_at types f (length s.locals)) _ kept_object;
+      served = λ so. ap is_served_birth (ap (held_by types) there ∙ ap (λ (o : Option Ty). held_if (class o) Object o) (b.table temporary_local.ty.0 t (type_added s.types.types t)))
+          ∙ by_values (λ u. is_served_birth (held_if (class (Some u)) Object (Some u)) ≡ true) refl refl refl refl refl t worth;
+    }
+
+    pub temporary_goes : goes_to types texts fs f t (Some (whole (length s.locals))) ≡ true
+    temporary_goes = goes_object types texts so_far fs f t (length s.locals) worth kept_typed kept_object
+
+  pub temporary_written : AreWrittenLocals so_far types a s → AreWrittenLocals so_far types a with_temporary
+  temporary_written are =
+      locals_added so_far types a s with_temporary (types_before s.types.types t)
+      (register_pushed so_far types with_temporary.types s.locals temporary_local (record { nameless = refl; ty = t; typed = type_added s.types.types t; fits = inr (refl, inl worth) }), type_ordered s.types t within) are
+
+  module _ (v : Visible) (h : Follows types f a v s) where
+    opened : (y : ℕ) → Contains (s.living ++ length s.locals ∷ []) y → y < length (s.locals ++ temporary_local ∷ [])
+    opened y c = elim (Contains-push_cases s.living (length s.locals) y c) [
+      | inl old ↦ omega (arith, h.stands.opened y old, length-append s.locals (temporary_local ∷ []))
+      | inr e ↦ omega (arith, e, length-append s.locals (temporary_local ∷ []))
+    ]
+
+    moved : (x : ℕ) (w : TypedLocal) → IsVariableAt a s x w → IsVariableAt a with_temporary x w
+    moved x w is = record {
+      local = is.local;
+      there = front_append s.locals (temporary_local ∷ []) (variable s x) is.local is.there;
+      typed = is.typed;
+      kind = is.kind;
+      lives = Contains-append_left s.living (length s.locals ∷ []) (variable s x) is.lives;
+    }
+
+    lives : (y : ℕ) → Among y s.living ⊎ Among y (length s.locals ∷ []) → IsLiving with_temporary y
+    lives y (inl m) = let is = h.living y m in record { local = is.local; there = front_append s.locals (temporary_local ∷ []) y is.local is.there; lasts = is.lasts }
+    lives y (inr (inl e)) = record { local = temporary_local; there = subst (λ (z : ℕ). slice_get with_temporary.locals z ≡ Some temporary_local) e (last_there s.locals temporary_local); lasts = refl }
+    lives y (inr (inr none)) = absurd none
+
+    sorted : Begins types f with_temporary → (y : ℕ) → Among y s.living ⊎ Among y (length s.locals ∷ []) → may_end types f y ≡ true
+    sorted b y (inl m) = h.sorts (begins_before_it b) y m
+    sorted b y (inr (inl e)) = subst (λ (z : ℕ). may_end types f z ≡ true) e (or_left (object_at types f (length s.locals)) _ (kept_object b))
+    sorted b y (inr (inr none)) = absurd none
+
+    pub follows_temporary : Follows types f a v with_temporary
+    follows_temporary = record {
+      count = h.count;
+      visible = h.visible;
+      stands = record {
+        table = front_then a.program.types.types s.types.types with_temporary.types.types h.stands.table (types_before s.types.types t);
+        opened = opened;
+        pends = none_pending with_temporary.locals with_temporary.types.types with_temporary.living s.pending h.pending;
+        seen = λ x w c at. moved x w (h.stands.seen x w c at);
+      };
+      ascend = ascend_more 0 s.living (length s.locals) h.ascend (omega arith) (λ y m. follows_below types f a v s h y m);
+      outside = omega (arith, length-append s.living (length s.locals ∷ []), h.outside);
+      living = λ y m. lives y (among_either s.living (length s.locals ∷ []) y m);
+      sorts = λ b y m. sorted b y (among_either s.living (length s.locals ∷ []) y m);
+      pending = h.pending;
+    }
+
+    pub adds_temporary : Adds types f s with_temporary
+    adds_temporary = record {
+      locals = front_append s.locals (temporary_local ∷ []);
+      table = types_before s.types.types t;
+      variables = λ n x at. at;
+      living = before s.living;
+      pending = refl;
+      outside = refl;
+    }
+      where
+        before : (xs : List ℕ) → take (length xs) (xs ++ length s.locals ∷ []) ≡ xs
+        before [] = refl
+        before (x ∷ xs) = ap (λ (zs : List ℕ). x ∷ zs) (before xs)
+
+    -- ---- what is known
+
+    module _ (b : Begins types f with_temporary) (k : List Known) (knows : Knows f s.living k) where
+      pub blank_temporary : known_at k (length s.locals) ≡ known.Blank
+      blank_temporary = knows.blank (length s.locals) temporary_local (there b) refl (λ m. let below = follows_below types f a v s h (length s.locals) m in omega (arith, below))
+
+      pub knows_temporary : Knows f (s.living ++ length s.locals ∷ []) (slice_set k (length s.locals) known.Ready)
+      knows_temporary = record {
+        sized = set_length k (length s.locals) known.Ready ∙ knows.sized;
+        alive = λ y m. alive y (among_either s.living (length s.locals ∷ []) y m);
+        blank = λ y z at lasts no.
+            beside_set k (length s.locals) y known.Ready (λ e. no (among_right s.living (length s.locals ∷ []) y (inl e)))
+            ∙ knows.blank y z at lasts (λ m. no (among_left s.living (length s.locals ∷ []) y m));
+      }
+        where
+          lt : length s.locals < length k
+          lt = omega (arith, knows.sized, slice_get_within f.locals (length s.locals) temporary_local (there b))
+
+          alive : (y : ℕ) → Among y s.living ⊎ Among y (length s.locals ∷ []) → known_at (slice_set k (length s.locals) known.Ready) y ≡ known.Ready
+          alive y (inl m) = beside_set k (length s.locals) y known.Ready (λ e. let below = follows_below types f a v s h y m in omega (arith, e, below)) ∙ knows.alive y m
+          alive y (inr (inl e)) = subst (λ (z : ℕ). known_at (slice_set k (length s.locals) known.Ready) z ≡ known.Ready) e (at_set k (length s.locals) known.Ready lt)
+          alive y (inr (inr none)) = absurd none
+
+-- ---- the whole: what is written first, the temporary, and the reference that is aimed at it
+
+module _ (a : Around) (types : Types) (texts : ℕ) (so_far : Bool) (fs : List Function) (f : Function) (setting : Setting so_far a types fs f) (v : Visible) (in_loop : Bool) (last : Place)
+    (u : TypedLocal) (s : State) (h : Follows types f a v s) (at : slice_get a.function.locals v.declared ≡ Some u) (built : is_reached_variable false a.program.types u.ty ≡ true)
+    (target : TyId) (constant : Bool) (found : slice_get a.program.types.types u.ty.0 ≡ Some (ty.Reference target constant)) (worth : is_value (type_at a.program.types target) ≡ true) (place : Place) where
+  abbrev t : Ty
+  t = type_at a.program.types target
+
+  module _ {A : Type 0} (w : Gives A) (Q : Gift types texts so_far fs f A) (made : Makes types texts so_far fs f None s w Q) where
+    -- the temporary, and the reference
+    abbrev x : ℕ
+    x = length w.state.locals
+
+    abbrev kept : State
+    kept = with_temporary a types texts so_far fs f place t worth w.state
+
+    abbrev y : ℕ
+    y = length kept.locals
+
+    -- what brings the temporary to life
+    module _ (brings : List Tree) (fine : Begins types f kept → Q.typed w.given → IsFine types texts so_far fs f brings)
+        (falls : Begins types f kept → (k : List Known) → length k ≡ length f.locals → Q.ready w.given x k → known_at k x ≡ known.Blank → Falls types f brings k (slice_set k x known.Ready)) where
+      abbrev aims : List Tree
+      aims = Act place (Aim (whole y) (Aimed (object_named x))) ∷ []
+
+      abbrev code : List Tree
+      code = brings ++ aims
+
+      -- without its other temporaries, which end behind it
+      abbrev there_first : State
+      there_first = settled types f s w.state
+
+      first : Follows types f a v there_first
+      first = follows_settled types f a v s w.state made.grown h
+
+      abbrev there_kept : State
+      there_kept = with_temporary a types texts so_far fs f place t worth there_first
+
+      second : Follows types f a v there_kept
+      second = follows_temporary a types texts so_far fs f place t worth there_first v first
+
+      abbrev l : Local
+      l = variable_local a u
+
+      adds : Adds types f s (with_new l there_kept)
+      adds =
+          adds_then types f s there_first (with_new l there_kept) (adds_settled types f s w.state made.grown)
+          (adds_then types f there_first there_kept (with_new l there_kept) (adds_temporary a types texts so_far fs f place t worth there_first v first) (adds_new types f a setting.front v u l (its_local a u) there_kept second at built))
+
+      abbrev done : State
+      done = with_code (w.state.code ++ code) (with_new l kept)
+
+      can : TemporariesEnd types texts fs f
+      can = temporary_ends types texts fs f setting.registers
+
+      abbrev over : List ℕ
+      over = ending types texts so_far fs f s w.state made.grown h.stands.pends last
+
+      e : IsEnded types texts so_far fs f over last done
+      e = ended types texts so_far fs f over last done
+
+      abbrev finished : State
+      finished = record done { code = done.code ++ e.code; pending = take (length s.pending) w.state.pending }
+
+      finished_is : end_pending (length s.pending) last done ≡ finished
+      finished_is = ap (λ (r : State). record r { pending = take (length s.pending) w.state.pending }) e.written
+
+      abbrev all_code : List Tree
+      all_code = made.code ++ (code ++ e.code)
+
+      -- neither is one of those that end
+      x_beside : Among x over → ⊥
+      x_beside m = let lt = ends_below types texts so_far fs f s w.state made.grown h.stands.pends last x m in omega (arith, lt)
+
+      y_beside : Among y over → ⊥
+      y_beside m = let lt = ends_below types texts so_far fs f s w.state made.grown h.stands.pends last y m in omega (arith, lt, length-append w.state.locals (temporary_local a types texts so_far fs f place t worth w.state ∷ []))
+
+      module _ (b : Begins types f (with_new l kept)) where
+        begun : Begins types f kept
+        begun = begins_old types f a setting.front v u l (its_local a u) there_kept second at built b
+
+        before : Begins types f w.state
+        before = begins_before_it a types texts so_far fs f place t worth w.state begun
+
+        part : Runs types texts so_far fs f (nothing types texts so_far fs f) tt None s w Q made.code
+        part = made.runs before tt
+
+        aims_fine : IsFine types texts so_far fs f aims
+        aims_fine =
+            let at_it = kept_place a types texts so_far fs f place t worth w.state begun in
+            fine_acts types texts so_far fs f place (Aim (whole y) (Aimed (object_named x)))
+            (record {
+              given = refl;
+              formed =
+                  ap (λ (r : Ty). is_source_of types texts fs f r (Aimed (object_named x))) (reference_declared a types texts so_far fs f setting.front u kept b target constant found worth)
+                  ∙ bound_given a types texts so_far fs f setting.front target constant false (object_named x) worth (keeps_all constant) at_it;
+              served = λ so. refl;
+            })
+
+        ends_fine_here : IsFine types texts so_far fs f e.code
+        ends_fine_here = e.fine (all_among (can_end types texts fs f) over (λ z m. can z (ends_temporary types texts so_far fs f s w.state made.grown h.stands.pends last before z m)))
+
+        all_fine : IsFine types texts so_far fs f all_code
+        all_fine =
+            fine_append types texts so_far fs f made.code (code ++ e.code) part.fine
+            (fine_append types texts so_far fs f code e.code (fine_append types texts so_far fs f brings aims (fine begun part.typed) aims_fine) ends_fine_here)
+
+        -- ---- on a way
+
+        went : (k : List Known) → Knows f s.living k → Leaves f in_loop (kept.living ++ y ∷ []) (take s.outside s.living) (flow types f (trees all_code) (Some k))
+        went k knows =
+            let g = part.goes k (knows_alive types f a v s h k knows) tt in
+            let mid : Knows f w.state.living (set_blank over g.after) = alive_knows types f there_first (set_blank over g.after) first.pending (ends_alive types texts so_far fs f s w.state made.grown h.stands.pends last g.after g.alive) in
+            let blank : known_at g.after x ≡ known.Blank = sym (blank_beside over g.after x x_beside) ∙ blank_temporary a types texts so_far fs f place t worth there_first v first begun (set_blank over g.after) mid in
+            let y_there : y < length g.after = omega (arith, g.alive.sized, new_below types f a setting.front v u l (its_local a u) there_kept second at built b) in
+            let x_lower : x < y = omega (arith, length-append w.state.locals (temporary_local a types texts so_far fs f place t worth w.state ∷ [])) in
+            let x_there : x < length g.after = omega (arith, y_there, x_lower) in
+            let i : List Known = slice_set g.after x known.Ready in
+            let y_within : y < length i = omega (arith, y_there, set_length g.after x known.Ready) in
+            let j : List Known = slice_set i y known.Ready in
+            let sized_i : length (set_blank over i) ≡ length (slice_set (set_blank over g.after) x known.Ready) =
+            blank_length over i ∙ set_length g.after x known.Ready ∙ sym (blank_length over g.after) ∙ sym (set_length (set_blank over g.after) x known.Ready) in
+            let with_it : Knows f (w.state.living ++ x ∷ []) (set_blank over i) =
+            knows_same f (w.state.living ++ x ∷ []) (slice_set (set_blank over g.after) x known.Ready) (set_blank over i) sized_i (λ z. blank_set over g.after x z x_there x_beside)
+            (knows_temporary a types texts so_far fs f place t worth there_first v first begun (set_blank over g.after) mid) in
+            let sized_j : length (set_blank over j) ≡ length (slice_set (set_blank over i) y known.Ready) =
+            blank_length over j ∙ set_length i y known.Ready ∙ sym (blank_length over i) ∙ sym (set_length (set_blank over i) y known.Ready) in
+            let with_both : Knows f (kept.living ++ y ∷ []) (set_blank over j) =
+            knows_same f (kept.living ++ y ∷ []) (slice_set (set_blank over i) y known.Ready) (set_blank over j) sized_j (λ z. blank_set over i y z y_within y_beside)
+            (knows_new types f a setting.front v u l (its_local a u) there_kept second at built b (set_blank over i) with_it) in
+            let fills = filling_fills f (λ p. Aim p (Aimed (object_named x))) y i (aimed_filling f (object_named x) y i (record { local = x; uses = refl; below = x_lower; held = at_set g.after x known.Ready x_there })) y
+            (reference_kept a types texts so_far fs f setting.front u kept b target constant found worth) in
+            let ready : can_leave j over ≡ true =
+            ends_there over j (ends_apart types texts so_far fs f s w.state made.grown h.stands.pends last)
+            (λ z m. ready_set i y z y_within (ready_set g.after x z x_there (g.alive.pending z (ends_pending types texts so_far fs f s w.state made.grown h.stands.pends last z m)))) in
+            subst (Leaves f in_loop (kept.living ++ y ∷ []) (take s.outside s.living))
+            (sym (falls_append types f made.code (code ++ e.code) k g.after (set_blank over j) g.falls
+            (falls_append types f code e.code g.after j (set_blank over j)
+            (falls_append types f brings aims g.after i j (falls begun g.after g.alive.sized g.gives blank) (falls_filling types f place (Aim (whole y) (Aimed (object_named x))) y i fills))
+            (e.falls j ready))))
+            (leaves_falling f in_loop (kept.living ++ y ∷ []) (take s.outside s.living) (set_blank over j) with_both)
+
+        acting : Acting types texts so_far fs f in_loop s finished all_code
+        acting = record {
+          stated = all_fine.stated in_loop;
+          ways = leaves_may types f in_loop s.living (kept.living ++ y ∷ []) (take s.outside s.living) (trees all_code) went;
+        }
+
+      finished_does : Does types texts so_far fs f a (with_next v) in_loop s finished
+      finished_does = record {
+        adds = adds;
+        locals = λ are.
+            own_added so_far types a kept l (record { number = v.declared; variable = u; there = at; of = its_local a u })
+            (temporary_written a types texts so_far fs f place t worth w.state (locals_added so_far types a s w.state made.grown.types made.registers are));
+        order = order_then s.types w.state.types kept.types made.registers.1 (type_ordered w.state.types t (within a types texts so_far fs f place t worth w.state));
+        follows = follows_new types f a setting.front v u l (its_local a u) there_kept second at built;
+        code = all_code;
+        written = ap (λ (c : List Tree). (c ++ code) ++ e.code) made.written ∙ ap (λ (c : List Tree). c ++ e.code) (append_assoc s.code made.code code) ∙ append_assoc s.code (made.code ++ code) e.code ∙ ap (λ (c : List Tree). s.code ++ c) (append_assoc made.code code e.code);
+        acts = acting;
+        returns = λ b gives o k. fine_known types f (result_local a) texts so_far fs all_code (all_fine b) o;
+      }
+
+      pub bound_does : Does types texts so_far fs f a (with_next v) in_loop s (end_pending (length s.pending) last done)
+      bound_does = subst (Does types texts so_far fs f a (with_next v) in_loop s) (sym finished_is) finished_does
