@@ -5,11 +5,13 @@ use Rattle.life_types.specs.Types.{Types, is_slot_at}
 use Rattle.life_core.specs.declared.program.Local.{Local}
 use Rattle.life_core.specs.declared.program.LocalKind.{LocalKind}
 use Rattle.life_core.specs.declared.program.LocalKind.TheVariants.{Object}
+use Rattle.life_core.specs.declared.operand.Which.{Which}
+use Rattle.life_core.specs.declared.operand.Which.TheVariants as which
 use Rattle.life_core.specs.Function.{Function, Program}
-use Rattle.life_core.specs.Holdings.{Holding, AnObject, ANumber, APointer, AView, held_by, sort_of}
-use Rattle.life_core.specs.Operands.{Argument, GivenOver, PointerOf, Slot, Location, Operand, Name, Through, Source}
+use Rattle.life_core.specs.Holdings.{Holding, AnObject, ANumber, APointer, AView, held_by}
+use Rattle.life_core.specs.Operands.{Argument, Base, GivenOver, PointerOf, Slot, Location, Operand, Name, Through, Source}
 use Rattle.life_core.specs.Operands as source
-use Rattle.life_core.specs.Step.{Step, Live, Load, Save, Copy, Move, Aim, Repoint, Element, Cursor, Advance, Cut, Size, Same, Changes, Make, Call, Ports, Port, WritesView, Test, NotNull}
+use Rattle.life_core.specs.Step.{Step, Load, Save, Copy, Move, Aim, Repoint, Element, Cursor, Advance, Cut, Size, Same, Changes, Make, Call, Ports, Port, WritesView, Test, NotNull}
 use Rattle.life_core.specs.Tree.{Node, Action, Question, Spot, spots}
 
 -- ---- no member is named
@@ -29,10 +31,19 @@ is_served_operand (Through p members) = is_empty members && is_served_location p
 
 abbrev pub is_served_source : Source → Bool
 is_served_source (source.Place o) = is_served_operand o
-is_served_source source.Empty = false
 is_served_source (source.Whole o) = false
 is_served_source (source.Get l) = false
 is_served_source _ = true
+
+-- what has elements
+abbrev pub is_served_base : Base → Bool
+is_served_base (source.Owner o) = is_served_operand o
+is_served_base (source.Pointer l) = is_served_location l
+
+-- .. and which of them: no unique_ptr is opened
+abbrev pub is_served_element : Which → Bool
+is_served_element which.Target = false
+is_served_element _ = true
 
 abbrev pub is_served_argument : Argument → Bool
 is_served_argument (PointerOf l) = is_served_location l
@@ -48,28 +59,26 @@ abbrev pub is_served_port : Port → Bool
 is_served_port (WritesView l) = is_served_location l
 is_served_port _ = true
 
--- an object or a raw pointer comes to life, and no view does
+-- whatever it holds, a local may come to life
 abbrev pub is_served_birth : Holding → Bool
-is_served_birth AView = false
-is_served_birth _ = true
+is_served_birth held = true
 
 -- ---- instructions and tests
 
 module _ (types : Types) (f : Function) where
   abbrev pub is_served_step : Step → Bool
-  is_served_step (Live x form) = is_served_birth (sort_of types f x)
   is_served_step (Load r o) = is_served_operand o
   is_served_step (Save o r) = is_served_operand o
   is_served_step (Copy to from) = false
   is_served_step (Move to y) = false
   is_served_step (Aim p s) = is_served_location p && is_served_source s
   is_served_step (Repoint p q) = is_served_location p && is_served_location q
-  is_served_step (Element p b which) = false
+  is_served_step (Element p b which) = is_served_location p && (is_served_base b && is_served_element which)
   is_served_step (Cursor p b end) = false
-  is_served_step (Advance p q r direction) = false
-  is_served_step (Cut p q r count) = false
-  is_served_step (Size r b) = false
-  is_served_step (Same r a b equal) = false
+  is_served_step (Advance p q r direction) = is_served_location p && is_served_location q
+  is_served_step (Cut p q r count) = is_served_location p && is_served_location q
+  is_served_step (Size r b) = is_served_base b
+  is_served_step (Same r a b equal) = is_served_location a && is_served_location b
   is_served_step (Changes o c) = false
   is_served_step (Make u made) = false
   is_served_step (Call target g xs) = is_served_target target && list_all is_served_argument xs
