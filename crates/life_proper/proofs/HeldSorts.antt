@@ -2,8 +2,8 @@
 use Rattle.std.proofs.Common.{◌≡◌, ◌⊎◌, inl, inr, ℕ, zero, suc, Bool, true, false, ◌&&◌, ◌||◌, not, List, [], ◌∷◌, Option, Some, None, slice_get, refl, sym, ap, subst, ◌∙◌, rules}
 use Rattle.std.proofs.lemmas.Bool.{and_parts, false≢true}
 use Rattle.std.specs.List.{list_all}
-use Rattle.life_types.specs.Pointees.{or_void, pointee, ty_of}
-use Rattle.life_types.specs.TypeTests.{is_pointer, is_raw, is_unique, is_value, is_view, is_void}
+use Rattle.life_types.specs.Pointees.{or_void}
+use Rattle.life_types.specs.TypeTests.{is_pointer, is_raw, is_value, is_view, is_void}
 use Rattle.life_types.specs.Types.{Types, class, is_slot_target, is_slot_type, is_slot_at}
 use Rattle.life_types.specs.contracts.ty.TyPartialEq.TheImpl.{ghosts as compared}
 use Rattle.life_types.specs.declared.ty.Ty.{Ty}
@@ -101,20 +101,13 @@ view_view k (Some ty.View) e = refl
 view_view k None e = absurd (false≢true e)
 view_view k (Some _) e = absurd (false≢true e)
 
-pub blank_served : (k : LocalKind) → is_served_as k Blank ≡ true → ⊥
+blank_served : (k : LocalKind) → is_served_as k Blank ≡ true → ⊥
 blank_served Object e = false≢true e
 blank_served Register e = false≢true e
 blank_served Range e = false≢true e
 
 abbrev IsServedTy : LocalKind → Option Ty → Type 0
 IsServedTy k t = is_served_as k (held_if (class t) k t) ≡ true
-
-pointee_pointer : (types : Types) (k : LocalKind) (t : Option Ty) → IsServedTy k t → not (is_void (pointee types (or_void t))) ≡ true → held_if (class t) k t ≡ APointer
-pointee_pointer types k None s e = absurd (false≢true e)
-pointee_pointer types k (Some (ty.Raw target constant)) s e = refl
-pointee_pointer types k (Some (ty.Reference target constant)) s e = refl
-pointee_pointer types k (Some (ty.Iterator target constant)) s e = absurd (blank_served k s)
-pointee_pointer types k (Some _) s e = absurd (false≢true e)
 
 -- a raw pointer, a reference or a view
 abbrev pub IsPointing : Holding → Type 0
@@ -135,16 +128,6 @@ aims_pointer types k None u e = absurd (false≢true e)
 aims_pointer types k (Some (ty.Raw target constant)) u e = refl
 aims_pointer types k (Some (ty.Reference target constant)) u e = refl
 aims_pointer types k (Some _) u e = absurd (false≢true e)
-
-pub aims_void : (types : Types) (t : Ty) → aims_at types t ty.Void ≡ true → ⊥
-aims_void types (ty.Raw target constant) e = same_void (ty_of types target) e
-aims_void types (ty.Reference target constant) e = same_void (ty_of types target) e
-aims_void types _ e = false≢true e
-
-unique_served : (k : LocalKind) (t : Option Ty) → IsServedTy k t → is_unique (or_void t) ≡ true → ⊥
-unique_served k None s e = false≢true e
-unique_served k (Some (ty.Unique target)) s e = blank_served k s
-unique_served k (Some _) s e = false≢true e
 
 object_object : (k : LocalKind) (h : Holding) → is_object k ≡ true → is_served_as k h ≡ true → h ≡ AnObject
 object_object Object AnObject e s = refl
@@ -208,17 +191,9 @@ pub aims_held : (types : Types) (o : Option Local) (u : Ty) → aims_at types (o
 aims_held types None u e = absurd (false≢true e)
 aims_held types (Some l) u e = aims_pointer types l.kind (slice_get types.types l.ty.0) u e
 
-pub not_unique : (types : Types) (o : Option Local) → IsServedIf types o → is_unique (own_type types o) ≡ true → ⊥
-not_unique types None s e = false≢true e
-not_unique types (Some l) s e = unique_served l.kind (slice_get types.types l.ty.0) (served_as types l s) e
-
 pub view_held : (types : Types) (o : Option Local) → is_view (own_type types o) ≡ true → held_by types o ≡ AView
 view_held types None e = absurd (false≢true e)
 view_held types (Some l) e = view_view l.kind (slice_get types.types l.ty.0) e
-
-pub pointee_held : (types : Types) (o : Option Local) → IsServedIf types o → not (is_void (pointee types (own_type types o))) ≡ true → held_by types o ≡ APointer
-pointee_held types None s e = absurd (false≢true e)
-pointee_held types (Some l) s e = pointee_pointer types l.kind (slice_get types.types l.ty.0) (served_as types l s) e
 
 pub pointer_held : (types : Types) (o : Option Local) → IsServedIf types o → is_pointer (own_type types o) ≡ true → IsPointing (held_by types o)
 pointer_held types None s e = absurd (false≢true e)

@@ -1,4 +1,4 @@
--- What is asked of a proper program, at each of its functions and at each point that is reached.
+-- What is asked of a proper program, at each of its functions and at each of their points.
 use Rattle.std.proofs.Common.{◌≡◌, ℕ, zero, suc, true, List, [], ◌∷◌, Some, length, slice_get, refl, ◌∙◌, subst}
 use Rattle.std.proofs.lemmas.Bool.{and_parts}
 use Rattle.std.proofs.lemmas.Option.{none-some, same_Some}
@@ -6,8 +6,7 @@ use Rattle.std.specs.List.{list_all}
 use Rattle.life_types.specs.Types.{Types}
 use Rattle.life_core.specs.Function.{Function, Program}
 use Rattle.life_core.specs.Linked.{Linked, code_of, numbered}
-use Rattle.life_core.specs.Proper.{HasReadyWays, HaveReadyWays, Reaches}
-use Rattle.life_core.specs.Ready.{Ready}
+use Rattle.life_core.specs.Proper.{HasReadyWays, HaveReadyWays}
 use Rattle.life_core.specs.Served.{is_served, is_served_local, is_served_node, is_served_spot}
 use Rattle.life_core.specs.Tree.{Tree, Skip, Then, Acts, Asks, Both, Either, Negated, Choice, Turns, Breaks, Continues, Returns, Stops, spots}
 use Rattle.life_proper.specs.GivenOver.{all_keep_given}
@@ -16,8 +15,7 @@ use Rattle.life_proper.specs.ProperPrograms.{IsProperProgram}
 use Rattle.life_proper.specs.WellFormed.{is_well_formed_node, is_well_formed_spot, is_well_formed_step, is_well_formed_test, is_well_formed_tree}
 use Rattle.life_proper.specs.WellFormedPrograms.{is_well_formed_function}
 use Rattle.life_proper.proofs.Joining.{and_true}
-use Rattle.life_proper.proofs.Sorted.{IsNodeSorted}
-use Rattle.life_proper.proofs.SortedNodes.{formed_parts, node_sorted, served_locals}
+use Rattle.life_proper.proofs.SortedNodes.{formed_parts}
 use Rattle.life_proper.proofs.SpotTests.{all_at, point_tested, three_parts, two_parts}
 
 -- ---- each function of a proper program
@@ -62,10 +60,3 @@ module _ (types : Types) (texts : ℕ) (fs : List Function) (f : Function) where
   pub point_served : IsProperFunction types texts fs f → (p : ℕ) (l : Linked) → numbered (code_of f) p ≡ Some l → is_served_node types f l.spot.node ≡ true
   point_served proper p l at =
       point_tested (is_served_spot types f) f p l (and_parts (list_all (is_served_local types) f.locals) (list_all (is_served_spot types f) (spots f.body)) proper.served).1 at
-
-  -- what it uses is there, with its sorts
-  pub point_sorted : AreProperFunctions types texts fs → IsProperFunction types texts fs f → (p : ℕ) (bits : Ready) (l : Linked) → Reaches types f p bits → numbered (code_of f) p ≡ Some l
-      → IsNodeSorted types f fs bits l.spot.node
-  point_sorted all proper p bits l way at =
-      node_sorted types texts fs all f (served_locals types f proper.served) bits l.spot.node (formed_parts types proper.names texts fs f proper.formed).result
-      (point_formed proper p l at) (point_served proper p l at) (proper.ready.ready p bits l way at)
