@@ -1,20 +1,15 @@
--- What stands in a cell, by whether its local is there and of which sort it is; and cells one of which was written.
-use Rattle.std.proofs.Common.{◌≡◌, ◌≢◌, ℕ, zero, suc, Bool, true, false, List, [], ◌∷◌, map, Option, Some, None, refl, sym, ap, subst, ◌∙◌, ⊎_elim, inl, inr, ◌⊎◌}
-use Rattle.std.specs.Prelude.{ℤ, slice_get, slice_set, option_map}
+-- What stands in a cell whose local isn't there, and cells one of which was written.
+use Rattle.std.proofs.Common.{◌≡◌, ◌≢◌, ℕ, zero, suc, Bool, false, List, [], ◌∷◌, map, Option, Some, None, refl, sym, ap, ◌∙◌, ⊎_elim, inl, inr, ◌⊎◌}
+use Rattle.std.specs.Prelude.{slice_get, slice_set, option_map}
 use Rattle.std.proofs.lemmas.Bool.{false≢true}
 use Rattle.std.proofs.lemmas.List.{map-set}
 use Rattle.std.proofs.lemmas.Option.{slice_get-map}
-use Rattle.life_types.specs.Types.{Types}
-use Rattle.life_core.specs.Function.{Function}
-use Rattle.life_core.specs.Holdings.{Holding, AnObject, ANumber, APointer, AView, sort_of}
 use Rattle.life_core.specs.Ready.{IsBit}
-use Rattle.life_proper.proofs.Sorted.{Holds}
 use Rattle.life_store.specs.Cells.{Cells, at, set, unset, at-set_same, at-set_other, at-unset_same, at-unset_other}
-use Rattle.life_store.specs.State.{Characters, Pointer, Null, Wild, To, Static, Cell, Empty, Named, Number, Points, is_there}
-use Rattle.life_store.proofs.Sorts.{Fits, IsSorted}
+use Rattle.life_store.specs.State.{Cell, Empty, Named, Number, Points, is_there}
 use Rattle.std.proofs.lemmas.Bool.Decides.{eqb_tells}
 
--- ---- by whether it is there, and by its sort
+-- ---- by whether it is there
 
 pub some_same : {A : Type 0} {a b : A} → Some a ≡ Some b → a ≡ b
 some_same e = cc
@@ -38,72 +33,6 @@ empty_cell_is cells x is = go (slice_get cells x) refl (there_cell cells x false
     go (Some (Named n)) e i = absurd (false≢true (sym (some_same i)))
     go (Some (Number z)) e i = absurd (false≢true (sym (some_same i)))
     go (Some (Points p)) e i = absurd (false≢true (sym (some_same i)))
-
-object_number : AnObject ≡ ANumber → ⊥
-object_number e = cc
-
-pointer_object : APointer ≡ AnObject → ⊥
-pointer_object e = cc
-
-pointer_number : APointer ≡ ANumber → ⊥
-pointer_number e = cc
-
-view_object : AView ≡ AnObject → ⊥
-view_object e = cc
-
-view_number : AView ≡ ANumber → ⊥
-view_number e = cc
-
-module _ (types : Types) (f : Function) (cells : List Cell) (sorted : IsSorted types f cells) (x : ℕ) where
-  abbrev HoldsHere : Holding → Type 0
-  HoldsHere h = Holds types f (map is_there cells) x h
-
-  -- what stands in it is of that sort
-  pub held_is : (h : Holding) (v : Cell) → HoldsHere h → slice_get cells x ≡ Some v → Fits h v
-  held_is h v is e = subst (λ k. Fits k v) is.1 (sorted x v e)
-
-  pub named_cell : HoldsHere AnObject → (n : ℕ) × (slice_get cells x ≡ Some (Named n))
-  named_cell h = go (slice_get cells x) refl (there_cell cells x true h.0)
-    where
-      go : (o : Option Cell) → slice_get cells x ≡ o → IsCell true o → (n : ℕ) × (slice_get cells x ≡ Some (Named n))
-      go None e i = absurd (none_some i)
-      go (Some Empty) e i = absurd (false≢true (some_same i))
-      go (Some (Named n)) e i = (n, e)
-      go (Some (Number z)) e i = absurd (object_number (held_is AnObject (Number z) h e))
-      go (Some (Points p)) e i = absurd (held_is AnObject (Points p) h e)
-
-  pub number_cell : HoldsHere ANumber → (z : ℤ) × (slice_get cells x ≡ Some (Number z))
-  number_cell h = go (slice_get cells x) refl (there_cell cells x true h.0)
-    where
-      go : (o : Option Cell) → slice_get cells x ≡ o → IsCell true o → (z : ℤ) × (slice_get cells x ≡ Some (Number z))
-      go None e i = absurd (none_some i)
-      go (Some Empty) e i = absurd (false≢true (some_same i))
-      go (Some (Named n)) e i = absurd (object_number (sym (held_is ANumber (Named n) h e)))
-      go (Some (Number z)) e i = (z, e)
-      go (Some (Points p)) e i = absurd (held_is ANumber (Points p) h e)
-
-  pub pointer_cell : HoldsHere APointer → (v : Pointer) × (slice_get cells x ≡ Some (Points v))
-  pointer_cell h = go (slice_get cells x) refl (there_cell cells x true h.0)
-    where
-      go : (o : Option Cell) → slice_get cells x ≡ o → IsCell true o → (v : Pointer) × (slice_get cells x ≡ Some (Points v))
-      go None e i = absurd (none_some i)
-      go (Some Empty) e i = absurd (false≢true (some_same i))
-      go (Some (Named n)) e i = absurd (pointer_object (held_is APointer (Named n) h e))
-      go (Some (Number z)) e i = absurd (pointer_number (held_is APointer (Number z) h e))
-      go (Some (Points p)) e i = (p, e)
-
-  pub view_cell : HoldsHere AView → (c : Characters) × (slice_get cells x ≡ Some (Points (Static c)))
-  view_cell h = go (slice_get cells x) refl (there_cell cells x true h.0)
-    where
-      go : (o : Option Cell) → slice_get cells x ≡ o → IsCell true o → (c : Characters) × (slice_get cells x ≡ Some (Points (Static c)))
-      go None e i = absurd (none_some i)
-      go (Some Empty) e i = absurd (false≢true (some_same i))
-      go (Some (Named n)) e i = absurd (view_object (held_is AView (Named n) h e))
-      go (Some (Number z)) e i = absurd (view_number (held_is AView (Number z) h e))
-      go (Some (Points (Static c))) e i = (c, e)
-      go (Some (Points Null)) e i = absurd (held_is AView (Points Null) h e)
-      go (Some (Points Wild)) e i = absurd (held_is AView (Points Wild) h e)
-      go (Some (Points (To t))) e i = absurd (held_is AView (Points (To t)) h e)
 
 -- ---- one of them was written
 
@@ -137,11 +66,6 @@ cell_other (c ∷ cs) (suc x) (suc y) v ne = cell_other cs x y v (λ k. ne (ap s
 -- which locals are there where a cell was written
 pub ready_set : (cells : List Cell) (x : ℕ) (v : Cell) → map is_there (slice_set cells x v) ≡ slice_set (map is_there cells) x (is_there v)
 ready_set cells x v = map-set is_there cells x v
-
--- .. and what is of its local's sort is written
-pub set_sorted : (types : Types) (f : Function) (cells : List Cell) (x : ℕ) (v : Cell) → Fits (sort_of types f x) v → IsSorted types f cells → IsSorted types f (slice_set cells x v)
-set_sorted types f cells x v fits sorted y w e =
-    ⊎_elim (λ a. subst (λ k. Fits (sort_of types f k) w) a.0 (subst (Fits (sort_of types f x)) a.1 fits)) (λ b. sorted y w b.1) (cell_cases cells x y v w e)
 
 -- a finite map one of whose numbers was set, or taken out
 pub set_cases : {A : Type 0} (m : Cells A) (k j : ℕ) (v : A) → ((k ≡ j) × (at (set m k v) j ≡ Some v)) ⊎ ((k ≢ j) × (at (set m k v) j ≡ at m j))

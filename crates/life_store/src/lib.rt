@@ -1,7 +1,6 @@
 //! The store of a run: objects in memory, and what programs mean over it.
 #![tactic(auto)]
 
-mod laws;
 mod object;
 mod plain;
 mod plain_object;
@@ -9,7 +8,6 @@ mod plain_rows;
 mod run;
 mod store;
 
-pub use laws::proper_runs_are_never_lost;
 pub use object::{BirthFault, Dead, ObjRef, Shape};
 pub use plain::PlainStore;
 pub use run::{FaultKind, Growth, Limits, TrapKind};

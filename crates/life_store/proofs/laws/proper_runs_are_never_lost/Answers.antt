@@ -1,5 +1,0 @@
-use Rattle.life_store.proofs.NeverLost.{never_lost}
-use Rattle.life_store.proofs.laws.proper_runs_are_never_lost.Goals as goal
-
-pub returns : goal.returns
-returns c = never_lost
