@@ -1,18 +1,11 @@
--- What a local holds, by its class and its kind: whether it may come to life, and whether it is served.
-use Rattle.std.proofs.Common.{◌≡◌, true, false, Option, Some, None, refl}
-use Rattle.life_types.specs.declared.ty.Class.TheVariants.{Value}
+-- What a local holds, by its class and its kind: whether it is served.
+use Rattle.std.proofs.Common.{◌≡◌, false, Option, Some, None, refl}
 use Rattle.life_types.specs.declared.ty.Ty.{Ty}
 use Rattle.life_types.specs.declared.ty.Ty.TheVariants as ty
 use Rattle.life_core.specs.declared.program.LocalKind.{LocalKind}
 use Rattle.life_core.specs.declared.program.LocalKind.TheVariants.{Object, Register, Range}
-use Rattle.life_core.specs.Holdings.{Blank, held_if, pointer_held}
-use Rattle.life_core.specs.Served.{is_served_as, is_served_birth}
-
--- what holds a value is no view
-pub value_born : (kind : LocalKind) (ty : Option Ty) → is_served_birth (held_if Value kind ty) ≡ true
-value_born Object ty = refl
-value_born Register ty = refl
-value_born Range ty = refl
+use Rattle.life_core.specs.Holdings.{Blank, pointer_held}
+use Rattle.life_core.specs.Served.{is_served_as}
 
 -- no pointer lies in memory, and where one lies in a register it may lie as a range
 pub none_in_memory : (ty : Option Ty) → is_served_as Object (pointer_held ty) ≡ false

@@ -1,5 +1,5 @@
 -- What passes the tests of the kinds that are served is well formed.
-use Rattle.std.proofs.Common.{◌≡◌, ℕ, ◌+◌, Bool, true, false, ◌&&◌, ◌||◌, not, List, [], ◌∷◌, length, Option, Some, None, slice_get, nat_lt, refl, sym, ◌∙◌, arith}
+use Rattle.std.proofs.Common.{◌≡◌, ℕ, ◌+◌, Bool, true, ◌&&◌, ◌||◌, not, List, [], ◌∷◌, length, Option, Some, None, slice_get, nat_lt, refl, sym, ◌∙◌, arith}
 use Rattle.std.proofs.lemmas.Bool.{and_from, and_parts, false≢true}
 use Rattle.std.proofs.lemmas.Bool.Decides.{nat_tests}
 use Rattle.std.specs.List.{list_all}
@@ -18,7 +18,7 @@ use Rattle.life_core.specs.Holdings.{held_by}
 use Rattle.life_core.specs.Operands.{Argument, Value, GivenOver, PointerOf, Slot, Location, Source}
 use Rattle.life_core.specs.Operands as source
 use Rattle.life_core.specs.Served.{is_served, is_served_as, is_served_local, is_served_program, is_served_spot}
-use Rattle.life_core.specs.Step.{Step, Live, End, Eval, Load, Save, Aim, Repoint, Call, Ports}
+use Rattle.life_core.specs.Step.{Step, Live, End, Eval, Load, Save, Aim, Repoint, Element, Cut, Size, Same, Call, Ports}
 use Rattle.life_core.specs.Tree.{Node, Action, Question, Spot, spots}
 use Rattle.life_proper.specs.OperandTypes.{is_composed}
 use Rattle.life_proper.specs.WellFormed.{are_arguments_for, goes_to, have_own_slots, is_argument_for, is_call, is_source_of, is_well_formed_node, is_well_formed_spot, is_well_formed_step, types_taken}
@@ -35,7 +35,7 @@ module _ (types : Types) (texts : ℕ) (fs : List Function) (f : Function) where
   source_formed : (t : Ty) (s : Source) → is_served_source_of types texts fs f t s ≡ true → is_source_of types texts fs f t s ≡ true
   source_formed t source.Null e = e
   source_formed t (source.Text n) e = e
-  source_formed t source.Empty e = absurd (false≢true e)
+  source_formed t source.Empty e = e
   source_formed t (source.Place o) e = e
   source_formed t (source.Whole o) e = absurd (false≢true e)
   source_formed t (source.Get l) e = absurd (false≢true e)
@@ -78,6 +78,10 @@ module _ (types : Types) (texts : ℕ) (fs : List Function) (f : Function) where
   step_formed (Save o r) e = e
   step_formed (Aim p s) e = source_formed _ s e
   step_formed (Repoint p q) e = e
+  step_formed (Element p b which) e = e
+  step_formed (Cut p q r count) e = e
+  step_formed (Size r b) e = e
+  step_formed (Same r a b equal) e = e
   step_formed (Call target g xs) e = call_formed (slice_get fs g.0) target xs e
   step_formed (Ports p) e = e
   step_formed _ e = absurd (false≢true e)

@@ -10,7 +10,7 @@ use Rattle.life_core.specs.Served.{is_served, is_served_argument, is_served_loca
 use Rattle.life_core.specs.Step.{Step, Move, Aim, Element, Cursor, Changes, Make, Call}
 use Rattle.life_core.specs.Touched.{by_members}
 use Rattle.life_core.specs.Tree.{Node, Action, Spot, spots}
-use Rattle.life_proper.specs.GivenOver.{all_keep_given, given_argument, given_in, given_node, given_spot, given_step, is_handed_in, is_kept, is_kept_argument, is_kept_place, is_kept_source, keeps_all_given, keeps_given, keeps_target, node_keeps_given, spot_keeps_given}
+use Rattle.life_proper.specs.GivenOver.{all_keep_given, given_argument, given_in, given_node, given_spot, given_step, is_handed_in, is_kept, is_kept_argument, is_kept_base, is_kept_place, is_kept_source, keeps_all_given, keeps_given, keeps_target, node_keeps_given, spot_keeps_given}
 use Rattle.life_proper.specs.Placed.{object_at}
 
 -- ---- nothing is given over
@@ -68,6 +68,10 @@ module _ (types : Types) (f : Function) (none : given_in f ≡ []) where
   source_kept (source.Get l) = kept l.local
   source_kept _ = refl
 
+  base_kept : (b : Base) → is_kept_base types f b ≡ true
+  base_kept (source.Owner o) = place_kept o
+  base_kept (source.Pointer l) = refl
+
   arguments_kept : (xs : List Argument) → list_all (is_kept_argument types f) xs ≡ true
   arguments_kept [] = refl
   arguments_kept (Slot l ∷ xs) = and_from _ _ (kept l.local) (arguments_kept xs)
@@ -78,7 +82,7 @@ module _ (types : Types) (f : Function) (none : given_in f ≡ []) where
   step_keeps : (i : Step) → is_served_step types f i ≡ true → keeps_given types f i ≡ true
   step_keeps (Move to y) e = kept y
   step_keeps (Aim p s) e = source_kept s
-  step_keeps (Element p b which) e = absurd (false≢true e)
+  step_keeps (Element p b which) e = base_kept b
   step_keeps (Cursor p b end) e = absurd (false≢true e)
   step_keeps (Changes o c) e = absurd (false≢true e)
   step_keeps (Call target g xs) e = and_from _ _ (arguments_kept xs) (targets_kept target xs (no_arguments xs (and_parts (is_served_target target) (list_all is_served_argument xs) e).1))

@@ -12,11 +12,11 @@ use Rattle.life_core.specs.Function.{Function, Program}
 use Rattle.life_core.specs.Kinds.{is_register}
 use Rattle.life_core.specs.Operands.{Argument, Value, GivenOver, PointerOf, Slot, Location, Source}
 use Rattle.life_core.specs.Operands as source
-use Rattle.life_core.specs.Step.{Step, Live, End, Eval, Load, Save, Aim, Repoint, Call, Ports}
+use Rattle.life_core.specs.Step.{Step, Live, End, Eval, Load, Save, Aim, Repoint, Element, Cut, Size, Same, Call, Ports}
 use Rattle.life_core.specs.Tree.{Node, Action, Question, Spot, spots}
 use Rattle.life_pset.specs.Elements.{IsWithinLimits}
-use Rattle.life_proper.specs.OperandTypes.{aims_at, keeps_const, takes}
-use Rattle.life_proper.specs.Placed.{is_const_place, is_number, is_number_of, type_at, type_in, type_of}
+use Rattle.life_proper.specs.OperandTypes.{aims_at, are_compared, is_range, keeps_const, takes}
+use Rattle.life_proper.specs.Placed.{element_of, is_const_base, is_const_place, is_number, is_number_of, is_number_of_if, type_at, type_in, type_of, type_of_element}
 use Rattle.life_proper.specs.WellFormed.{can_end, can_live, goes_to, is_operation_of, is_port, is_well_formed_test, types_taken}
 use Rattle.life_proper.specs.WellFormedPrograms.{fits_kind, have_own_names, is_name, is_name_if, is_named_as, names_parameters}
 
@@ -25,6 +25,7 @@ module _ (types : Types) (texts : ℕ) (fs : List Function) (f : Function) where
   abbrev pub is_served_source_of : Ty → Source → Bool
   is_served_source_of t source.Null = is_raw t
   is_served_source_of t (source.Text n) = is_view t && nat_lt n texts
+  is_served_source_of t source.Empty = is_range t
   is_served_source_of t (source.Place o) = aims_at types t (type_of types f o) && keeps_const (is_constant t) (is_const_place types f o)
   is_served_source_of t _ = false
 
@@ -50,6 +51,11 @@ module _ (types : Types) (texts : ℕ) (fs : List Function) (f : Function) where
   is_formed_step (Save o r) = is_number_of types f (type_of types f o) r && not (is_const_place types f o)
   is_formed_step (Aim p s) = is_served_source_of (type_in types f p) s
   is_formed_step (Repoint p q) = takes types (type_in types f p) (type_in types f q)
+  is_formed_step (Element p b which) = aims_at types (type_in types f p) (type_of_element types f b which) && keeps_const (is_constant (type_in types f p)) (is_const_base types f b)
+  is_formed_step (Cut p q r count) =
+      is_range (type_in types f p) && (takes types (type_in types f p) (type_in types f q) && (is_number_of types f ty.Size r && is_number_of_if types f ty.Size count))
+  is_formed_step (Size r b) = is_number_of types f ty.Size r && not (is_void (element_of types f b))
+  is_formed_step (Same r a b equal) = is_number_of types f ty.Bool r && are_compared types (type_in types f a) (type_in types f b)
   is_formed_step (Call target g xs) = is_served_call (slice_get fs g.0) target xs
   is_formed_step (Ports p) = is_port types texts fs f p
   is_formed_step _ = false

@@ -9,11 +9,14 @@ ghost use Rattle.life_proper.specs.WellFormed.{answer_of, can_end, can_live, goe
 ghost use Rattle.life_proper_check.specs.ServedForms.{are_served_for, is_formed_node, is_formed_step, is_served_call, is_served_for, is_served_source_of};
 
 use crate::placed::{
-    is_const_place, is_number, is_number_of, is_object_at, is_register_at, is_result,
-    is_slot_local, type_at, type_in, type_of,
+    element_of, is_const_base, is_const_place, is_number, is_number_of, is_number_of_if,
+    is_object_at, is_register_at, is_result, is_slot_local, type_at, type_in, type_of,
+    type_of_element,
 };
 use crate::scope::Scope;
-use crate::types::{aims_at, is_promoted, is_reference, keeps_const, same, takes};
+use crate::types::{
+    aims_at, are_compared, is_promoted, is_range, is_reference, keeps_const, same, takes,
+};
 use life_core::{
     Argument, CoreFn, FnId, Instr, Local, Location, NodeRef, Operation, Operator, Port, Source,
     Test,
@@ -97,6 +100,7 @@ fn is_source_of(at: &Scope, ty: Ty, source: &Source) -> bool
     match source {
         Source::Null => is_raw(ty),
         Source::Text(n) => is_view(ty) && (*n as usize) < at.texts,
+        Source::Empty => is_range(ty),
         Source::Place(o) => aims_at(at.types, ty, type_of(at.types, at.function, o))
             && keeps_const(is_constant(ty), is_const_place(at.types, at.function, o)),
         _ => false,
@@ -221,6 +225,39 @@ fn is_formed_step(at: &Scope, instr: &Instr) -> bool
             type_in(types, f, pointer),
             type_in(types, f, from),
         ),
+        Instr::Element {
+            pointer,
+            base,
+            which,
+        } => {
+            let into = type_in(types, f, pointer);
+            aims_at(types, into, type_of_element(types, f, base, *which))
+                && keeps_const(is_constant(into), is_const_base(types, f, base))
+        }
+        Instr::Cut {
+            pointer,
+            from,
+            index,
+            count,
+        } => {
+            let into = type_in(types, f, pointer);
+            is_range(into)
+                && takes(types, into, type_in(types, f, from))
+                && is_number_of(types, f, Ty::Size, *index)
+                && is_number_of_if(types, f, Ty::Size, *count)
+        }
+        Instr::Size { into, base } => {
+            is_number_of(types, f, Ty::Size, *into) && !is_void(element_of(types, f, base))
+        }
+        Instr::Same {
+            into,
+            left,
+            right,
+            ..
+        } => {
+            is_number_of(types, f, Ty::Bool, *into)
+                && are_compared(types, type_in(types, f, left), type_in(types, f, right))
+        }
         Instr::Call {
             target,
             function,

@@ -2,11 +2,11 @@
 ghost use Rattle.std.specs.Prelude.{◌≡◌};
 ghost use Rattle.life_core.specs.Function.{function_of};
 ghost use Rattle.life_core.specs.Kinds.{is_object, is_object_at, is_register, is_register_at};
-ghost use Rattle.life_core.specs.Operands.{location_of, operand_of};
-ghost use Rattle.life_proper.specs.Placed.{is_const_place, is_number, is_number_of, is_place, result_at, slot_at, type_at, type_in, type_of};
+ghost use Rattle.life_core.specs.Operands.{base_of, location_of, operand_of};
+ghost use Rattle.life_proper.specs.Placed.{element_of, is_const_base, is_const_place, is_number, is_number_of, is_number_of_if, is_place, result_at, slot_at, target_of, type_at, type_in, type_of, type_of_element};
 
-use crate::types::{pointee, same};
-use life_core::{CoreFn, LocalKind, Location, Operand};
+use crate::types::{owned_element, owned_target, pointee, same, seen_element};
+use life_core::{Base, CoreFn, LocalKind, Location, Operand, Which};
 use life_pset::{local_type, location_type, operand_type, ty_at, ty_if};
 use life_types::{Ty, TypeTable, is_constant, is_slot, is_value, is_void};
 
@@ -122,4 +122,62 @@ pub(crate) fn is_number_of(types: &TypeTable, f: &CoreFn, ty: Ty, r: u32) -> boo
     ensures { result ≡ is_number_of types.now (function_of f.now) ty r }
 {
     is_register_at(f, r) && is_value(ty) && same(ty, type_at(types, f, r))
+}
+
+/// Whether a count, if there is one, is a register of the type.
+pub(crate) fn is_number_of_if(types: &TypeTable, f: &CoreFn, ty: Ty, count: Option<u32>) -> bool
+    ensures { result ≡ is_number_of_if types.now (function_of f.now) ty count }
+{
+    match count {
+        None => true,
+        Some(r) => is_number_of(types, f, ty, r),
+    }
+}
+
+// ---- elements
+
+pub(crate) fn element_of(types: &TypeTable, f: &CoreFn, base: &Base) -> Ty
+    ensures { result ≡ element_of types.now (function_of f.now) (base_of base.now) }
+{
+    match base {
+        Base::Owner(o) => owned_element(types, type_of(types, f, o)),
+        Base::Pointer(l) => seen_element(types, type_in(types, f, l)),
+    }
+}
+
+/// Whether its elements are const.
+pub(crate) fn is_const_base(types: &TypeTable, f: &CoreFn, base: &Base) -> bool
+    ensures { result ≡ is_const_base types.now (function_of f.now) (base_of base.now) }
+{
+    match base {
+        Base::Owner(o) => is_const_place(types, f, o),
+        Base::Pointer(l) => is_constant(type_in(types, f, l)),
+    }
+}
+
+fn target_of(types: &TypeTable, f: &CoreFn, base: &Base) -> Ty
+    ensures { result ≡ target_of types.now (function_of f.now) (base_of base.now) }
+{
+    match base {
+        Base::Owner(o) => owned_target(types, type_of(types, f, o)),
+        Base::Pointer(_) => Ty::Void,
+    }
+}
+
+/// The type of the element that is chosen.
+pub(crate) fn type_of_element(types: &TypeTable, f: &CoreFn, base: &Base, which: Which) -> Ty
+    ensures { result ≡ type_of_element types.now (function_of f.now) (base_of base.now) which }
+{
+    match which {
+        Which::Index(r) => {
+            if is_number_of(types, f, Ty::Size, r) {
+                element_of(types, f, base)
+            } else {
+                Ty::Void
+            }
+        }
+        Which::First => element_of(types, f, base),
+        Which::Last => element_of(types, f, base),
+        Which::Target => target_of(types, f, base),
+    }
 }

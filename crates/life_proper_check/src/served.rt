@@ -2,17 +2,18 @@
 ghost use Rattle.std.specs.Prelude.{◌≡◌, ◌&&◌, Option, map, option_map};
 ghost use Rattle.std.specs.List.{list_all};
 ghost use Rattle.life_core.specs.Function.{function_of};
-ghost use Rattle.life_core.specs.Holdings.{held_by, held_if, pointer_held, sort_of};
+ghost use Rattle.life_core.specs.Holdings.{held_by, held_if, pointer_held};
 ghost use Rattle.life_core.specs.declared.program.LocalKind.TheVariants.{Register};
 ghost use Rattle.life_types.specs.declared.ty.Class.TheVariants.{Value};
 ghost use Rattle.life_types.specs.declared.ty.Ty.{Ty as AnyTy};
 ghost use Rattle.life_core.specs.Node.{node_seen};
-ghost use Rattle.life_core.specs.Operands.{argument_of, location_of, operand_of, source_of};
-ghost use Rattle.life_core.specs.Served.{is_empty, is_served_argument, is_served_as, is_served_birth, is_served_local, is_served_location, is_served_node, is_served_operand, is_served_port, is_served_source, is_served_step, is_served_target, is_served_test};
+ghost use Rattle.life_core.specs.Operands.{argument_of, base_of, location_of, operand_of, source_of};
+ghost use Rattle.life_core.specs.Served.{is_empty, is_served_argument, is_served_as, is_served_base, is_served_element, is_served_local, is_served_location, is_served_node, is_served_operand, is_served_port, is_served_source, is_served_step, is_served_target, is_served_test};
 ghost use Rattle.life_core.specs.Step.{asked_of, port_of, step_of};
 
 use life_core::{
-    Argument, CoreFn, Instr, Local, LocalKind, Location, NodeRef, Operand, Port, Source, Test,
+    Argument, Base, CoreFn, Instr, Local, LocalKind, Location, NodeRef, Operand, Port, Source,
+    Test, Which,
 };
 use life_types::{Class, Ty, TypeTable, class_of, is_slot};
 
@@ -46,9 +47,27 @@ fn is_source(source: &Source) -> bool
 {
     match source {
         Source::Place(o) => is_operand(o),
-        Source::Empty => false,
         Source::Whole(_) => false,
         Source::Get(_) => false,
+        _ => true,
+    }
+}
+
+fn is_base(base: &Base) -> bool
+    ensures { result ≡ is_served_base (base_of base.now) }
+{
+    match base {
+        Base::Owner(o) => is_operand(o),
+        Base::Pointer(l) => is_location(l),
+    }
+}
+
+// Whether no unique_ptr is opened.
+fn is_element(which: Which) -> bool
+    ensures { result ≡ is_served_element which }
+{
+    match which {
+        Which::Target => false,
         _ => true,
     }
 }
@@ -93,50 +112,28 @@ fn is_port(port: &Port) -> bool
     }
 }
 
-// Whether it isn't a view.
-fn is_birth(types: &TypeTable, f: &CoreFn, x: u32) -> bool
-    ensures { result ≡ is_served_birth (sort_of types.now (function_of f.now) x) }
-{
-    match f.locals.get(x as usize) {
-        None => true,
-        Some(l) => is_born(types, l),
-    }
-}
-
-#[tactic(auto, using(crate::proofs::Births::value_born))]
-fn is_born(types: &TypeTable, local: &Local) -> bool
-    ensures { result ≡ is_served_birth (held_by types.now (Some local.now)) }
-{
-    match class_of(types, local.ty) {
-        Class::Pointer => match types.get(local.ty) {
-            Some(Ty::View) => false,
-            _ => true,
-        },
-        Class::Value => true,
-        Class::Owner => true,
-        Class::Aggregate => true,
-    }
-}
-
 // ---- points
 
 fn is_step(types: &TypeTable, f: &CoreFn, instr: &Instr) -> bool
     ensures { result ≡ is_served_step types.now (function_of f.now) (step_of instr.now) }
 {
     match instr {
-        Instr::Live { local, .. } => is_birth(types, f, *local),
         Instr::Load { from, .. } => is_operand(from),
         Instr::Save { to, .. } => is_operand(to),
         Instr::Copy { .. } => false,
         Instr::Move { .. } => false,
         Instr::Aim { pointer, source } => is_location(pointer) && is_source(source),
         Instr::Repoint { pointer, from } => is_location(pointer) && is_location(from),
-        Instr::Element { .. } => false,
+        Instr::Element {
+            pointer,
+            base,
+            which,
+        } => is_location(pointer) && is_base(base) && is_element(*which),
         Instr::Cursor { .. } => false,
-        Instr::Advance { .. } => false,
-        Instr::Cut { .. } => false,
-        Instr::Size { .. } => false,
-        Instr::Same { .. } => false,
+        Instr::Advance { pointer, from, .. } => is_location(pointer) && is_location(from),
+        Instr::Cut { pointer, from, .. } => is_location(pointer) && is_location(from),
+        Instr::Size { base, .. } => is_base(base),
+        Instr::Same { left, right, .. } => is_location(left) && is_location(right),
         Instr::Change { .. } => false,
         Instr::Make { .. } => false,
         Instr::Call {

@@ -2,10 +2,10 @@
 ghost use Rattle.std.specs.Prelude.{◌≡◌};
 ghost use Rattle.life_types.specs.Pointees.{pointee};
 ghost use Rattle.life_types.specs.TypeTests.{is_reference};
-ghost use Rattle.life_proper.specs.OperandTypes.{aims_at, are_alike, is_promoted, keeps_const, same, takes};
+ghost use Rattle.life_proper.specs.OperandTypes.{aims_at, are_alike, are_compared, is_promoted, is_range, keeps_const, owned_element, owned_target, same, seen_element, takes};
 
 use life_pset::ty_at;
-use life_types::{Ty, TypeTable, is_constant};
+use life_types::{Ty, TypeTable, is_constant, is_view};
 
 /// Whether operators compute in it.
 pub(crate) fn is_promoted(ty: Ty) -> bool
@@ -25,6 +25,16 @@ pub(crate) fn is_reference(ty: Ty) -> bool
     match ty {
         Ty::Reference { .. } => true,
         _ => false,
+    }
+}
+
+/// Whether it is a span or a view.
+pub(crate) fn is_range(ty: Ty) -> bool
+    ensures { result ≡ is_range ty }
+{
+    match ty {
+        Ty::Span { .. } => true,
+        _ => is_view(ty),
     }
 }
 
@@ -72,6 +82,51 @@ pub(crate) fn takes(types: &TypeTable, to: Ty, from: Ty) -> bool
     ensures { result ≡ takes types.now to from }
 {
     are_alike(types, to, from) && keeps_const(is_constant(to), is_constant(from))
+}
+
+/// Whether two are told to be the same: iterators over one type, or views.
+pub(crate) fn are_compared(types: &TypeTable, left: Ty, right: Ty) -> bool
+    ensures { result ≡ are_compared types.now left right }
+{
+    match (left, right) {
+        (Ty::Iterator { target: t, .. }, Ty::Iterator { target: u, .. }) => {
+            same(ty_at(types, t), ty_at(types, u))
+        }
+        (Ty::View, Ty::View) => true,
+        _ => false,
+    }
+}
+
+/// An element of what owns some.
+pub(crate) fn owned_element(types: &TypeTable, ty: Ty) -> Ty
+    ensures { result ≡ owned_element types.now ty }
+{
+    match ty {
+        Ty::Text => Ty::Char,
+        Ty::Vector(element) => ty_at(types, element),
+        _ => Ty::Void,
+    }
+}
+
+/// An element of a span or a view.
+pub(crate) fn seen_element(types: &TypeTable, ty: Ty) -> Ty
+    ensures { result ≡ seen_element types.now ty }
+{
+    match ty {
+        Ty::View => Ty::Char,
+        Ty::Span { target, .. } => ty_at(types, target),
+        _ => Ty::Void,
+    }
+}
+
+/// What a unique_ptr owns.
+pub(crate) fn owned_target(types: &TypeTable, ty: Ty) -> Ty
+    ensures { result ≡ owned_target types.now ty }
+{
+    match ty {
+        Ty::Unique(target) => ty_at(types, target),
+        _ => Ty::Void,
+    }
 }
 
 /// The object that a pointer points to.
