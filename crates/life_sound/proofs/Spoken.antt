@@ -1,14 +1,17 @@
 -- What a program of the kinds that are served has of what the theorem on runs asks.
-use Rattle.std.proofs.Common.{◌≡◌, ℕ, zero, suc, true, false, not, List, [], ◌∷◌, length, map, take, slice_get, Option, Some, None, refl, sym, subst, ◌∙◌}
+use Rattle.std.proofs.Common.{◌≡◌, ℕ, zero, suc, true, false, ◌&&◌, not, List, [], ◌∷◌, length, map, take, slice_get, Option, Some, None, refl, sym, subst, ◌∙◌}
+use Rattle.std.specs.Prelude.{ℤ}
 use Rattle.std.specs.List.{list_all}
 use Rattle.std.proofs.lemmas.Bool.{and_parts, false≢true}
 use Rattle.life_types.specs.Types.{Types, is_slot_at}
+use Rattle.life_core.specs.declared.operand.Which.{Which}
+use Rattle.life_core.specs.declared.operand.Which.TheVariants as which
 use Rattle.life_core.specs.declared.program.Local.{Local}
 use Rattle.life_core.specs.Function.{Function, Program}
 use Rattle.life_core.specs.Holdings.{held_by}
 use Rattle.life_core.specs.Operands.{Argument, GivenOver, Location, PointerOf, Slot, Source, Value}
 use Rattle.life_core.specs.Operands as source
-use Rattle.life_core.specs.Served.{is_empty, is_served_argument, is_served_as, is_served_local, is_served_location, is_served_node, is_served_source, is_served_spot, is_served_step, is_served_target}
+use Rattle.life_core.specs.Served.{is_empty, is_served_argument, is_served_as, is_served_base, is_served_element, is_served_local, is_served_location, is_served_node, is_served_source, is_served_spot, is_served_step, is_served_target}
 use Rattle.life_core.specs.Step.{Aim, Call, Element, Move, Step}
 use Rattle.life_core.specs.Tree.{Node, spots}
 use Rattle.life_proper.specs.Placed.{is_slot_local, slot_at}
@@ -19,10 +22,12 @@ use Rattle.life_proper.proofs.HeldSorts.{not_false}
 use Rattle.life_proper.proofs.PointsAsked.{point_served, proper_functions}
 use Rattle.life_proper.proofs.SpotTests.{all_at}
 use Rattle.life_forest.proofs.HandedOver.{ArePointerSlots}
-use Rattle.life_forest.proofs.NeverStrays.{HandsPointerSlots}
+use Rattle.life_forest.proofs.NeverStrays.{HandsPointerSlots, never_strays}
+use Rattle.life_store.specs.Doing.{Given}
+use Rattle.life_store.specs.Meaning.{IsAdmitted, IsFound, run_of}
 use Rattle.life_cover.proofs.Arguments.{AreSlotless}
 use Rattle.life_cover.proofs.CallKinds.{IsPlainTarget}
-use Rattle.life_cover.proofs.FrameSteps.{IsSpokenSource}
+use Rattle.life_cover.proofs.FrameSteps.{IsElement, IsSpokenSource}
 use Rattle.life_cover.proofs.SafeBodies.{IsSpokenAction, IsSpokenBody}
 
 -- ---- no slot is there
@@ -48,6 +53,10 @@ source_spoken : (s : Source) → is_served_source s ≡ true → IsSpokenSource 
 source_spoken (source.Get l) e = absurd (false≢true e)
 source_spoken _ e = tt
 
+element_spoken : (which : Which) → is_served_element which ≡ true → IsElement which
+element_spoken which.Target e = absurd (false≢true e)
+element_spoken _ e = tt
+
 arguments_spoken : (xs : List Argument) → list_all is_served_argument xs ≡ true → AreSlotless xs
 arguments_spoken [] e = tt
 arguments_spoken (Value r ∷ xs) e = (tt, arguments_spoken xs e)
@@ -70,7 +79,8 @@ module _ (types : Types) (f : Function) (locals : list_all (is_served_local type
   step_spoken : (i : Step) → is_served_step types f i ≡ true → IsSpokenAction types f i
   step_spoken (Move to y) served = absurd (false≢true served)
   step_spoken (Aim p s) served = source_spoken s (and_parts (is_served_location p) (is_served_source s) served).1
-  step_spoken (Element p b which) served = absurd (false≢true served)
+  step_spoken (Element p b which) served =
+      element_spoken which (and_parts (is_served_base b) (is_served_element which) (and_parts (is_served_location p) (is_served_base b && is_served_element which) served).1).1
   step_spoken (Call target g xs) served =
       let both = and_parts (is_served_target target) (list_all is_served_argument xs) served in
       (target_spoken target both.0, arguments_spoken xs both.1)
@@ -90,3 +100,8 @@ module _ (types : Types) (texts : ℕ) (fs : List Function) (f : Function) (prop
 
 pub hands_no_slots : (p : Program) → IsProperProgram p → HandsPointerSlots p
 hands_no_slots p proper = record { free = λ k g at. taken_free p.types (length p.texts) p.functions g (proper_functions p proper k g at) }
+
+-- .. so no run of it strays
+pub never_lost : (p : Program) (given : Given) (entry : ℕ) (f : Function) (input : List ℤ) (n : ℕ) → IsProperProgram p → slice_get p.functions entry ≡ Some f → IsAdmitted p f input
+    → IsFound (run_of given p entry f input n).outcome
+never_lost p given entry f input n proper is admitted = never_strays p given entry f input n proper.well_formed proper.ready proper.given (hands_no_slots p proper) is admitted
