@@ -31,6 +31,9 @@ pub mod SoundFrames
 pub mod SoundPlaces
 pub mod SoundPrograms
 pub mod SoundSteps
+pub mod StaticCalls
+pub mod StaticCells
+pub mod StaticSteps
 pub mod StepLemmas
 pub mod TestedPlaces
 pub mod ViewPlaces

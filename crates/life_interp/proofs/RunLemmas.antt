@@ -9,7 +9,6 @@ use Rattle.life_core.specs.declared.exits.Entry.{Entry}
 use Rattle.life_core.specs.declared.exits.Entry.TheVariants as entries
 use Rattle.life_core.specs.Function.{Function, Program}
 use Rattle.life_core.specs.Linked.{enter, entry_of, no_exits, target_of}
-use Rattle.life_core.specs.Holdings.{parameter_sorts}
 use Rattle.life_proper.specs.ProperPrograms.{IsProperProgram}
 use Rattle.life_proper.proofs.PointsAsked.{proper_functions}
 use Rattle.life_store.specs.Calls.{entry_arguments, parameters_given}
@@ -21,7 +20,6 @@ use Rattle.life_store.specs.State.{State, World}
 use Rattle.life_store.specs.declared.run.FaultKind.{FaultKind}
 use Rattle.life_store.specs.declared.run.TrapKind.{TrapKind}
 use Rattle.life_store.specs.declared.run.TrapKind.TheVariants as trap
-use Rattle.life_store.proofs.NeverLost.{first_suited, never_lost}
 use Rattle.life_cells.specs.Cells.{state_of}
 use Rattle.life_interp.specs.Cells.{world_of}
 use Rattle.life_interp.specs.Frames.{function_at, stack_seen, AllBegin}
@@ -38,8 +36,9 @@ use Rattle.life_interp.specs.declared.frames.Frames.{Frames}
 use Rattle.life_interp.specs.declared.frames.Waiting.{Waiting}
 use Rattle.life_interp.specs.declared.outcome.Outcome.TheVariants as outcome
 use Rattle.life_interp.proofs.CodeLists.{function_there}
-use Rattle.life_interp.proofs.SameCalls.{parameters_same}
+use Rattle.life_interp.proofs.SameCalls.{entry_values, parameters_same}
 use Rattle.life_interp.proofs.SoundEntry.{first_sound}
+use Rattle.life_interp.proofs.SoundPrograms.{never_lost}
 use Rattle.life_interp.proofs.SoundSteps.{with_ports}
 use Rattle.life_interp.proofs.Walks.{calls_come, ends_alone, AreStatements, EndsAs}
 
@@ -104,7 +103,7 @@ module _ (given : Given) (p : Program) (entry : ℕ) (f : Function) (input : Lis
 
   -- .. as the machine makes them
   begins_same : begins ≡ so_far.parameters_given (setting_of given p) p.types f 0 arguments (frame f first)
-  begins_same = parameters_same (setting_of given p) p.types f (parameter_sorts p.types f) arguments 0 (frame f first) (first_suited p f input admitted)
+  begins_same = parameters_same (setting_of given p) p.types f arguments 0 (frame f first) (entry_values p.types f 0 f.parameters input)
 
   abbrev body : ℕ → State → Called
   body d st = finish p.types f (exec (setting_of given p) p.types f (calls (setting_of given p) p d) f.body n st)

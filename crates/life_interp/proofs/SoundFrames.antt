@@ -1,13 +1,12 @@
 -- The machine's frames are sound behind what its functions do.
 use Rattle.std.proofs.Common.{◌≡◌, ◌⊎◌, ℕ, ◌<◌, List, [], ◌∷◌, ◌++◌, length, Option, Some, None, Result, Ok, Err, OnOk, refl, sym, ap, subst, ◌∙◌}
-use Rattle.std.proofs.lemmas.Option.{none-some, same_Some}
+use Rattle.std.proofs.lemmas.Option.{none-some}
 use Rattle.std.specs.Prelude.{ℤ, option_and_then, option_map}
 use Rattle.std.specs.declared.alloc.Global.{Global}
 use Rattle.std.specs.declared.vec.Vec.{Vec}
 use Rattle.life_types.specs.declared.place.Place.{Place}
 use Rattle.life_core.specs.declared.program.FnId.{FnId}
 use Rattle.life_core.specs.Function.{Function, Program}
-use Rattle.life_core.specs.Holdings.{parameter_sorts}
 use Rattle.life_core.specs.Linked.{Lead, Linked, code_of, enter, goes, no_exits, numbered, spot_at}
 use Rattle.life_core.specs.Operands.{Argument, Location, location_of}
 use Rattle.life_core.specs.Step.{Step, Call, Test}
@@ -17,8 +16,6 @@ use Rattle.life_store.specs.Doing.{Setting, Next}
 use Rattle.life_store.specs.Meaning.{frame}
 use Rattle.life_store.specs.State as state
 use Rattle.life_store.specs.State.{State}
-use Rattle.life_store.proofs.Handing as handing
-use Rattle.life_store.proofs.Handing.{AreSuited, HandsAll}
 use Rattle.life_cells.specs.Cells.{cells_seen, state_of}
 use Rattle.life_interp.specs.Cells.{one_seen, world_of}
 use Rattle.life_interp.specs.Frames.{function_at, point_at, stack_seen, waiting_seen, AllBegin}
@@ -33,12 +30,10 @@ use Rattle.life_cells.specs.declared.cell.Cell.{Cell}
 use Rattle.life_interp.proofs.CodeLists.{there_at}
 use Rattle.life_interp.proofs.FrameLemmas.{stack_push}
 use Rattle.life_interp.proofs.Leads.{action_here, return_here}
-use Rattle.life_interp.proofs.SameCalls.{handed_same, parameters_same}
+use Rattle.life_interp.proofs.SameCalls.{handed_same, handed_values, parameters_same}
 use Rattle.life_interp.proofs.SameSteps.{does_same}
-use Rattle.life_interp.proofs.SamePoints.{taken_is}
-use Rattle.life_interp.proofs.SoundCalls.{back_sound, call_sound, sorted_call}
-use Rattle.life_interp.proofs.SoundPrograms.{own_plain}
-use Rattle.life_interp.proofs.SoundSteps.{asked, step_sound, test_sound, with_ports}
+use Rattle.life_interp.proofs.SoundCalls.{back_sound, call_sound, taken_is}
+use Rattle.life_interp.proofs.SoundSteps.{arguments_served, formed_here, locals_served, served_here, step_sound, test_sound, with_ports}
 
 -- ---- what stands at the point leads on as its kind does
 
@@ -101,8 +96,9 @@ module _ (p : Program) (frames : Frames) (c : Content) (sound : IsSoundWalk p fr
   own_sound place i to stands own f is s ins rest text d new e =
       let h = is_here place (Action i) (goes to) stands in
       let l : Linked = record { spot = spot_at place (Action i); leads = goes to } in
-      let ready = asked p stack function h.point (at ins) (h.known ins) l h.here in
-      let same = does_same s p.types p.functions function (at ins) (h.known ins).stands.sorted i (own_plain i own) ready in
+      let same =
+      does_same s p.types (length p.texts) p.functions function (locals_served p stack function h.point (at ins) (h.known ins) l h.here) (at ins) (h.known ins).views i
+      (formed_here p stack function h.point (at ins) (h.known ins) l h.here i refl) (served_here p stack function h.point (at ins) (h.known ins) l h.here i refl) in
       let done = same ∙ ap (λ (g : Function). so_far.does s p.types g i (at ins)) is ∙ e in
       with_ports p stack function to (state_of d new text rest) [] [] (step_sound p stack function h.point (at ins) (h.known ins) l h.here i refl own s (state_of d new text rest) done)
 
@@ -133,11 +129,9 @@ module _ (p : Program) (frames : Frames) (c : Content) (sound : IsSoundWalk p fr
       let there = there_at p.functions g.0 lt in
       let st = at [] in
       let known = h.known [] in
-      let asks = sorted_call p stack function h.point st known l h.here target g xs refl gf there in
-      let handed = handed_same p.types function st (parameter_sorts p.types gf) xs asks.0 ∙ are in
-      let all : HandsAll p.types function st (parameter_sorts p.types gf) xs = handing.hands_all p.types function known.outer st known.stands.sorted known.stands.housed (parameter_sorts p.types gf) xs asks.0 in
-      let suited = subst (AreSuited (parameter_sorts p.types gf)) (same_Some all.values values (sym all.are ∙ handed)) all.suited in
-      let same = parameters_same s p.types gf (parameter_sorts p.types gf) values 0 (frame gf (world_of c [] [])) suited in
+      let served = arguments_served p stack function h.point st known l h.here target g xs refl in
+      let handed = handed_same p.types function st xs served.0 ∙ are in
+      let same = parameters_same s p.types gf values 0 (frame gf (world_of c [] [])) (handed_values st xs values are) in
       let went = call_sound p stack function h.point st known l h.here target g xs refl gf there s values handed (state_of d cells [] []) (same ∙ begins) in
       subst (λ (ws : List walk.Waiting). AreSound p ws (function_at p.functions new.function) new.point (state_of d new.cells.items [] [])) (sym (stacked p.functions))
       (subst (λ (n : ℕ). AreSound p (walks ∷ stack) (function_at p.functions n) new.point (state_of d new.cells.items [] [])) (sym function_is)

@@ -54,7 +54,7 @@ module _ (p : Program) (ws : List Waiting) (f : Function) (q : ℕ) (st : State)
   pub typed_here : (i : Step) → l.spot.node ≡ Action i → IsTypedStep p.types f st i
   typed_here i is =
       let w = goes_well p sound.proper sound.own f sound.there in
-      typed_point p.types sound.proper.well_formed.table sound.proper.well_formed.once (length p.names) (length p.texts) p.functions f w.formed w.points w.ready q st l i sound.stands.reached here is
+      typed_point p.types sound.proper.well_formed.table sound.proper.well_formed.once (length p.names) (length p.texts) p.functions f w.formed w.points w.ready q st l i sound.reached here is
       (pointers_aim p.types sound.proper.well_formed.table f st sound.sound.held sound.sound.stands.frame) sound.sound.sorted
 
 -- ---- the places that it names

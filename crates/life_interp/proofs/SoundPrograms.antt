@@ -1,7 +1,7 @@
 -- What a proper program says of each of its functions, as the forest of owners asks it.
 use Rattle.std.proofs.Common.{◌≡◌, ℕ, zero, suc, true, List, [], ◌∷◌, length, map, take, sym, ap, Some, ◌∙◌}
 use Rattle.std.proofs.lemmas.Bool.{and_parts, false≢true}
-use Rattle.std.specs.Prelude.{not, slice_get}
+use Rattle.std.specs.Prelude.{ℤ, not, slice_get}
 use Rattle.std.specs.List.{list_all}
 use Rattle.life_types.specs.Types.{Types, is_slot_at}
 use Rattle.life_core.specs.declared.program.Local.{Local}
@@ -16,10 +16,11 @@ use Rattle.life_proper.specs.WellFormed as formed
 use Rattle.life_proper.specs.WellFormedPrograms.{is_well_formed_function}
 use Rattle.life_proper.proofs.PointsAsked.{proper_functions}
 use Rattle.life_proper.proofs.SpotTests.{all_at}
-use Rattle.life_store.proofs.Settling.{IsPlain}
+use Rattle.life_store.specs.Doing.{Given}
+use Rattle.life_store.specs.Meaning.{IsAdmitted, IsFound, run_of}
 use Rattle.life_forest.proofs.CallsGo.{GoesWell}
 use Rattle.life_forest.proofs.HandedOver.{ArePointerSlots}
-use Rattle.life_forest.proofs.NeverStrays.{have_members, points_formed}
+use Rattle.life_forest.proofs.NeverStrays.{have_members, never_strays, points_formed}
 use Rattle.life_forest.proofs.SettledSteps.{IsOneFrame}
 use Rattle.life_forest.proofs.SettlingLives.{HaveMembers}
 use Rattle.life_interp.specs.Walking.{IsOwn}
@@ -29,10 +30,6 @@ use Rattle.life_interp.specs.Walking.{IsOwn}
 pub own_one : (i : Step) → IsOwn i → IsOneFrame i
 own_one (Call target g xs) own = absurd own
 own_one _ own = tt
-
-pub own_plain : (i : Step) → IsOwn i → IsPlain i
-own_plain (Call target g xs) own = absurd own
-own_plain _ own = tt
 
 -- ---- no parameter is a slot so far
 
@@ -64,3 +61,9 @@ module _ (p : Program) (proper : IsProperProgram p) where
         free = no_slots p.types g.parameters g.locals (and_parts (list_all (is_served_local p.types) g.locals) (list_all (is_served_spot p.types g) (spots g.body)) one.served).0;
         given = one.given;
       }
+
+-- no run of it strays
+pub never_lost : (p : Program) (given : Given) (entry : ℕ) (f : Function) (input : List ℤ) (n : ℕ) → IsProperProgram p → slice_get p.functions entry ≡ Some f → IsAdmitted p f input
+    → IsFound (run_of given p entry f input n).outcome
+never_lost p given entry f input n proper is admitted =
+    never_strays p given entry f input n proper.well_formed proper.ready proper.given (record { free = λ k g there. (goes_well p proper k g there).free }) is admitted

@@ -4,7 +4,6 @@ use Rattle.std.proofs.lemmas.Bool.{false≢true}
 use Rattle.std.specs.Prelude.{◌||◌}
 use Rattle.life_types.specs.TypeTests.{is_pointer, is_raw}
 use Rattle.life_types.specs.TypeTests as tests
-use Rattle.life_types.specs.Types.{Types}
 use Rattle.life_types.specs.declared.ty.Ty.{Ty}
 use Rattle.life_types.specs.declared.ty.Ty.TheVariants as ty
 use Rattle.life_types.specs.declared.ty.TyId.{TyId}
@@ -23,7 +22,7 @@ use Rattle.life_store.specs.State.{Named, State}
 use Rattle.life_forest.specs.Frames.{named_in}
 use Rattle.life_forest.specs.Owned.{times}
 use Rattle.life_forest.specs.Settled.{IsPoised}
-use Rattle.life_forest.specs.Sorted.{Aims, Names, Sort, sort_if}
+use Rattle.life_forest.specs.Sorted.{Aims, Names, sort_if}
 use Rattle.life_forest.proofs.HeldPointers.{pointers_aim}
 use Rattle.life_forest.proofs.ReadyCells.{pointer_no_object}
 use Rattle.life_forest.proofs.SeenTypes.{parts_typed, raw_points, unique_owns}
@@ -31,7 +30,7 @@ use Rattle.life_forest.proofs.Shaped.{IsShaped, locals_shaped}
 use Rattle.life_forest.proofs.StandingPointers.{IsPointer}
 use Rattle.life_forest.proofs.TypedSteps.{PointersAim, location_of, pointer_of}
 use Rattle.life_cells.specs.Asked.{IsTestable, is_unique}
-use Rattle.life_cells.specs.Typed.{HoldsOwner, HoldsPointer}
+use Rattle.life_cells.specs.Typed.{HoldsOwner}
 use Rattle.life_interp.specs.Accessed.{HasTested}
 use Rattle.life_interp.specs.Layouts.{AreReady}
 use Rattle.life_interp.specs.Sound.{IsAsking, in_waiting}

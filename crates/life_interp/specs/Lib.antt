@@ -7,6 +7,7 @@ pub mod Layouts
 pub mod Steps
 pub mod Walk
 pub mod PointsSoFar
+pub mod StaticViews
 pub mod Sound
 pub mod Frames
 pub mod Walking

@@ -1,26 +1,32 @@
 -- What holds at each point of a walk, of the frame at hand and of those that wait.
-use Rattle.std.specs.Prelude.{◌≡◌, ℕ, ◌+◌, List, [], ◌∷◌, ◌++◌, Option, Some, slice_get}
+use Rattle.std.specs.Prelude.{◌≡◌, ℕ, ◌+◌, List, [], ◌∷◌, Option, Some, slice_get}
+use Rattle.life_types.specs.Types.{Types}
 use Rattle.life_core.specs.Function.{Function, Program}
 use Rattle.life_core.specs.Linked.{Linked, code_of, goes, numbered, spot_at}
+use Rattle.life_core.specs.Proper.{Reaches}
 use Rattle.life_core.specs.Step.{Call, Step, Test}
 use Rattle.life_core.specs.Tree.{Action, Question}
 use Rattle.life_core.specs.declared.program.FnId.{FnId}
 use Rattle.life_proper.specs.ProperPrograms.{IsProperProgram}
 use Rattle.life_store.specs.Calls.{lent}
 use Rattle.life_store.specs.Content.{Content}
-use Rattle.life_store.specs.State.{Cell, State}
+use Rattle.life_store.specs.State.{State, ready_of}
 use Rattle.life_store.proofs.Going.{InvAt}
-use Rattle.life_store.proofs.Standing.{Standing}
 use Rattle.life_forest.specs.Frames.{named_in}
 use Rattle.life_forest.specs.Owned.{times}
 use Rattle.life_forest.proofs.HeldPoints.{IsSound}
 use Rattle.life_forest.proofs.Holding.{KeepsWaiting}
+use Rattle.life_interp.specs.StaticViews.{SeeStatic}
 use Rattle.life_interp.specs.Walk.{Waiting}
 
 -- what the frames that wait have in the hand: the objects that their cells name
 abbrev pub in_waiting : List Waiting → ℕ → ℕ
 in_waiting [] k = 0
 in_waiting (v ∷ vs) k = times (named_in v.cells) k + in_waiting vs k
+
+-- some way from the entry comes to the point with the locals that are there
+abbrev pub ComesTo : Types → Function → ℕ → State → Type 0
+ComesTo types f q st = Reaches types f q (ready_of st)
 
 -- a frame of the program waits for a call of a function, where others wait behind it: it stood at the call and was sound, and since then what it has
 -- kept of its objects has its pointers still
@@ -35,25 +41,23 @@ pub record WaitsFor (p : Program) (g : Function) (behind : List Waiting) (v : Wa
   pub sound : IsSound p.types v.function (in_waiting behind) before
   pub left : v.cells ≡ (lent p.types v.function v.arguments before).cells
   pub keeps : KeepsWaiting p.types (λ k. times (named_in v.cells) k + in_waiting behind k) before.world.content now
-  -- what is known of the kinds that are served so far: the cells of the frames behind it, and what it handed over
-  pub outer : List Cell
-  pub stood : Standing p.types v.function outer point before
-  pub handed : List Cell
+  pub reached : ComesTo p.types v.function point before
+  pub views : SeeStatic p.types v.function before.cells
 
--- .. each of them, where these cells wait
-abbrev pub AreWaiting : Program → Function → List Waiting → List Cell → Content → Type 0
-AreWaiting p g [] outer now = Unit {0}
-AreWaiting p g (v ∷ vs) outer now = (w : WaitsFor p g vs v now) × (outer ≡ (w.outer ++ v.cells) ++ w.handed) × AreWaiting p v.function vs w.outer now
+-- .. each of them
+abbrev pub AreWaiting : Program → Function → List Waiting → Content → Type 0
+AreWaiting p g [] now = Unit {0}
+AreWaiting p g (v ∷ vs) now = WaitsFor p g vs v now × AreWaiting p v.function vs now
 
--- a frame of a proper program comes to a point: it is sound beside those that wait, and stands there with the locals that the way to it leaves
+-- a frame of a proper program comes to a point: it is sound beside those that wait, and is there with the locals that the way to it leaves
 pub record AreSound (p : Program) (ws : List Waiting) (f : Function) (to : Option ℕ) (st : State) : Type 0 where
   pub proper : IsProperProgram p
   pub own : ℕ
   pub there : slice_get p.functions own ≡ Some f
   pub sound : IsSound p.types f (in_waiting ws) st
-  pub outer : List Cell
-  pub stands : InvAt (Standing p.types f outer) to st
-  pub waiting : AreWaiting p f ws outer st.world.content
+  pub reached : InvAt (ComesTo p.types f) to st
+  pub views : SeeStatic p.types f st.cells
+  pub waiting : AreWaiting p f ws st.world.content
 
 -- .. at which an instruction stands
 pub record IsAt (p : Program) (f : Function) (i : Step) (st : State) : Type 0 where

@@ -10,7 +10,6 @@ use Rattle.life_store.specs.Content.{CanCount, Content}
 use Rattle.life_store.specs.Doing.{Given}
 use Rattle.life_store.specs.Meaning.{first_world, run_of, setting_of, IsAdmitted}
 use Rattle.life_store.specs.declared.run.Growth.TheVariants.{Always}
-use Rattle.life_store.proofs.NeverLost.{never_lost}
 use Rattle.life_cells.specs.Fits.{meant, IsFit}
 use Rattle.life_interp.specs.Fits.{CanStep}
 use Rattle.life_interp.specs.Frames.{waiting_cells, AreThere}
@@ -22,6 +21,7 @@ use Rattle.life_interp.specs.declared.frames.Frames.{Frames}
 use Rattle.life_interp.specs.declared.frames.Waiting.{Waiting}
 use Rattle.life_interp.specs.declared.outcome.Outcome.TheVariants as outcome
 use Rattle.life_interp.proofs.EmptyStore.{housed_nothing, meant_empty, rowed_nothing}
+use Rattle.life_interp.proofs.SoundPrograms.{never_lost}
 use Rattle.life_interp.proofs.RunLemmas.{all_begin, barred_ends, begins_sound, can_be_barred, fault_ends, front_ends, if_there, not_lost, of_there, part_ends, run_from_frames, steps_end, trap_ends, value_ends}
 use Rattle.life_interp.proofs.WalkLemmas.{untouched}
 use Rattle.life_interp.proofs.run.run_on.Goals as goal
