@@ -18,7 +18,7 @@ use Rattle.life_elab.specs.Over.{first_of, over_function, over_functions, passes
 use Rattle.life_elab.specs.ProgramForms.{functions, translated, written}
 use Rattle.life_elab.specs.Programs.{Functions as Written, around, with_function}
 use Rattle.life_typed.specs.Programs.{FunctionForm, ProgramForm}
-use Rattle.life_proper.specs.ProperPrograms.{IsProperProgram}
+use Rattle.life_core_served.specs.ProperPrograms.{IsProperProgram}
 use Rattle.life_pset.specs.Limits.{IsProgramWithinLimits}
 use Rattle.life_pset.specs.Elements.{AreShort, IsWithinLimits, elements_of, locations_of}
 

@@ -1,7 +1,7 @@
 -- What the check of a text found.
 use Rattle.std.specs.Prelude.{◌≢◌, List, [], map, Result, Ok, Err}
 use Rattle.life_core.specs.Function.{Program, program_of}
-use Rattle.life_proper.specs.ProperPrograms.{IsProperProgram}
+use Rattle.life_core_served.specs.ProperPrograms.{IsProperProgram}
 use Rattle.life_rules.specs.Listing.{AreProgramDiagnostics, HaveLines, listed_diag, program_line}
 use Rattle.life_rules.specs.declared.diag.Diag.{Diag}
 use Rattle.life_store.specs.NoFault.{NoFault}

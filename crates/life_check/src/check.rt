@@ -4,7 +4,7 @@ ghost use Rattle.life_core.specs.Function.{program_of};
 ghost use Rattle.life_served.specs.Served.{is_served};
 ghost use Rattle.life_elab.specs.Bounds.{HaveNumberedLocals};
 ghost use Rattle.life_elab.specs.Elaborated.{Elaborates};
-ghost use Rattle.life_proper.specs.ProperPrograms.{IsProperProgram};
+ghost use Rattle.life_core_served.specs.ProperPrograms.{IsProperProgram};
 ghost use Rattle.life_rules.specs.Listing.{AreProgramDiagnostics, HaveLines, listed_diag, program_line};
 ghost use Rattle.life_typed.specs.Programs.{program_view};
 ghost use Rattle.life_typing.specs.Answers.{Answers};

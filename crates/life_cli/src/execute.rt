@@ -3,7 +3,7 @@ ghost use Rattle.std.specs.Prelude.{◌≡◌, ◌≤◌, ◌<◌, ◌++◌, IfS
 ghost use Rattle.life_types.specs.Places.{position_text};
 ghost use Rattle.life_core.specs.Function.{program_of};
 ghost use Rattle.life_store.specs.Meaning.{IsAdmitted};
-ghost use Rattle.life_proper.specs.ProperPrograms.{IsProperProgram};
+ghost use Rattle.life_core_served.specs.ProperPrograms.{IsProperProgram};
 ghost use Rattle.life_cli.specs.Ends.{Serves, Tells};
 ghost use Rattle.life_cli.specs.Entry.{entry_of};
 ghost use Rattle.life_cli.specs.Runs.{fault_name, growth_of, trap_name, Ran, RanFrom};

@@ -3,7 +3,7 @@ ghost use Rattle.std.specs.Prelude.{◌≤◌, Some, length, option_map};
 ghost use Rattle.life_core.specs.Function.{program_of};
 ghost use Rattle.life_input.specs.Input.{numbers_in};
 ghost use Rattle.life_store.specs.NoFault.{NoFault};
-ghost use Rattle.life_proper.specs.ProperPrograms.{IsProperProgram};
+ghost use Rattle.life_core_served.specs.ProperPrograms.{IsProperProgram};
 ghost use Rattle.life_cli.specs.Ends.{Serves, WorksOn};
 ghost use Rattle.life_cli.specs.FileText.{most_bytes};
 ghost use Rattle.life_cli.specs.InputFile.{numbers_or};

@@ -6,7 +6,7 @@ ghost use Rattle.life_report.specs.Reports.{report_text};
 ghost use Rattle.life_rules.specs.Listing.{AreProgramDiagnostics, HaveLines, listed_diag, program_line};
 ghost use Rattle.life_store.specs.NoFault.{NoFault};
 ghost use Rattle.life_cli.specs.Answer.{answer_in};
-ghost use Rattle.life_proper.specs.ProperPrograms.{IsProperProgram};
+ghost use Rattle.life_core_served.specs.ProperPrograms.{IsProperProgram};
 ghost use Rattle.life_cli.specs.Concluding.{report_by, reported, verdict};
 ghost use Rattle.life_cli.specs.Ends.{Reports, Serves, WorksOn};
 ghost use Rattle.life_cli.specs.Question.{program_asked, OfFiles};

@@ -1,7 +1,7 @@
 // How the run of a file that was made goes.
 ghost use Rattle.std.specs.Prelude.{◌≡◌, ◌++◌, IfOk, codes, decimal};
 ghost use Rattle.life_core.specs.Function.{program_of};
-ghost use Rattle.life_proper.specs.ProperPrograms.{IsProperProgram};
+ghost use Rattle.life_core_served.specs.ProperPrograms.{IsProperProgram};
 ghost use Rattle.life_cli.specs.Answer.{answer_in};
 ghost use Rattle.life_cli.specs.Ends.{Serves};
 ghost use Rattle.life_cli.specs.Made.{default_options, IsHeard, SumsUp};

@@ -2,7 +2,6 @@
 use Rattle.std.proofs.Common.{◌≡◌, ℕ, Bool, true, List, [], ◌∷◌, ◌++◌, slice_set, refl}
 use Rattle.std.proofs.lemmas.Bool.{false≢true}
 use Rattle.life_core.specs.Ready.{Ready, AreBits}
-use Rattle.life_core.specs.Served.{is_empty}
 use Rattle.life_core.specs.Step.{Port, Takes}
 
 -- ---- two lists
@@ -14,12 +13,6 @@ bits_left there bits (x ∷ xs) ys h = (h.0, bits_left there bits xs ys h.1)
 pub bits_right : (there : Bool) (bits : Ready) (xs ys : List ℕ) → AreBits there bits (xs ++ ys) → AreBits there bits ys
 bits_right there bits [] ys h = h
 bits_right there bits (x ∷ xs) ys h = bits_right there bits xs ys h.1
-
--- ---- no member is named
-
-pub empty_is : (ms : List ℕ) → is_empty ms ≡ true → ms ≡ []
-empty_is [] e = refl
-empty_is (m ∷ ms) e = absurd (false≢true e)
 
 -- ---- what goes in or out
 

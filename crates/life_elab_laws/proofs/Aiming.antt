@@ -11,7 +11,7 @@ use Rattle.life_typed.specs.declared.typed_expr.ExprType.TheVariants.{NullPointe
 use Rattle.life_core.specs.Function.{Function}
 use Rattle.life_core.specs.Kinds.{is_register_at}
 use Rattle.life_core.specs.Operands.{Location, Null, Operand, Place as Aimed, Text, whole}
-use Rattle.life_core.specs.Served.{is_served_location, is_served_operand}
+use Rattle.life_core_served.specs.Served.{is_served_location, is_served_operand}
 use Rattle.life_core.specs.Touched.{touched_by}
 use Rattle.life_proper.specs.Knowing.{known_at}
 use Rattle.life_proper.specs.OperandTypes.{aims_at, keeps_const, same, takes}

@@ -15,7 +15,7 @@ use Rattle.life_typed.specs.declared.typed_program.TypedLocal.{TypedLocal}
 use Rattle.life_core.specs.Function.{Function}
 use Rattle.life_core.specs.Holdings.{held_by, held_if}
 use Rattle.life_core.specs.Operands.{Place as Aimed, object_named, whole}
-use Rattle.life_core.specs.Served.{is_served_birth}
+use Rattle.life_core_served.specs.Served.{is_served_birth}
 use Rattle.life_core.specs.Step.{Aim, Live}
 use Rattle.life_core.specs.Tree.{Acts as Act, Tree, trees}
 use Rattle.life_core.specs.declared.instr.Form.TheVariants.{Plain}

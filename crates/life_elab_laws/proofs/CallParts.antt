@@ -12,7 +12,7 @@ use Rattle.life_types.specs.declared.ty.TyId.{TyId}
 use Rattle.life_typed.specs.Programs.{FunctionForm}
 use Rattle.life_core.specs.Function.{Function}
 use Rattle.life_core.specs.Operands.{Argument, Location, Value, whole}
-use Rattle.life_core.specs.Served.{is_served_argument, is_served_location}
+use Rattle.life_core_served.specs.Served.{is_served_argument, is_served_location}
 use Rattle.life_core.specs.Step.{Call}
 use Rattle.life_core.specs.Touched.{target_uses}
 use Rattle.life_proper.specs.GivenOver.{given_argument}

@@ -10,7 +10,7 @@ use Rattle.life_types.specs.declared.ty.Ty.{Ty}
 use Rattle.life_core.specs.Function.{Function}
 use Rattle.life_core.specs.Operands.{Location}
 use Rattle.life_core.specs.Step.{NonZero, NotNull, Test}
-use Rattle.life_core.specs.Served.{is_served_test}
+use Rattle.life_core_served.specs.Served.{is_served_test}
 use Rattle.life_core.specs.Tree.{Question, Acts, Asks, Both, Choice, Either, Then, Tree, trees}
 use Rattle.life_proper.specs.Knowing.{agreed_all, known_at}
 use Rattle.life_proper.specs.Placed.{is_number_of, type_in}

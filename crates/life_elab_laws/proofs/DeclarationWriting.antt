@@ -21,7 +21,7 @@ use Rattle.life_type_stmt.specs.Declarations.{default_fault}
 use Rattle.life_core.specs.Function.{Function}
 use Rattle.life_core.specs.Operands.{Argument, Empty, Location, Place as Aimed, object_named, whole, Text, View}
 use Rattle.life_core.specs.Holdings.{AnObject, sort_of}
-use Rattle.life_core.specs.Served.{is_served_birth}
+use Rattle.life_core_served.specs.Served.{is_served_birth}
 use Rattle.life_core.specs.Step.{Aim, Live, Save, Step, Copy, Changes, Set}
 use Rattle.life_core.specs.Tree.{Tree, Acts}
 use Rattle.life_core.specs.declared.instr.Form.TheVariants.{Plain}

@@ -10,7 +10,7 @@ use Rattle.life_typed.specs.declared.typed_expr.ExprType.TheVariants.{NullPointe
 use Rattle.life_core.specs.Function.{Function}
 use Rattle.life_core.specs.Kinds.{is_register_at}
 use Rattle.life_core.specs.Operands.{Argument, Location, Operand, PointerOf, Value}
-use Rattle.life_core.specs.Served.{is_served_argument, is_served_location, is_served_operand}
+use Rattle.life_core_served.specs.Served.{is_served_argument, is_served_location, is_served_operand}
 use Rattle.life_core.specs.Step.{Step}
 use Rattle.life_proper.specs.GivenOver.{given_argument}
 use Rattle.life_proper.specs.OperandTypes.{keeps_const, takes}

@@ -18,7 +18,7 @@ use Rattle.life_typed.specs.declared.typed_expr.ExprType.{ExprType}
 use Rattle.life_typed.specs.declared.typed_expr.ExprType.TheVariants.{NullPointer}
 use Rattle.life_core.specs.Function.{Function}
 use Rattle.life_core.specs.Operands.{Argument, Location, Operand, Place as Aimed, PointerOf, Value, object_named, whole}
-use Rattle.life_core.specs.Served.{is_served_argument}
+use Rattle.life_core_served.specs.Served.{is_served_argument}
 use Rattle.life_core.specs.Step.{Aim}
 use Rattle.life_proper.specs.OperandTypes.{keeps_const, same, takes}
 use Rattle.life_proper.specs.Placed.{type_in}

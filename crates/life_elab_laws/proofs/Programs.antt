@@ -16,7 +16,7 @@ use Rattle.life_core.specs.Function.{Function}
 use Rattle.life_core.specs.declared.program.Local.{Local}
 use Rattle.life_core.specs.declared.program.LocalKind.TheVariants.{Register}
 use Rattle.life_proper.specs.Checking.{checked, is_checked}
-use Rattle.life_proper.specs.ProperPrograms.{has_own_breaks, have_own_breaks}
+use Rattle.life_core_served.specs.ProperPrograms.{has_own_breaks, have_own_breaks}
 use Rattle.life_pset.specs.Elements.{AreShort, elements_of}
 use Rattle.life_well_typed.specs.Functions.{AreWellTyped, IsWellTyped, IsWellTypedFunction}
 use Rattle.life_elab.specs.Bounds.{HaveShortPlaces}

@@ -4,7 +4,7 @@ use Rattle.std.proofs.lemmas.Bool.{and_parts}
 use Rattle.life_served.specs.Served.{are_served_functions, has_served_types, has_no_structs, is_served}
 use Rattle.life_typed.specs.Programs.{ProgramForm}
 use Rattle.life_pset.specs.Limits.{IsProgramWithinLimits}
-use Rattle.life_proper.specs.ProperPrograms.{IsProperProgram}
+use Rattle.life_core_served.specs.ProperPrograms.{IsProperProgram}
 use Rattle.life_proper.proofs.ProperFunctions.{ready_program}
 use Rattle.life_well_typed.specs.Functions.{IsWellTyped}
 use Rattle.life_well_typed.specs.Mains.{HasIntMain}

@@ -8,7 +8,7 @@ use Rattle.life_types.specs.declared.ty.Ty.{Ty}
 use Rattle.life_types.specs.declared.ty.Ty.TheVariants as ty
 use Rattle.life_served.specs.Served.{is_pointing}
 use Rattle.life_core.specs.Holdings.{held_by, held_if}
-use Rattle.life_core.specs.Served.{is_served_as, is_served_local}
+use Rattle.life_core_served.specs.Served.{is_served_as, is_served_local}
 use Rattle.life_core.specs.declared.program.Local.{Local}
 use Rattle.life_core.specs.declared.program.LocalKind.{LocalKind}
 use Rattle.life_core.specs.declared.program.LocalKind.TheVariants.{Object, Register}

@@ -7,7 +7,7 @@ use Rattle.std.specs.List.{list_all}
 use Rattle.life_types.specs.Types.{Types}
 use Rattle.life_types.specs.declared.place.Place.{Place}
 use Rattle.life_core.specs.Function.{Function}
-use Rattle.life_core.specs.Served.{is_served_spot, is_served_step, is_served_test}
+use Rattle.life_core_served.specs.Served.{is_served_spot, is_served_step, is_served_test}
 use Rattle.life_core.specs.Shape.{breaks_inside, is_condition, is_statement, is_straight, test_straight, tests_straight}
 use Rattle.life_core.specs.Step.{Call, Step, Test}
 use Rattle.life_core.specs.Tree.{Tree, Skip, Then, Acts, Asks, Both, Either, Negated, Choice, Turns, Breaks, Continues, Returns, Stops, Node, Action, Spot, spots, trees}

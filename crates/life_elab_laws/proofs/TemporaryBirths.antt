@@ -11,7 +11,7 @@ use Rattle.life_types.specs.declared.ty.Ty.TheVariants as ty
 use Rattle.life_core.specs.Function.{Function}
 use Rattle.life_core.specs.Holdings.{held_by, held_if, sort_of}
 use Rattle.life_core.specs.Operands.{Operand, object_named}
-use Rattle.life_core.specs.Served.{is_served_birth}
+use Rattle.life_core_served.specs.Served.{is_served_birth}
 use Rattle.life_core.specs.Step.{Live, Step}
 use Rattle.life_core.specs.Tree.{Acts}
 use Rattle.life_core.specs.declared.instr.Form.{Form}

@@ -10,7 +10,7 @@ use Rattle.life_served.specs.Served.{has_no_structs}
 use Rattle.life_elab_laws.specs.Reached.{are_reached_functions}
 use Rattle.life_typed.specs.Programs.{FunctionForm, ProgramForm}
 use Rattle.life_core.specs.Function.{Function}
-use Rattle.life_core.specs.Served.{is_served, is_served_local, is_served_program, is_served_spot}
+use Rattle.life_core_served.specs.Served.{is_served, is_served_local, is_served_program, is_served_spot}
 use Rattle.life_core.specs.Tree.{spots}
 use Rattle.life_core.specs.declared.program.Local.{Local}
 use Rattle.life_core.specs.declared.program.LocalKind.TheVariants.{Object, Register}

@@ -4,7 +4,7 @@ use Rattle.life_core.specs.Function.{Program}
 use Rattle.life_core.specs.Proper.{IsReadyProgram}
 use Rattle.life_pset.specs.Limits.{IsProgramWithinLimits}
 use Rattle.life_proper.specs.GivenOver.{keeps_all_given}
-use Rattle.life_proper.specs.ProperPrograms.{have_own_breaks}
+use Rattle.life_core_served.specs.ProperPrograms.{have_own_breaks}
 use Rattle.life_proper.specs.ResultsWritten.{WritesResults}
 use Rattle.life_proper.specs.WellFormedPrograms.{IsWellFormedProgram}
 

@@ -4,7 +4,7 @@ ghost use Rattle.life_elab.specs.Bounds.{HaveShortPlaces};
 ghost use Rattle.life_elab.specs.ProgramForms.{translated};
 ghost use Rattle.life_elab_laws.specs.ProperParts.{HasProperParts};
 ghost use Rattle.life_elab_laws.specs.Reached.{is_reached};
-ghost use Rattle.life_proper.specs.ProperPrograms.{IsProperProgram};
+ghost use Rattle.life_core_served.specs.ProperPrograms.{IsProperProgram};
 ghost use Rattle.life_pset.specs.Limits.{IsProgramWithinLimits};
 ghost use Rattle.life_typed.specs.Programs.{ProgramForm};
 ghost use Rattle.life_well_typed.specs.Functions.{IsWellTyped};

@@ -20,7 +20,7 @@ use Rattle.life_proper.specs.GivenOver.{all_keep_given, keeps_all_given}
 use Rattle.life_proper.specs.WellFormed.{is_well_formed_spot, types_taken}
 use Rattle.life_proper.specs.WellFormed as formed
 use Rattle.life_proper.specs.WellFormedPrograms.{IsWellFormedProgram, have_names, is_name, is_well_formed_function}
-use Rattle.life_proper.proofs.PointsAsked.{formed_spots}
+use Rattle.life_proper.proofs.FormedSpots.{formed_spots}
 use Rattle.life_proper.proofs.SortedNodes.{formed_parts}
 use Rattle.life_proper.proofs.SpotTests.{all_at, point_tested}
 use Rattle.life_store.specs.Calls.{entry_arguments}

@@ -9,8 +9,8 @@ use Rattle.life_core.specs.declared.exits.Entry.{Entry}
 use Rattle.life_core.specs.declared.exits.Entry.TheVariants as entries
 use Rattle.life_core.specs.Function.{Function, Program}
 use Rattle.life_core.specs.Linked.{enter, entry_of, no_exits, target_of}
-use Rattle.life_proper.specs.ProperPrograms.{IsProperProgram}
-use Rattle.life_proper.proofs.PointsAsked.{proper_functions}
+use Rattle.life_core_served.specs.ProperPrograms.{IsProperProgram}
+use Rattle.life_core_served.proofs.PointsAsked.{proper_functions}
 use Rattle.life_store.specs.Calls.{entry_arguments, parameters_given}
 use Rattle.life_store.specs.Content.{Content, empty_content}
 use Rattle.life_store.specs.Doing.{Given, Effect, Next, Traps, Faults, Strays, as_long, converted, type_of}

@@ -10,12 +10,12 @@ use Rattle.life_types.specs.declared.ty.Ty.TheVariants as variant
 use Rattle.life_core.specs.Function.{Function}
 use Rattle.life_core.specs.Operands.{Argument, GivenOver, Location, PointerOf, Slot, Value}
 use Rattle.life_core.specs.Holdings.{Holding, Blank, AnObject, ANumber, APointer, AView, result_if, result_sort, sort_of}
-use Rattle.life_core.specs.Served.{is_served_argument, is_served_local, is_served_location, is_served_target}
+use Rattle.life_core_served.specs.Served.{is_served_argument, is_served_local, is_served_location, is_served_target}
 use Rattle.life_core.specs.declared.program.Local.{Local}
-use Rattle.life_core.proofs.ReadyLemmas.{empty_is}
+use Rattle.life_core_served.proofs.ServedLocals.{empty_is}
 use Rattle.life_proper.specs.Placed.{object_at, type_at}
 use Rattle.life_proper.proofs.HeldSorts.{IsPointing}
-use Rattle.life_proper.proofs.SortedSteps.{object_sort, pointing_sort}
+use Rattle.life_core_served.proofs.SortedSteps.{object_sort, pointing_sort}
 use Rattle.life_store.specs.Calls as whole
 use Rattle.life_store.specs.Doing.{Setting, Next, cell, on_next}
 use Rattle.life_store.specs.Meaning.{with_world}

@@ -1,7 +1,7 @@
 -- At a point where the frames are sound the machine does as the meaning says.
 use Rattle.std.proofs.Common.{◌≡◌, ℕ, cond, List, [], ◌∷◌, length, Option, Some, None, refl, ap, ◌∙◌}
 use Rattle.std.specs.Prelude.{ℤ, nat_lt, option_and_then, slice_get}
-use Rattle.life_proper.proofs.SortedNodes.{served_locals}
+use Rattle.life_core_served.proofs.ServedLocals.{served_locals}
 use Rattle.life_core.specs.declared.program.FnId.{FnId}
 use Rattle.life_core.specs.Function.{Function, Program}
 use Rattle.life_core.specs.Linked.{Linked, code_of, enter, no_exits, numbered}

@@ -6,11 +6,11 @@ use Rattle.std.specs.List.{list_all}
 use Rattle.life_types.specs.Types.{Types}
 use Rattle.life_core.specs.Function.{Function}
 use Rattle.life_core.specs.Holdings.{AView, sort_of}
-use Rattle.life_core.specs.Served.{is_served_local, is_served_port, is_served_step}
+use Rattle.life_core_served.specs.Served.{is_served_local, is_served_port, is_served_step}
 use Rattle.life_core.specs.Step.{Step, Live, End, Eval, Load, Save, Copy, Move, Aim, Repoint, Element, Cursor, Advance, Cut, Size, Same, Changes, Make, Call, Port, Ports, Writes, WritesView, Takes}
-use Rattle.life_core.proofs.ReadyLemmas.{empty_is}
+use Rattle.life_core_served.proofs.ServedLocals.{empty_is}
 use Rattle.life_proper.specs.WellFormed.{is_port, is_well_formed_step}
-use Rattle.life_proper.proofs.SortedSteps.{view_sort}
+use Rattle.life_core_served.proofs.SortedSteps.{view_sort}
 use Rattle.life_store.specs.Doing as doing
 use Rattle.life_store.specs.Doing.{Setting, Effect, Next, Traps, Faults, Strays, cell, on_next}
 use Rattle.life_store.specs.State.{Pointer, Null, Wild, To, Static, Cell, Empty, Named, Number, Points, State}

@@ -15,16 +15,17 @@ use Rattle.life_core.specs.Linked.{Linked, code_of, enter, no_exits, numbered, w
 use Rattle.life_core.specs.Operands.{Argument, Location}
 use Rattle.life_core.specs.Proper.{IsNodeReady, Reaches, bits_past, starts}
 use Rattle.life_core.specs.Ready.{entry_ready}
-use Rattle.life_core.specs.Served.{is_served_argument, is_served_as, is_served_local, is_served_target}
+use Rattle.life_core_served.specs.Served.{is_served_argument, is_served_as, is_served_local, is_served_target}
 use Rattle.life_core.specs.Step.{Call}
 use Rattle.life_core.specs.Tree.{Node, Action, Return}
 use Rattle.life_proper.specs.WellFormed.{are_arguments_for, goes_to, have_own_slots, is_call, is_well_formed_node, types_taken}
 use Rattle.life_proper.proofs.HeldSorts.{not_false}
-use Rattle.life_proper.proofs.PointsAsked.{point_served}
+use Rattle.life_core_served.proofs.PointsAsked.{point_served}
 use Rattle.life_proper.proofs.SpotTests.{all_at}
-use Rattle.life_proper.proofs.Sorted.{IsTargetSorted}
-use Rattle.life_proper.proofs.SortedCalls.{target_sorted}
-use Rattle.life_proper.proofs.SortedNodes.{formed_parts, served_locals}
+use Rattle.life_core_served.proofs.Sorted.{IsTargetSorted}
+use Rattle.life_core_served.proofs.SortedCalls.{target_sorted}
+use Rattle.life_proper.proofs.SortedNodes.{formed_parts}
+use Rattle.life_core_served.proofs.ServedLocals.{served_locals}
 use Rattle.life_store.specs.Calls.{all_handed, lent, parameters_given, results, slot_back, slot_cell, slots_back, taken_back}
 use Rattle.life_store.specs.Doing.{Setting, Next, cell}
 use Rattle.life_store.specs.Meaning.{Back, calls, frame}

@@ -8,7 +8,7 @@ use Rattle.life_core.specs.declared.program.Local.{Local}
 use Rattle.life_core.specs.Function.{Function, Program}
 use Rattle.life_core.specs.Linked.{enter, no_exits}
 use Rattle.life_core.specs.Ready.{entry_ready}
-use Rattle.life_proper.specs.ProperPrograms.{IsProperProgram}
+use Rattle.life_core_served.specs.ProperPrograms.{IsProperProgram}
 use Rattle.life_proper.proofs.SortedNodes.{formed_parts}
 use Rattle.life_store.specs.Calls.{entry_arguments, parameters_given}
 use Rattle.life_store.specs.Content.{empty_content}

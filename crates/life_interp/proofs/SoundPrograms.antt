@@ -7,14 +7,14 @@ use Rattle.life_types.specs.Types.{Types, is_slot_at}
 use Rattle.life_core.specs.declared.program.Local.{Local}
 use Rattle.life_core.specs.Function.{Function, Program}
 use Rattle.life_core.specs.Holdings.{held_by}
-use Rattle.life_core.specs.Served.{is_served_as, is_served_local, is_served_spot}
+use Rattle.life_core_served.specs.Served.{is_served_as, is_served_local, is_served_spot}
 use Rattle.life_core.specs.Step.{Step, Call}
 use Rattle.life_core.specs.Tree.{spots}
-use Rattle.life_proper.specs.ProperFunctions.{AreProperFunctions}
-use Rattle.life_proper.specs.ProperPrograms.{IsProperProgram}
+use Rattle.life_core_served.specs.ProperFunctions.{AreProperFunctions}
+use Rattle.life_core_served.specs.ProperPrograms.{IsProperProgram}
 use Rattle.life_proper.specs.WellFormed as formed
 use Rattle.life_proper.specs.WellFormedPrograms.{is_well_formed_function}
-use Rattle.life_proper.proofs.PointsAsked.{proper_functions}
+use Rattle.life_core_served.proofs.PointsAsked.{proper_functions}
 use Rattle.life_proper.proofs.SpotTests.{all_at}
 use Rattle.life_store.specs.Doing.{Given}
 use Rattle.life_store.specs.Meaning.{IsAdmitted, IsFound, run_of}

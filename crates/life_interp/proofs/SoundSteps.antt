@@ -8,13 +8,13 @@ use Rattle.life_core.specs.Function.{Function, Program}
 use Rattle.life_core.specs.Linked.{Lead, Linked, code_of, numbered, parts, spot_at}
 use Rattle.life_core.specs.Proper.{bits_past, goes_on}
 use Rattle.life_core.specs.Operands.{Argument, Location}
-use Rattle.life_core.specs.Served.{is_served_argument, is_served_local, is_served_node, is_served_step, is_served_target}
+use Rattle.life_core_served.specs.Served.{is_served_argument, is_served_local, is_served_node, is_served_step, is_served_target}
 use Rattle.life_core.specs.Step.{Step, Call, Test}
 use Rattle.life_core.specs.declared.program.FnId.{FnId}
 use Rattle.life_core.specs.Tree.{Node, Action, Question}
 use Rattle.life_proper.specs.WellFormed.{is_well_formed_node, is_well_formed_step}
-use Rattle.life_proper.proofs.PointsAsked.{point_served}
-use Rattle.life_proper.proofs.SortedNodes.{served_locals}
+use Rattle.life_core_served.proofs.PointsAsked.{point_served}
+use Rattle.life_core_served.proofs.ServedLocals.{served_locals}
 use Rattle.life_store.specs.Content.{Content}
 use Rattle.life_store.specs.Doing.{Setting, Next, does}
 use Rattle.life_store.specs.State.{State, ready_of}

@@ -14,13 +14,14 @@ use Rattle.life_core.specs.Function.{Function}
 use Rattle.life_core.specs.Holdings.{Holding, Blank, AnObject, ANumber, APointer, AView, held_by, result_if, result_sort, sort_of, sort_of_local}
 use Rattle.life_core.specs.Operands.{Argument, GivenOver, Location, PointerOf, Slot, Value}
 use Rattle.life_core.specs.Ready.{Ready}
-use Rattle.life_core.specs.Served.{is_served_argument, is_served_local}
-use Rattle.life_core.proofs.ReadyLemmas.{empty_is}
+use Rattle.life_core_served.specs.Served.{is_served_argument, is_served_local}
+use Rattle.life_core_served.proofs.ServedLocals.{empty_is}
 use Rattle.life_proper.specs.OperandTypes.{are_alike, keeps_const, takes}
 use Rattle.life_proper.specs.Placed.{type_in}
 use Rattle.life_proper.specs.WellFormed.{are_arguments_for, is_argument_for, local_type}
-use Rattle.life_proper.proofs.HeldSorts.{AreOneSort, alike_held, type_whole}
-use Rattle.life_proper.proofs.Sorted.{IsTargetSorted}
+use Rattle.life_proper.proofs.HeldSorts.{AreOneSort}
+use Rattle.life_core_served.proofs.ServedLocals.{alike_held, type_whole}
+use Rattle.life_core_served.proofs.Sorted.{IsTargetSorted}
 use Rattle.life_store.specs.Calls as whole
 use Rattle.life_store.specs.Calls.{entry_arguments}
 use Rattle.life_store.specs.Doing.{Setting, born_object, cell, found_at}

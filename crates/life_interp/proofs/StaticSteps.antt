@@ -17,13 +17,13 @@ use Rattle.life_core.specs.Function.{Function}
 use Rattle.life_core.specs.Holdings.{Holding, Blank, AnObject, ANumber, APointer, AView, sort_of}
 use Rattle.life_core.specs.Operands.{Base, Location, Source}
 use Rattle.life_core.specs.Operands as source
-use Rattle.life_core.specs.Served.{is_served_base, is_served_element, is_served_local, is_served_location, is_served_source, is_served_step}
+use Rattle.life_core_served.specs.Served.{is_served_base, is_served_element, is_served_local, is_served_location, is_served_source, is_served_step}
 use Rattle.life_core.specs.Step.{Step, Live, End, Eval, Load, Save, Copy, Move, Aim, Repoint, Element, Cursor, Advance, Cut, Size, Same, Changes, Make, Call, Port, Ports, Writes, WritesView, Takes}
-use Rattle.life_core.proofs.ReadyLemmas.{empty_is}
+use Rattle.life_core_served.proofs.ServedLocals.{empty_is}
 use Rattle.life_proper.specs.OperandTypes.{aims_at, is_range, keeps_const, takes}
 use Rattle.life_proper.specs.Placed.{is_const_base, is_const_place, type_in, type_of, type_of_element}
 use Rattle.life_proper.specs.WellFormed.{is_source_of, is_well_formed_step}
-use Rattle.life_proper.proofs.SortedSteps.{aims_sort, raw_sort, takes_sorts}
+use Rattle.life_core_served.proofs.SortedSteps.{aims_sort, raw_sort, takes_sorts}
 use Rattle.life_store.specs.Births.{born_owner, live_of}
 use Rattle.life_store.specs.Cells.{at}
 use Rattle.life_store.specs.Content.{Object, live_words_of}

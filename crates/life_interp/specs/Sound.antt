@@ -7,7 +7,7 @@ use Rattle.life_core.specs.Proper.{Reaches}
 use Rattle.life_core.specs.Step.{Call, Step, Test}
 use Rattle.life_core.specs.Tree.{Action, Question}
 use Rattle.life_core.specs.declared.program.FnId.{FnId}
-use Rattle.life_proper.specs.ProperPrograms.{IsProperProgram}
+use Rattle.life_core_served.specs.ProperPrograms.{IsProperProgram}
 use Rattle.life_store.specs.Calls.{lent}
 use Rattle.life_store.specs.Content.{Content}
 use Rattle.life_store.specs.State.{State, ready_of}

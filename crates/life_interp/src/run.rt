@@ -2,7 +2,7 @@
 ghost use Rattle.std.specs.Prelude.{◌≡◌, ◌≤◌, ◌<◌, [], length, map, slice_get, IfOk, IfSome, OnOk};
 ghost use Rattle.life_core.specs.Function.{function_of, program_of};
 ghost use Rattle.life_core.specs.Linked.{code_of};
-ghost use Rattle.life_proper.specs.ProperPrograms.{IsProperProgram};
+ghost use Rattle.life_core_served.specs.ProperPrograms.{IsProperProgram};
 ghost use Rattle.life_cells.specs.Cells.{cell_seen, cells_seen};
 ghost use Rattle.life_cells.specs.Fits.{meant, CellFits, CellsFit, IsFit};
 ghost use Rattle.life_interp.specs.Fits.{most_births, CanStep, Grows};

@@ -1,12 +1,9 @@
--- What is said of a function that is well formed, and of the locals of one that is served.
+-- What is said of a function that is well formed.
 use Rattle.std.proofs.Common.{◌≡◌, ℕ, true, List, slice_get}
 use Rattle.std.proofs.lemmas.Bool.{and_parts}
-use Rattle.std.specs.List.{list_all}
 use Rattle.std.specs.Prelude.{length, nat_le}
 use Rattle.life_types.specs.Types.{Types}
 use Rattle.life_core.specs.Function.{Function}
-use Rattle.life_core.specs.Served.{is_served, is_served_local, is_served_spot}
-use Rattle.life_core.specs.Tree.{spots}
 use Rattle.life_proper.specs.WellFormed.{is_well_formed_tree}
 use Rattle.life_proper.specs.WellFormedPrograms.{are_well_formed_locals, is_name, is_result_of, is_well_formed_function, names_parameters}
 
@@ -23,6 +20,3 @@ formed_parts types names texts fs f e =
     let d = and_parts (is_result_of types f.result (slice_get types.types f.result.0) (slice_get f.locals f.parameters)) _ c.1 in
     let g = and_parts (are_well_formed_locals types names f.parameters 0 f.locals) (is_well_formed_tree types texts fs f f.body) d.1 in
     record { result = d.0; locals = g.0; body = g.1 }
-
-pub served_locals : (types : Types) (f : Function) → is_served types f ≡ true → list_all (is_served_local types) f.locals ≡ true
-served_locals types f e = (and_parts (list_all (is_served_local types) f.locals) (list_all (is_served_spot types f) (spots f.body)) e).0

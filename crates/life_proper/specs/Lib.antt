@@ -3,8 +3,6 @@ pub mod GivenOver
 pub mod Knowing
 pub mod OperandTypes
 pub mod Placed
-pub mod ProperFunctions
-pub mod ProperPrograms
 pub mod ReadyKnown
 pub mod ResultsKnown
 pub mod ResultsWritten

@@ -5,7 +5,7 @@ use Rattle.life_types.specs.declared.ty.Ty.TheVariants as ty
 use Rattle.life_core.specs.declared.program.LocalKind.{LocalKind}
 use Rattle.life_core.specs.declared.program.LocalKind.TheVariants.{Object, Register, Range}
 use Rattle.life_core.specs.Holdings.{Blank, pointer_held}
-use Rattle.life_core.specs.Served.{is_served_as}
+use Rattle.life_core_served.specs.Served.{is_served_as}
 
 -- no pointer lies in memory, and where one lies in a register it may lie as a range
 pub none_in_memory : (ty : Option Ty) → is_served_as Object (pointer_held ty) ≡ false

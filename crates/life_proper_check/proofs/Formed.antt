@@ -17,7 +17,7 @@ use Rattle.life_core.specs.Function.{Function, Program}
 use Rattle.life_core.specs.Holdings.{held_by}
 use Rattle.life_core.specs.Operands.{Argument, Value, GivenOver, PointerOf, Slot, Location, Source}
 use Rattle.life_core.specs.Operands as source
-use Rattle.life_core.specs.Served.{is_served, is_served_as, is_served_local, is_served_program, is_served_spot}
+use Rattle.life_core_served.specs.Served.{is_served, is_served_as, is_served_local, is_served_program, is_served_spot}
 use Rattle.life_core.specs.Step.{Step, Live, End, Eval, Load, Save, Aim, Repoint, Element, Cut, Size, Same, Call, Ports}
 use Rattle.life_core.specs.Tree.{Node, Action, Question, Spot, spots}
 use Rattle.life_proper.specs.OperandTypes.{is_composed}
@@ -26,7 +26,7 @@ use Rattle.life_proper.specs.WellFormedPrograms.{IsWellFormedProgram, are_well_f
 use Rattle.life_core.specs.Kinds.{is_register}
 use Rattle.std.specs.Prelude.{is_none, nat_eq, nat_le}
 use Rattle.life_proper.proofs.HeldSorts.{not_false, shape_same}
-use Rattle.life_proper.proofs.PointsAsked.{formed_spots}
+use Rattle.life_proper.proofs.FormedSpots.{formed_spots}
 use Rattle.life_proper_check.specs.ServedForms.{are_formed_locals, are_served_for, has_no_structs, is_formed_function, is_formed_header, is_formed_local, is_formed_node, is_formed_program, is_formed_result, is_formed_spot, is_formed_step, is_register_of, is_served_call, is_served_for, is_served_source_of, is_simple, is_simple_or_pointer}
 
 -- ---- instructions

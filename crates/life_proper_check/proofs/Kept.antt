@@ -6,7 +6,7 @@ use Rattle.life_types.specs.Types.{Types}
 use Rattle.life_core.specs.Function.{Function, Program}
 use Rattle.life_core.specs.Operands.{Argument, Value, GivenOver, PointerOf, Slot, Base, Location, Operand, Name, Through, Source}
 use Rattle.life_core.specs.Operands as source
-use Rattle.life_core.specs.Served.{is_served, is_served_argument, is_served_local, is_served_node, is_served_program, is_served_spot, is_served_step, is_served_target}
+use Rattle.life_core_served.specs.Served.{is_served, is_served_argument, is_served_local, is_served_node, is_served_program, is_served_spot, is_served_step, is_served_target}
 use Rattle.life_core.specs.Step.{Step, Move, Aim, Element, Cursor, Changes, Make, Call}
 use Rattle.life_core.specs.Touched.{by_members}
 use Rattle.life_core.specs.Tree.{Node, Action, Spot, spots}

@@ -4,10 +4,10 @@ use Rattle.std.proofs.lemmas.Bool.{and_parts}
 use Rattle.life_types.specs.Trees.{IsOrdered}
 use Rattle.life_types.specs.Types.{HasEachOnce}
 use Rattle.life_core.specs.Function.{Program}
-use Rattle.life_core.specs.Served.{is_served_program}
+use Rattle.life_core_served.specs.Served.{is_served_program}
 use Rattle.life_pset.specs.Limits.{IsProgramWithinLimits}
 use Rattle.life_proper.specs.Checking.{checked}
-use Rattle.life_proper.specs.ProperPrograms.{IsProperProgram, have_own_breaks}
+use Rattle.life_core_served.specs.ProperPrograms.{IsProperProgram, have_own_breaks}
 use Rattle.life_proper.specs.ResultsWritten.{WritesResults}
 use Rattle.life_proper.proofs.ProperFunctions.{ready_program}
 use Rattle.life_proper_check.specs.ServedForms.{has_no_structs, is_formed_program}

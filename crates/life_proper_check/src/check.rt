@@ -3,11 +3,11 @@ ghost use Rattle.std.specs.Prelude.{◌≡◌, ◌≤◌, IfOk, IsTrue, None, le
 ghost use Rattle.std.specs.List.{list_all};
 ghost use Rattle.life_core.specs.Function.{function_of, program_of};
 ghost use Rattle.life_core.specs.Node.{spot_seen};
-ghost use Rattle.life_core.specs.Served.{is_served, is_served_local, is_served_program, is_served_spot};
+ghost use Rattle.life_core_served.specs.Served.{is_served, is_served_local, is_served_program, is_served_spot};
 ghost use Rattle.life_types.specs.Trees.{IsOrdered};
 ghost use Rattle.life_types.specs.Types.{HasEachOnce};
 ghost use Rattle.life_pset.specs.Limits.{IsProgramWithinLimits};
-ghost use Rattle.life_proper.specs.ProperPrograms.{IsProperProgram, has_own_breaks};
+ghost use Rattle.life_core_served.specs.ProperPrograms.{IsProperProgram, has_own_breaks};
 ghost use Rattle.life_proper.specs.ResultsWritten.{WritesResults};
 ghost use Rattle.life_proper_check.specs.ServedForms.{AreWithin, has_no_structs, is_formed_function, is_formed_header, is_formed_program, is_formed_spot};
 

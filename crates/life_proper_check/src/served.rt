@@ -8,7 +8,7 @@ ghost use Rattle.life_types.specs.declared.ty.Class.TheVariants.{Value};
 ghost use Rattle.life_types.specs.declared.ty.Ty.{Ty as AnyTy};
 ghost use Rattle.life_core.specs.Node.{node_seen};
 ghost use Rattle.life_core.specs.Operands.{argument_of, base_of, location_of, operand_of, source_of};
-ghost use Rattle.life_core.specs.Served.{is_empty, is_served_argument, is_served_as, is_served_base, is_served_element, is_served_local, is_served_location, is_served_node, is_served_operand, is_served_port, is_served_source, is_served_step, is_served_target, is_served_test};
+ghost use Rattle.life_core_served.specs.Served.{is_empty, is_served_argument, is_served_as, is_served_base, is_served_element, is_served_local, is_served_location, is_served_node, is_served_operand, is_served_port, is_served_source, is_served_step, is_served_target, is_served_test};
 ghost use Rattle.life_core.specs.Step.{asked_of, port_of, step_of};
 
 use life_core::{

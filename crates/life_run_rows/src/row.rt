@@ -1,6 +1,6 @@
 // A row: a program as its lines come, and how its runs must end.
 ghost use Rattle.life_core.specs.Function.{program_of};
-ghost use Rattle.life_proper.specs.ProperPrograms.{IsProperProgram};
+ghost use Rattle.life_core_served.specs.ProperPrograms.{IsProperProgram};
 
 use crate::ask::Asked;
 use crate::run::ended;

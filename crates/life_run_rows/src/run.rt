@@ -1,7 +1,7 @@
 // Runs, and how they end.
 ghost use Rattle.std.specs.Prelude.{◌≤◌, ◌<◌, IfSome, Some, length, slice_get};
 ghost use Rattle.life_core.specs.Function.{program_of};
-ghost use Rattle.life_proper.specs.ProperPrograms.{IsProperProgram};
+ghost use Rattle.life_core_served.specs.ProperPrograms.{IsProperProgram};
 ghost use Rattle.life_store.specs.Meaning.{IsAdmitted};
 
 use crate::ask::Asked;

@@ -1,7 +1,7 @@
 // Whether a program is accepted.
 ghost use Rattle.std.specs.Prelude.{◌≡◌, ◌<◌};
 ghost use Rattle.life_core.specs.Function.{program_of};
-ghost use Rattle.life_proper.specs.ProperPrograms.{IsProperProgram};
+ghost use Rattle.life_core_served.specs.ProperPrograms.{IsProperProgram};
 
 use life_base::Steps;
 use life_core::CoreProgram;

@@ -1,8 +1,8 @@
 -- No run of a proper program of which nothing is diagnosed ends in a fault.
 use Rattle.std.proofs.Common.{◌≡◌, List, [], ◌∷◌, length, refl, subst, arith}
 use Rattle.life_core.specs.Function.{Program}
-use Rattle.life_proper.specs.ProperPrograms.{IsProperProgram}
-use Rattle.life_proper.proofs.PointsAsked.{proper_functions}
+use Rattle.life_core_served.specs.ProperPrograms.{IsProperProgram}
+use Rattle.life_core_served.proofs.PointsAsked.{proper_functions}
 use Rattle.life_rules.specs.Listing.{IsProgramDiagnosed, AreProgramDiagnostics}
 use Rattle.life_rules.specs.declared.diag.Diag.{Diag}
 use Rattle.life_rules.proofs.Unique.{nothing_wrong}

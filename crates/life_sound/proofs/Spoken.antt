@@ -11,15 +11,16 @@ use Rattle.life_core.specs.Function.{Function, Program}
 use Rattle.life_core.specs.Holdings.{held_by}
 use Rattle.life_core.specs.Operands.{Argument, GivenOver, Location, PointerOf, Slot, Source, Value}
 use Rattle.life_core.specs.Operands as source
-use Rattle.life_core.specs.Served.{is_empty, is_served_argument, is_served_as, is_served_base, is_served_element, is_served_local, is_served_location, is_served_node, is_served_source, is_served_spot, is_served_step, is_served_target}
+use Rattle.life_core_served.specs.Served.{is_served_argument, is_served_as, is_served_base, is_served_element, is_served_local, is_served_location, is_served_node, is_served_source, is_served_spot, is_served_step, is_served_target}
 use Rattle.life_core.specs.Step.{Aim, Call, Element, Move, Step}
 use Rattle.life_core.specs.Tree.{Node, spots}
 use Rattle.life_proper.specs.Placed.{is_slot_local, slot_at}
-use Rattle.life_proper.specs.ProperFunctions.{IsProperFunction}
-use Rattle.life_proper.specs.ProperPrograms.{IsProperProgram}
+use Rattle.life_core_served.specs.ProperFunctions.{IsProperFunction}
+use Rattle.life_core_served.specs.ProperPrograms.{IsProperProgram}
 use Rattle.life_proper.specs.WellFormed.{local_type, types_taken}
 use Rattle.life_proper.proofs.HeldSorts.{not_false}
-use Rattle.life_proper.proofs.PointsAsked.{point_served, proper_functions}
+use Rattle.life_core_served.proofs.PointsAsked.{point_served, proper_functions}
+use Rattle.life_core_served.proofs.ServedLocals.{empty_is}
 use Rattle.life_proper.proofs.SpotTests.{all_at}
 use Rattle.life_forest.proofs.HandedOver.{ArePointerSlots}
 use Rattle.life_forest.proofs.NeverStrays.{HandsPointerSlots, never_strays}
@@ -44,10 +45,6 @@ no_slots types (suc n) (l ∷ ls) e =
     (λ slot. absurd (false≢true (sym (not_slot types l both.0) ∙ slot)), no_slots types n ls both.1)
 
 -- ---- each instruction
-
-empty_is : (ms : List ℕ) → is_empty ms ≡ true → ms ≡ []
-empty_is [] e = refl
-empty_is (m ∷ ms) e = absurd (false≢true e)
 
 source_spoken : (s : Source) → is_served_source s ≡ true → IsSpokenSource s
 source_spoken (source.Get l) e = absurd (false≢true e)

@@ -1,7 +1,7 @@
 // Programs that are accepted, and programs that are rejected.
 ghost use Rattle.std.specs.Prelude.{◌≡◌, ◌≢◌, [], map, MatchResult};
 ghost use Rattle.life_core.specs.Function.{program_of};
-ghost use Rattle.life_proper.specs.ProperPrograms.{IsProperProgram};
+ghost use Rattle.life_core_served.specs.ProperPrograms.{IsProperProgram};
 ghost use Rattle.life_rules.specs.Listing.{AreProgramDiagnostics, listed_diag};
 ghost use Rattle.life_store.specs.NoFault.{NoFault};
 

@@ -1,7 +1,7 @@
 // What holds of the runs of proper programs: none strays, and where nothing is diagnosed none ends in a fault.
 ghost use Rattle.std.specs.Prelude.{◌≡◌, ℕ, ℤ, List, Some, slice_get};
 ghost use Rattle.life_core.specs.Function.{Function, Program};
-ghost use Rattle.life_proper.specs.ProperPrograms.{IsProperProgram};
+ghost use Rattle.life_core_served.specs.ProperPrograms.{IsProperProgram};
 ghost use Rattle.life_rules.specs.Listing.{IsProgramDiagnosed};
 ghost use Rattle.life_rules.specs.declared.diag.Diag.{Diag};
 ghost use Rattle.life_store.specs.Doing.{Given};

@@ -1,6 +1,6 @@
 use Rattle.std.proofs.Common.{◌≡◌, drop}
 use Rattle.std.specs.List.{list_all}
-use Rattle.life_core.specs.Served.{is_served_local}
+use Rattle.life_core_served.specs.Served.{is_served_local}
 use Rattle.life_proper_check.proofs.check.are_served_locals.Given as goal
 
 -- what is left decides

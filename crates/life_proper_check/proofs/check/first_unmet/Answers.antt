@@ -2,7 +2,7 @@ use Rattle.std.proofs.Common.{◌∙◌, List, ap, map, sym}
 use Rattle.std.specs.List.{list_all}
 use Rattle.life_core.specs.declared.program.CoreFn.{CoreFn}
 use Rattle.life_core.specs.Function.{function_of, program_of}
-use Rattle.life_proper.specs.ProperPrograms.{has_own_breaks}
+use Rattle.life_core_served.specs.ProperPrograms.{has_own_breaks}
 use Rattle.life_proper_check.proofs.Parts.{parts_proper}
 use Rattle.life_proper_check.proofs.check.first_unmet.Goals as goal
 

@@ -1,7 +1,7 @@
 use Rattle.std.proofs.Common.{◌&&◌, List, ap}
 use Rattle.std.specs.List.{list_all}
 use Rattle.life_core.specs.Function.{function_of}
-use Rattle.life_core.specs.Served.{is_served_local, is_served_spot}
+use Rattle.life_core_served.specs.Served.{is_served_local, is_served_spot}
 use Rattle.life_core.specs.Tree.{Spot}
 use Rattle.life_proper_check.proofs.Points.{points_of}
 use Rattle.life_proper_check.proofs.check.is_served_function.Goals as goal

@@ -1,7 +1,7 @@
 use Rattle.std.proofs.Common.{◌<◌, IfSome, List, length, ap, subst, sym}
 use Rattle.std.specs.Prelude.{ℤ, slice_get}
 use Rattle.life_core.specs.Function.{Program, program_of}
-use Rattle.life_proper.specs.ProperPrograms.{IsProperProgram}
+use Rattle.life_core_served.specs.ProperPrograms.{IsProperProgram}
 use Rattle.life_store.specs.Meaning.{IsAdmitted}
 use Rattle.life_run_rows.proofs.run.run.Goals as goal
 

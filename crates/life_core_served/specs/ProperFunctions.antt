@@ -3,7 +3,7 @@ use Rattle.std.specs.Prelude.{◌≡◌, ℕ, true, List, Some, slice_get}
 use Rattle.life_types.specs.Types.{Types}
 use Rattle.life_core.specs.Function.{Function}
 use Rattle.life_core.specs.Proper.{HasReadyWays}
-use Rattle.life_core.specs.Served.{is_served}
+use Rattle.life_core_served.specs.Served.{is_served}
 use Rattle.life_proper.specs.GivenOver.{all_keep_given}
 use Rattle.life_proper.specs.WellFormedPrograms.{is_well_formed_function}
 

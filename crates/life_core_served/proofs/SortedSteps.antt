@@ -8,10 +8,11 @@ use Rattle.life_types.specs.declared.ty.Ty.{Ty}
 use Rattle.life_core.specs.Function.{Function}
 use Rattle.life_core.specs.Holdings.{Holding, AnObject, ANumber, APointer, AView, sort_of}
 use Rattle.life_core.specs.Operands.{Location}
-use Rattle.life_core.specs.Served.{is_served_local}
+use Rattle.life_core_served.specs.Served.{is_served_local}
 use Rattle.life_proper.specs.OperandTypes.{are_alike, aims_at, keeps_const, takes}
 use Rattle.life_proper.specs.Placed.{is_number, object_at, register_at, type_at, type_in}
-use Rattle.life_proper.proofs.HeldSorts.{AreOneSort, IsPointing, aims_held, alike_held, number_held, object_held, own_type, pointer_held, raw_held, served, type_own, type_whole, view_held}
+use Rattle.life_proper.proofs.HeldSorts.{AreOneSort, IsPointing}
+use Rattle.life_core_served.proofs.ServedLocals.{aims_held, alike_held, number_held, object_held, own_type, pointer_held, raw_held, served, type_own, type_whole, view_held}
 
 pub either : (a b : Bool) → (a || b) ≡ true → (a ≡ true) ⊎ (b ≡ true)
 either true b e = inl refl

@@ -3,7 +3,7 @@ use Rattle.std.specs.Prelude.{◌≡◌, Bool, true, false, []}
 use Rattle.std.specs.List.{list_all}
 use Rattle.life_core.specs.Function.{Function, Program}
 use Rattle.life_core.specs.Proper.{IsReadyProgram}
-use Rattle.life_core.specs.Served.{is_served_program}
+use Rattle.life_core_served.specs.Served.{is_served_program}
 use Rattle.life_core.specs.Shape.{breaks_inside}
 use Rattle.life_pset.specs.Limits.{IsProgramWithinLimits}
 use Rattle.life_proper.specs.GivenOver.{keeps_all_given}

@@ -16,16 +16,16 @@ use Rattle.life_core.specs.Holdings.{Holding, ANumber, held_by, result_if, resul
 use Rattle.life_core.specs.Kinds.{is_register}
 use Rattle.life_core.specs.Operands.{Location}
 use Rattle.life_core.specs.Ready.{AreBits, Ready}
-use Rattle.life_core.specs.Served.{is_served_local, is_served_target}
+use Rattle.life_core_served.specs.Served.{is_served_local, is_served_target}
 use Rattle.life_core.specs.Touched.{by_members, if_object, target_births}
-use Rattle.life_core.proofs.ReadyLemmas.{empty_is}
+use Rattle.life_core_served.proofs.ServedLocals.{empty_is}
 use Rattle.life_proper.specs.OperandTypes.{are_alike, is_composed, keeps_const, same, takes}
 use Rattle.life_proper.specs.Placed.{is_number, object_at, type_in}
 use Rattle.life_proper.specs.WellFormed.{goes_to, is_whole}
 use Rattle.life_proper.specs.WellFormedPrograms.{is_result_local, is_result_of}
-use Rattle.life_proper.proofs.HeldSorts.{IsServedIf, alike_held, own_type, served, solid_held, type_whole}
-use Rattle.life_proper.proofs.Sorted.{IsTargetSorted}
-use Rattle.life_proper.proofs.SortedSteps.{either, number_sort, object_sort}
+use Rattle.life_core_served.proofs.ServedLocals.{IsServedIf, alike_held, own_type, served, solid_held, type_whole}
+use Rattle.life_core_served.proofs.Sorted.{IsTargetSorted}
+use Rattle.life_core_served.proofs.SortedSteps.{either, number_sort, object_sort}
 
 -- ---- a result
 

@@ -1,0 +1,5 @@
+pub mod PointsAsked
+pub mod ServedLocals
+pub mod Sorted
+pub mod SortedCalls
+pub mod SortedSteps

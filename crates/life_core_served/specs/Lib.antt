@@ -1,0 +1,3 @@
+pub mod ProperFunctions
+pub mod ProperPrograms
+pub mod Served
