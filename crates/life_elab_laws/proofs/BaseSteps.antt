@@ -1,6 +1,6 @@
 -- Instructions on what has elements, a view or an owner at a place: how many there are, whether there are none, and one of them.
-use Rattle.std.proofs.Common.{◌≡◌, ◌<◌, ◌≤◌, ℕ, Bool, true, false, List, [], ◌∷◌, ◌++◌, None, not, length, if◌then◌else◌, refl, sym, ap, ◌∙◌, arith, Option}
-use Rattle.std.proofs.lemmas.Bool.{and_from, false≢true}
+use Rattle.std.proofs.Common.{◌≡◌, ◌<◌, ◌≤◌, ℕ, Bool, true, List, [], ◌∷◌, ◌++◌, None, not, length, if◌then◌else◌, refl, sym, ap, ◌∙◌, arith, Option}
+use Rattle.std.proofs.lemmas.Bool.{and_from}
 use Rattle.life_types.specs.Pointees.{ty_of}
 use Rattle.life_types.specs.TypeTests.{is_constant, is_value, is_void}
 use Rattle.life_types.specs.Types.{Types}
@@ -11,6 +11,7 @@ use Rattle.life_types.specs.declared.ty.TyId.{TyId}
 use Rattle.life_typed.specs.BaseTypes.{type_at}
 use Rattle.life_typed.specs.declared.typed_expr.Category.TheVariants as category
 use Rattle.life_core.specs.Function.{Function}
+use Rattle.life_core_served.specs.Served.{is_served_base, is_served_element}
 use Rattle.life_core.specs.Kinds.{is_register_at}
 use Rattle.life_core.specs.Operands.{Base, behind, whole}
 use Rattle.life_core.specs.Step.{Element, Size}
@@ -69,6 +70,7 @@ module _ (types : Types) (texts : ℕ) (so_far : Bool) (fs : List Function) (f :
   pub record IsBaseOf (t : Ty) (constant : Bool) (b : Base) : Type 0 where
     pub element : element_of types f b ≡ t
     pub held : keeps_const constant (is_const_base types f b) ≡ true
+    pub served : so_far ≡ true → is_served_base b ≡ true
 
   pub base_stays : (b : Base) (n m : ℕ) (k j : List Known) → n ≤ m → IsBase b n k → Keeps f n None k j → IsBase b m j
   base_stays b n m k j h p keeps = record { local = p.local; uses = p.uses; below = omega (arith, p.below, h); held = keeps.below p.local p.below tt ∙ p.held }
@@ -92,16 +94,16 @@ module _ (types : Types) (texts : ℕ) (so_far : Bool) (fs : List Function) (f :
   a_which = record { typed = IsWhichOf; ready = IsWhich; stays = which_stays }
 
   -- how many elements there are
-  pub size_part : (into : Option ℕ) (t : Ty) (constant : Bool) (place : Place) (b : Base) (s : State) → so_far ≡ false → is_value t ≡ true → IsIntoOf ty.Size s into
+  pub size_part : (into : Option ℕ) (t : Ty) (constant : Bool) (place : Place) (b : Base) (s : State) → is_value t ≡ true → IsIntoOf ty.Size s into
       → Part types texts so_far fs f (a_base t constant) b into s (computed into ty.Size place (λ r. Size r b) s) (a_number types texts so_far fs f ty.Size)
-  size_part into t constant place b s wide v wanted =
+  size_part into t constant place b s v wanted =
       computed_part types texts so_far fs f (a_base t constant) b into ty.Size place (λ r. Size r b) s refl wanted
       (record {
         fills = λ r n k e p. record { ready = uses_ready k (base_uses b) (r ∷ []) (base_there b n k p); after = refl };
         fine = λ r e h. record {
           given = refl;
           formed = and_from (is_number_of types f ty.Size r) (not (is_void (element_of types f b))) e (ap (λ (u : Ty). not (is_void u)) h.element ∙ value_no_void t v);
-          served = λ so. absurd (false≢true (sym wide ∙ so));
+          served = h.served;
         };
       })
 
@@ -119,10 +121,16 @@ module _ (types : Types) (texts : ℕ) (so_far : Bool) (fs : List Function) (f :
   element_is t constant b which.Last h number = h.element
   element_is t constant b which.Target h number = absurd number
 
+  which_served : (w : Which) → IsWhichOf w → is_served_element w ≡ true
+  which_served (which.Index r) h = refl
+  which_served which.First h = refl
+  which_served which.Last h = refl
+  which_served which.Target h = absurd h
+
   -- an element, which is reached through a register
-  pub element_part : (few : Types) (place : Place) (id : TyId) (constant : Bool) (t : Ty) (x : Base × Which) (s : State) → so_far ≡ false → IsFront few.types types.types → IsFront few.types s.types.types → type_at few id ≡ t → is_value t ≡ true
+  pub element_part : (few : Types) (place : Place) (id : TyId) (constant : Bool) (t : Ty) (x : Base × Which) (s : State) → IsFront few.types types.types → IsFront few.types s.types.types → type_at few id ≡ t → is_value t ≡ true
       → Part types texts so_far fs f (both types texts so_far fs f (a_base t constant) a_which) x None s (element place (category.Place id constant) x.0 x.1 s) (a_place types texts so_far fs f t constant)
-  element_part few place id constant t x s wide front table here v =
+  element_part few place id constant t x s front table here v =
       emit_part types texts so_far fs f (both types texts so_far fs f (a_base t constant) a_which) x None s w place (λ r. Element (whole r) x.0 x.1) (behind w.given)
       (a_place types texts so_far fs f t constant)
       (new_targeted so_far types f place reference s fits (fits_below so_far few s.types (front_length few.types s.types.types table) reference (ap is_value here ∙ v)))
@@ -133,7 +141,7 @@ module _ (types : Types) (texts : ℕ) (so_far : Bool) (fs : List Function) (f :
               and_from (aims_at types (type_in types f (whole w.given)) (type_of_element types f x.0 x.1)) _
               (ap (λ (u : Ty). aims_at types u (type_of_element types f x.0 x.1)) at ∙ ap (same (ty_of types id)) (element_is t constant x.0 x.1 h.0 h.1) ∙ ap (λ (u : Ty). same u t) later ∙ value_same t v)
               (ap (λ (u : Ty). keeps_const (is_constant u) (is_const_base types f x.0)) at ∙ h.0.held);
-          served = λ so. absurd (false≢true (sym wide ∙ so));
+          served = λ so. and_from (is_served_base x.0) (is_served_element x.1) (h.0.served so) (which_served x.1 h.1);
         },
         behind_place types texts so_far fs f (whole w.given) reference id constant t (record { typed = at; kept = kept_reference b; served = λ so. refl }) refl refl refl later v,
       ))

@@ -34,7 +34,7 @@ use Rattle.life_elab_laws.proofs.Growing.{Grows, grows_none}
 use Rattle.life_elab_laws.proofs.OrderedTypes.{order_none}
 use Rattle.life_elab_laws.proofs.WrittenLocals.{AddsRegisters, AreWrittenLocals, IsIntermediate, fits_register, locals_added, own_added, register_pushed, pointing_fits, registers_none}
 use Rattle.life_elab_laws.proofs.PendingTemporaries.{none_pending, pending_later}
-use Rattle.life_elab_laws.proofs.ResultTypes.{IsResultType, gives_nothing, gives_raw, gives_reference, gives_value, result_is}
+use Rattle.life_elab_laws.proofs.ResultTypes.{IsResultType, gives_nothing, gives_raw, gives_reference, gives_value, gives_view, result_is}
 use Rattle.life_elab_laws.proofs.Values.{by_values}
 
 -- ---- what is there at the entry
@@ -158,6 +158,7 @@ module _ (a : Around) where
   by_result s P none one t (gives_nothing void) = subst (λ (u : Ty). P u (with_result a u s)) (sym void) none
   by_result s P none one t (gives_value v) = by_values (λ u. P u (with_result a u s)) (one ty.Bool refl) (one ty.Char refl) (one ty.Int refl) (one ty.Long refl) (one ty.Size refl) t v
   by_result s P none one t (gives_raw target constant raw w) = subst (λ (u : Ty). P u (with_result a u s)) (sym raw) (one (ty.Raw target constant) w)
+  by_result s P none one t (gives_view view) = subst (λ (u : Ty). P u (with_result a u s)) (sym view) (one ty.View refl)
   by_result s P none one t (gives_reference target constant refers w) = subst (λ (u : Ty). P u (with_result a u s)) (sym refers) (one (ty.Reference target constant) w)
 
   pub result_grows : (t : Ty) (s : State) → IsResultType a.program.types t → Grows s (with_result a t s)

@@ -1,4 +1,4 @@
--- Calls that give a raw pointer or a reference: a pointer takes the one, and the other comes to a register, behind which the place is.
+-- Calls that give a raw pointer, a view or a reference: a pointer or a view takes the one, and the other comes to a register, behind which the place is.
 use Rattle.std.proofs.Common.{◌≡◌, inl, inr, ℕ, Bool, true, List, length, Some, None, refl, ap, ◌∙◌, subst}
 use Rattle.std.proofs.lemmas.Bool.{and_from}
 use Rattle.life_types.specs.Pointees.{ty_of}
@@ -38,70 +38,79 @@ use Rattle.life_elab_laws.proofs.Types.{type_added}
 use Rattle.life_elab_laws.proofs.WalkerSteps.{keeps_itself}
 use Rattle.life_elab_laws.proofs.WrittenLocals.{fits_below, fits_later, fits_register}
 
-module _ (few types : Types) (texts : ℕ) (so_far : Bool) (fs : List Function) (f : Function) (front : IsFront few.types types.types) (g : ℕ) (of : FunctionForm) (callee : IsCallee types fs g of) (target : TyId) (constant : Bool) (worth : is_value (type_at few target) ≡ true)
+module _ (types : Types) (texts : ℕ) (so_far : Bool) (fs : List Function) (f : Function) (g : ℕ) (of : FunctionForm) (callee : IsCallee types fs g of)
     (s : State) (w : Gives (List Argument)) (first : Makes types texts so_far fs f None s w (arguments types texts so_far fs f (parameter_types (Some of)))) where
-  later : is_value (ty_of types target) ≡ true
-  later = ap is_value (type_later few types front target worth) ∙ worth
+  -- ---- a pointer of a type that takes its own, which is taken
 
-  -- two pointers of one target
-  one_target : (same (ty_of types target) (ty_of types target)) ≡ true
-  one_target = value_same (ty_of types target) later
-
-  -- ---- a raw pointer, which is taken
-
-  module _ (own : ty_of types of.result ≡ ty.Raw target constant) where
-    abbrev pointer : Ty
-    pointer = ty.Raw target constant
-
+  module _ (pointer : Ty) (own : ty_of types of.result ≡ pointer) (itself : takes types pointer pointer ≡ true) (comes : (l : Location) → takes types (type_in types f l) pointer ≡ true → goes_to types texts fs f pointer (Some l) ≡ true) where
     taken : (u : Ty) → IsTakenBy types u (Of pointer) → takes types u pointer ≡ true
-    taken u (inl e) = subst (λ (t : Ty). takes types t pointer ≡ true) (same_of u e) (and_from (same (ty_of types target) (ty_of types target)) (keeps_const constant constant) one_target (keeps_itself constant))
+    taken u (inl e) = subst (λ (t : Ty). takes types t pointer ≡ true) (same_of u e) itself
       where
         same_of : (u : Ty) → Of pointer ≡ Of u → pointer ≡ u
         same_of u e = cc
     taken u (inr e) = e
 
     goes : (u : Ty) (l : Location) → type_in types f l ≡ u → IsTakenBy types u (Of pointer) → goes_to types texts fs f (ty_of types of.result) (Some l) ≡ true
-    goes u l at by = ap (λ (t : Ty). goes_to types texts fs f t (Some l)) own ∙ ap (λ (t : Ty). takes types t pointer) at ∙ taken u by
+    goes u l at by = ap (λ (t : Ty). goes_to types texts fs f t (Some l)) own ∙ comes l (ap (λ (t : Ty). takes types t pointer) at ∙ taken u by)
 
-    pub pointed_call : Makes types texts so_far fs f None s (mapped (λ (xs : List Argument). By (called g xs)) w) (a_pointing types texts so_far fs f (Of pointer))
-    pointed_call =
+    taken_call : Makes types texts so_far fs f None s (mapped (λ (xs : List Argument). By (called g xs)) w) (a_pointing types texts so_far fs f (Of pointer))
+    taken_call =
         seen_part types texts so_far fs f (nothing types texts so_far fs f) tt None s w (arguments types texts so_far fs f (parameter_types (Some of))) (λ xs. By (called g xs)) (a_pointing types texts so_far fs f (Of pointer)) first
         (λ b h. λ u l loc at by. called_at_fine types texts so_far fs f g w.given of l callee h (goes u l at.typed by) at.served)
         (λ n k h. called_filling f g (parameter_types (Some of)) w.given n k h)
 
-  -- ---- a reference
+  -- a view
+  pub viewed_call : ty_of types of.result ≡ ty.View → Makes types texts so_far fs f None s (mapped (λ (xs : List Argument). By (called g xs)) w) (a_pointing types texts so_far fs f (Of ty.View))
+  viewed_call own = taken_call ty.View own refl (λ l h. h)
 
-  module _ (own : ty_of types of.result ≡ ty.Reference target constant) (place : Place) (opened : IsOpen s) (table : IsFront few.types w.state.types.types) where
-    abbrev reference : Ty
-    reference = ty.Reference target constant
+  -- ---- a pointer or a reference to a value
 
-    abbrev register : Gives ℕ
-    register = new_register place reference w.state
+  module _ (few : Types) (front : IsFront few.types types.types) (target : TyId) (constant : Bool) (worth : is_value (type_at few target) ≡ true) where
+    later : is_value (ty_of types target) ≡ true
+    later = ap is_value (type_later few types front target worth) ∙ worth
 
-    referred : Begins types f register.state → type_in types f (whole register.given) ≡ reference
-    referred b =
-        let l = added place reference w.state in
-        reference_there types f (length w.state.locals) l target constant (b.locals (length w.state.locals) l (last_there w.state.locals l)) (b.table l.ty.0 reference (type_added w.state.types.types reference)) later
+    -- two pointers of one target
+    one_target : (same (ty_of types target) (ty_of types target)) ≡ true
+    one_target = value_same (ty_of types target) later
 
-    kept : Begins types f register.state → is_register_at f register.given ≡ true
-    kept b = let l = added place reference w.state in register_there types f (length w.state.locals) l (b.locals (length w.state.locals) l (last_there w.state.locals l)) refl
+    -- a raw pointer
+    pub pointed_call : ty_of types of.result ≡ ty.Raw target constant → Makes types texts so_far fs f None s (mapped (λ (xs : List Argument). By (called g xs)) w) (a_pointing types texts so_far fs f (Of (ty.Raw target constant)))
+    pointed_call own =
+        taken_call (ty.Raw target constant) own (and_from (same (ty_of types target) (ty_of types target)) (keeps_const constant constant) one_target (keeps_itself constant)) (λ l h. h)
 
-    comes : Begins types f register.state → goes_to types texts fs f (ty_of types of.result) (Some (whole register.given)) ≡ true
-    comes b =
-        ap (λ (t : Ty). goes_to types texts fs f t (Some (whole register.given))) own ∙ ap (λ (t : Ty). takes types t reference) (referred b)
-        ∙ and_from (same (ty_of types target) (ty_of types target)) (keeps_const constant constant) one_target (keeps_itself constant)
+    -- a reference
 
-    fits : fits_register so_far few reference ≡ true
-    fits = worth
+    module _ (own : ty_of types of.result ≡ ty.Reference target constant) (place : Place) (opened : IsOpen s) (table : IsFront few.types w.state.types.types) where
+      abbrev reference : Ty
+      reference = ty.Reference target constant
 
-    pub referred_call : Makes types texts so_far fs f None s (mapped through (built (Fill place (called g w.given)) (wanted place None reference) w.state)) (a_place types texts so_far fs f (type_at few target) constant)
-    referred_call =
-        then_part types texts so_far fs f (nothing types texts so_far fs f) tt None s w (mapped through (built (Fill place (called g w.given)) (wanted place None reference) w.state)) (arguments types texts so_far fs f (parameter_types (Some of))) (a_place types texts so_far fs f (type_at few target) constant) opened first
-        (emit_part types texts so_far fs f (arguments types texts so_far fs f (parameter_types (Some of))) w.given None w.state register place (λ r. called g w.given (whole r)) (through register.given) (a_place types texts so_far fs f (type_at few target) constant)
-        (new_targeted so_far types f place reference w.state (fits_later so_far few types front reference fits) (fits_below so_far few w.state.types (front_length few.types w.state.types.types table) reference fits))
-        (λ b h. (
-          called_fine types texts so_far fs f g w.given of register.given callee h (comes b),
-          behind_place types texts so_far fs f (whole register.given) reference target constant (type_at few target) (record { typed = referred b; kept = kept b; served = λ so. refl }) refl refl refl (type_later few types front target worth) worth,
-        ))
-        (λ r n k e h. written_fills f g (parameter_types (Some of)) w.given n k h r e)
-        (λ k lt e. record { local = register.given; uses = refl; below = lt; held = e }))
+      abbrev register : Gives ℕ
+      register = new_register place reference w.state
+
+      referred : Begins types f register.state → type_in types f (whole register.given) ≡ reference
+      referred b =
+          let l = added place reference w.state in
+          reference_there types f (length w.state.locals) l target constant (b.locals (length w.state.locals) l (last_there w.state.locals l)) (b.table l.ty.0 reference (type_added w.state.types.types reference)) later
+
+      kept : Begins types f register.state → is_register_at f register.given ≡ true
+      kept b = let l = added place reference w.state in register_there types f (length w.state.locals) l (b.locals (length w.state.locals) l (last_there w.state.locals l)) refl
+
+      comes : Begins types f register.state → goes_to types texts fs f (ty_of types of.result) (Some (whole register.given)) ≡ true
+      comes b =
+          ap (λ (t : Ty). goes_to types texts fs f t (Some (whole register.given))) own ∙ ap (λ (t : Ty). takes types t reference) (referred b)
+          ∙ and_from (same (ty_of types target) (ty_of types target)) (keeps_const constant constant) one_target (keeps_itself constant)
+
+      fits : fits_register so_far few reference ≡ true
+      fits = worth
+
+      pub referred_call : Makes types texts so_far fs f None s (mapped through (built (Fill place (called g w.given)) (wanted place None reference) w.state)) (a_place types texts so_far fs f (type_at few target) constant)
+      referred_call =
+          then_part types texts so_far fs f (nothing types texts so_far fs f) tt None s w (mapped through (built (Fill place (called g w.given)) (wanted place None reference) w.state)) (arguments types texts so_far fs f (parameter_types (Some of))) (a_place types texts so_far fs f (type_at few target) constant) opened first
+          (emit_part types texts so_far fs f (arguments types texts so_far fs f (parameter_types (Some of))) w.given None w.state register place (λ r. called g w.given (whole r)) (through register.given) (a_place types texts so_far fs f (type_at few target) constant)
+          (new_targeted so_far types f place reference w.state (fits_later so_far few types front reference fits) (fits_below so_far few w.state.types (front_length few.types w.state.types.types table) reference fits))
+          (λ b h. (
+            called_fine types texts so_far fs f g w.given of register.given callee h (comes b),
+            behind_place types texts so_far fs f (whole register.given) reference target constant (type_at few target) (record { typed = referred b; kept = kept b; served = λ so. refl }) refl refl refl (type_later few types front target worth) worth,
+          ))
+          (λ r n k e h. written_fills f g (parameter_types (Some of)) w.given n k h r e)
+          (λ k lt e. record { local = register.given; uses = refl; below = lt; held = e }))

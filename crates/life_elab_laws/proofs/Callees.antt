@@ -8,8 +8,8 @@ use Rattle.life_types.specs.Types.{Types, class, class_at}
 use Rattle.life_types.specs.declared.ty.Ty.{Ty}
 use Rattle.life_types.specs.declared.ty.Ty.TheVariants as ty
 use Rattle.life_types.specs.declared.ty.TyId.{TyId}
-use Rattle.life_served.specs.Served.{is_served_result}
-use Rattle.life_elab_laws.specs.Reached.{are_reached_parameters, are_reached_variables, is_reached_function, is_reached_parameter, is_reached_statement}
+use Rattle.life_served.specs.Served.{are_served_variables, is_served_result, is_served_variable}
+use Rattle.life_elab_laws.specs.Reached.{are_reached_variables, is_reached_function, is_reached_statement}
 use Rattle.life_typed.specs.BaseTypes.{type_at}
 use Rattle.life_typed.specs.Ends.{ends}
 use Rattle.life_typed.specs.Programs.{FunctionForm, ProgramForm, is_main}
@@ -29,7 +29,7 @@ use Rattle.life_elab_laws.proofs.Calls.{IsCallee}
 use Rattle.life_elab_laws.proofs.Fronts.{IsFront, front_cut, front_then}
 use Rattle.life_elab_laws.proofs.HandedTypes.{IsHandedType, handed_later, handed_type}
 use Rattle.life_elab_laws.proofs.Reaching.{variables_any}
-use Rattle.life_elab_laws.proofs.ResultTypes.{IsResultType, gives_nothing, gives_raw, gives_reference, gives_value, past_end, result_is}
+use Rattle.life_elab_laws.proofs.ResultTypes.{IsResultType, gives_nothing, gives_raw, gives_reference, gives_value, gives_view, past_end, result_is}
 use Rattle.life_elab_laws.proofs.Setting.{GivesBack, asked, unasked}
 use Rattle.life_elab_laws.proofs.Types.{value_class}
 use Rattle.life_core.specs.declared.program.LocalKind.TheVariants.{Register}
@@ -42,7 +42,7 @@ type_found types id t at = ap (λ (o : Option Ty). unwrap_or o ty.Void) at
 
 pub record IsReachedFunction (texts : ℕ) (so_far : Bool) (types : Types) (f : FunctionForm) : Type 0 where
   pub result : is_served_result types f.result ≡ true
-  pub parameters : are_reached_parameters so_far types (take (length f.parameters) f.locals) ≡ true
+  pub parameters : are_served_variables types (take (length f.parameters) f.locals) ≡ true
   pub variables : are_reached_variables so_far types f.locals ≡ true
   pub body : is_reached_statement texts so_far types f.locals f.body ≡ true
   -- whatever is served so far
@@ -51,14 +51,14 @@ pub record IsReachedFunction (texts : ℕ) (so_far : Bool) (types : Types) (f : 
 pub reached_parts : (texts : ℕ) (so_far : Bool) (types : Types) (f : FunctionForm) → is_reached_function texts so_far types f ≡ true → IsReachedFunction texts so_far types f
 reached_parts texts so_far types f b =
     let one = and_parts (is_served_result types f.result) _ b in
-    let two = and_parts (are_reached_parameters so_far types (take (length f.parameters) f.locals)) _ one.1 in
+    let two = and_parts (are_served_variables types (take (length f.parameters) f.locals)) _ one.1 in
     let three = and_parts (are_reached_variables so_far types f.locals) (is_reached_statement texts so_far types f.locals f.body) two.1 in
     record { result = one.0; parameters = two.0; variables = three.0; body = three.1; any = variables_any so_far types f.locals three.0 }
 
-pub handed_at : (so_far : Bool) (types : Types) (us : List TypedLocal) → are_reached_parameters so_far types us ≡ true → (n : ℕ) (id : TyId) → slice_get (map type_of us) n ≡ Some id → IsHandedType so_far types id
-handed_at so_far types [] b n id at = absurd (none-some id at)
-handed_at so_far types (u ∷ us) b zero id at = subst (IsHandedType so_far types) (same_Some u.ty id at) (handed_type so_far types u.ty (and_parts (is_reached_parameter so_far types u.ty) (are_reached_parameters so_far types us) b).0)
-handed_at so_far types (u ∷ us) b (suc n) id at = handed_at so_far types us (and_parts (is_reached_parameter so_far types u.ty) (are_reached_parameters so_far types us) b).1 n id at
+pub handed_at : (types : Types) (us : List TypedLocal) → are_served_variables types us ≡ true → (n : ℕ) (id : TyId) → slice_get (map type_of us) n ≡ Some id → IsHandedType types id
+handed_at types [] b n id at = absurd (none-some id at)
+handed_at types (u ∷ us) b zero id at = subst (IsHandedType types) (same_Some u.ty id at) (handed_type types u.ty (and_parts (is_served_variable types u.ty) (are_served_variables types us) b).0)
+handed_at types (u ∷ us) b (suc n) id at = handed_at types us (and_parts (is_served_variable types u.ty) (are_served_variables types us) b).1 n id at
 
 -- ---- what a function takes
 
@@ -69,16 +69,16 @@ types_cut a [] us rest few = refl
 types_cut a (p ∷ ps) [] rest few = absurd (omega (arith, few))
 types_cut a (p ∷ ps) (u ∷ us) rest few = ap (λ (ids : List TyId). u.ty ∷ ids) (types_cut a ps us rest (omega (arith, few)))
 
-parameter_taken : (so_far : Bool) (a : Around) (ps : List ParameterPromise) (us : List TypedLocal) (y : ℕ) → length ps ≤ length us → are_reached_parameters so_far a.program.types (take (length ps) us) ≡ true → y < length ps
-    → (l : Local) × (slice_get (parameter_locals a ps us) y ≡ Some l) × IsHandedType so_far a.program.types l.ty
-parameter_taken so_far a [] us y few b lt = absurd (omega (arith, lt))
-parameter_taken so_far a (p ∷ ps) [] y few b lt = absurd (omega (arith, few))
-parameter_taken so_far a (p ∷ ps) (u ∷ us) zero few b lt =
-    let parts = and_parts (is_reached_parameter so_far a.program.types u.ty) (are_reached_parameters so_far a.program.types (take (length ps) us)) b in
-    (parameter_local a p u, refl, handed_type so_far a.program.types u.ty parts.0)
-parameter_taken so_far a (p ∷ ps) (u ∷ us) (suc y) few b lt =
-    let parts = and_parts (is_reached_parameter so_far a.program.types u.ty) (are_reached_parameters so_far a.program.types (take (length ps) us)) b in
-    parameter_taken so_far a ps us y (omega (arith, few)) parts.1 (omega (arith, lt))
+parameter_taken : (a : Around) (ps : List ParameterPromise) (us : List TypedLocal) (y : ℕ) → length ps ≤ length us → are_served_variables a.program.types (take (length ps) us) ≡ true → y < length ps
+    → (l : Local) × (slice_get (parameter_locals a ps us) y ≡ Some l) × IsHandedType a.program.types l.ty
+parameter_taken a [] us y few b lt = absurd (omega (arith, lt))
+parameter_taken a (p ∷ ps) [] y few b lt = absurd (omega (arith, few))
+parameter_taken a (p ∷ ps) (u ∷ us) zero few b lt =
+    let parts = and_parts (is_served_variable a.program.types u.ty) (are_served_variables a.program.types (take (length ps) us)) b in
+    (parameter_local a p u, refl, handed_type a.program.types u.ty parts.0)
+parameter_taken a (p ∷ ps) (u ∷ us) (suc y) few b lt =
+    let parts = and_parts (is_served_variable a.program.types u.ty) (are_served_variables a.program.types (take (length ps) us)) b in
+    parameter_taken a ps us y (omega (arith, few)) parts.1 (omega (arith, lt))
 
 -- ---- what its core function takes and gives, where it begins as it is written
 
@@ -113,11 +113,11 @@ module _ (so_far : Bool) (p : ProgramForm) (of : FunctionForm) (T types : Types)
       ∙ ap (λ (ls : List Local). map local_type (take (length of.parameters) ls)) cut.1
       ∙ types_cut (around p of) of.parameters of.locals cut.0 is.typed.parameters
 
-  pub takes_handed : (y : ℕ) (l : Local) → slice_get core.locals y ≡ Some l → y < core.parameters → IsHandedType so_far types l.ty
+  pub takes_handed : (y : ℕ) (l : Local) → slice_get core.locals y ≡ Some l → y < core.parameters → IsHandedType types l.ty
   takes_handed y l at lt =
-      let taken = parameter_taken so_far (around p of) of.parameters of.locals y is.typed.parameters is.built.parameters (omega (arith, lt, begun.count)) in
+      let taken = parameter_taken (around p of) of.parameters of.locals y is.typed.parameters is.built.parameters (omega (arith, lt, begun.count)) in
       let there : slice_get core.locals y ≡ Some taken.0 = begun.locals y taken.0 (parameters_front (around p of) T is.typed.parameters begun.table is.built.result y taken.0 taken.1) in
-      handed_later so_far p.types types front l.ty (subst (λ (u : Local). IsHandedType so_far p.types u.ty) (same_Some taken.0 l (sym there ∙ at)) taken.2)
+      handed_later p.types types front l.ty (subst (λ (u : Local). IsHandedType p.types u.ty) (same_Some taken.0 l (sym there ∙ at)) taken.2)
 
   result_type : slice_get types.types core.result.0 ≡ Some is.ty
   result_type = ap (λ (id : TyId). slice_get types.types id.0) begun.same ∙ front of.result.0 is.ty is.result
@@ -141,6 +141,10 @@ module _ (so_far : Bool) (p : ProgramForm) (of : FunctionForm) (T types : Types)
       go (gives_raw target constant raw w) = pointing (ap is_void raw) (λ int. clash (sym int ∙ raw))
         where
           clash : ty.Int ≡ ty.Raw target constant → ⊥
+          clash e = cc
+      go (gives_view view) = pointing (ap is_void view) (λ int. clash (sym int ∙ view))
+        where
+          clash : ty.Int ≡ ty.View → ⊥
           clash e = cc
       go (gives_reference target constant refers w) = pointing (ap is_void refers) (λ int. clash (sym int ∙ refers))
         where

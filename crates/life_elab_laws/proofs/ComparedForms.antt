@@ -1,12 +1,12 @@
 -- Texts that are compared, where one of them is a string.
-use Rattle.std.proofs.Common.{◌≡◌, ◌⊎◌, inl, inr, ℕ, Bool, true, false, ◌&&◌, List, None, Option, refl, sym, ap, ◌∙◌, Some}
-use Rattle.std.proofs.lemmas.Bool.{and_from, false≢true}
+use Rattle.std.proofs.Common.{◌≡◌, ◌⊎◌, inl, inr, ℕ, Bool, true, false, List, None, Option, refl, sym, ap, ◌∙◌, Some}
+use Rattle.std.proofs.lemmas.Bool.{false≢true}
 use Rattle.life_types.specs.TypeTests.{is_iterator, is_value}
 use Rattle.life_types.specs.Types.{Types}
 use Rattle.life_types.specs.declared.place.Place.{Place}
 use Rattle.life_types.specs.declared.ty.Ty.{Ty}
 use Rattle.life_types.specs.declared.ty.Ty.TheVariants as ty
-use Rattle.life_typed.specs.Operators.{are_iterators_of_one, is_literal}
+use Rattle.life_typed.specs.Operators.{are_iterators_of_one}
 use Rattle.life_typed.specs.TypedForm.{Form, Typed, binary}
 use Rattle.life_typed.specs.declared.typed_expr.BinaryOperator.{BinaryOperator}
 use Rattle.life_typed.specs.declared.typed_expr.Category.TheVariants as category
@@ -23,7 +23,7 @@ use Rattle.life_writer.specs.declared.rows.Row.{Row}
 use Rattle.life_writer.specs.declared.rows.Row.TheVariants.{Compared}
 use Rattle.life_elab_laws.specs.Reached.{compares, is_owner_of_values}
 use Rattle.life_elab_laws.proofs.ExpressionForms.{IsForm, IsWhole, Standing, Valued, value_form}
-use Rattle.life_elab_laws.proofs.ExpressionTypes.{own_no_iterator, seen_kind, view_wide}
+use Rattle.life_elab_laws.proofs.ExpressionTypes.{own_no_iterator, seen_kind}
 use Rattle.life_elab_laws.proofs.Instructions.{IsIntoOf}
 use Rattle.life_elab_laws.proofs.ObjectForms.{IsOwner}
 use Rattle.life_elab_laws.proofs.RowTypes.{AreIterators, Fits, IsCompared, row_fits_between, sees}
@@ -49,11 +49,6 @@ module _ (a : Around) (visible : List ℕ) (types : Types) (texts : ℕ) (so_far
   either_shows form (inl is) s = whole_shows a visible types texts so_far fs f setting form is (seen_kind so_far a.program.types (typed_in form) is.kind.kind s)
   either_shows form (inr is) s = string_shows a visible types texts so_far fs f setting form is (owner_text form is s)
 
-  -- .. and where it is no literal, the program isn't served so far
-  either_wide : (form : Form) → IsEither form → is_literal (typed_in form).ty ≡ false → sees (typed_in form).ty ≡ true → so_far ≡ false
-  either_wide form (inl is) l s = view_wide so_far a.program.types (typed_in form) is.kind.kind l (seen_kind so_far a.program.types (typed_in form) is.kind.kind s)
-  either_wide form (inr is) l s = is.wide
-
   -- it is no iterator
   either_no_iterator : (form : Form) → IsEither form → is_iterator (own_type (typed_in form).ty) ≡ false
   either_no_iterator form (inl is) = own_no_iterator so_far a.program.types (typed_in form) is.kind.kind
@@ -76,14 +71,6 @@ module _ (a : Around) (visible : List ℕ) (types : Types) (texts : ℕ) (so_far
         go (inl s) = s
         go (inr is) = absurd (false≢true (sym (either_no_iterator left l) ∙ ap (λ (x : ExprType). is_iterator (own_type x)) is.left ∙ one is.first is.second is.one))
 
-    wide : (fit : IsCompared (typed_in left).ty (typed_in right).ty t) → so_far ≡ false
-    wide fit = let both = both_see fit in go (is_literal (typed_in left).ty) refl (is_literal (typed_in right).ty) refl fit.literals both.0 both.1
-      where
-        go : (b : Bool) → is_literal (typed_in left).ty ≡ b → (c : Bool) → is_literal (typed_in right).ty ≡ c → (is_literal (typed_in left).ty && is_literal (typed_in right).ty) ≡ false → sees (typed_in left).ty ≡ true → sees (typed_in right).ty ≡ true → so_far ≡ false
-        go false b c is literals first second = either_wide left l b first
-        go true b false is literals first second = either_wide right r is second
-        go true b true is literals first second = absurd (false≢true (sym literals ∙ and_from (is_literal (typed_in left).ty) (is_literal (typed_in right).ty) b is))
-
     worth : (w : Row) → compares w ≡ true → Fits w (typed_in left).ty (typed_in right).ty t → is_value t ≡ true
     worth (Compared equal) c fit = ap is_value fit.answers
     worth _ c fit = absurd (false≢true c)
@@ -96,7 +83,7 @@ module _ (a : Around) (visible : List ℕ) (types : Types) (texts : ℕ) (so_far
         → Valued a visible types texts so_far fs f setting t into s ((binary_uses w (uses a left) (uses a right) place (Of t) category.Value).made behind into s)
     made (Compared equal) c fit place behind into s wanted stands =
         let both = both_see fit in
-        compared_part a visible types texts so_far fs f setting left right (either_shows left l both.0) (either_shows right r both.1) equal place into t s fit.answers (wide fit) (ap is_value fit.answers) wanted stands
+        compared_part a visible types texts so_far fs f setting left right (either_shows left l both.0) (either_shows right r both.1) equal place into t s fit.answers (ap is_value fit.answers) wanted stands
     made _ c fit place behind into s wanted stands = absurd (false≢true c)
 
     lands : (w : Row) → compares w ≡ true → (place behind : Place) (r : ℕ) (s : State) → ((binary_uses w (uses a left) (uses a right) place (Of t) category.Value).made behind (Some r) s).given ≡ r

@@ -297,7 +297,7 @@ module _ (a : Around) (types : Types) (texts : ℕ) (so_far : Bool) (fs : List F
           go : IsVariableType so_far a.program.types u.ty → Born (GivenOne (type_of a u.ty))
           go (a_value t is w) = as_type t is (object_does t is w (given_number a.program.types t e w (as_given t is)))
           go (a_raw target constant is w) = as_type (ty.Raw target constant) is (raw_does target constant is w (as_given (ty.Raw target constant) is))
-          go (a_view so is) = as_type ty.View is (view_does is (as_given ty.View is))
+          go (a_view is) = as_type ty.View is (view_does is (as_given ty.View is))
           go (a_walker so t is w) = absurd (false≢true (sym (ap (λ (x : Ty). so_far || not (is_owner x || is_walker x)) (type_is t is) ∙ ap (λ (b : Bool). b || not (is_owner t || is_walker t)) so ∙ ap (λ (b : Bool). not (b || is_walker t)) (walker_is a.program.types t w).owner ∙ ap not (walker_is a.program.types t w).walker) ∙ plain))
           go (an_owner so t is o) = absurd (false≢true (sym (ap (λ (x : Ty). so_far || not (is_owner x || is_walker x)) (type_is t is) ∙ ap (λ (b : Bool). b || not (is_owner t || is_walker t)) so ∙ ap (λ (b : Bool). not (b || is_walker t)) (owner_is a.program.types t o)) ∙ plain))
           go (a_reference target constant is w) = as_type (ty.Reference target constant) is (bound (given_bound a.program.types target constant e w (as_given (ty.Reference target constant) is)))
@@ -429,7 +429,7 @@ module _ (a : Around) (types : Types) (texts : ℕ) (so_far : Bool) (fs : List F
         given_owner_does p from (a_value t is w) = refused t is (by_values (λ t. (is_owner t || (is_view t || is_span texts so_far t)) ≡ false) refl refl refl refl refl t w) p
         given_owner_does p from (a_raw target constant is w) = refused (ty.Raw target constant) is refl p
         given_owner_does p from (a_reference target constant is w) = refused (ty.Reference target constant) is refl p
-        given_owner_does p from (a_view so is) = as_type ty.View is (string_view_does e he behind (owning_owner a v.visible types texts so_far fs f setting (whole_form e) from) is (as_given ty.View is))
+        given_owner_does p from (a_view is) = as_type ty.View is (string_view_does e he behind (owning_owner a v.visible types texts so_far fs f setting (whole_form e) from) is (as_given ty.View is))
         given_owner_does p from (a_walker so (ty.Iterator item constant) is w) = refused (ty.Iterator item constant) is refl p
         given_owner_does p from (a_walker so (ty.Span item constant) is w) = as_type (ty.Span item constant) is (span_does e he behind (owning_owner a v.visible types texts so_far fs f setting (whole_form e) from) item constant w is (as_given (ty.Span item constant) is))
         given_owner_does p from (a_walker so _ is w) = absurd (false≢true w)
@@ -443,7 +443,7 @@ module _ (a : Around) (types : Types) (texts : ℕ) (so_far : Bool) (fs : List F
         given_walker_does p from (a_value t is w) = no_walker t is (by_values (λ t. is_walker t ≡ false) refl refl refl refl refl t w) p
         given_walker_does p from (a_raw target constant is w) = no_walker (ty.Raw target constant) is refl p
         given_walker_does p from (a_reference target constant is w) = no_walker (ty.Reference target constant) is refl p
-        given_walker_does p from (a_view so is) = no_walker ty.View is refl p
+        given_walker_does p from (a_view is) = no_walker ty.View is refl p
         given_walker_does p from (an_owner so ty.Text is o) = no_walker ty.Text is refl p
         given_walker_does p from (an_owner so (ty.Vector item) is o) = no_walker (ty.Vector item) is refl p
         given_walker_does p from (an_owner so _ is o) = absurd (false≢true o)
@@ -456,7 +456,7 @@ module _ (a : Around) (types : Types) (texts : ℕ) (so_far : Bool) (fs : List F
         given_literal_does p wide (text n) same few made (a_value t is w) = no_literal t is (by_values (λ t. is_owner t ≡ false) refl refl refl refl refl t w) p
         given_literal_does p wide (text n) same few made (a_raw target constant is w) = no_literal (ty.Raw target constant) is refl p
         given_literal_does p wide (text n) same few made (a_reference target constant is w) = no_literal (ty.Reference target constant) is refl p
-        given_literal_does p wide (text n) same few made (a_view so is) = no_literal ty.View is refl p
+        given_literal_does p wide (text n) same few made (a_view is) = no_literal ty.View is refl p
         given_literal_does p wide (text n) same few made (a_walker so t is w) = no_literal t is (walker_is a.program.types t w).owner p
         given_literal_does p wide (text n) same few made (an_owner so t is o) =
             let told : IsMadeOf a.program a.function.locals v.visible e (text n) = subst (IsMadeOf a.program a.function.locals v.visible e) same made in
@@ -471,13 +471,13 @@ module _ (a : Around) (types : Types) (texts : ℕ) (so_far : Bool) (fs : List F
     -- ---- any variable
 
     -- a view or a span sees nothing
-    empty_does : so_far ≡ false → (t : Ty) → is_range t ≡ true → is_location t ≡ true → slice_get a.program.types.types u.ty.0 ≡ Some t → Born (empty (home a u) s).state
-    empty_does wide t range loc is =
+    empty_does : (t : Ty) → is_range t ≡ true → is_location t ≡ true → slice_get a.program.types.types u.ty.0 ≡ Some t → Born (empty (home a u) s).state
+    empty_does t range loc is =
         filled_does u.place (gives tt s) (nothing types texts so_far fs f) (λ x l. Aim l Empty) (leaf_part types texts so_far fs f tt s (nothing types texts so_far fs f) (λ b. tt) (λ b k alive. tt))
         (λ b q. record {
           given = refl;
           formed = ap is_range (location_declared a types texts so_far fs f setting.front u s b t loc is).typed ∙ range;
-          served = λ so. absurd (false≢true (sym wide ∙ so));
+          served = λ so. refl;
         })
         (λ b k q blank. record { ready = refl; after = refl })
 
@@ -501,11 +501,11 @@ module _ (a : Around) (types : Types) (texts : ℕ) (so_far : Bool) (fs : List F
             as_type (ty.Raw target constant) is
             (live_does (λ b. raw_lives a types texts so_far fs f setting.front u s b target constant is)
             (λ b so. ap is_served_birth (new_sort types f a setting.front v u (variable_local a u) (its_local a u) s h at any b (ty.Raw target constant) is)))
-        go (a_view wide is) = as_type ty.View is (empty_does wide ty.View refl refl is)
+        go (a_view is) = as_type ty.View is (empty_does ty.View refl refl is)
         go (a_walker wide (ty.Iterator target constant) is w) =
             as_type (ty.Iterator target constant) is
             (live_does (λ b. location_lives a types texts so_far fs f setting.front u s b (ty.Iterator target constant) refl refl refl is) (λ b so. absurd (false≢true (sym wide ∙ so))))
-        go (a_walker wide (ty.Span target constant) is w) = as_type (ty.Span target constant) is (empty_does wide (ty.Span target constant) refl refl is)
+        go (a_walker wide (ty.Span target constant) is w) = as_type (ty.Span target constant) is (empty_does (ty.Span target constant) refl refl is)
         go (a_walker wide _ is w) = absurd (false≢true w)
         go (an_owner wide t is o) =
             as_type t is
@@ -531,7 +531,7 @@ module _ (a : Around) (types : Types) (texts : ℕ) (so_far : Bool) (fs : List F
         go whole p (a_value t is w) = no_vector t is (by_values (λ t. is_vector texts so_far t ≡ false) refl refl refl refl refl t w) p
         go whole p (a_raw target constant is w) = no_vector (ty.Raw target constant) is refl p
         go whole p (a_reference target constant is w) = no_vector (ty.Reference target constant) is refl p
-        go whole p (a_view so is) = no_vector ty.View is refl p
+        go whole p (a_view is) = no_vector ty.View is refl p
         go whole p (a_walker so (ty.Iterator item constant) is w) = no_vector (ty.Iterator item constant) is refl p
         go whole p (a_walker so (ty.Span item constant) is w) = no_vector (ty.Span item constant) is refl p
         go whole p (a_walker so _ is w) = absurd (false≢true w)

@@ -111,7 +111,7 @@ module _ (types : Types) (f : Function) (a : Around) (front : IsFront a.program.
         go (an_owner so t is o) = object t is (owner_kind a.program.types t o)
         go (a_walker so t is w) = pointer t (type_there types f (length s.locals) l t there (typed t is) (walker_is a.program.types t w).reference) (walker_is a.program.types t w).pointer
         go (a_raw target constant is e) = pointer (ty.Raw target constant) (type_there types f (length s.locals) l (ty.Raw target constant) there (typed (ty.Raw target constant) is) refl) refl
-        go (a_view so is) = pointer ty.View (type_there types f (length s.locals) l ty.View there (typed ty.View is) refl) refl
+        go (a_view is) = pointer ty.View (type_there types f (length s.locals) l ty.View there (typed ty.View is) refl) refl
         go (a_reference target constant is e) =
             pointer (ty.Reference target constant)
             (reference_there types f (length s.locals) l target constant there (typed (ty.Reference target constant) is) (ap is_value (type_later a.program.types types front target e) ∙ e)) refl

@@ -113,12 +113,12 @@ module _ (a : Around) (visible : List ℕ) (types : Types) (texts : ℕ) (so_far
       go (a_text is v) = refused (ap (λ (x : ExprType). indexed x (is_constant (typed_in base).category)) is)
       go (no_value is v) = refused (ap (λ (x : ExprType). indexed x (is_constant (typed_in base).category)) is)
       go (a_null is v) = refused (ap (λ (x : ExprType). indexed x (is_constant (typed_in base).category)) is)
-      go (a_view wide at) = as_told (indexed_by (typed_in base) (typed_in position) e closing (Some (CHAR, true)) (ap (λ (x : ExprType). indexed x (is_constant (typed_in base).category)) at) h)
+      go (a_view at) = as_told (indexed_by (typed_in base) (typed_in position) e closing (Some (CHAR, true)) (ap (λ (x : ExprType). indexed x (is_constant (typed_in base).category)) at) h)
         where
           as_told : (x : TyId × Bool) × (Some (CHAR, true) ≡ Some x) × IsIndexed (typed_in base) (typed_in position) e x.0 x.1 → IsForm a visible types texts so_far fs f setting (index base position closing) e
           as_told x =
               let one = sym (some_same x.1) in
-              index_form base position closing e ty.Char CHAR true (view_asked a visible types texts so_far fs f setting base is wide at) at_position (setting.chars wide)
+              index_form base position closing e ty.Char CHAR true (view_asked a visible types texts so_far fs f setting base is at) at_position setting.chars
               (subst (λ (y : TyId × Bool). IsIndexed (typed_in base) (typed_in position) e y.0 y.1) one x.2)
 
   -- .. of an owner
@@ -137,7 +137,7 @@ module _ (a : Around) (visible : List ℕ) (types : Types) (texts : ℕ) (so_far
           (subst (λ (y : TyId × Bool). IsIndexed (typed_in base) (typed_in position) e y.0 y.1) (sym (some_same x.1)) x.2)
 
       go : (t : Ty) → is.ty ≡ t → is_owner_of_values a.program.types t ≡ true → IsForm a visible types texts so_far fs f setting (index base position closing) e
-      go ty.Text same o = told ty.Text same CHAR (setting.chars is.wide) refl
+      go ty.Text same o = told ty.Text same CHAR setting.chars refl
       go (ty.Vector item) same o = told (ty.Vector item) same item refl refl
       go _ same o = absurd (false≢true o)
 

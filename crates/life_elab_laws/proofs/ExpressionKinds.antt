@@ -73,7 +73,7 @@ dereferenced_as so_far types inner e k h = go k.kind
     go (a_number t is v) = refused (ap dereferenced is ∙ value_no_target t v)
     go (no_value is v) = refused (ap dereferenced is)
     go (a_null is v) = refused (ap dereferenced is)
-    go (a_view so is) = refused (ap dereferenced is)
+    go (a_view is) = refused (ap dereferenced is)
     go (a_text is v) = refused (ap dereferenced is)
     go (a_pointer target constant is v) = record {
       target = target;
@@ -106,7 +106,7 @@ negated_as so_far types inner e k h = go k.kind
     go (a_pointer target constant is v) = absurd (err_ok (sym (ap (λ t. negated_to (negated t) e.place inner) is) ∙ h))
     go (no_value is v) = absurd (err_ok (sym (ap (λ t. negated_to (negated t) e.place inner) is) ∙ h))
     go (a_null is v) = absurd (err_ok (sym (ap (λ t. negated_to (negated t) e.place inner) is) ∙ h))
-    go (a_view so is) = absurd (err_ok (sym (ap (λ t. negated_to (negated t) e.place inner) is) ∙ h))
+    go (a_view is) = absurd (err_ok (sym (ap (λ t. negated_to (negated t) e.place inner) is) ∙ h))
     go (a_text is v) = absurd (err_ok (sym (ap (λ t. negated_to (negated t) e.place inner) is) ∙ h))
 
 pub record IsInverted (inner e : Typed) : Type 0 where
@@ -150,7 +150,7 @@ addressed_as so_far types inner e k h = go inner.category refl h
       where
         same : Of (ty.Raw target constant) ≡ Of (type_at types id) → ty.Raw target constant ≡ type_at types id
         same e = cc
-    typed_as id c at raw plain (a_view so is) = absurd (false≢true (sym (view_not_plain types id (same (sym (k.place id c at) ∙ is))) ∙ plain))
+    typed_as id c at raw plain (a_view is) = absurd (false≢true (sym (view_not_plain types id (same (sym (k.place id c at) ∙ is))) ∙ plain))
       where
         same : Of (type_at types id) ≡ Of ty.View → type_at types id ≡ ty.View
         same e = cc

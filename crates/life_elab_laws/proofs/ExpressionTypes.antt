@@ -1,14 +1,14 @@
 -- The types of expressions that are built.
 use Rattle.std.proofs.Common.{◌≡◌, Bool, true, false, not, refl, sym, ap, ◌∙◌, subst, true≢false, Ok}
 use Rattle.std.proofs.lemmas.Bool.{false≢true}
-use Rattle.life_types.specs.TypeTests.{is_iterator, is_raw, is_text, is_unique, is_value, is_view}
+use Rattle.life_types.specs.TypeTests.{is_iterator, is_raw, is_text, is_unique, is_value}
 use Rattle.life_types.specs.Types.{Types}
 use Rattle.life_types.specs.declared.ty.Ty.{Ty}
 use Rattle.life_types.specs.declared.ty.Ty.TheVariants as ty
 use Rattle.life_types.specs.declared.ty.TyId.{TyId}
 use Rattle.life_typed.specs.BaseTypes.{type_at}
 use Rattle.life_typed.specs.Conversions.{is_place}
-use Rattle.life_typed.specs.Operators.{is_condition, is_literal, is_nullable, negated, negated_type, promoted}
+use Rattle.life_typed.specs.Operators.{is_condition, is_nullable, negated, negated_type, promoted}
 use Rattle.life_typed.specs.TypedForm.{Typed}
 use Rattle.life_typed.specs.declared.typed_expr.Category.{Category}
 use Rattle.life_typed.specs.declared.typed_expr.Category.TheVariants as category
@@ -21,7 +21,7 @@ use Rattle.life_writer.specs.Around.{own_type}
 use Rattle.life_elab_laws.proofs.Locations.{is_location, is_seen}
 use Rattle.life_elab_laws.proofs.RowTypes.{no_text, promoted_is, sees}
 use Rattle.life_elab_laws.proofs.TypedKinds.{HasKind, IsKind, a_null, a_number, a_pointer, a_text, a_view, err_ok, no_value, ok_same, value_simple}
-use Rattle.life_elab_laws.proofs.ResultTypes.{IsResultType, gives_nothing, gives_raw, gives_reference, gives_value}
+use Rattle.life_elab_laws.proofs.ResultTypes.{IsResultType, gives_nothing, gives_raw, gives_reference, gives_value, gives_view}
 use Rattle.life_elab_laws.proofs.Values.{by_values}
 use Rattle.life_elab_laws.proofs.WrittenLocals.{fits_register, value_fits}
 
@@ -36,7 +36,7 @@ own_value TextLiteral e = absurd (false≢true e)
 pub condition_number : (so_far : Bool) (types : Types) (e : Typed) → HasKind so_far types e → is_condition e.ty ≡ true → is_raw (own_type e.ty) ≡ false → is_number e.ty ≡ true
 condition_number so_far types e (a_number t is v) c r = ap is_number is ∙ v
 condition_number so_far types e (a_pointer target constant is v) c r = absurd (true≢false (sym (ap (λ (x : ExprType). is_raw (own_type x)) is) ∙ r))
-condition_number so_far types e (a_view so is) c r = absurd (false≢true (sym (ap is_condition is) ∙ c))
+condition_number so_far types e (a_view is) c r = absurd (false≢true (sym (ap is_condition is) ∙ c))
 condition_number so_far types e (a_text is v) c r = absurd (false≢true (sym (ap is_condition is) ∙ c))
 condition_number so_far types e (no_value is v) c r = absurd (false≢true (sym (ap is_condition is) ∙ c))
 condition_number so_far types e (a_null is v) c r = absurd (false≢true (sym (ap is_condition is) ∙ c))
@@ -45,7 +45,7 @@ condition_number so_far types e (a_null is v) c r = absurd (false≢true (sym (a
 pub own_no_unique : (so_far : Bool) (types : Types) (e : Typed) → HasKind so_far types e → is_unique (own_type e.ty) ≡ false
 own_no_unique so_far types e (a_number t is v) = ap (λ (x : ExprType). is_unique (own_type x)) is ∙ (value_simple t v).unique
 own_no_unique so_far types e (a_pointer target constant is v) = ap (λ (x : ExprType). is_unique (own_type x)) is
-own_no_unique so_far types e (a_view so is) = ap (λ (x : ExprType). is_unique (own_type x)) is
+own_no_unique so_far types e (a_view is) = ap (λ (x : ExprType). is_unique (own_type x)) is
 own_no_unique so_far types e (a_text is v) = ap (λ (x : ExprType). is_unique (own_type x)) is
 own_no_unique so_far types e (no_value is v) = ap (λ (x : ExprType). is_unique (own_type x)) is
 own_no_unique so_far types e (a_null is v) = ap (λ (x : ExprType). is_unique (own_type x)) is
@@ -54,7 +54,7 @@ own_no_unique so_far types e (a_null is v) = ap (λ (x : ExprType). is_unique (o
 pub pointer_fits : (so_far : Bool) (types : Types) (e : Typed) → HasKind so_far types e → is_location (own_type e.ty) ≡ true → fits_register so_far types (own_type e.ty) ≡ true
 pointer_fits so_far types e (a_number t is v) r = ap (λ (x : ExprType). fits_register so_far types (own_type x)) is ∙ value_fits so_far types t v
 pointer_fits so_far types e (a_pointer target constant is v) r = ap (λ (x : ExprType). fits_register so_far types (own_type x)) is ∙ v
-pointer_fits so_far types e (a_view so is) r = ap (λ (x : ExprType). fits_register so_far types (own_type x)) is
+pointer_fits so_far types e (a_view is) r = ap (λ (x : ExprType). fits_register so_far types (own_type x)) is
 pointer_fits so_far types e (a_text is v) r = absurd (false≢true (sym (ap (λ (x : ExprType). is_location (own_type x)) is) ∙ r))
 pointer_fits so_far types e (no_value is v) r = absurd (false≢true (sym (ap (λ (x : ExprType). is_location (own_type x)) is) ∙ r))
 pointer_fits so_far types e (a_null is v) r = absurd (false≢true (sym (ap (λ (x : ExprType). is_location (own_type x)) is) ∙ r))
@@ -69,18 +69,19 @@ negated_promoted so_far types inner e k h = go k.kind
         let plain : negated_to (Ok (promoted t t)) e.place inner ≡ Ok e = rw v at here in
         sym (ap (λ (y : Typed). is_promoted (own_type y.ty)) (ok_same plain)) ∙ promoted_is t t
     go (a_pointer target constant is v) = absurd (err_ok (sym (ap (λ t. negated_to (negated t) e.place inner) is) ∙ h))
-    go (a_view so is) = absurd (err_ok (sym (ap (λ t. negated_to (negated t) e.place inner) is) ∙ h))
+    go (a_view is) = absurd (err_ok (sym (ap (λ t. negated_to (negated t) e.place inner) is) ∙ h))
     go (a_text is v) = absurd (err_ok (sym (ap (λ t. negated_to (negated t) e.place inner) is) ∙ h))
     go (no_value is v) = absurd (err_ok (sym (ap (λ t. negated_to (negated t) e.place inner) is) ∙ h))
     go (a_null is v) = absurd (err_ok (sym (ap (λ t. negated_to (negated t) e.place inner) is) ∙ h))
 
 -- ---- what a call gives
 
--- nothing, a value, a raw pointer, or the place that a reference refers to
+-- nothing, a value, a raw pointer, a view, or the place that a reference refers to
 pub data IsAnswered (types : Types) (result : Ty) (t : ExprType) (k : Category) : Type 0 where
   answers_nothing : result ≡ ty.Void → t ≡ Of ty.Void → k ≡ category.Value → IsAnswered types result t k
   answers_value : is_value result ≡ true → t ≡ Of result → k ≡ category.Value → IsAnswered types result t k
   answers_raw : (target : TyId) (constant : Bool) → result ≡ ty.Raw target constant → is_value (type_at types target) ≡ true → t ≡ Of (ty.Raw target constant) → k ≡ category.Value → IsAnswered types result t k
+  answers_view : result ≡ ty.View → t ≡ Of ty.View → k ≡ category.Value → IsAnswered types result t k
   answers_place : (target : TyId) (constant : Bool) → result ≡ ty.Reference target constant → is_value (type_at types target) ≡ true → t ≡ Of (type_at types target) → k ≡ category.Place target constant → IsAnswered types result t k
 
 pub answered_as : (types : Types) (e : Typed) (t : Ty) → IsResultType types t → e ≡ answer_of t types e.place e.form → IsAnswered types t e.ty e.category
@@ -97,6 +98,7 @@ answered_as types e t kind is = go kind
     go (gives_raw target constant raw w) =
         let here = as_type (ty.Raw target constant) raw in
         answers_raw target constant raw w (ap (λ (x : Typed). x.ty) here) (ap (λ (x : Typed). x.category) here)
+    go (gives_view view) = let here = as_type ty.View view in answers_view view (ap (λ (x : Typed). x.ty) here) (ap (λ (x : Typed). x.category) here)
     go (gives_reference target constant refers w) =
         let here = as_type (ty.Reference target constant) refers in
         answers_place target constant refers w (ap (λ (x : Typed). x.ty) here) (ap (λ (x : Typed). x.category) here)
@@ -106,6 +108,7 @@ pub answer_own : (types : Types) (result : Ty) (t : ExprType) (k : Category) →
 answer_own types result t k (answers_nothing void own held) plain = void ∙ sym (ap own_type own)
 answer_own types result t k (answers_value w own held) plain = sym (ap own_type own)
 answer_own types result t k (answers_raw target constant raw w own held) plain = raw ∙ sym (ap own_type own)
+answer_own types result t k (answers_view view own held) plain = view ∙ sym (ap own_type own)
 answer_own types result t k (answers_place target constant refers w own held) plain = absurd (false≢true (sym (ap (λ (c : Category). not (is_place c)) held) ∙ plain))
 
 -- what may be null and isn't a unique_ptr is a raw pointer
@@ -114,32 +117,20 @@ nullable_raw (ty.Raw target constant) n e = refl
 nullable_raw (ty.Unique target) n e = absurd (false≢true (sym e))
 nullable_raw _ n e = absurd (false≢true n)
 
-no_view : (t : Ty) → is_value t ≡ true → is_view t ≡ false
-no_view = by_values (λ t. is_view t ≡ false) refl refl refl refl refl
-
 -- what is seen without a string is a view or a literal
 pub seen_kind : (so_far : Bool) (types : Types) (e : Typed) → HasKind so_far types e → sees e.ty ≡ true → is_seen e.ty ≡ true
 seen_kind so_far types e (a_number t is v) s = absurd (false≢true (sym (ap sees is ∙ no_text t v) ∙ s))
 seen_kind so_far types e (a_pointer target constant is v) s = absurd (false≢true (sym (ap sees is) ∙ s))
-seen_kind so_far types e (a_view so is) s = ap is_seen is
+seen_kind so_far types e (a_view is) s = ap is_seen is
 seen_kind so_far types e (a_text is v) s = ap is_seen is
 seen_kind so_far types e (no_value is v) s = absurd (false≢true (sym (ap sees is) ∙ s))
 seen_kind so_far types e (a_null is v) s = absurd (false≢true (sym (ap sees is) ∙ s))
-
--- .. and where it is no literal, the program isn't served so far
-pub view_wide : (so_far : Bool) (types : Types) (e : Typed) → HasKind so_far types e → is_literal e.ty ≡ false → is_seen e.ty ≡ true → so_far ≡ false
-view_wide so_far types e (a_view so is) l s = so
-view_wide so_far types e (a_number t is v) l s = absurd (false≢true (sym (ap is_seen is ∙ no_view t v) ∙ s))
-view_wide so_far types e (a_pointer target constant is v) l s = absurd (false≢true (sym (ap is_seen is) ∙ s))
-view_wide so_far types e (a_text is v) l s = absurd (false≢true (sym l ∙ ap is_literal is))
-view_wide so_far types e (no_value is v) l s = absurd (false≢true (sym (ap is_seen is) ∙ s))
-view_wide so_far types e (a_null is v) l s = absurd (false≢true (sym (ap is_seen is) ∙ s))
 
 -- nothing here is a string or an iterator
 pub own_no_text : (so_far : Bool) (types : Types) (e : Typed) → HasKind so_far types e → is_text (own_type e.ty) ≡ false
 own_no_text so_far types e (a_number t is v) = ap (λ (x : ExprType). is_text (own_type x)) is ∙ (value_simple t v).text
 own_no_text so_far types e (a_pointer target constant is v) = ap (λ (x : ExprType). is_text (own_type x)) is
-own_no_text so_far types e (a_view so is) = ap (λ (x : ExprType). is_text (own_type x)) is
+own_no_text so_far types e (a_view is) = ap (λ (x : ExprType). is_text (own_type x)) is
 own_no_text so_far types e (a_text is v) = ap (λ (x : ExprType). is_text (own_type x)) is
 own_no_text so_far types e (no_value is v) = ap (λ (x : ExprType). is_text (own_type x)) is
 own_no_text so_far types e (a_null is v) = ap (λ (x : ExprType). is_text (own_type x)) is
@@ -147,7 +138,7 @@ own_no_text so_far types e (a_null is v) = ap (λ (x : ExprType). is_text (own_t
 pub own_no_iterator : (so_far : Bool) (types : Types) (e : Typed) → HasKind so_far types e → is_iterator (own_type e.ty) ≡ false
 own_no_iterator so_far types e (a_number t is v) = ap (λ (x : ExprType). is_iterator (own_type x)) is ∙ (value_simple t v).iterator
 own_no_iterator so_far types e (a_pointer target constant is v) = ap (λ (x : ExprType). is_iterator (own_type x)) is
-own_no_iterator so_far types e (a_view so is) = ap (λ (x : ExprType). is_iterator (own_type x)) is
+own_no_iterator so_far types e (a_view is) = ap (λ (x : ExprType). is_iterator (own_type x)) is
 own_no_iterator so_far types e (a_text is v) = ap (λ (x : ExprType). is_iterator (own_type x)) is
 own_no_iterator so_far types e (no_value is v) = ap (λ (x : ExprType). is_iterator (own_type x)) is
 own_no_iterator so_far types e (a_null is v) = ap (λ (x : ExprType). is_iterator (own_type x)) is

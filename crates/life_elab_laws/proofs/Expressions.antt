@@ -248,7 +248,7 @@ module _ (a : Around) (visible : List ℕ) (types : Types) (texts : ℕ) (so_far
 
     -- arguments
     pub handed : (d : DelimitersForm) (form : Form) → is_reached_form texts so_far form ≡ true → AreExpressions a.program a.function.locals visible form → (ids : List TyId) → are_given a.program.types ids form ≡ true
-        → ((n : ℕ) (id : TyId) → slice_get ids n ≡ Some id → IsHandedType so_far a.program.types id) → (s : State) → Standing s
+        → ((n : ℕ) (id : TyId) → slice_get ids n ≡ Some id → IsHandedType a.program.types id) → (s : State) → Standing s
         → Makes types texts so_far fs f None s (giving.arguments a (all_uses a form) d ids s) (arguments types texts so_far fs f ids)
     handed d nothing b h [] g v s stands = none_handed types texts so_far fs f s
     handed d nothing b h (id ∷ ids) g v s stands = absurd (false≢true g)

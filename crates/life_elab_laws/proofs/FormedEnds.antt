@@ -91,5 +91,5 @@ module _ (types : Types) (texts : ℕ) (so_far : Bool) (fs : List Function) (f :
       go (a_walker so t found w) = both (ap (is_slot_type types) found ∙ walker_no_slot types t w)
       go (an_owner so t found o) = both (ap (is_slot_type types) found ∙ owner_no_slot types t o)
       go (a_raw target constant found v) = both (ap (is_slot_type types) found)
-      go (a_view so found) = both (ap (is_slot_type types) found)
+      go (a_view found) = both (ap (is_slot_type types) found)
       go (a_reference target constant found v) = both (ap (is_slot_type types) found ∙ reference_no_slot types target constant v)

@@ -103,9 +103,8 @@ module _ (types : Types) where
 
   module _ (so_far : Bool) where
     pub variable_fits : (t : Ty) → IsReachedType so_far types t → fits_local types t ≡ true
-    variable_fits t (inr (inl v)) = ap (fits_local types) v.1
-    variable_fits t (inr (inr (inl o))) = owner_local types t o.1
-    variable_fits t (inr (inr (inr w))) = go t w.1
+    variable_fits t (inr (inl o)) = owner_local types t o.1
+    variable_fits t (inr (inr w)) = go t w.1
       where
         go : (t : Ty) → is_walker_of_values types t ≡ true → fits_local types t ≡ true
         go (ty.Iterator target constant) w = w
@@ -114,7 +113,7 @@ module _ (types : Types) where
     variable_fits t (inl b) = go t b
       where
         go : (t : Ty) → (is_value t || is_pointing types t) ≡ true → fits_local types t ≡ true
-        go ty.View b = absurd (false≢true b)
+        go ty.View b = refl
         go ty.Text b = absurd (false≢true b)
         go (ty.Vector element) b = absurd (false≢true b)
         go (ty.Iterator target constant) b = absurd (false≢true b)
@@ -122,14 +121,13 @@ module _ (types : Types) where
         go _ b = b
 
     variable_kept : (t : Ty) → IsReachedType so_far types t → fits_kind (kind (class (Some t))) t ≡ true
-    variable_kept t (inr (inl v)) = ap (λ (u : Ty). fits_kind (kind (class (Some u))) u) v.1
-    variable_kept t (inr (inr (inr w))) = go t w.1
+    variable_kept t (inr (inr w)) = go t w.1
       where
         go : (t : Ty) → is_walker_of_values types t ≡ true → fits_kind (kind (class (Some t))) t ≡ true
         go (ty.Iterator target constant) w = refl
         go (ty.Span target constant) w = refl
         go _ w = absurd (false≢true w)
-    variable_kept t (inr (inr (inl o))) = go t o.1
+    variable_kept t (inr (inl o)) = go t o.1
       where
         go : (t : Ty) → is_owner_of_values types t ≡ true → fits_kind (kind (class (Some t))) t ≡ true
         go ty.Text o = refl
@@ -143,19 +141,19 @@ module _ (types : Types) where
         go ty.Int b = refl
         go ty.Long b = refl
         go ty.Size b = refl
+        go ty.View b = refl
         go (ty.Raw target constant) b = refl
         go (ty.Reference target constant) b = refl
         go _ b = absurd (false≢true b)
 
     variable_named : (t : Ty) (name : NameId) → IsReachedType so_far types t → is_named_as (kind (class (Some t))) t (Some name) ≡ true
-    variable_named t name (inr (inl v)) = ap (λ (u : Ty). is_named_as (kind (class (Some u))) u (Some name)) v.1
-    variable_named t name (inr (inr (inr w))) = go t w.1
+    variable_named t name (inr (inr w)) = go t w.1
       where
         go : (t : Ty) → is_walker_of_values types t ≡ true → is_named_as (kind (class (Some t))) t (Some name) ≡ true
         go (ty.Iterator target constant) w = refl
         go (ty.Span target constant) w = refl
         go _ w = absurd (false≢true w)
-    variable_named t name (inr (inr (inl o))) = go t o.1
+    variable_named t name (inr (inl o)) = go t o.1
       where
         go : (t : Ty) → is_owner_of_values types t ≡ true → is_named_as (kind (class (Some t))) t (Some name) ≡ true
         go ty.Text o = refl
@@ -169,6 +167,7 @@ module _ (types : Types) where
         go ty.Int b = refl
         go ty.Long b = refl
         go ty.Size b = refl
+        go ty.View b = refl
         go (ty.Raw target constant) b = refl
         go (ty.Reference target constant) b = refl
         go _ b = absurd (false≢true b)

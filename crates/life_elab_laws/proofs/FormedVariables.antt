@@ -176,7 +176,7 @@ module _ (types : Types) (texts : ℕ) (so_far : Bool) (fs : List Function) (f :
             let one : v.ty ≡ id = place_same v.ty id v.constant constant (own v.ty v.constant (owner_named a.program.types e v.ty v.constant form t o (named t found))) in
             let here : type_at a.program.types id ≡ t = ap (type_at a.program.types) (sym one) ∙ ap (λ (o : Option Ty). unwrap_or o ty.Void) found in
             absurd (owner_no_value a.program.types t o (ap is_value (sym here) ∙ value))
-        go (a_view so found) =
+        go (a_view found) =
             let one : v.ty ≡ id = place_same v.ty id v.constant constant (own v.ty v.constant (named ty.View found)) in
             let here : type_at a.program.types id ≡ ty.View = ap (type_at a.program.types) (sym one) ∙ ap (λ (o : Option Ty). unwrap_or o ty.Void) found in
             absurd (false≢true (sym (ap is_value here) ∙ value))

@@ -1,4 +1,4 @@
--- What a return gives back: a value, a pointer that is given something, or a reference that is aimed at a place, which may be a temporary's.
+-- What a return gives back: a value, a pointer or a view that is given something, or a reference that is aimed at a place, which may be a temporary's.
 use Rattle.std.proofs.Common.{◌≡◌, ℕ, Bool, true, false, cond, List, slice_get, Option, Some, None, refl, sym, ap, ◌∙◌, subst}
 use Rattle.std.proofs.lemmas.Bool.{false≢true}
 use Rattle.life_types.specs.TypeTests.{is_unique, is_value, is_void}
@@ -40,20 +40,22 @@ use Rattle.life_elab_laws.proofs.Doing.{DoesLevel}
 use Rattle.life_elab_laws.proofs.Emitting.{IsWanted, kept_targeted}
 use Rattle.life_elab_laws.proofs.ExpressionForms.{IsWhole}
 use Rattle.life_elab_laws.proofs.Expressions.{whole_expression}
+use Rattle.life_elab_laws.proofs.ExpressionTypes.{seen_kind}
 use Rattle.life_elab_laws.proofs.Filling.{aimed_filling, filling_fills}
 use Rattle.life_elab_laws.proofs.Following.{Follows, HasRegister, IsResultRegister}
-use Rattle.life_elab_laws.proofs.FormedFits.{IsBound, at_place, by_temporary, given_bound, given_raw}
-use Rattle.life_elab_laws.proofs.FormedVariables.{keeps_all, reference_there, type_later}
-use Rattle.life_elab_laws.proofs.Gifts.{Gift, IsAt, a_number, a_place, a_pointing, held_stays, nothing}
-use Rattle.life_elab_laws.proofs.GivenKinds.{given_number, given_pointer}
+use Rattle.life_elab_laws.proofs.FormedFits.{IsBound, at_place, by_temporary, given_bound, given_raw, given_seen}
+use Rattle.life_elab_laws.proofs.FormedVariables.{keeps_all, location_no_reference, reference_there, type_later}
+use Rattle.life_elab_laws.proofs.Gifts.{Gift, IsAt, a_number, a_place, a_pointing, held_stays, nothing, takes_from}
+use Rattle.life_elab_laws.proofs.GivenKinds.{given_number, given_pointer, given_view}
 use Rattle.life_elab_laws.proofs.Growing.{Begins, Grows}
 use Rattle.life_elab_laws.proofs.Instructions.{emit_part}
+use Rattle.life_elab_laws.proofs.Locations.{is_location, is_pointed, seen_pointed}
 use Rattle.life_elab_laws.proofs.Making.{IsHeld}
 use Rattle.life_elab_laws.proofs.NewVariables.{bound_given}
 use Rattle.life_elab_laws.proofs.OperandsThere.{register_there, type_there}
 use Rattle.life_elab_laws.proofs.Parts.{Makes, Part, then_part}
 use Rattle.life_elab_laws.proofs.PointerForms.{points_whole}
-use Rattle.life_elab_laws.proofs.ResultTypes.{IsResultType, gives_nothing, gives_raw, gives_reference, gives_value, result_is}
+use Rattle.life_elab_laws.proofs.ResultTypes.{IsResultType, gives_nothing, gives_raw, gives_reference, gives_value, gives_view, result_is}
 use Rattle.life_elab_laws.proofs.Returning.{back_given, result_returned, return_does}
 use Rattle.life_elab_laws.proofs.Setting.{Setting}
 use Rattle.life_elab_laws.proofs.TypedKinds.{value_simple}
@@ -117,20 +119,17 @@ module _ (a : Around) (types : Types) (texts : ℕ) (so_far : Bool) (fs : List F
         typed_there : Begins types f s' → (u : Ty) → t ≡ u → slice_get types.types register.local.ty.0 ≡ Some u
         typed_there b u same = b.table register.local.ty.0 u (grown.types register.local.ty.0 u (register.typed ∙ ap Some same))
 
-      -- a raw pointer, as what the expression gives a pointer
-      module _ (target : TyId) (constant : Bool) (raw : t ≡ ty.Raw target constant) (w : is_value (type_at a.program.types target) ≡ true) where
-        given : is_given a.program.types (ty.Raw target constant) e ≡ true
-        given = given_as (ty.Raw target constant) raw refl
-
+      -- a raw pointer or a view, as what the expression gives a pointer
+      module _ (u : Ty) (own : t ≡ u) (loc : is_location u ≡ true) (pointed_one : is_pointed e.ty ≡ true) (taken : takes_from types u e.ty ≡ true) where
         abbrev p : Gives Pointing
         p = pointing (uses a (whole_form e)) s
 
         first : Makes types texts so_far fs f None s p (a_pointing types texts so_far fs f e.ty)
-        first = points_whole a v.visible types texts so_far fs f setting (whole_form e) whole_is (given_pointer a.program.types (ty.Raw target constant) e refl given) s h.stands
+        first = points_whole a v.visible types texts so_far fs f setting (whole_form e) whole_is pointed_one s h.stands
 
-        at : Begins types f p.state → IsAt types texts so_far fs f (ty.Raw target constant) (whole (result_local a))
+        at : Begins types f p.state → IsAt types texts so_far fs f u (whole (result_local a))
         at b = record {
-          typed = type_there types f (result_local a) register.local (ty.Raw target constant) (b.locals (result_local a) register.local (there p.state first.grown)) (typed_there p.state first.grown b (ty.Raw target constant) raw) refl;
+          typed = type_there types f (result_local a) register.local u (b.locals (result_local a) register.local (there p.state first.grown)) (typed_there p.state first.grown b u own) (location_no_reference u loc);
           kept = kept p.state first.grown b;
           served = λ so. refl;
         }
@@ -139,15 +138,25 @@ module _ (a : Around) (types : Types) (texts : ℕ) (so_far : Bool) (fs : List F
         second =
             emit_part types texts so_far fs f (a_pointing types texts so_far fs f e.ty) p.given into p.state (gives (result_local a) p.state) e.place (λ x. pointed p.given (whole x)) (result_local a) a_register
             (kept_targeted so_far types f p.state (result_local a) register.local (there p.state first.grown) register.nameless register.kind)
-            (λ b q. (pointed_fine types texts so_far fs f (whole (result_local a)) (ty.Raw target constant) e.ty p.given refl (at b) (given_raw a.program.types types setting.front target constant w e given) q, tt))
+            (λ b q. (pointed_fine types texts so_far fs f (whole (result_local a)) u e.ty p.given loc (at b) taken q, tt))
             (λ x n k is q. pointed_fills f x n p.given k q is)
             (λ k lt ready. (lt, ready))
 
-        raw_returned : Back GivenBack
-        raw_returned =
+        pointer_returned : given_back a e keyword token s ≡ emit e.place (pointed p.given (whole (result_local a))) p.state → Back GivenBack
+        pointer_returned same =
             result_returned a types texts so_far fs f setting v in_loop s h register keyword token (gives (result_local a) (emit e.place (pointed p.given (whole (result_local a))) p.state)) a_register
             (then_part types texts so_far fs f (nothing types texts so_far fs f) tt into s p (gives (result_local a) (emit e.place (pointed p.given (whole (result_local a))) p.state)) (a_pointing types texts so_far fs f e.ty) a_register h.stands.opened first second)
-            (λ n k q. q.1) (given_back a e keyword token s) (by_type (ty.Raw target constant) raw)
+            (λ n k q. q.1) (given_back a e keyword token s) same
+
+      raw_returned : (target : TyId) (constant : Bool) → t ≡ ty.Raw target constant → is_value (type_at a.program.types target) ≡ true → Back GivenBack
+      raw_returned target constant raw w =
+          let given = given_as (ty.Raw target constant) raw refl in
+          pointer_returned (ty.Raw target constant) raw refl (given_pointer a.program.types (ty.Raw target constant) e refl given) (given_raw a.program.types types setting.front target constant w e given) (by_type (ty.Raw target constant) raw)
+
+      view_returned : t ≡ ty.View → Back GivenBack
+      view_returned view =
+          let seen = seen_kind so_far a.program.types e whole_is.kind.kind (given_view a.program.types e (given_as ty.View view refl)) in
+          pointer_returned ty.View view refl (seen_pointed e.ty seen) (given_seen types e.ty seen) (by_type ty.View view)
 
       -- a reference, at a place that is written first
       module _ (target : TyId) (constant : Bool) (refers : t ≡ ty.Reference target constant) (w : is_value (type_at a.program.types target) ≡ true) where
@@ -218,4 +227,5 @@ module _ (a : Around) (types : Types) (texts : ℕ) (so_far : Bool) (fs : List F
         go (gives_nothing void) = absurd (false≢true (sym r.0 ∙ ap is_void void))
         go (gives_value w) = value_returned there_is e keyword token b r w
         go (gives_raw target constant raw w) = raw_returned there_is e keyword token b r target constant raw w
+        go (gives_view view) = view_returned there_is e keyword token b r view
         go (gives_reference target constant refers w) = reference_returned there_is e keyword token b r target constant refers w

@@ -177,7 +177,7 @@ module _ (a : Around) (visible : List ℕ) (types : Types) (texts : ℕ) (so_far
       >> λ rest s. mapped (λ r. PointerOf (whole r)) (rest (wanted u.place None (ty.Reference target constant)) s)
 
   pub first_handed : (e es : Form) (d : DelimitersForm) (id : TyId) (ids : List TyId) → IsWhole a visible types texts so_far fs f setting e → ((s : State) → Stood s → Hands ids s (giving.arguments a (all_uses a es) (behind_others d) ids s))
-      → IsHandedType so_far a.program.types id → is_given a.program.types (type_at a.program.types id) (typed_in e) ≡ true → (s : State) → Stood s → Hands (id ∷ ids) s (giving.arguments a (all_uses a (e ⨟ es)) d (id ∷ ids) s)
+      → IsHandedType a.program.types id → is_given a.program.types (type_at a.program.types id) (typed_in e) ≡ true → (s : State) → Stood s → Hands (id ∷ ids) s (giving.arguments a (all_uses a (e ⨟ es)) d (id ∷ ids) s)
   first_handed e es d id ids is rest kind given s stands = go kind
     where
       as_type : (t : Ty) → slice_get a.program.types.types id.0 ≡ Some t → Hands (id ∷ ids) s (giving.argument a (uses a e) t (behind_first d) s >> λ x s. mapped (λ xs. x ∷ xs) (others_of es d ids s)) → Hands (id ∷ ids) s (giving.arguments a (all_uses a (e ⨟ es)) d (id ∷ ids) s)
@@ -195,7 +195,7 @@ module _ (a : Around) (visible : List ℕ) (types : Types) (texts : ℕ) (so_far
       behind_first_part : {A : Type 0} (w : Gives A) (Q : Gift types texts so_far fs f A) → Makes types texts so_far fs f None s w Q → Hands ids w.state (others_of es d ids w.state)
       behind_first_part w Q first = rest w.state (stands_later a visible s w.state first.grown stands)
 
-      go : IsHandedType so_far a.program.types id → Hands (id ∷ ids) s (giving.arguments a (all_uses a (e ⨟ es)) d (id ∷ ids) s)
+      go : IsHandedType a.program.types id → Hands (id ∷ ids) s (giving.arguments a (all_uses a (e ⨟ es)) d (id ∷ ids) s)
       go (a_value worth) =
           let t = type_at a.program.types id in
           let first = is.valued (given_number a.program.types t (typed_in e) worth given) (behind_first d) t worth None s tt stands in
@@ -209,7 +209,7 @@ module _ (a : Around) (visible : List ℕ) (types : Types) (texts : ℕ) (so_far
           as_type t at
           (pointer_handed_part types texts so_far fs f id t found.0 ids (pointer (uses a e) t) (others_of es d ids) s (plain t at refl) (later t at) found.1 stands.opened found.2
           (behind_first_part (pointer (uses a e) t s) (a_pointer types texts so_far fs f found.0) found.2))
-      go (a_view wide at) =
+      go (a_view at) =
           let seen = seen_kind so_far a.program.types (typed_in e) is.kind.kind (given_view a.program.types (typed_in e) (given_as ty.View at)) in
           let first = view_whole a visible types texts so_far fs f setting e is seen s stands in
           as_type ty.View at

@@ -1,6 +1,6 @@
 -- Single instructions that write a register: what is asked of each, and that it is a part behind what its operands give.
 use Rattle.std.proofs.Common.{◌≡◌, ◌<◌, inl, inr, ℕ, Bool, true, false, ◌&&◌, cond, List, [], ◌∷◌, ◌++◌, length, slice_set, Option, Some, None, refl, sym, ap, ◌∙◌, subst, arith, zero, suc}
-use Rattle.std.proofs.lemmas.Bool.{and_from, false≢true}
+use Rattle.std.proofs.lemmas.Bool.{and_from}
 use Rattle.std.proofs.lemmas.Option.{slice_get_within}
 use Rattle.std.specs.Prelude.{ℤ}
 use Rattle.life_types.specs.Trees.{HasPartsBelow}
@@ -15,6 +15,7 @@ use Rattle.life_typed.specs.declared.typed_expr.ExprType.TheVariants.{NullPointe
 use Rattle.life_core.specs.Function.{Function}
 use Rattle.life_core.specs.Kinds.{is_register_at}
 use Rattle.life_core.specs.Operands.{Location, Operand, whole}
+use Rattle.life_core_served.specs.Served.{is_served_location}
 use Rattle.life_core.specs.Step.{Same, Step}
 use Rattle.life_core.specs.Touched.{operation_uses, place_uses, touched_by}
 use Rattle.life_core.specs.Tree.{Acts}
@@ -306,9 +307,9 @@ module _ (types : Types) (texts : ℕ) (so_far : Bool) (fs : List Function) (f :
   null_located_part p t place s raw loc fits below = located_from NullPointer t (inr raw) (λ l h. absurd h) p place s loc fits below
 
   -- two views are compared
-  pub same_part : (into : Option ℕ) (t : Ty) (place : Place) (equal : Bool) (x : Location × Location) (s : State) → t ≡ ty.Bool → so_far ≡ false → is_value t ≡ true → IsIntoOf t s into
+  pub same_part : (into : Option ℕ) (t : Ty) (place : Place) (equal : Bool) (x : Location × Location) (s : State) → t ≡ ty.Bool → is_value t ≡ true → IsIntoOf t s into
       → Part types texts so_far fs f (both types texts so_far fs f (a_pointer types texts so_far fs f ty.View) (a_pointer types texts so_far fs f ty.View)) x into s (computed into t place (λ n. Same n x.0 x.1 equal) s) (a_number types texts so_far fs f t)
-  same_part into t place equal x s bool wide v wanted =
+  same_part into t place equal x s bool v wanted =
       let P = a_pointer types texts so_far fs f ty.View in
       computed_part (both types texts so_far fs f P P) x into t place (λ n. Same n x.0 x.1 equal) s v wanted
       (record {
@@ -318,7 +319,7 @@ module _ (types : Types) (texts : ℕ) (so_far : Bool) (fs : List Function) (f :
           formed =
               and_from (is_number_of types f ty.Bool r) (operands.are_compared types (type_in types f x.0) (type_in types f x.1)) (subst (λ (u : Ty). is_number_of types f u r ≡ true) bool e)
               (ap (λ (u : Ty). operands.are_compared types u (type_in types f x.1)) h.0.typed ∙ ap (operands.are_compared types ty.View) h.1.typed);
-          served = λ so. absurd (false≢true (sym wide ∙ so));
+          served = λ so. and_from (is_served_location x.0) (is_served_location x.1) (h.0.served so) (h.1.served so);
         };
       })
     where

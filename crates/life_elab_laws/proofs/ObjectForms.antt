@@ -179,7 +179,7 @@ module _ (a : Around) (visible : List ℕ) (types : Types) (texts : ℕ) (so_far
               ∙ ap Of (typed t at))
               (value_alone t v)
           kind (a_raw target constant at v) = other (ty.Raw target constant) (ap (λ (y : Typed). y.ty) (named (ty.Raw target constant) at) ∙ ap Of (typed (ty.Raw target constant) at)) refl
-          kind (a_view so at) = other ty.View (ap (λ (y : Typed). y.ty) (named ty.View at) ∙ ap Of (typed ty.View at)) refl
+          kind (a_view at) = other ty.View (ap (λ (y : Typed). y.ty) (named ty.View at) ∙ ap Of (typed ty.View at)) refl
           kind (a_reference target constant at v) = other (type_at a.program.types target) (ap (λ (y : Typed). y.ty) (named (ty.Reference target constant) at)) (value_alone (type_at a.program.types target) v)
           kind (a_walker so t at w) = other t (ap (λ (y : Typed). y.ty) (walker_named a.program.types e l.ty l.constant (local x) t w (named t at)) ∙ ap Of (typed t at)) (walker_is a.program.types t w).owner
           kind (an_owner so t at o) = record {
@@ -206,20 +206,18 @@ module _ (a : Around) (visible : List ℕ) (types : Types) (texts : ℕ) (so_far
   -- ---- what has elements
 
   pub record IsAsked (base : Form) (t : Ty) (constant : Bool) : Type 0 where
-    pub wide : so_far ≡ false
     pub worth : is_value t ≡ true
     pub asks : (s : State) → Stood s → Makes types texts so_far fs f None s (base_of (uses a base) s) (a_base types texts so_far fs f t constant)
 
   -- a view
-  pub view_asked : (base : Form) → IsWhole a visible types texts so_far fs f setting base → so_far ≡ false → (typed_in base).ty ≡ Of ty.View → IsAsked base ty.Char true
-  view_asked base is wide at = record {
-    wide = wide;
+  pub view_asked : (base : Form) → IsWhole a visible types texts so_far fs f setting base → (typed_in base).ty ≡ Of ty.View → IsAsked base ty.Char true
+  view_asked base is at = record {
     worth = refl;
     asks = λ s stands.
         subst (λ (w : Gives Base). Makes types texts so_far fs f None s w (a_base types texts so_far fs f ty.Char true)) (sym (ap (λ (x : Ty). base_by x (uses a base) s) (ap own_type (sym (own_typed a visible types texts so_far fs f setting base) ∙ at))))
         (seen_part types texts so_far fs f (no_gift types texts so_far fs f) tt None s (pointer (uses a base) (own (uses a base)) s) (a_pointer types texts so_far fs f ty.View) Pointer (a_base types texts so_far fs f ty.Char true)
         (pointer_whole a visible types texts so_far fs f setting base is ty.View at refl (own (uses a base)) s stands)
-        (λ b h. record { element = ap (seen_element types) h.typed; held = refl })
+        (λ b h. record { element = ap (seen_element types) h.typed; held = refl; served = h.served })
         (λ n k q. record { local = q.local; uses = ap (λ (l : Location). l.local ∷ []) q.is; below = q.below; held = q.held }));
   }
 
@@ -236,14 +234,13 @@ module _ (a : Around) (visible : List ℕ) (types : Types) (texts : ℕ) (so_far
 
   pub owner_asked : (base : Form) → (is : IsOwner base) → IsAsked base (element_type a.program.types is.ty) is.constant
   owner_asked base is = record {
-    wide = is.wide;
     worth = element_value a.program.types is.ty is.owner;
     asks = λ s stands.
         let w = operand (uses a base) s in
         subst (λ (w : Gives Base). Makes types texts so_far fs f None s w (a_base types texts so_far fs f (element_type a.program.types is.ty) is.constant)) (sym (owner_base base is s))
         (seen_part types texts so_far fs f (no_gift types texts so_far fs f) tt None s w (a_place types texts so_far fs f is.ty is.constant) Owner (a_base types texts so_far fs f (element_type a.program.types is.ty) is.constant)
         (is.names s stands)
-        (λ b h. record { element = ap (owned_element types) h.typed ∙ held is.ty is.owner; held = h.held })
+        (λ b h. record { element = ap (owned_element types) h.typed ∙ held is.ty is.owner; held = h.held; served = h.served })
         (λ n k q. record { local = q.local; uses = q.uses; below = q.below; held = q.held }));
   }
     where
@@ -260,7 +257,7 @@ module _ (a : Around) (visible : List ℕ) (types : Types) (texts : ℕ) (so_far
         let b = base_of (uses a base) s in
         let first = is.asks s stands in
         then_part types texts so_far fs f (no_gift types texts so_far fs f) tt into s b _ (a_base types texts so_far fs f t constant) (a_number types texts so_far fs f ty.Size) stands.opened first
-        (size_part types texts so_far fs f into t constant place b.given b.state is.wide is.worth (into_of_later ty.Size s b.state into first.grown wanted))
+        (size_part types texts so_far fs f into t constant place b.given b.state is.worth (into_of_later ty.Size s b.state into first.grown wanted))
 
     pub emptied_part : (place : Place) (into : Option ℕ) (s : State) → IsIntoOf ty.Bool s into → Stood s → ValuedAs ty.Bool into s (emptied (uses a base) place into s)
     emptied_part place into s wanted stands =
@@ -285,7 +282,7 @@ module _ (a : Around) (visible : List ℕ) (types : Types) (texts : ℕ) (so_far
         let both_stand = stands_later a visible b.state w.state other.grown later in
         then_part types texts so_far fs f (no_gift types texts so_far fs f) tt None s (gives (b.given, w.given) w.state) _ (both types texts so_far fs f P Q) (a_place types texts so_far fs f t constant) stands.opened
         (and_part types texts so_far fs f (no_gift types texts so_far fs f) tt s b w P Q stands.opened first other)
-        (element_part types texts so_far fs f a.program.types place id constant t (b.given, w.given) w.state is.wide setting.front both_stand.table here is.worth)
+        (element_part types texts so_far fs f a.program.types place id constant t (b.given, w.given) w.state setting.front both_stand.table here is.worth)
 
   -- a value at a place, which is named whatever it is made by
   pub element_form : (form : Form) (e : Typed) (id : TyId) (constant : Bool) (t : Ty) → e.ty ≡ Of t → e.category ≡ category.Place id constant → type_at a.program.types id ≡ t → is_value t ≡ true → form_call form ≡ None

@@ -1,12 +1,12 @@
 -- Operators between two expressions: what is written by each row of their table.
-use Rattle.std.proofs.Common.{◌≡◌, ◌⊎◌, inl, inr, ℕ, Bool, true, false, ◌&&◌, List, [], Option, Some, None, refl, sym, ap, ◌∙◌, subst}
-use Rattle.std.proofs.lemmas.Bool.{and_from, false≢true, or_cases}
+use Rattle.std.proofs.Common.{◌≡◌, ◌⊎◌, inl, inr, ℕ, Bool, true, List, [], Option, Some, None, refl, sym, ap, ◌∙◌, subst}
+use Rattle.std.proofs.lemmas.Bool.{false≢true, or_cases}
 use Rattle.life_types.specs.TypeTests.{is_iterator, is_raw, is_text, is_unique, is_value}
 use Rattle.life_types.specs.Types.{Types}
 use Rattle.life_types.specs.declared.place.Place.{Place}
 use Rattle.life_types.specs.declared.ty.Ty.{Ty}
 use Rattle.life_types.specs.declared.ty.Ty.TheVariants as ty
-use Rattle.life_typed.specs.Operators.{are_iterators_of_one, is_literal}
+use Rattle.life_typed.specs.Operators.{are_iterators_of_one}
 use Rattle.life_typed.specs.TypedForm.{Form, Typed, binary}
 use Rattle.life_typed.specs.declared.typed_expr.BinaryOperator.{BinaryOperator}
 use Rattle.life_typed.specs.declared.typed_expr.Category.TheVariants as category
@@ -34,7 +34,7 @@ use Rattle.life_writer.specs.declared.rows.Side.{Side}
 use Rattle.life_writer.specs.declared.rows.Side.TheVariants.{Left, Right}
 use Rattle.life_elab_laws.proofs.Conditions.{Tests, joined_part, negation_part, not_null_part}
 use Rattle.life_elab_laws.proofs.ExpressionForms.{IsForm, IsWhole, decided_form}
-use Rattle.life_elab_laws.proofs.ExpressionTypes.{nullable_raw as raw_if, own_no_iterator, own_no_text, own_no_unique, seen_kind, view_wide}
+use Rattle.life_elab_laws.proofs.ExpressionTypes.{nullable_raw as raw_if, own_no_iterator, own_no_text, own_no_unique, seen_kind}
 use Rattle.life_elab_laws.proofs.Gifts.{a_number, a_pointer}
 use Rattle.life_elab_laws.proofs.Gifts as gifts
 use Rattle.life_elab_laws.proofs.Instructions.{IsIntoOf, into_of_later, operated_part, same_part}
@@ -111,14 +111,6 @@ module _ (a : Around) (visible : List ℕ) (types : Types) (texts : ℕ) (so_far
         go (inl s) = (seen_kind so_far a.program.types (typed_in left) l.kind.kind s.0, seen_kind so_far a.program.types (typed_in right) r.kind.kind s.1)
         go (inr is) = absurd (false≢true (sym (own_no_iterator so_far a.program.types (typed_in left) l.kind.kind) ∙ ap (λ (x : ExprType). is_iterator (own_type x)) is.left ∙ one is.first is.second is.one))
 
-    row_wide : IsCompared (typed_in left).ty (typed_in right).ty t → so_far ≡ false
-    row_wide fit = let both = both_seen fit in go (is_literal (typed_in left).ty) refl (is_literal (typed_in right).ty) refl fit.literals both.0 both.1
-      where
-        go : (b : Bool) → is_literal (typed_in left).ty ≡ b → (c : Bool) → is_literal (typed_in right).ty ≡ c → (is_literal (typed_in left).ty && is_literal (typed_in right).ty) ≡ false → is_seen (typed_in left).ty ≡ true → is_seen (typed_in right).ty ≡ true → so_far ≡ false
-        go false b c is literals first second = view_wide so_far a.program.types (typed_in left) l.kind.kind b first
-        go true b false is literals first second = view_wide so_far a.program.types (typed_in right) r.kind.kind is second
-        go true b true is literals first second = absurd (false≢true (sym literals ∙ and_from (is_literal (typed_in left).ty) (is_literal (typed_in right).ty) b is))
-
     compared_part : (equal : Bool) (place : Place) (into : Option ℕ) (s : State) → IsCompared (typed_in left).ty (typed_in right).ty t → is_value t ≡ true → IsIntoOf t s into → Standing s
         → Valued t into s (seen (uses a left) s >> λ x s. seen (uses a right) s >> λ y s. viewed x s >> λ p s. viewed y s >> λ q s. computed into t place (λ n. Same n p q equal) s)
     compared_part equal place into s fit v wanted stands =
@@ -133,7 +125,7 @@ module _ (a : Around) (visible : List ℕ) (types : Types) (texts : ℕ) (so_far
         ∙ ap (λ (w : Gives Seen). w >> λ z s. viewed z s >> λ q s. computed into t place (λ n. Same n x.given q equal) s) (seen_view a visible types texts so_far fs f setting right both.1 x.state)))
         (then_part types texts so_far fs f (gifts.nothing types texts so_far fs f) tt into s (gives (x.given, y.given) y.state) _ (gifts.both types texts so_far fs f P P) (a_number types texts so_far fs f t) stands.opened
         (and_part types texts so_far fs f (gifts.nothing types texts so_far fs f) tt s x y P P stands.opened first second)
-        (same_part types texts so_far fs f into t place equal (x.given, y.given) y.state fit.answers (row_wide fit) v (into_of_later t x.state y.state into second.grown (into_of_later t s x.state into first.grown wanted))))
+        (same_part types texts so_far fs f into t place equal (x.given, y.given) y.state fit.answers v (into_of_later t x.state y.state into second.grown (into_of_later t s x.state into first.grown wanted))))
 
     row_decides : (w : Row) → Fits w (typed_in left).ty (typed_in right).ty t → (place : Place) (b : Behind) (by : State → Gives Tree) → (Operated w place).decision b ≡ Some by → (s : State) → Standing s → Decided b.ends s (by s)
     row_decides (Joined join) fit place b by at s stands =

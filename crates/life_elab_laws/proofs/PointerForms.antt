@@ -41,10 +41,10 @@ use Rattle.life_writer.specs.Variables.{variable, variable_place}
 use Rattle.life_writer.specs.Writing.{Gives, State, ◌>>◌, gives, mapped}
 use Rattle.life_elab_laws.proofs.Aiming.{literal_given, null_given, place_given}
 use Rattle.life_elab_laws.proofs.CallParts.{call_part}
-use Rattle.life_elab_laws.proofs.CalledPointers.{pointed_call, referred_call}
+use Rattle.life_elab_laws.proofs.CalledPointers.{pointed_call, referred_call, viewed_call}
 use Rattle.life_elab_laws.proofs.ExpressionForms.{IsCall, IsForm, IsWhole, nullable_raw, of_number, place_form, pointer_form, pointer_own, pointing_itself}
 use Rattle.life_elab_laws.proofs.ExpressionKinds.{IsAddressed, IsDereferenced, kind_local, variable_built}
-use Rattle.life_elab_laws.proofs.ExpressionTypes.{IsAnswered, answered_as, answers_nothing, answers_place, answers_raw, answers_value, own_value}
+use Rattle.life_elab_laws.proofs.ExpressionTypes.{IsAnswered, answered_as, answers_nothing, answers_place, answers_raw, answers_value, answers_view, own_value}
 use Rattle.life_elab_laws.proofs.Filling.{aimed_filling, null_filling, text_filling}
 use Rattle.life_elab_laws.proofs.FormedVariables.{behind_place, const_same, pointer_formed, type_later, variable_formed}
 use Rattle.life_elab_laws.proofs.Gifts.{IsGivenAs, a_number, a_place, a_pointer, a_pointing, arguments}
@@ -121,7 +121,7 @@ module _ (a : Around) (visible : List ℕ) (types : Types) (texts : ℕ) (so_far
       go : HasKind so_far a.program.types e → e.category ≡ category.Value
       go (is_number_kind t at v) = absurd (never t at)
       go (is_pointer_kind target constant at v) = absurd (never (ty.Raw target constant) at)
-      go (a_view so at) = absurd (never ty.View at)
+      go (a_view at) = absurd (never ty.View at)
       go (a_text at v) = v
       go (no_value at v) = v
       go (a_null at v) = v
@@ -167,6 +167,7 @@ module _ (a : Around) (visible : List ℕ) (types : Types) (texts : ℕ) (so_far
     computed (answers_value v own held) c n place into s wanted stands =
         call_part types texts so_far fs f g is.of into (own_type e.ty) place s (handed s) (setting.callees g is.of is.there) (later ∙ sym (ap own_type own)) (own_value e.ty n) wanted stands.opened (is.hands s stands)
     computed (answers_raw target constant raw w own held) c n place into s wanted stands = absurd (false≢true (sym (ap is_number own) ∙ n))
+    computed (answers_view view own held) c n place into s wanted stands = absurd (false≢true (sym (ap is_number own) ∙ n))
     computed (answers_place target constant refers w own held) c n place into s wanted stands = absurd (value_place (sym c ∙ held))
 
     named : Answers → (id : TyId) (constant : Bool) → e.category ≡ category.Place id constant → is_value (type_at a.program.types id) ≡ true → (place : Place) (s : State) → Standing s
@@ -174,10 +175,11 @@ module _ (a : Around) (visible : List ℕ) (types : Types) (texts : ℕ) (so_far
     named (answers_nothing void own held) id constant at v place s stands = absurd (value_place (sym held ∙ at))
     named (answers_value w own held) id constant at v place s stands = absurd (value_place (sym held ∙ at))
     named (answers_raw target d raw w own held) id constant at v place s stands = absurd (value_place (sym held ∙ at))
+    named (answers_view view own held) id constant at v place s stands = absurd (value_place (sym held ∙ at))
     named (answers_place target d refers w own held) id constant at v place s stands =
         let first = is.hands s stands in
         subst (λ (t : Ty). Placed (type_at a.program.types id) constant s (mapped through (built (Fill place (called g (handed s).given)) (wanted place None t) (handed s).state))) (sym (ap reference_to at))
-        (referred_call a.program.types types texts so_far fs f setting.front g is.of (setting.callees g is.of is.there) id constant v s (handed s) first (later ∙ refers ∙ ap reference_to (sym held ∙ at)) place stands.opened
+        (referred_call types texts so_far fs f g is.of (setting.callees g is.of is.there) s (handed s) first a.program.types setting.front id constant v (later ∙ refers ∙ ap reference_to (sym held ∙ at)) place stands.opened
         (stands_later a visible s (handed s).state first.grown stands).table)
 
     pointed : Answers → is_pointed e.ty ≡ true → (place : Place) (s : State) → Standing s → Points e.ty s ((form_uses a (call g given delimiters) place e.ty e.category).pointing s)
@@ -186,7 +188,10 @@ module _ (a : Around) (visible : List ℕ) (types : Types) (texts : ℕ) (so_far
     pointed (answers_place target constant refers w own held) p place s stands = absurd (number_no_pointer e.ty (ap is_number own ∙ w) p)
     pointed (answers_raw target constant raw w own held) p place s stands =
         subst (λ (t : ExprType). Points t s (mapped (λ (xs : List Argument). By (called g xs)) (handed s))) (sym own)
-        (pointed_call a.program.types types texts so_far fs f setting.front g is.of (setting.callees g is.of is.there) target constant w s (handed s) (is.hands s stands) (later ∙ raw))
+        (pointed_call types texts so_far fs f g is.of (setting.callees g is.of is.there) s (handed s) (is.hands s stands) a.program.types setting.front target constant w (later ∙ raw))
+    pointed (answers_view view own held) p place s stands =
+        subst (λ (t : ExprType). Points t s (mapped (λ (xs : List Argument). By (called g xs)) (handed s))) (sym own)
+        (viewed_call types texts so_far fs f g is.of (setting.callees g is.of is.there) s (handed s) (is.hands s stands) (later ∙ view))
 
     call_of : IsKind so_far a.program.types e → IsForm a visible types texts so_far fs f setting (call g given delimiters) e
     call_of kind = record {

@@ -109,7 +109,7 @@ all_written so_far p (f ∷ fs) w grows table =
       each = λ types later. (record { before = w.types; table = table; is = refl; later = front_then s.types.types _ types.types rest.table later }, rest.each types later);
     }
 
-module _ (so_far : Bool) (p : ProgramForm) (typed : IsWellTyped p) (built : are_reached_functions (length (texts_of p)) so_far p.types p.functions ≡ true) (results : HasResults p) (chars : so_far ≡ false → type_at p.types CHAR ≡ ty.Char) where
+module _ (so_far : Bool) (p : ProgramForm) (typed : IsWellTyped p) (built : are_reached_functions (length (texts_of p)) so_far p.types p.functions ≡ true) (results : HasResults p) (chars : type_at p.types CHAR ≡ ty.Char) where
   pub of_program : (n : ℕ) (f : FunctionForm) → slice_get p.functions n ≡ Some f → IsFunctionOf so_far p f
   of_program n f at =
       let t = result_at p.types p.functions n f results at in
@@ -124,7 +124,7 @@ module _ (so_far : Bool) (p : ProgramForm) (typed : IsWellTyped p) (built : are_
     chars = chars;
     returned = λ g of there. (of_program g of there).built.result;
     result = is.built.result;
-    taken = λ g of there m id at. handed_at so_far p.types (take (length of.parameters) of.locals) (of_program g of there).built.parameters m id at;
+    taken = λ g of there m id at. handed_at p.types (take (length of.parameters) of.locals) (of_program g of there).built.parameters m id at;
     callees = callees;
     results = λ g of there. result_at p.types p.functions g of results there;
     gives = gives;
@@ -235,7 +235,7 @@ module _ (so_far : Bool) (p : ProgramForm) (typed : IsWellTyped p) (built : are_
         function_proper so_far p f w.before whole.types whole.functions core setting is w.table (as_begun n f at core w) (written_begins n f at core w) (ap (λ (c : Function). c.body) w.is)
 
     one_short : AreShort (elements_of whole.types core)
-    one_short = short_function whole.types so_far core (shaped n f at core w) (takes_handed so_far p f w.before whole.types core is (as_begun n f at core w))
+    one_short = short_function whole.types core (shaped n f at core w) (takes_handed so_far p f w.before whole.types core is (as_begun n f at core w))
 
     -- the locals are well formed, and what else stands beside the body
     pub one_head : HasNames p → HasFormedHead whole.types (length p.names) core
@@ -278,4 +278,4 @@ pub functions_reached : (p : ProgramForm) → is_reached p ≡ true → are_reac
 functions_reached p b = (and_parts (has_no_structs p.structs) (are_reached_functions (length (texts_of p)) false p.types p.functions) b).1
 
 pub reached_short : (p : ProgramForm) → IsWellTyped p → HasResults p → HasTable p → is_reached p ≡ true → HaveShortPlaces (translated p).types (translated p).functions
-reached_short p typed results table b = program_short false p typed (functions_reached p b) results (λ so. table.chars)
+reached_short p typed results table b = program_short false p typed (functions_reached p b) results table.chars

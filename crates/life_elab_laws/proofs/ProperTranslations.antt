@@ -1,5 +1,5 @@
 -- The core program of a well typed program that the law reaches and that passes no limit is proper; where the program is built, all of it is served so far.
-use Rattle.std.proofs.Common.{◌≡◌, Bool, true, false, [], ◌∷◌, length, refl, true≢false, arith, length-append}
+use Rattle.std.proofs.Common.{◌≡◌, Bool, true, false, [], ◌∷◌, length, refl, arith, length-append}
 use Rattle.std.proofs.lemmas.Bool.{and_parts}
 use Rattle.life_served.specs.Served.{are_served_functions, has_served_types, has_no_structs, is_served}
 use Rattle.life_typed.specs.Programs.{ProgramForm}
@@ -24,11 +24,11 @@ use Rattle.life_elab_laws.proofs.WrittenResults.{program_writes_results}
 proper_parts : (so_far : Bool) (p : ProgramForm) → IsWellTyped p → HasResults p → HasTable p → HasNames p → HasIntMain p → has_no_structs p.structs ≡ true → are_reached_functions (length (texts_of p)) so_far p.types p.functions ≡ true
     → IsProgramWithinLimits (translated p) → HasProperParts (translated p)
 proper_parts so_far p typed results table names mains none reached limits = record {
-  well_formed = program_formed so_far p typed reached results (λ so. table.chars) mains names table.ordered table.once (no_structs_there p.structs p.types.structs none table.structs) none;
-  ready = ready_program (translated p) (program_checked so_far p typed reached results (λ so. table.chars) mains);
-  results = program_writes_results so_far p typed reached results (λ so. table.chars) mains;
-  breaks = program_breaks so_far p typed reached results (λ so. table.chars) mains;
-  given = program_keeps so_far p typed reached results (λ so. table.chars) mains;
+  well_formed = program_formed so_far p typed reached results table.chars mains names table.ordered table.once (no_structs_there p.structs p.types.structs none table.structs) none;
+  ready = ready_program (translated p) (program_checked so_far p typed reached results table.chars mains);
+  results = program_writes_results so_far p typed reached results table.chars mains;
+  breaks = program_breaks so_far p typed reached results table.chars mains;
+  given = program_keeps so_far p typed reached results table.chars mains;
   limits = limits;
 }
 
@@ -46,8 +46,8 @@ module _ (p : ProgramForm) (built : is_served p ≡ true) where
   reached : are_reached_functions (length (texts_of p)) true p.types p.functions ≡ true
   reached = functions_as (length (texts_of p)) (length p.texts) (omega (arith, length-append p.texts ((10 ∷ []) ∷ []))) p.types p.functions (and_parts (has_no_structs p.structs) (are_served_functions (length p.texts) p.types p.functions) (and_parts (has_served_types p.types) _ built).1).1
 
-  pub served_short : IsWellTyped p → HasResults p → HaveShortPlaces (translated p).types (translated p).functions
-  served_short typed results = program_short true p typed reached results (λ so. absurd (true≢false so))
+  pub served_short : IsWellTyped p → HasResults p → HasTable p → HaveShortPlaces (translated p).types (translated p).functions
+  served_short typed results table = program_short true p typed reached results table.chars
 
   pub served_proper : IsWellTyped p → HasResults p → HasTable p → HasNames p → HasIntMain p → IsProgramWithinLimits (translated p) → IsProperProgram (translated p)
   served_proper typed results table names mains limits = let parts = proper_parts true p typed results table names mains none reached limits in record {
@@ -58,13 +58,13 @@ module _ (p : ProgramForm) (built : is_served p ≡ true) where
     given = parts.given;
     limits = parts.limits;
     so_far = record {
-      structs = program_structs true p typed reached results (λ so. absurd (true≢false so)) mains (no_structs_there p.structs p.types.structs none table.structs);
-      serves = program_serves true p typed reached results (λ so. absurd (true≢false so)) mains refl;
+      structs = program_structs true p typed reached results table.chars mains (no_structs_there p.structs p.types.structs none table.structs);
+      serves = program_serves true p typed reached results table.chars mains refl;
     };
   }
 
 pub translation_proper : (p : ProgramForm) → IsWellTyped p → HasResults p → HasTable p → HasNames p → HasIntMain p → is_served p ≡ true → IsProgramWithinLimits (translated p) → IsProperProgram (translated p)
 translation_proper p typed results table names mains built limits = served_proper p built typed results table names mains limits
 
-pub translation_short : (p : ProgramForm) → IsWellTyped p → HasResults p → is_served p ≡ true → HaveShortPlaces (translated p).types (translated p).functions
-translation_short p typed results built = served_short p built typed results
+pub translation_short : (p : ProgramForm) → IsWellTyped p → HasResults p → HasTable p → is_served p ≡ true → HaveShortPlaces (translated p).types (translated p).functions
+translation_short p typed results table built = served_short p built typed results table

@@ -1,4 +1,4 @@
--- What a function gives back: nothing, a value, or a raw pointer or a reference to a value; control doesn't run past the end of one that gives something back.
+-- What a function gives back: nothing, a value, a raw pointer or a reference to a value, or a view; control doesn't run past the end of one that gives something back.
 use Rattle.std.proofs.Common.{◌≡◌, Bool, true, false, ◌||◌, None, refl, sym}
 use Rattle.std.proofs.lemmas.Bool.{false≢true}
 use Rattle.life_types.specs.TypeTests.{is_value, is_void}
@@ -17,6 +17,7 @@ pub data IsResultType (types : Types) (t : Ty) : Type 0 where
   gives_nothing : t ≡ ty.Void → IsResultType types t
   gives_value : is_value t ≡ true → IsResultType types t
   gives_raw : (target : TyId) (constant : Bool) → t ≡ ty.Raw target constant → is_value (type_at types target) ≡ true → IsResultType types t
+  gives_view : t ≡ ty.View → IsResultType types t
   gives_reference : (target : TyId) (constant : Bool) → t ≡ ty.Reference target constant → is_value (type_at types target) ≡ true → IsResultType types t
 
 pub result_is : (types : Types) (t : Ty) → gives_back types t ≡ true → IsResultType types t
@@ -27,6 +28,7 @@ result_is types ty.Int b = gives_value refl
 result_is types ty.Long b = gives_value refl
 result_is types ty.Size b = gives_value refl
 result_is types (ty.Raw target constant) b = gives_raw target constant refl b
+result_is types ty.View b = gives_view refl
 result_is types (ty.Reference target constant) b = gives_reference target constant refl b
 result_is types _ b = absurd (false≢true b)
 

@@ -117,9 +117,9 @@ module _ (a : Around) (visible : List ℕ) (types : Types) (texts : ℕ) (so_far
 
   -- ---- two of them are compared
 
-  pub compared_part : (left right : Form) → Shows left → Shows right → (equal : Bool) (place : Place) (into : Option ℕ) (t : Ty) (s : State) → t ≡ ty.Bool → so_far ≡ false → is_value t ≡ true → IsIntoOf t s into → Standing a visible types texts so_far fs f setting s
+  pub compared_part : (left right : Form) → Shows left → Shows right → (equal : Bool) (place : Place) (into : Option ℕ) (t : Ty) (s : State) → t ≡ ty.Bool → is_value t ≡ true → IsIntoOf t s into → Standing a visible types texts so_far fs f setting s
       → Valued a visible types texts so_far fs f setting t into s (seen (uses a left) s >> λ x s. seen (uses a right) s >> λ y s. viewed x s >> λ p s. viewed y s >> λ q s. computed into t place (λ n. Same n p q equal) s)
-  compared_part left right first second equal place into t s bool wide v wanted stands =
+  compared_part left right first second equal place into t s bool v wanted stands =
       let G = no_gift types texts so_far fs f in
       let P = a_shown types texts so_far fs f in
       let V = a_pointer types texts so_far fs f ty.View in
@@ -139,4 +139,4 @@ module _ (a : Around) (visible : List ℕ) (types : Types) (texts : ℕ) (so_far
       let all = keep_part types texts so_far fs f G tt s (gives ((x.given, y.given), p.given) p.state) q C V stands.opened triple four in
       then_part types texts so_far fs f G tt into s (gives (((x.given, y.given), p.given), q.given) q.state) _ D (a_number types texts so_far fs f t) stands.opened all
       (under_part types texts so_far fs f (both types texts so_far fs f V V) (p.given, q.given) D (((x.given, y.given), p.given), q.given) into q.state _ (a_number types texts so_far fs f t)
-      (same_part types texts so_far fs f into t place equal (p.given, q.given) q.state bool wide v (into_of_later t s q.state into all.grown wanted)) (λ h. (h.0.1, h.1)) (λ n k h. (h.0.1, h.1)))
+      (same_part types texts so_far fs f into t place equal (p.given, q.given) q.state bool v (into_of_later t s q.state into all.grown wanted)) (λ h. (h.0.1, h.1)) (λ n k h. (h.0.1, h.1)))

@@ -44,9 +44,8 @@ module _ (types : Types) where
   value_served = by_values (IsServedAs Object) refl refl refl refl refl
 
   pub variable_served : (so_far : Bool) → so_far ≡ true → (t : Ty) → IsReachedType so_far types t → IsServedAs (kind (class (Some t))) t × (fits_register true types t ≡ true)
-  variable_served so_far so t (inr (inl v)) = absurd (false≢true (sym v.0 ∙ so))
-  variable_served so_far so t (inr (inr (inl o))) = absurd (false≢true (sym o.0 ∙ so))
-  variable_served so_far so t (inr (inr (inr w))) = absurd (false≢true (sym w.0 ∙ so))
+  variable_served so_far so t (inr (inl o)) = absurd (false≢true (sym o.0 ∙ so))
+  variable_served so_far so t (inr (inr w)) = absurd (false≢true (sym w.0 ∙ so))
   variable_served so_far so t (inl b) = (go t b, fits t b)
     where
       go : (t : Ty) → (is_value t || is_pointing types t) ≡ true → IsServedAs (kind (class (Some t))) t
@@ -55,12 +54,13 @@ module _ (types : Types) where
       go ty.Int b = refl
       go ty.Long b = refl
       go ty.Size b = refl
+      go ty.View b = refl
       go (ty.Raw target constant) b = refl
       go (ty.Reference target constant) b = refl
       go _ b = absurd (false≢true b)
 
       fits : (t : Ty) → (is_value t || is_pointing types t) ≡ true → fits_register true types t ≡ true
-      fits ty.View b = absurd (false≢true b)
+      fits ty.View b = refl
       fits _ b = b
 
   no_slot : (t : Ty) → fits_register true types t ≡ true → is_slot_type types (Some t) ≡ false

@@ -32,10 +32,10 @@ pub record Setting (so_far : Bool) (a : Around) (types : Types) (fs : List Funct
   pub front : IsFront a.program.types.types types.types
   pub variables : are_reached_variables so_far a.program.types a.function.locals ≡ true
   -- the table has chars, where views have elements
-  pub chars : so_far ≡ false → type_at a.program.types CHAR ≡ ty.Char
+  pub chars : type_at a.program.types CHAR ≡ ty.Char
   pub returned : (g : ℕ) (of : FunctionForm) → slice_get a.program.functions g ≡ Some of → is_served_result a.program.types of.result ≡ true
   pub result : is_served_result a.program.types a.function.result ≡ true
-  pub taken : (g : ℕ) (of : FunctionForm) → slice_get a.program.functions g ≡ Some of → (n : ℕ) (id : TyId) → slice_get (parameter_types (Some of)) n ≡ Some id → IsHandedType so_far a.program.types id
+  pub taken : (g : ℕ) (of : FunctionForm) → slice_get a.program.functions g ≡ Some of → (n : ℕ) (id : TyId) → slice_get (parameter_types (Some of)) n ≡ Some id → IsHandedType a.program.types id
   pub callees : (g : ℕ) (of : FunctionForm) → slice_get a.program.functions g ≡ Some of → IsCallee types fs g of
   -- .. and the table has the types of what they give back
   pub results : (g : ℕ) (of : FunctionForm) → slice_get a.program.functions g ≡ Some of → (t : Ty) × (slice_get a.program.types.types of.result.0 ≡ Some t)

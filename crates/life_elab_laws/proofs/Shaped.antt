@@ -43,9 +43,8 @@ module _ (few more : Types) (front : IsFront few.types more.types) where
 
   reached_later : (so_far : Bool) (t : Ty) → IsReachedType so_far few t → IsReachedType so_far more t
   reached_later so_far t (inl b) = inl (type_later t b)
-  reached_later so_far t (inr (inl v)) = inr (inl v)
-  reached_later so_far t (inr (inr (inl o))) = inr (inr (inl (o.0, owner_later t o.1)))
-  reached_later so_far t (inr (inr (inr w))) = inr (inr (inr (w.0, walker_later t w.1)))
+  reached_later so_far t (inr (inl o)) = inr (inl (o.0, owner_later t o.1))
+  reached_later so_far t (inr (inr w)) = inr (inr (w.0, walker_later t w.1))
 
   pub variable_later : (so_far : Bool) (id : TyId) → is_reached_variable so_far few id ≡ true → is_reached_variable so_far more id ≡ true
   variable_later so_far id b =

@@ -37,7 +37,7 @@ module _ (so_far : Bool) (a : Around) (s : State) (whole : Types) (front : IsFro
         where
           reached : FitsTemporary so_far a.program.types is.ty → IsReachedType false whole is.ty
           reached (inl value) = inl (or_left (is_value is.ty) (is_pointing whole is.ty) value)
-          reached (inr owner) = inr (inr (inl (refl, owner_later a.program.types whole front is.ty owner.1)))
+          reached (inr owner) = inr (inl (refl, owner_later a.program.types whole front is.ty owner.1))
 
   own_shaped : (l : Local) → IsOwn a l → IsShaped whole l
   own_shaped l is lasts = record {

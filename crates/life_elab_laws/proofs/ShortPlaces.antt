@@ -1,5 +1,5 @@
 -- The places of a function that is translated have a step at most: its objects are values and owners of values, and values and characters are behind its parameters.
-use Rattle.std.proofs.Common.{◌≡◌, ◌<◌, ◌+◌, inl, inr, ℕ, zero, suc, Bool, true, false, ◌&&◌, ◌||◌, List, [], ◌∷◌, ◌++◌, if◌then◌else◌, flat_map, map, nat_lt, slice_get, Option, Some, None, is_none, refl, ap, ◌∙◌, subst, sym, unwrap_or, arith}
+use Rattle.std.proofs.Common.{◌≡◌, ◌<◌, ◌+◌, inl, ℕ, zero, suc, Bool, true, false, ◌&&◌, ◌||◌, List, [], ◌∷◌, ◌++◌, if◌then◌else◌, flat_map, map, nat_lt, slice_get, Option, Some, None, is_none, refl, ap, ◌∙◌, subst, sym, unwrap_or, arith}
 use Rattle.std.proofs.lemmas.Bool.{false≢true}
 use Rattle.std.proofs.lemmas.Bool.Decides.{nat_tests}
 use Rattle.life_types.specs.Pointees.{or_void, ty_of}
@@ -226,38 +226,38 @@ module _ (types : Types) where
       subst (λ (i : TyId). AreShortInputs (inputs_among types x i 0 (locations_in types k i (local_place x)))) (sym same)
       (subst (λ (xs : List AbsPlace). AreShortInputs (inputs_among types x id 0 xs)) (sym (itself_alone k id t found none alone (local_place x))) (one_input x id one))
 
-  handed_inputs : (so_far : Bool) (k : LocalKind) (x : ℕ) (id : TyId) → IsHandedType so_far types id → AreShortInputs (inputs_among types x (shape_if types true id) 0 (locations_in types k (shape_if types true id) (local_place x)))
-  handed_inputs so_far k x id (a_value w) =
+  handed_inputs : (k : LocalKind) (x : ℕ) (id : TyId) → IsHandedType types id → AreShortInputs (inputs_among types x (shape_if types true id) 0 (locations_in types k (shape_if types true id) (local_place x)))
+  handed_inputs k x id (a_value w) =
       let same = same_shape true id (value_reached false types (type_at types id) w) in
       subst (λ (xs : List AbsPlace). AreShortInputs (inputs_among types x (shape_if types true id) 0 xs)) (sym (ap (λ (i : TyId). locations_in types k i (local_place x)) same ∙ no_locations k id w (local_place x))) tt
-  handed_inputs so_far k x id (a_raw target constant at w) =
+  handed_inputs k x id (a_raw target constant at w) =
       pointer_inputs k x id (ty.Raw target constant) at (inl w) refl (λ n place. refl) (λ place. ap (λ (o : Option Ty). places_in place (tree_if types (target_of (or_void o)))) at ∙ one_place target w place)
-  handed_inputs so_far k x id (a_reference target constant at w) =
+  handed_inputs k x id (a_reference target constant at w) =
       pointer_inputs k x id (ty.Reference target constant) at (inl w) refl (λ n place. refl) (λ place. ap (λ (o : Option Ty). places_in place (tree_if types (target_of (or_void o)))) at ∙ one_place target w place)
-  handed_inputs so_far k x id (a_view so at) =
-      pointer_inputs k x id ty.View at (inr (inl (refl, refl))) refl (λ n place. refl) (λ place. ap (λ (o : Option Ty). places_in place (tree_if types (target_of (or_void o)))) at)
+  handed_inputs k x id (a_view at) =
+      pointer_inputs k x id ty.View at (inl refl) refl (λ n place. refl) (λ place. ap (λ (o : Option Ty). places_in place (tree_if types (target_of (or_void o)))) at)
 
-  local_short : (so_far : Bool) (n x : ℕ) (l : Local) → (x < n → IsHandedType so_far types l.ty) → AreShortInputs (local_inputs types n x l)
-  local_short so_far n x l handed = go (nat_lt x n) refl
+  local_short : (n x : ℕ) (l : Local) → (x < n → IsHandedType types l.ty) → AreShortInputs (local_inputs types n x l)
+  local_short n x l handed = go (nat_lt x n) refl
     where
       lt_of : (a b : ℕ) → nat_lt a b ≡ true → a < b
       lt_of a b h = grind (arith, nat_tests)
 
       go : (b : Bool) → nat_lt x n ≡ b → AreShortInputs (if b then inputs_among types x (shape_if types b l.ty) 0 (locations_in types l.kind (shape_if types b l.ty) (local_place x)) else [])
       go false is = tt
-      go true is = handed_inputs so_far l.kind x l.ty (handed (lt_of x n is))
+      go true is = handed_inputs l.kind x l.ty (handed (lt_of x n is))
 
-  inputs_short : (so_far : Bool) (n x : ℕ) (ls : List Local) → ((y : ℕ) (l : Local) → slice_get ls y ≡ Some l → x + y < n → IsHandedType so_far types l.ty) → AreShortInputs (inputs_from types n x ls)
-  inputs_short so_far n x [] handed = tt
-  inputs_short so_far n x (l ∷ ls) handed =
-      inputs_append (local_inputs types n x l) (inputs_from types n (x + 1) ls) (local_short so_far n x l (λ lt. handed zero l refl (omega (arith, lt))))
-      (inputs_short so_far n (x + 1) ls (λ y u at lt. handed (suc y) u at (omega (arith, lt))))
+  inputs_short : (n x : ℕ) (ls : List Local) → ((y : ℕ) (l : Local) → slice_get ls y ≡ Some l → x + y < n → IsHandedType types l.ty) → AreShortInputs (inputs_from types n x ls)
+  inputs_short n x [] handed = tt
+  inputs_short n x (l ∷ ls) handed =
+      inputs_append (local_inputs types n x l) (inputs_from types n (x + 1) ls) (local_short n x l (λ lt. handed zero l refl (omega (arith, lt))))
+      (inputs_short n (x + 1) ls (λ y u at lt. handed (suc y) u at (omega (arith, lt))))
 
   -- ---- the whole
 
-  pub short_function : (so_far : Bool) (f : Function) → AreShaped types f.locals → ((y : ℕ) (l : Local) → slice_get f.locals y ≡ Some l → y < f.parameters → IsHandedType so_far types l.ty) → AreShort (elements_of types f)
-  short_function so_far f shaped handed =
-      let behind = inputs_places (inputs_of types f) (inputs_short so_far f.parameters 0 f.locals (λ y l at lt. handed y l at (omega (arith, lt)))) in
+  pub short_function : (f : Function) → AreShaped types f.locals → ((y : ℕ) (l : Local) → slice_get f.locals y ≡ Some l → y < f.parameters → IsHandedType types l.ty) → AreShort (elements_of types f)
+  short_function f shaped handed =
+      let behind = inputs_places (inputs_of types f) (inputs_short f.parameters 0 f.locals (λ y l at lt. handed y l at (omega (arith, lt)))) in
       let beside = short_append (map element.At (flat_map (input_places types) (inputs_of types f))) (caused_elements f) behind (short_caused f) in
       let places =
       short_append (map element.At (objects_from types f.parameters 0 f.locals)) (map element.At (flat_map (input_places types) (inputs_of types f)) ++ caused_elements f)

@@ -53,7 +53,7 @@ use Rattle.life_elab.specs.Simples.{compound_operator, held, put_back, step_oper
 use Rattle.life_elab_laws.proofs.Aiming.{literal_given, pointed_fine, pointed_keeps, pointed_ready}
 use Rattle.life_elab_laws.proofs.CallParts.{alone_fine}
 use Rattle.life_elab_laws.proofs.Calls.{alone_after, alone_ready}
-use Rattle.life_elab_laws.proofs.ExpressionTypes.{IsAnswered, answers_nothing, answers_place, answers_raw, answers_value, own_no_iterator, own_no_text, own_value, seen_kind}
+use Rattle.life_elab_laws.proofs.ExpressionTypes.{IsAnswered, answers_nothing, answers_place, answers_raw, answers_value, answers_view, own_no_iterator, own_no_text, own_value, seen_kind}
 use Rattle.life_elab_laws.proofs.ExpressionForms.{IsCall, IsWhole}
 use Rattle.life_elab_laws.proofs.Expressions.{asked_expression, owner_expression, walker_expression, whole_expression, wholes}
 use Rattle.life_elab_laws.proofs.PointerForms.{placed_operand, pointer_whole, points_whole, result_later}
@@ -92,7 +92,7 @@ use Rattle.life_elab_laws.proofs.OperandsThere.{value_same}
 use Rattle.life_types.specs.Pointees.{ty_of}
 use Rattle.life_types.specs.declared.ty.TyId.{TyId}
 use Rattle.life_typed.specs.BaseTypes.{type_at}
-use Rattle.life_elab_laws.proofs.ViewForms.{AreWhole, gives_as}
+use Rattle.life_elab_laws.proofs.ViewForms.{AreWhole, asks_for, gives_as}
 use Rattle.life_well_typed.specs.Members.{IsCalled}
 use Rattle.life_typed.specs.Conversions.{fits}
 
@@ -195,7 +195,7 @@ module _ (a : Around) (visible : List ℕ) (types : Types) (texts : ℕ) (so_far
           chosen classes.Pointer (ap (λ (x : ExprType). class (Some (own_type x))) own_is)
           (let fits = subst (λ (x : ExprType). is_given a.program.types (own_type x) e ≡ true) own_is given in
           pointer_assigned_part target e equals behind s (ty.Raw to constant) refl is (whole e be h.1.1) own_is (given_pointer a.program.types (ty.Raw to constant) e refl fits) (given_raw a.program.types types setting.front to constant v e fits) stands)
-      go (of_view so own_is) =
+      go (of_view own_is) =
           chosen classes.Pointer (ap (λ (x : ExprType). class (Some (own_type x))) own_is)
           (let from = whole e be h.1.1 in
           let seen = seen_kind so_far a.program.types e from.kind.kind (given_view a.program.types e (subst (λ (x : ExprType). is_given a.program.types (own_type x) e ≡ true) own_is given)) in
@@ -319,6 +319,15 @@ module _ (a : Around) (visible : List ℕ) (types : Types) (texts : ℕ) (so_far
       (seen_part types texts so_far fs f no_gift tt None s (pointer u (own u) s) (a_pointer types texts so_far fs f (ty.Raw target constant)) (λ (l : Location). tt) no_gift
       (pointer_whole a visible types texts so_far fs f setting (whole_form e) is (ty.Raw target constant) at refl (own u) s stands) (λ b h. tt) (λ n k h. tt))
 
+  -- .. or a view
+  view_thrown : (e : Typed) (behind : Place) (s : State) → IsWhole a visible types texts so_far fs f setting (whole_form e) → e.ty ≡ Of ty.View → e.category ≡ category.Value → Standing s → Acts s (thrown e.category (uses a (whole_form e)) behind s)
+  view_thrown e behind s is at held stands =
+      let u = uses a (whole_form e) in
+      subst (Acts s)
+      (sym (ap (λ (k : Category). thrown k u behind s) held ∙ ap (λ (x : ExprType). cond (is_void (own_type x)) (u.alone s) (thrown_by (class (Some (own_type x))) u behind s)) at))
+      (seen_part types texts so_far fs f no_gift tt None s (pointer u (own u) s) (a_pointer types texts so_far fs f ty.View) (λ (l : Location). tt) no_gift
+      (pointer_whole a visible types texts so_far fs f setting (whole_form e) is ty.View at refl (own u) s stands) (λ b h. tt) (λ n k h. tt))
+
   discarded_part : (form : Form) (e : Typed) (behind : Place) (s : State) → e.form ≡ form → is_reached_expression texts so_far e ≡ true → Whole e → is_call form ≡ true → Standing s → Acts s (thrown e.category (uses a (whole_form e)) behind s)
   discarded_part (call g given d) e behind s same b h calls stands = by_answer is.answers
     where
@@ -337,7 +346,14 @@ module _ (a : Around) (visible : List ℕ) (types : Types) (texts : ℕ) (so_far
           (alone_part e (record { function = g; arguments = given; delimiters = d }) s is void stands)
       by_answer (answers_value v own held) = number_thrown e behind s (whole e b h) (ap is_number own ∙ v) stands
       by_answer (answers_raw target constant raw w own held) = pointer_thrown e behind s (whole e b h) target constant own held stands
+      by_answer (answers_view view own held) = view_thrown e behind s (whole e b h) own held stands
       by_answer (answers_place target constant refers w own held) = number_thrown e behind s (whole e b h) (ap is_number own ∙ w) stands
+  discarded_part (method base m given d) e behind s same b h calls stands =
+      let made : IsMadeOf a.program a.function.locals visible e (method base m given d) = subst (IsMadeOf a.program a.function.locals visible e) same h in
+      elim (asks_for a.program.types m (typed_in base).ty (typed_in base).category given e calls made.0) [
+        | inl n ↦ number_thrown e behind s (whole e b h) n stands
+        | inr seen ↦ view_thrown e behind s (whole e b h) seen.0 seen.1 stands
+      ]
   discarded_part _ e behind s same b h calls stands = absurd (false≢true calls)
 
   -- ---- changes of owners

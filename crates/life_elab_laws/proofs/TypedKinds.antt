@@ -18,7 +18,7 @@ use Rattle.life_typed.specs.declared.typed_expr.Category.TheVariants as category
 use Rattle.life_typed.specs.declared.typed_expr.ExprType.TheVariants.{Of, NullPointer, TextLiteral}
 use Rattle.life_type_expr.specs.Operands.{answer_of, combination, combined_to, place_of, value, variable_of}
 use Rattle.life_elab_laws.proofs.Reaching.{IsReachedType}
-use Rattle.life_elab_laws.proofs.ResultTypes.{IsResultType, gives_nothing, gives_raw, gives_reference, gives_value}
+use Rattle.life_elab_laws.proofs.ResultTypes.{IsResultType, gives_nothing, gives_raw, gives_reference, gives_value, gives_view}
 use Rattle.life_elab_laws.proofs.Values.{by_values}
 use Rattle.life_elab_laws.specs.Reached.{is_owner_of_values, is_reached_type, is_walker_of_values}
 use Rattle.life_typed.specs.declared.typed_expr.ExprType.{ExprType}
@@ -75,7 +75,7 @@ promoted_value t u = go _ _
 pub data HasKind (so_far : Bool) (types : Types) (e : Typed) : Type 0 where
   a_number : (t : Ty) → e.ty ≡ Of t → is_value t ≡ true → HasKind so_far types e
   a_pointer : (target : TyId) (constant : Bool) → e.ty ≡ Of (ty.Raw target constant) → is_value (type_at types target) ≡ true → HasKind so_far types e
-  a_view : so_far ≡ false → e.ty ≡ Of ty.View → HasKind so_far types e
+  a_view : e.ty ≡ Of ty.View → HasKind so_far types e
   a_text : e.ty ≡ TextLiteral → e.category ≡ category.Value → HasKind so_far types e
   no_value : e.ty ≡ Of ty.Void → e.category ≡ category.Value → HasKind so_far types e
   a_null : e.ty ≡ NullPointer → e.category ≡ category.Value → HasKind so_far types e
@@ -108,7 +108,7 @@ kind_same so_far types e e' t c h = record {
     go : HasKind so_far types e → HasKind so_far types e'
     go (a_number u is v) = a_number u (t ∙ is) v
     go (a_pointer target constant is v) = a_pointer target constant (t ∙ is) v
-    go (a_view so is) = a_view so (t ∙ is)
+    go (a_view is) = a_view (t ∙ is)
     go (a_text is v) = a_text (t ∙ is) (c ∙ v)
     go (no_value is v) = no_value (t ∙ is) (c ∙ v)
     go (a_null is v) = a_null (t ∙ is) (c ∙ v)
@@ -140,18 +140,16 @@ walker_refused so_far types _ so w n = false≢true w
 
 pub kind_of_variable : (so_far : Bool) (types : Types) (e : Typed) (id : TyId) (c : Bool) (form : Form) (t : Ty) → type_at types id ≡ t → IsReachedType so_far types t
     → is_reached_type so_far e.ty ≡ true → e ≡ variable_of t types id c e.place form → IsKind so_far types e
-kind_of_variable so_far types e id c form t at (inr (inr (inr w))) n is =
+kind_of_variable so_far types e id c form t at (inr (inr w)) n is =
     absurd (walker_refused so_far types t w.0 w.1 (subst (λ (x : ExprType). is_reached_type so_far x ≡ true) (ap (λ (x : Typed). x.ty) (walker_named types e id c form t w.1 is) ∙ ap Of at) n))
-kind_of_variable so_far types e id c form t at (inr (inr (inl o))) n is =
+kind_of_variable so_far types e id c form t at (inr (inl o)) n is =
     absurd (owner_refused so_far types t o.0 o.1 (subst (λ (x : ExprType). is_reached_type so_far x ≡ true) (ap (λ (x : Typed). x.ty) (owner_named types e id c form t o.1 is) ∙ ap Of at) n))
-kind_of_variable so_far types e id c form t at (inr (inl v)) n is =
-    kind_of_place so_far types e id c form (is ∙ ap (λ (u : Ty). variable_of u types id c e.place form) v.1)
-    (a_view v.0 (ap (λ (x : Typed). x.ty) (is ∙ ap (λ (u : Ty). variable_of u types id c e.place form) v.1) ∙ ap Of (at ∙ v.1)))
 kind_of_variable so_far types e id c form t at (inl built) n is = go t at built is
   where
     go : (t : Ty) → type_at types id ≡ t → (is_value t || is_pointing types t) ≡ true → e ≡ variable_of t types id c e.place form → IsKind so_far types e
     go (ty.Raw target constant) at built is = kind_of_place so_far types e id c form is (a_pointer target constant (ap (λ (x : Typed). x.ty) is ∙ ap Of at) built)
     go (ty.Reference target constant) at built is = kind_of_place so_far types e target constant form is (a_number (type_at types target) (ap (λ (x : Typed). x.ty) is) built)
+    go ty.View at built is = kind_of_place so_far types e id c form is (a_view (ap (λ (x : Typed). x.ty) is ∙ ap Of at))
     go ty.Bool at built is = kind_of_place so_far types e id c form is (a_number ty.Bool (ap (λ (x : Typed). x.ty) is ∙ ap Of at) refl)
     go ty.Char at built is = kind_of_place so_far types e id c form is (a_number ty.Char (ap (λ (x : Typed). x.ty) is ∙ ap Of at) refl)
     go ty.Int at built is = kind_of_place so_far types e id c form is (a_number ty.Int (ap (λ (x : Typed). x.ty) is ∙ ap Of at) refl)
@@ -172,6 +170,12 @@ kind_of_result so_far types e t (gives_raw target constant raw w) is =
     let here = is ∙ ap (λ (u : Ty). answer_of u types e.place e.form) raw in
     record {
       kind = a_pointer target constant (ap (λ (x : Typed). x.ty) here) w;
+      place = λ id c at. absurd (value_place (sym (ap (λ (x : Typed). x.category) here) ∙ at));
+    }
+kind_of_result so_far types e t (gives_view view) is =
+    let here = is ∙ ap (λ (u : Ty). answer_of u types e.place e.form) view in
+    record {
+      kind = a_view (ap (λ (x : Typed). x.ty) here);
       place = λ id c at. absurd (value_place (sym (ap (λ (x : Typed). x.category) here) ∙ at));
     }
 kind_of_result so_far types e t (gives_reference target constant refers w) is =

@@ -40,7 +40,7 @@ pub data IsVariableType (so_far : Bool) (types : Types) (id : TyId) : Type 0 whe
   a_value : (t : Ty) → slice_get types.types id.0 ≡ Some t → is_value t ≡ true → IsVariableType so_far types id
   a_raw : (target : TyId) (constant : Bool) → slice_get types.types id.0 ≡ Some (ty.Raw target constant) → is_value (type_at types target) ≡ true → IsVariableType so_far types id
   a_reference : (target : TyId) (constant : Bool) → slice_get types.types id.0 ≡ Some (ty.Reference target constant) → is_value (type_at types target) ≡ true → IsVariableType so_far types id
-  a_view : so_far ≡ false → slice_get types.types id.0 ≡ Some ty.View → IsVariableType so_far types id
+  a_view : slice_get types.types id.0 ≡ Some ty.View → IsVariableType so_far types id
   a_walker : so_far ≡ false → (t : Ty) → slice_get types.types id.0 ≡ Some t → is_walker_of_values types t ≡ true → IsVariableType so_far types id
   an_owner : so_far ≡ false → (t : Ty) → slice_get types.types id.0 ≡ Some t → is_owner_of_values types t ≡ true → IsVariableType so_far types id
 
@@ -48,9 +48,9 @@ pub variable_type : (so_far : Bool) (types : Types) (id : TyId) → is_reached_v
 variable_type so_far types id b = let found = variable_found so_far types id b in go found.0 found.1 found.2
   where
     go : (t : Ty) → slice_get types.types id.0 ≡ Some t → IsReachedType so_far types t → IsVariableType so_far types id
-    go t at (inr (inl v)) = a_view v.0 (at ∙ ap Some v.1)
-    go t at (inr (inr (inl o))) = an_owner o.0 t at o.1
-    go t at (inr (inr (inr w))) = a_walker w.0 t at w.1
+    go t at (inr (inl o)) = an_owner o.0 t at o.1
+    go t at (inr (inr w)) = a_walker w.0 t at w.1
+    go ty.View at (inl b) = a_view at
     go ty.Bool at (inl b) = a_value ty.Bool at refl
     go ty.Char at (inl b) = a_value ty.Char at refl
     go ty.Int at (inl b) = a_value ty.Int at refl
@@ -190,4 +190,4 @@ named_pointer so_far types e v form reached is t of loc = go (variable_type so_f
     go (a_reference target constant at w) = absurd (not_value (type_at types target) w (ap (λ (x : Typed). x.ty) (found (ty.Reference target constant) at)))
     go (an_owner so u at o) = absurd (not_owner u o (ap (λ (x : Typed). x.ty) (owner_named types e v.ty v.constant form u o (found u at)) ∙ ap Of (typed u at)))
     go (a_walker so u at w) = at ∙ ap Some (sym (same (sym of ∙ ap (λ (x : Typed). x.ty) (walker_named types e v.ty v.constant form u w (found u at)) ∙ ap Of (typed u at))))
-    go (a_view so at) = at ∙ ap Some (sym (same (sym of ∙ ap (λ (x : Typed). x.ty) (found ty.View at) ∙ ap Of (typed ty.View at))))
+    go (a_view at) = at ∙ ap Some (sym (same (sym of ∙ ap (λ (x : Typed). x.ty) (found ty.View at) ∙ ap Of (typed ty.View at))))

@@ -1,5 +1,5 @@
 -- Members of views: `size`, `empty` and `substr`.
-use Rattle.std.proofs.Common.{◌≡◌, ℕ, Bool, true, false, List, Some, None, refl, sym, ap, ◌∙◌, subst}
+use Rattle.std.proofs.Common.{◌≡◌, ◌⊎◌, if◌then◌else◌, inl, inr, ℕ, Bool, true, false, List, Some, None, refl, sym, ap, ◌∙◌, subst}
 use Rattle.std.proofs.lemmas.Bool.{and_parts, false≢true}
 use Rattle.life_types.specs.TypeTests.{is_value}
 use Rattle.life_types.specs.Types.{Types}
@@ -30,6 +30,7 @@ use Rattle.life_writer.specs.Uses.{own}
 use Rattle.life_writer.specs.Using.{pointer, value}
 use Rattle.life_writer.specs.Writing.{State, gives}
 use Rattle.life_elab_laws.specs.Reached.{is_reached_method}
+use Rattle.life_served.specs.Served.{is_served_method}
 use Rattle.life_elab_laws.proofs.ExpressionForms.{IsForm, IsWhole, Points, Standing, pointer_form, value_form}
 use Rattle.life_elab_laws.proofs.GivenKinds.{taken_number}
 use Rattle.life_elab_laws.proofs.Gifts.{a_number, a_pointer, a_pointing, both, nothing as no_gift}
@@ -56,8 +57,26 @@ no_methods types t constant m x v h = none_some (sym plain ∙ h)
 abbrev pub IsAnswer : ExprType × Category → Typed → Type 0
 IsAnswer x e = Some x ≡ Some (e.ty, e.category)
 
+answered : (b : Bool) {x y : ExprType × Category} → (if b then Some x else None) ≡ Some y → Some x ≡ Some y
+answered true e = e
+answered false e = absurd (none_some e)
+
 pub gives_as : (x : ExprType × Category) (e : Typed) → IsAnswer x e → (e.ty ≡ x.0) × (e.category ≡ x.1)
 gives_as x e same = let one = some_same same in (sym (ap (λ (y : ExprType × Category). y.0) one), sym (ap (λ (y : ExprType × Category). y.1) one))
+
+-- .. of one that only asks is a number, or a view
+pub asks_for : (types : Types) (m : Method) (t : ExprType) (c : Category) (given : Form) (e : Typed) → is_served_method m ≡ true → IsCalled types t c m given e → (is_number e.ty ≡ true) ⊎ ((e.ty ≡ Of ty.View) × (e.category ≡ category.Value))
+asks_for types methods.Substr (Of ty.View) c given e served called = inr (gives_as (Of ty.View, category.Value) e called.2)
+asks_for types methods.Substr (Of _) c given e served called = absurd (none_some called.2)
+asks_for types methods.Substr NullPointer c given e served called = absurd called
+asks_for types methods.Substr TextLiteral c given e served called = absurd called
+asks_for types methods.Size (Of t) c given e served called = inl (ap is_number (gives_as (Of ty.Size, category.Value) e (answered (has_method t methods.Size) called.2)).0)
+asks_for types methods.Size NullPointer c given e served called = absurd called
+asks_for types methods.Size TextLiteral c given e served called = absurd called
+asks_for types methods.Empty (Of t) c given e served called = inl (ap is_number (gives_as (Of ty.Bool, category.Value) e (answered (has_method t methods.Empty) called.2)).0)
+asks_for types methods.Empty NullPointer c given e served called = absurd called
+asks_for types methods.Empty TextLiteral c given e served called = absurd called
+asks_for types _ t c given e served called = absurd (false≢true served)
 
 module _ (a : Around) (visible : List ℕ) (types : Types) (texts : ℕ) (so_far : Bool) (fs : List Function) (f : Function) (setting : Setting so_far a types fs f) where
   -- all of several
@@ -68,7 +87,7 @@ module _ (a : Around) (visible : List ℕ) (types : Types) (texts : ℕ) (so_far
 
   -- ---- a part of a view
 
-  module _ (base : Form) (is : IsWhole a visible types texts so_far fs f setting base) (at : (typed_in base).ty ≡ Of ty.View) (wide : so_far ≡ false) where
+  module _ (base : Form) (is : IsWhole a visible types texts so_far fs f setting base) (at : (typed_in base).ty ≡ Of ty.View) where
     count_part : (given : Form) (d : DelimitersForm) (s : State) → AreWhole given → are_taken a.program.types (parameters.OneOrTwo ty.Size ty.Size) 1 given ≡ true → Standing a visible types texts so_far fs f setting s
         → Makes types texts so_far fs f None s (count_if (all_uses a given) d s) (a_count types texts so_far fs f)
     count_part nothing d s whole taken stands = leaf_part types texts so_far fs f None s (a_count types texts so_far fs f) (λ b. refl) (λ b k alive. tt)
@@ -96,7 +115,7 @@ module _ (a : Around) (visible : List ℕ) (types : Types) (texts : ℕ) (so_far
         let third = count_part more (behind_others d) x.state whole.1 parts.1 (stands_later a visible l.state x.state second.grown later) in
         seen_part types texts so_far fs f (no_gift types texts so_far fs f) tt None s (gives ((l.given, x.given), n.given) n.state) (Cuts types texts so_far fs f) (λ x. By (λ p. Cut p x.0.0 x.0.1 x.1)) (a_pointing types texts so_far fs f (Of ty.View))
         (and_part types texts so_far fs f (no_gift types texts so_far fs f) tt s (gives (l.given, x.given) x.state) n (both types texts so_far fs f P Q) (a_count types texts so_far fs f) stands.opened pair third)
-        (λ b h. cut_given types texts so_far fs f ((l.given, x.given), n.given) wide h)
+        (λ b h. cut_given types texts so_far fs f ((l.given, x.given), n.given) h)
         (λ m k h. cut_filling types texts so_far fs f ((l.given, x.given), n.given) m k h)
     cut_part _ d s whole taken stands = absurd whole
 
@@ -110,28 +129,28 @@ module _ (a : Around) (visible : List ℕ) (types : Types) (texts : ℕ) (so_far
       called : (t : ExprType) → (typed_in base).ty ≡ t → IsCalled a.program.types t (typed_in base).category which given e
       called t own = subst (λ (x : ExprType). IsCalled a.program.types x (typed_in base).category which given e) own h
 
-      of_view : (m : Method) → is_reached_method m ≡ true → (wide : so_far ≡ false) → (at : (typed_in base).ty ≡ Of ty.View) → IsCalled a.program.types (Of ty.View) (typed_in base).category m given e → IsForm a visible types texts so_far fs f setting (method base m given d) e
-      of_view methods.Size b wide at c =
+      of_view : (m : Method) → is_reached_method m ≡ true → (at : (typed_in base).ty ≡ Of ty.View) → IsCalled a.program.types (Of ty.View) (typed_in base).category m given e → IsForm a visible types texts so_far fs f setting (method base m given d) e
+      of_view methods.Size b at c =
           let x = gives_as (Of ty.Size, category.Value) e c.2 in
           value_form a visible types texts so_far fs f setting (method base methods.Size given d) e ty.Size x.0 x.1 refl refl (λ place b. refl)
-          (λ place behind into s wanted stands. sized_part a visible types texts so_far fs f setting base ty.Char true (view_asked a visible types texts so_far fs f setting base is wide at) place into s wanted stands) (λ place behind r s. refl)
-      of_view methods.Empty b wide at c =
+          (λ place behind into s wanted stands. sized_part a visible types texts so_far fs f setting base ty.Char true (view_asked a visible types texts so_far fs f setting base is at) place into s wanted stands) (λ place behind r s. refl)
+      of_view methods.Empty b at c =
           let x = gives_as (Of ty.Bool, category.Value) e c.2 in
           value_form a visible types texts so_far fs f setting (method base methods.Empty given d) e ty.Bool x.0 x.1 refl refl (λ place b. refl)
-          (λ place behind into s wanted stands. emptied_part a visible types texts so_far fs f setting base ty.Char true (view_asked a visible types texts so_far fs f setting base is wide at) place into s wanted stands) (λ place behind r s. refl)
-      of_view methods.Substr b wide at c =
+          (λ place behind into s wanted stands. emptied_part a visible types texts so_far fs f setting base ty.Char true (view_asked a visible types texts so_far fs f setting base is at) place into s wanted stands) (λ place behind r s. refl)
+      of_view methods.Substr b at c =
           let x = gives_as (Of ty.View, category.Value) e c.2 in
-          pointer_form a visible types texts so_far fs f setting (method base methods.Substr given d) e (record { kind = a_view wide x.0; place = λ id k place. absurd (value_place (sym x.1 ∙ place)) }) x.1
+          pointer_form a visible types texts so_far fs f setting (method base methods.Substr given d) e (record { kind = a_view x.0; place = λ id k place. absurd (value_place (sym x.1 ∙ place)) }) x.1
           (λ n. false≢true (sym (ap is_number x.0) ∙ n)) refl (λ place b. refl)
-          (λ p place s stands. subst (λ (t : ExprType). Points a visible types texts so_far fs f setting t s (cut (uses a base) (all_uses a given) d s)) (sym x.0) (cut_part base is at wide given d s whole c.1 stands))
-      of_view methods.Front b wide at c = absurd (none_some c.2)
-      of_view methods.Back b wide at c = absurd (none_some c.2)
-      of_view _ b wide at c = absurd (false≢true b)
+          (λ p place s stands. subst (λ (t : ExprType). Points a visible types texts so_far fs f setting t s (cut (uses a base) (all_uses a given) d s)) (sym x.0) (cut_part base is at given d s whole c.1 stands))
+      of_view methods.Front b at c = absurd (none_some c.2)
+      of_view methods.Back b at c = absurd (none_some c.2)
+      of_view _ b at c = absurd (false≢true b)
 
       go : HasKind so_far a.program.types (typed_in base) → IsForm a visible types texts so_far fs f setting (method base which given d) e
       go (is_number_kind t own v) = absurd (no_methods a.program.types t (is_constant (typed_in base).category) which (e.ty, e.category) v (called (Of t) own).2)
       go (is_pointer_kind target constant own v) = absurd (none_some (called (Of (ty.Raw target constant)) own).2)
-      go (a_view wide own) = of_view which reached wide own (called (Of ty.View) own)
+      go (a_view own) = of_view which reached own (called (Of ty.View) own)
       go (a_text own v) = absurd (called TextLiteral own)
       go (no_value own v) = absurd (none_some (called (Of ty.Void) own).2)
       go (a_null own v) = absurd (called NullPointer own)

@@ -1,11 +1,12 @@
 -- The instruction that gives a part of a view.
-use Rattle.std.proofs.Common.{◌≡◌, ◌<◌, ◌≤◌, ℕ, Bool, true, false, List, [], ◌∷◌, ◌++◌, Option, Some, None, inl, inr, refl, sym, ap, ◌∙◌, subst}
+use Rattle.std.proofs.Common.{◌≡◌, ◌<◌, ◌≤◌, ℕ, Bool, true, List, [], ◌∷◌, ◌++◌, Option, Some, None, inl, inr, refl, sym, ap, ◌∙◌, subst}
 use Rattle.std.proofs.lemmas.Bool.{and_from, false≢true}
 use Rattle.life_types.specs.Types.{Types}
 use Rattle.life_types.specs.declared.ty.Ty.{Ty}
 use Rattle.life_types.specs.declared.ty.Ty.TheVariants as ty
 use Rattle.life_typed.specs.declared.typed_expr.ExprType.TheVariants.{Of}
 use Rattle.life_core.specs.Function.{Function}
+use Rattle.life_core_served.specs.Served.{is_served_location}
 use Rattle.life_core.specs.Operands.{Location}
 use Rattle.life_core.specs.Step.{Cut}
 use Rattle.life_core.specs.Touched.{count_uses}
@@ -54,8 +55,8 @@ module _ (types : Types) (texts : ℕ) (so_far : Bool) (fs : List Function) (f :
   abbrev pub Cuts : Gift types texts so_far fs f ((Location × ℕ) × Option ℕ)
   Cuts = both types texts so_far fs f (both types texts so_far fs f (a_pointer types texts so_far fs f ty.View) (a_number types texts so_far fs f ty.Size)) a_count
 
-  pub cut_given : (x : (Location × ℕ) × Option ℕ) → so_far ≡ false → Cuts.typed x → IsGivenAs types texts so_far fs f (Of ty.View) (By (λ p. Cut p x.0.0 x.0.1 x.1))
-  cut_given x wide h = λ u l loc at taken.
+  pub cut_given : (x : (Location × ℕ) × Option ℕ) → Cuts.typed x → IsGivenAs types texts so_far fs f (Of ty.View) (By (λ p. Cut p x.0.0 x.0.1 x.1))
+  cut_given x h = λ u l loc at taken.
       let view : type_in types f l ≡ ty.View = at.typed ∙ view_taker types u loc taken in
       record {
         given = refl;
@@ -63,7 +64,7 @@ module _ (types : Types) (texts : ℕ) (so_far : Bool) (fs : List Function) (f :
             and_from (is_range (type_in types f l)) _ (ap is_range view)
             (and_from (takes types (type_in types f l) (type_in types f x.0.0)) _ (ap (λ (t : Ty). takes types t (type_in types f x.0.0)) view ∙ ap (takes types ty.View) h.0.0.typed)
             (and_from (is_number_of types f ty.Size x.0.1) (is_number_of_if types f ty.Size x.1) h.0.1 h.1));
-        served = λ so. absurd (false≢true (sym wide ∙ so));
+        served = λ so. and_from (is_served_location l) (is_served_location x.0.0) (at.served so) (h.0.0.served so);
       }
 
   pub cut_filling : (x : (Location × ℕ) × Option ℕ) (n : ℕ) (k : List Known) → Cuts.ready x n k → IsFilling f (λ p. Cut p x.0.0 x.0.1 x.1) n k

@@ -131,7 +131,7 @@ module _ (a : Around) (visible : List ℕ) (types : Types) (texts : ℕ) (so_far
               ∙ ap Of (typed t at))
               (value_alone t v)
           kind (a_raw target constant at v) = other (ty.Raw target constant) (ap (λ (y : Typed). y.ty) (named (ty.Raw target constant) at) ∙ ap Of (typed (ty.Raw target constant) at)) refl
-          kind (a_view so at) = other ty.View (ap (λ (y : Typed). y.ty) (named ty.View at) ∙ ap Of (typed ty.View at)) refl
+          kind (a_view at) = other ty.View (ap (λ (y : Typed). y.ty) (named ty.View at) ∙ ap Of (typed ty.View at)) refl
           kind (a_reference target constant at v) = other (type_at a.program.types target) (ap (λ (y : Typed). y.ty) (named (ty.Reference target constant) at)) (value_alone (type_at a.program.types target) v)
           kind (an_owner so t at o) = other t (ap (λ (y : Typed). y.ty) (owner_named a.program.types e l.ty l.constant (local x) t o (named t at)) ∙ ap Of (typed t at)) (owner_alone t o)
           kind (a_walker so t at w) = record {
@@ -204,14 +204,13 @@ module _ (a : Around) (visible : List ℕ) (types : Types) (texts : ℕ) (so_far
 
   pub span_asked : (base : Form) → (is : IsWalker base) → (item : TyId) (constant : Bool) → is.ty ≡ ty.Span item constant → IsAsked a visible types texts so_far fs f setting base (type_at a.program.types item) constant
   span_asked base is item constant span = record {
-    wide = is.wide;
     worth = worth;
     asks = λ s stands.
         subst (λ (w : Gives Base). Makes types texts so_far fs f None s w (a_base types texts so_far fs f (type_at a.program.types item) constant))
         (sym (ap (λ (x : Ty). base_by x (uses a base) s) (ap own_type (sym (own_typed a visible types texts so_far fs f setting base) ∙ is.is) ∙ span)))
         (seen_part types texts so_far fs f (no_gift types texts so_far fs f) tt None s (pointer (uses a base) (own (uses a base)) s) (a_pointer types texts so_far fs f (ty.Span item constant)) Pointer (a_base types texts so_far fs f (type_at a.program.types item) constant)
         (subst (λ (u : Ty). Makes types texts so_far fs f None s (pointer (uses a base) (own (uses a base)) s) (a_pointer types texts so_far fs f u)) span (walker_pointer base is (own (uses a base)) s stands))
-        (λ b h. record { element = ap (seen_element types) h.typed ∙ type_later a.program.types types setting.front item worth; held = ap (λ (t : Ty). keeps_const constant (is_constant t)) h.typed ∙ keeps_itself constant })
+        (λ b h. record { element = ap (seen_element types) h.typed ∙ type_later a.program.types types setting.front item worth; held = ap (λ (t : Ty). keeps_const constant (is_constant t)) h.typed ∙ keeps_itself constant; served = h.served })
         (λ n k q. record { local = q.local; uses = ap (λ (l : Location). l.local ∷ []) q.is; below = q.below; held = q.held }));
   }
     where

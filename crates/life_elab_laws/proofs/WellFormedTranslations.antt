@@ -1,5 +1,5 @@
 -- The core program of a well typed program that the law reaches is well formed, is served where it is one that is served so far, and leaves alone what is given over.
-use Rattle.std.proofs.Common.{◌≡◌, ◌⊎◌, inl, inr, ℕ, Bool, true, List, [], length, nat_le, slice_get, Option, Some, refl, ap, ◌∙◌, subst, Bool, false, sym}
+use Rattle.std.proofs.Common.{◌≡◌, ◌⊎◌, inl, inr, ℕ, Bool, true, List, [], length, nat_le, slice_get, Option, Some, refl, ap, ◌∙◌, subst, Bool, sym}
 use Rattle.std.specs.List.{list_all}
 use Rattle.std.proofs.lemmas.Bool.{and_from, false≢true}
 use Rattle.life_types.specs.Trees.{IsOrdered}
@@ -36,7 +36,7 @@ use Rattle.life_typed.specs.BaseTypes.{type_at}
 use Rattle.life_typed.specs.declared.basic.TheConstants.{CHAR}
 use Rattle.life_types.specs.declared.ty.Ty.TheVariants as ty
 
-module _ (so_far : Bool) (p : ProgramForm) (typed : IsWellTyped p) (built : are_reached_functions (length (texts_of p)) so_far p.types p.functions ≡ true) (results : HasResults p) (chars : so_far ≡ false → type_at p.types CHAR ≡ ty.Char) (mains : HasIntMain p) where
+module _ (so_far : Bool) (p : ProgramForm) (typed : IsWellTyped p) (built : are_reached_functions (length (texts_of p)) so_far p.types p.functions ≡ true) (results : HasResults p) (chars : type_at p.types CHAR ≡ ty.Char) (mains : HasIntMain p) where
   abbrev functions : List Function
   functions = (whole so_far p typed built results chars).functions
 

@@ -39,7 +39,7 @@ needs main t over int e w = let some = written_some main t w in (some, past_end 
 
 -- ---- each function
 
-module _ (so_far : Bool) (p : ProgramForm) (typed : IsWellTyped p) (built : are_reached_functions (length (texts_of p)) so_far p.types p.functions ≡ true) (results : HasResults p) (chars : so_far ≡ false → type_at p.types CHAR ≡ ty.Char) (mains : HasIntMain p) where
+module _ (so_far : Bool) (p : ProgramForm) (typed : IsWellTyped p) (built : are_reached_functions (length (texts_of p)) so_far p.types p.functions ≡ true) (results : HasResults p) (chars : type_at p.types CHAR ≡ ty.Char) (mains : HasIntMain p) where
   module _ (n : ℕ) (f : FunctionForm) (at : slice_get p.functions n ≡ Some f) (core : Function) (w : IsWritten p (whole so_far p typed built results chars).types f core) where
     gives : writes_result p.names (whole so_far p typed built results chars).types core ≡ true → GivesResult (around p f)
     gives must =

@@ -1,11 +1,11 @@
--- Which programs the law on translations reaches: all that are served, and with them views of characters, strings, vectors of values, and iterators and spans as variables, with what is asked of them and done to them; strings that are made of others; and text literals.
+-- Which programs the law on translations reaches: all that are served, and with them strings, vectors of values, and iterators and spans as variables, with what is asked of them and done to them; and strings that are made of others.
 use Rattle.std.specs.Prelude.{ℕ, Bool, true, false, ◌&&◌, ◌||◌, not, if◌then◌else◌, List, [], ◌∷◌, take, length, nat_lt, Option, Some, None, slice_get}
 use Rattle.life_types.specs.TypeTests.{is_value, is_view}
 use Rattle.life_types.specs.Types.{Types}
 use Rattle.life_types.specs.declared.ty.Ty.{Ty}
 use Rattle.life_types.specs.declared.ty.Ty.TheVariants as ty
 use Rattle.life_types.specs.declared.ty.TyId.{TyId}
-use Rattle.life_served.specs.Served.{has_no_structs, is_served_result, is_served_variable, is_call}
+use Rattle.life_served.specs.Served.{are_served_variables, has_no_structs, is_served_result, is_served_variable, is_call}
 use Rattle.life_typed.specs.BaseTypes.{type_at}
 use Rattle.life_typed.specs.Programs.{FunctionForm, ProgramForm}
 use Rattle.life_typed.specs.TypedForm.{Form, Typed, number, character, boolean, text, null, local, call, paren, input, dereference, index, method, negate, not as negation, address_of, binary, text_of, typed, nothing, ◌⨟◌, whole, forms}
@@ -38,23 +38,13 @@ is_walker_of_values types (ty.Iterator target constant) = is_value (type_at type
 is_walker_of_values types (ty.Span target constant) = is_value (type_at types target)
 is_walker_of_values types _ = false
 
--- these and a view too, but in a program that is served so far
+-- these too, but in a program that is served so far
 abbrev pub is_reached_variable : (so_far : Bool) → Types → TyId → Bool
-is_reached_variable so_far types id = is_served_variable types id || (not so_far && (is_view (type_at types id) || (is_owner_of_values types (type_at types id) || is_walker_of_values types (type_at types id))))
+is_reached_variable so_far types id = is_served_variable types id || (not so_far && (is_owner_of_values types (type_at types id) || is_walker_of_values types (type_at types id)))
 
 abbrev pub are_reached_variables : (so_far : Bool) → Types → List TypedLocal → Bool
 are_reached_variables so_far types [] = true
 are_reached_variables so_far types (v ∷ vs) = is_reached_variable so_far types v.ty && are_reached_variables so_far types vs
-
--- ---- parameters
-
--- one that is served, and a view too, but in a program that is served so far
-abbrev pub is_reached_parameter : (so_far : Bool) → Types → TyId → Bool
-is_reached_parameter so_far types id = is_served_variable types id || (not so_far && is_view (type_at types id))
-
-abbrev pub are_reached_parameters : (so_far : Bool) → Types → List TypedLocal → Bool
-are_reached_parameters so_far types [] = true
-are_reached_parameters so_far types (v ∷ vs) = is_reached_parameter so_far types v.ty && are_reached_parameters so_far types vs
 
 -- ---- expressions
 
@@ -304,7 +294,7 @@ module _ (texts : ℕ) (so_far : Bool) where
 abbrev pub is_reached_function : (texts : ℕ) (so_far : Bool) → Types → FunctionForm → Bool
 is_reached_function texts so_far types f =
     is_served_result types f.result
-    && (are_reached_parameters so_far types (take (length f.parameters) f.locals)
+    && (are_served_variables types (take (length f.parameters) f.locals)
     && (are_reached_variables so_far types f.locals && is_reached_statement texts so_far types f.locals f.body))
 
 abbrev pub are_reached_functions : (texts : ℕ) (so_far : Bool) → Types → List FunctionForm → Bool

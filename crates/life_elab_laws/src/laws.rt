@@ -21,7 +21,7 @@ pub fn translations_are_proper()
 
 /// Its places are short, as the rules ask: each has at most eight steps.
 pub fn translations_have_short_places()
-    ensures { (p : ProgramForm) → IsWellTyped p → HasResults p → IsTrue (is_served p) → HaveShortPlaces (translated p).types (translated p).functions }
+    ensures { (p : ProgramForm) → IsWellTyped p → HasResults p → HasTable p → IsTrue (is_served p) → HaveShortPlaces (translated p).types (translated p).functions }
 {}
 
 /// The core program of a well typed program that the laws reach has all that makes it proper but what is served so far, where it passes no limit.

@@ -1,4 +1,4 @@
--- Which programs are served so far: values, raw pointers and references to them, and literals that are printed.
+-- Which programs are served so far: values, raw pointers and references to them, views of characters, and literals.
 use Rattle.std.specs.Prelude.{ℕ, ◌-◌, ◌^◌, Bool, true, false, ◌&&◌, ◌||◌, List, [], ◌∷◌, drop, length, nat_lt, Option, Some, None}
 use Rattle.life_types.specs.TypeTests.{is_value, is_void}
 use Rattle.life_types.specs.Types.{Types}
@@ -6,17 +6,20 @@ use Rattle.life_types.specs.declared.ty.Ty.{Ty}
 use Rattle.life_types.specs.declared.ty.Ty.TheVariants as ty
 use Rattle.life_types.specs.declared.ty.TyId.{TyId}
 use Rattle.life_typed.specs.BaseTypes.{type_at}
-use Rattle.life_typed.specs.TypedForm.{Form, Typed, number, character, boolean, text, null, local, call, paren, input, dereference, negate, not as negation, address_of, binary, typed, nothing, ◌⨟◌, whole}
+use Rattle.life_typed.specs.TypedForm.{Form, Typed, number, character, boolean, text, null, local, call, paren, input, dereference, index, method, negate, not as negation, address_of, binary, typed, nothing, ◌⨟◌, whole}
 use Rattle.life_typed.specs.TypedStatement.{StmtForm, DeclarationForm, ForStartForm, InitialForm, ItemForm, SimpleForm, one, several, assign, compound, step, discarded, declared_first, done_first, printed, line_end, block, empty, sentence, branching, while_loop, for_loop, range_loop, loop_break, loop_continue, returned, print, assertion, branch, declaration, no_more, chain}
+use Rattle.life_typed.specs.declared.typed_expr.Method.{Method}
+use Rattle.life_typed.specs.declared.typed_expr.Method.TheVariants.{Empty, Size, Substr}
 use Rattle.life_typed.specs.declared.typed_program.TypedLocal.{TypedLocal}
 use Rattle.life_typed.specs.Programs.{FunctionForm, ProgramForm, StructForm}
 
 -- ---- types
 
--- a raw pointer or a reference to a value
+-- a raw pointer or a reference to a value, or a view of characters
 abbrev pub is_pointing : Types → Ty → Bool
 is_pointing types (ty.Raw target constant) = is_value (type_at types target)
 is_pointing types (ty.Reference target constant) = is_value (type_at types target)
+is_pointing types ty.View = true
 is_pointing types _ = false
 
 abbrev pub all_point : Types → List Ty → Bool
@@ -36,77 +39,83 @@ is_served_result types id = is_void (type_at types id) || is_served_variable typ
 
 -- ---- expressions
 
--- an expression, or several
-abbrev pub is_served_form : Form → Bool
-is_served_form (number n) = true
-is_served_form (character c) = true
-is_served_form (boolean b) = true
-is_served_form null = true
-is_served_form (local x) = true
-is_served_form (call f arguments delimiters) = is_served_form arguments
-is_served_form (paren inner closing) = is_served_form inner
-is_served_form input = true
-is_served_form (dereference e) = is_served_form e
-is_served_form (negate e) = is_served_form e
-is_served_form (negation e) = is_served_form e
-is_served_form (address_of e) = is_served_form e
-is_served_form (binary operator left right) = is_served_form left && is_served_form right
-is_served_form (typed place t category form) = is_served_form form
-is_served_form nothing = true
-is_served_form (e ⨟ es) = is_served_form e && is_served_form es
-is_served_form _ = false
+-- a member that only asks
+abbrev pub is_served_method : Method → Bool
+is_served_method Size = true
+is_served_method Empty = true
+is_served_method Substr = true
+is_served_method _ = false
 
-abbrev pub is_served_expression : Typed → Bool
-is_served_expression e = is_served_form (whole e)
-
-abbrev pub is_served_if_any : Option Typed → Bool
-is_served_if_any None = true
-is_served_if_any (Some e) = is_served_expression e
-
--- ---- declarations and simple statements
-
--- alone stands a call
+-- alone stands a call, of a function or of such a member
 abbrev pub is_call : Form → Bool
 is_call (call f arguments delimiters) = true
+is_call (method base called arguments delimiters) = is_served_method called
 is_call _ = false
-
-abbrev pub is_served_value : InitialForm → Bool
-is_served_value (one e) = is_served_expression e
-is_served_value (several list) = false
-
-abbrev pub is_served_initial : Option InitialForm → Bool
-is_served_initial None = true
-is_served_initial (Some value) = is_served_value value
-
-abbrev pub is_served_declaration : DeclarationForm → Bool
-is_served_declaration d = is_served_initial d.value
-
-abbrev pub is_served_simple : SimpleForm → Bool
-is_served_simple (assign target equals initial) = is_served_expression target && is_served_value initial
-is_served_simple (compound target operator place e) = is_served_expression target && is_served_expression e
-is_served_simple (step target operator place) = is_served_expression target
-is_served_simple (discarded e) = is_call e.form && is_served_expression e
-
-abbrev pub is_served_step : Option SimpleForm → Bool
-is_served_step None = true
-is_served_step (Some it) = is_served_simple it
-
-abbrev pub is_served_start : Option ForStartForm → Bool
-is_served_start None = true
-is_served_start (Some (declared_first d)) = is_served_declaration d
-is_served_start (Some (done_first it)) = is_served_simple it
-
--- ---- what is printed
 
 -- in a program with so many texts
 module _ (texts : ℕ) where
-  -- a literal that is there
-  abbrev pub is_text_there : Form → Bool
-  is_text_there (text n) = nat_lt n texts
-  is_text_there _ = false
+  -- an expression, or several
+  abbrev pub is_served_form : Form → Bool
+  is_served_form (number n) = true
+  is_served_form (character c) = true
+  is_served_form (boolean b) = true
+  is_served_form (text n) = nat_lt n texts
+  is_served_form null = true
+  is_served_form (local x) = true
+  is_served_form (call f arguments delimiters) = is_served_form arguments
+  is_served_form (paren inner closing) = is_served_form inner
+  is_served_form input = true
+  is_served_form (dereference e) = is_served_form e
+  is_served_form (index base position closing) = is_served_form base && is_served_form position
+  is_served_form (method base called arguments delimiters) = is_served_method called && (is_served_form base && is_served_form arguments)
+  is_served_form (negate e) = is_served_form e
+  is_served_form (negation e) = is_served_form e
+  is_served_form (address_of e) = is_served_form e
+  is_served_form (binary operator left right) = is_served_form left && is_served_form right
+  is_served_form (typed place t category form) = is_served_form form
+  is_served_form nothing = true
+  is_served_form (e ⨟ es) = is_served_form e && is_served_form es
+  is_served_form _ = false
+
+  abbrev pub is_served_expression : Typed → Bool
+  is_served_expression e = is_served_form (whole e)
+
+  abbrev pub is_served_if_any : Option Typed → Bool
+  is_served_if_any None = true
+  is_served_if_any (Some e) = is_served_expression e
+
+  -- ---- declarations and simple statements
+
+  abbrev pub is_served_value : InitialForm → Bool
+  is_served_value (one e) = is_served_expression e
+  is_served_value (several list) = false
+
+  abbrev pub is_served_initial : Option InitialForm → Bool
+  is_served_initial None = true
+  is_served_initial (Some value) = is_served_value value
+
+  abbrev pub is_served_declaration : DeclarationForm → Bool
+  is_served_declaration d = is_served_initial d.value
+
+  abbrev pub is_served_simple : SimpleForm → Bool
+  is_served_simple (assign target equals initial) = is_served_expression target && is_served_value initial
+  is_served_simple (compound target operator place e) = is_served_expression target && is_served_expression e
+  is_served_simple (step target operator place) = is_served_expression target
+  is_served_simple (discarded e) = is_call e.form && is_served_expression e
+
+  abbrev pub is_served_step : Option SimpleForm → Bool
+  is_served_step None = true
+  is_served_step (Some it) = is_served_simple it
+
+  abbrev pub is_served_start : Option ForStartForm → Bool
+  is_served_start None = true
+  is_served_start (Some (declared_first d)) = is_served_declaration d
+  is_served_start (Some (done_first it)) = is_served_simple it
+
+  -- ---- what is printed
 
   abbrev pub is_served_item : ItemForm → Bool
-  is_served_item (printed e) = is_served_expression e || is_text_there e.form
+  is_served_item (printed e) = is_served_expression e
   is_served_item (line_end place) = true
 
   abbrev pub are_served_items : List ItemForm → Bool

@@ -1,5 +1,5 @@
-// Which programs are served so far: values, raw pointers and references to them, and literals that are
-// printed.
+// Which programs are served so far: values, raw pointers and references to them, views of characters, and
+// literals.
 ghost use Rattle.std.specs.Prelude.{◌≡◌, length, map};
 ghost use Rattle.life_typed.specs.BaseTypes.{type_at};
 ghost use Rattle.life_typed.specs.TypedForm.{Form, form_view, forms, typed_view, typed_views};
@@ -8,7 +8,7 @@ ghost use Rattle.life_served.specs.Served as spec;
 ghost use Rattle.life_typed.specs.Programs.{function_view, program_view};
 
 use life_typed::{
-    ExprForm, Typed, TypedBlock, TypedBlockItem, TypedBranch, TypedDeclaration, TypedExpr,
+    ExprForm, Method, Typed, TypedBlock, TypedBlockItem, TypedBranch, TypedDeclaration, TypedExpr,
     TypedForStart, TypedFunction, TypedInitial, TypedItem, TypedLocal, TypedSimple, TypedStmt,
 };
 use life_types::{Ty, TyId, TypeTable, is_value, is_void};
@@ -25,13 +25,14 @@ fn type_at(types: &TypeTable, id: TyId) -> Ty
     }
 }
 
-// A raw pointer or a reference to a value.
+// A raw pointer or a reference to a value, or a view of characters.
 fn is_pointing(types: &TypeTable, ty: Ty) -> bool
     ensures { result ≡ spec.is_pointing types.now ty }
 {
     match ty {
         Ty::Raw { target, .. } => is_value(type_at(types, target)),
         Ty::Reference { target, .. } => is_value(type_at(types, target)),
+        Ty::View => true,
         _ => false,
     }
 }
@@ -64,21 +65,33 @@ fn is_served_result(types: &TypeTable, id: TyId) -> bool
     is_void(type_at(types, id)) || is_served_variable(types, id)
 }
 
+// A member that only asks.
+fn is_served_method(method: Method) -> bool
+    ensures { result ≡ spec.is_served_method method }
+{
+    match method {
+        Method::Size => true,
+        Method::Empty => true,
+        Method::Substr => true,
+        _ => false,
+    }
+}
+
 #[cycle(expressions)]
-fn is_served_expression(expression: &TypedExpr) -> bool
-    ensures { result ≡ spec.is_served_expression (typed_view expression.now) }
+fn is_served_expression(texts: usize, expression: &TypedExpr) -> bool
+    ensures { result ≡ spec.is_served_expression texts (typed_view expression.now) }
 {
     let mut served = true;
     'operands: for operand in &expression.within {
-        served = is_served_by(&operand.form, served);
+        served = is_served_by(texts, &operand.form, served);
     }
-    is_served_by(&expression.form, served)
+    is_served_by(texts, &expression.form, served)
 }
 
 // Whether what a form makes of an operand is served, where it is known of the operand.
 #[cycle(expressions)]
-fn is_served_by(form: &ExprForm, operand: bool) -> bool
-    ensures { (f : Form) → spec.is_served_form f ≡ operand → result ≡ spec.is_served_form (form_view form.now f) }
+fn is_served_by(texts: usize, form: &ExprForm, operand: bool) -> bool
+    ensures { (f : Form) → spec.is_served_form texts f ≡ operand → result ≡ spec.is_served_form texts (form_view form.now f) }
 {
     match form {
         ExprForm::Number(_)
@@ -87,104 +100,103 @@ fn is_served_by(form: &ExprForm, operand: bool) -> bool
         | ExprForm::Null
         | ExprForm::Local(_)
         | ExprForm::Input => true,
-        ExprForm::Call { arguments, .. } => are_served_expressions(arguments),
+        ExprForm::Text(number) => (*number as usize) < texts,
+        ExprForm::Call { arguments, .. } => are_served_expressions(texts, arguments),
         ExprForm::Paren { .. }
         | ExprForm::Dereference
         | ExprForm::Negate
         | ExprForm::Not
         | ExprForm::AddressOf => operand,
-        ExprForm::Binary { right, .. } => operand && is_served_expression(right),
+        ExprForm::Index { index, .. } => operand && is_served_expression(texts, index),
+        ExprForm::Method {
+            method,
+            arguments,
+            ..
+        } => { is_served_method(*method) && (operand && are_served_expressions(texts, arguments)) }
+        ExprForm::Binary { right, .. } => operand && is_served_expression(texts, right),
         _ => false,
     }
 }
 
 #[cycle(expressions)]
-fn are_served_expressions(expressions: &[TypedExpr]) -> bool
-    ensures { result ≡ spec.is_served_form (forms (typed_views expressions.now)) }
+fn are_served_expressions(texts: usize, expressions: &[TypedExpr]) -> bool
+    ensures { result ≡ spec.is_served_form texts (forms (typed_views expressions.now)) }
 {
     'expressions: for expression in expressions {
-        if !is_served_expression(expression) {
+        if !is_served_expression(texts, expression) {
             return false;
         }
     }
     true
 }
 
-fn is_served_if_any(expression: &Option<TypedExpr>) -> bool
-    ensures { result ≡ spec.is_served_if_any (optional_view typed_view expression.now) }
+fn is_served_if_any(texts: usize, expression: &Option<TypedExpr>) -> bool
+    ensures { result ≡ spec.is_served_if_any texts (optional_view typed_view expression.now) }
 {
     match expression {
-        Some(expression) => is_served_expression(expression),
+        Some(expression) => is_served_expression(texts, expression),
         None => true,
     }
 }
 
-fn is_served_value(value: &TypedInitial) -> bool
-    ensures { result ≡ spec.is_served_value (initial_view value.now) }
+fn is_served_value(texts: usize, value: &TypedInitial) -> bool
+    ensures { result ≡ spec.is_served_value texts (initial_view value.now) }
 {
     match value {
-        TypedInitial::Expr(value) => is_served_expression(value),
+        TypedInitial::Expr(value) => is_served_expression(texts, value),
         TypedInitial::List(_) => false,
     }
 }
 
-fn is_served_initial(value: &Option<TypedInitial>) -> bool
-    ensures { result ≡ spec.is_served_initial (optional_view initial_view value.now) }
+fn is_served_initial(texts: usize, value: &Option<TypedInitial>) -> bool
+    ensures { result ≡ spec.is_served_initial texts (optional_view initial_view value.now) }
 {
     match value {
-        Some(value) => is_served_value(value),
+        Some(value) => is_served_value(texts, value),
         None => true,
     }
 }
 
-fn is_served_declaration(declaration: &TypedDeclaration) -> bool
-    ensures { result ≡ spec.is_served_declaration (declaration_view declaration.now) }
+fn is_served_declaration(texts: usize, declaration: &TypedDeclaration) -> bool
+    ensures { result ≡ spec.is_served_declaration texts (declaration_view declaration.now) }
 {
-    is_served_initial(&declaration.value)
+    is_served_initial(texts, &declaration.value)
 }
 
-// Alone stands a call.
+// Alone stands a call, of a function or of such a member.
 fn is_call(form: &ExprForm) -> bool
     ensures { (f : Form) → result ≡ spec.is_call (form_view form.now f) }
 {
     match form {
         ExprForm::Call { .. } => true,
+        ExprForm::Method { method, .. } => is_served_method(*method),
         _ => false,
     }
 }
 
-fn is_served_simple(simple: &TypedSimple) -> bool
-    ensures { result ≡ spec.is_served_simple (simple_view simple.now) }
+fn is_served_simple(texts: usize, simple: &TypedSimple) -> bool
+    ensures { result ≡ spec.is_served_simple texts (simple_view simple.now) }
 {
     match simple {
         TypedSimple::Assign { target, value, .. } => {
-            is_served_expression(target) && is_served_value(value)
+            is_served_expression(texts, target) && is_served_value(texts, value)
         }
         TypedSimple::Compound { target, value, .. } => {
-            is_served_expression(target) && is_served_expression(value)
+            is_served_expression(texts, target) && is_served_expression(texts, value)
         }
-        TypedSimple::Step { target, .. } => is_served_expression(target),
+        TypedSimple::Step { target, .. } => is_served_expression(texts, target),
         TypedSimple::Call(expression) => {
-            is_call(&expression.form) && is_served_expression(expression)
+            is_call(&expression.form) && is_served_expression(texts, expression)
         }
     }
 }
 
-fn is_served_step(step: &Option<TypedSimple>) -> bool
-    ensures { result ≡ spec.is_served_step (optional_view simple_view step.now) }
+fn is_served_step(texts: usize, step: &Option<TypedSimple>) -> bool
+    ensures { result ≡ spec.is_served_step texts (optional_view simple_view step.now) }
 {
     match step {
-        Some(simple) => is_served_simple(simple),
+        Some(simple) => is_served_simple(texts, simple),
         None => true,
-    }
-}
-
-fn is_text_there(texts: usize, form: &ExprForm) -> bool
-    ensures { (f : Form) → result ≡ spec.is_text_there texts (form_view form.now f) }
-{
-    match form {
-        ExprForm::Text(number) => (*number as usize) < texts,
-        _ => false,
     }
 }
 
@@ -192,9 +204,7 @@ fn is_served_item(texts: usize, item: &TypedItem) -> bool
     ensures { result ≡ spec.is_served_item texts (item_view item.now) }
 {
     match item {
-        TypedItem::Value(value) => {
-            is_served_expression(value) || is_text_there(texts, &value.form)
-        }
+        TypedItem::Value(value) => is_served_expression(texts, value),
         TypedItem::EndLine(_) => true,
     }
 }
@@ -210,12 +220,12 @@ fn are_served_items(texts: usize, items: &[TypedItem]) -> bool
     true
 }
 
-fn is_served_start(start: &Option<TypedForStart>) -> bool
-    ensures { result ≡ spec.is_served_start (optional_view for_start_view start.now) }
+fn is_served_start(texts: usize, start: &Option<TypedForStart>) -> bool
+    ensures { result ≡ spec.is_served_start texts (optional_view for_start_view start.now) }
 {
     match start {
-        Some(TypedForStart::Declaration(declaration)) => is_served_declaration(declaration),
-        Some(TypedForStart::Simple(simple)) => is_served_simple(simple),
+        Some(TypedForStart::Declaration(declaration)) => is_served_declaration(texts, declaration),
+        Some(TypedForStart::Simple(simple)) => is_served_simple(texts, simple),
         None => true,
     }
 }
@@ -227,7 +237,7 @@ fn is_served_statement(texts: usize, statement: &TypedStmt) -> bool
     match statement {
         TypedStmt::Block(block) => is_served_block(texts, block),
         TypedStmt::Empty(_) => true,
-        TypedStmt::Simple { simple, .. } => is_served_simple(simple),
+        TypedStmt::Simple { simple, .. } => is_served_simple(texts, simple),
         TypedStmt::If { branches, last } => {
             are_served_branches(texts, branches)
                 && match last {
@@ -239,18 +249,18 @@ fn is_served_statement(texts: usize, statement: &TypedStmt) -> bool
             condition,
             body,
             ..
-        } => is_served_expression(condition) && is_served_statement(texts, body),
+        } => is_served_expression(texts, condition) && is_served_statement(texts, body),
         TypedStmt::For { head, body, .. } => {
-            is_served_start(&head.start)
-                && (is_served_if_any(&head.condition)
-                    && (is_served_step(&head.step) && is_served_statement(texts, body)))
+            is_served_start(texts, &head.start)
+                && (is_served_if_any(texts, &head.condition)
+                    && (is_served_step(texts, &head.step) && is_served_statement(texts, body)))
         }
         TypedStmt::RangeFor { .. } => false,
         TypedStmt::Break { .. } => true,
         TypedStmt::Continue { .. } => true,
-        TypedStmt::Return { value, .. } => is_served_if_any(value),
+        TypedStmt::Return { value, .. } => is_served_if_any(texts, value),
         TypedStmt::Print { items, .. } => are_served_items(texts, items),
-        TypedStmt::Assert { condition, .. } => is_served_expression(condition),
+        TypedStmt::Assert { condition, .. } => is_served_expression(texts, condition),
     }
 }
 
@@ -271,7 +281,7 @@ fn is_served_block_item(texts: usize, item: &TypedBlockItem) -> bool
     ensures { result ≡ spec.is_served_statement texts (block_item_view item.now) }
 {
     match item {
-        TypedBlockItem::Declare { declaration, .. } => is_served_declaration(declaration),
+        TypedBlockItem::Declare { declaration, .. } => is_served_declaration(texts, declaration),
         TypedBlockItem::Stmt(statement) => is_served_statement(texts, statement),
     }
 }
@@ -292,7 +302,7 @@ fn are_served_branches(texts: usize, branches: &[TypedBranch]) -> bool
 fn is_served_branch(texts: usize, branch: &TypedBranch) -> bool
     ensures { result ≡ spec.is_served_statement texts (branch_view branch.now) }
 {
-    is_served_expression(&branch.condition) && is_served_statement(texts, &branch.body)
+    is_served_expression(texts, &branch.condition) && is_served_statement(texts, &branch.body)
 }
 
 fn are_served_variables(types: &TypeTable, variables: &[TypedLocal]) -> bool
@@ -313,8 +323,8 @@ fn is_served_function(texts: usize, types: &TypeTable, function: &TypedFunction)
         && (are_served_variables(types, &function.locals) && is_served_block(texts, &function.body))
 }
 
-/// Whether a program is served: each type in it is `void`, a value type, or a raw pointer or a
-/// reference to one; there is no struct, no string literal but one that is printed, and no loop over a
+/// Whether a program is served: each type in it is `void`, a value type, a raw pointer or a reference to
+/// one, or `std::string_view`; of members views alone are asked; there is no struct, and no loop over a
 /// range. A table of types without numbers that are left counts as not served.
 pub fn is_served(typed: &Typed) -> bool
     ensures { result ≡ spec.is_served (program_view typed.now) }

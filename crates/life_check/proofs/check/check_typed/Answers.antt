@@ -22,7 +22,7 @@ check_program-requires g c =
     let typed = c.requires.well_typed in
     let results = c.requires.results in
     translated_proper p (program_of c.in_ok-program.program) c.in_ok-program.ensures.program.0 c.in_ok-program.ensures.program.1 c.in_ok-program.ensures.numbered
-    (c.translations_have_short_places.ensures p typed results served)
+    (c.translations_have_short_places.ensures p typed results c.requires.table served)
     (c.translations_are_proper.ensures p typed results c.requires.table c.requires.names c.requires.mains served)
 
 pub returns-clause-finds : goal.returns-clause-finds
