@@ -1,0 +1,5 @@
+use Rattle.life_modular.proofs.SameSignatures.{same_line}
+use Rattle.life_modular.proofs.laws.lines_are_modular.Goals as goal
+
+pub returns : goal.returns
+returns c = same_line

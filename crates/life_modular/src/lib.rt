@@ -1,0 +1,6 @@
+//! The check is modular: what is wrong with a function hangs on its own text, on the types, and on the signatures of what it calls.
+#![tactic(auto)]
+
+mod laws;
+
+pub use laws::{diagnostics_are_modular, lines_are_modular};
