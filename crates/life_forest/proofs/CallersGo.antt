@@ -1,4 +1,4 @@
--- A caller goes on behind a call that hands over no slot with a unique_ptr: its frame stands as it did, and its slots and its target have what is given back.
+-- A caller goes on behind a call: its frame stands as it did, and its slots and its target have what is given back.
 use Rattle.std.proofs.Common.{◌≡◌, inl, inr, ℕ, zero, suc, ◌+◌, ◌<◌, Bool, true, false, if◌then◌else◌, List, [], ◌∷◌, ◌++◌, length-append, Option, Some, None, refl, sym, ap, subst, ◌∙◌, arith}
 use Rattle.std.proofs.lemmas.Bool.{and_parts, false≢true}
 use Rattle.std.specs.Prelude.{drop, flat_map, length, slice_get, slice_set, ◌-◌}
@@ -34,21 +34,22 @@ use Rattle.life_store.proofs.CellLemmas.{some_same}
 use Rattle.life_store.proofs.Going.{GoodEffect, paid_good}
 use Rattle.life_forest.specs.Frames.{named_in}
 use Rattle.life_forest.specs.Owned.{alive, times}
+use Rattle.life_forest.specs.Settled.{IsPoised}
 use Rattle.life_forest.specs.Typed.{IsStore}
 use Rattle.life_forest.proofs.BodiesGo.{CallsAreSound, IsLeft, IsNoStray, IsSoundAt, SoundAnswer, leads}
 use Rattle.life_forest.proofs.EnteredFrames.{GivesOn, later, less_sound, on_given_next}
-use Rattle.life_forest.proofs.EntryFrames.{as_many, types_held}
-use Rattle.life_forest.proofs.Frames.{less_in_hand}
+use Rattle.life_forest.proofs.EntryFrames.{as_many}
 use Rattle.life_forest.proofs.GivenResults.{IsBack, IsResult}
 use Rattle.life_forest.proofs.GivenSlots.{named_append, slot_types}
-use Rattle.life_forest.proofs.HandedOver.{AreHanded, AreHandedTo, ArePointerSlots, hands_all, leaves_are}
+use Rattle.life_forest.proofs.HandedOver.{AreHanded, AreTaken, hands_all, leaves_are}
 use Rattle.life_forest.proofs.HeldPoints.{poised}
 use Rattle.life_forest.proofs.HeldPointers.{pointers_aim, pointers_fit}
 use Rattle.life_forest.proofs.Holding.{KeepsWaiting}
 use Rattle.life_forest.proofs.Keeping.{Keeps, keeps_more, keeps_then}
 use Rattle.life_forest.proofs.KeptSlots.{slots_kept, target_kept}
 use Rattle.life_forest.proofs.LaterFrames.{behind_sound}
-use Rattle.life_forest.proofs.LentFrames.{IsLent, lent_less}
+use Rattle.life_forest.proofs.LentFrames.{IsLent, lends, slot_names}
+use Rattle.life_forest.proofs.ParametersGo.{taken_later}
 use Rattle.life_forest.proofs.SeenTypes.{pointer_parts, pointer_solid}
 use Rattle.life_forest.proofs.SettledPoints.{kinds_fit}
 use Rattle.life_forest.proofs.SettlingLives.{HaveMembers}
@@ -56,6 +57,7 @@ use Rattle.life_forest.proofs.Shaped.{IsShaped, locals_shaped}
 use Rattle.life_forest.proofs.Slots.{ArePointsFormed, slots_stay}
 use Rattle.life_forest.proofs.SlotsGo.{AreSlotsThere, slots_counted, slots_give}
 use Rattle.life_forest.proofs.StandingPointers.{IsPointer}
+use Rattle.life_forest.proofs.StillHanded.{all_hand}
 use Rattle.life_forest.proofs.TypedSteps.{location_of}
 use Rattle.life_forest.proofs.TargetsGo.{IsTargetReady, target_gives}
 
@@ -69,12 +71,12 @@ GoodCalled types g rest c (Quit stop w) = IsNoStray stop
 
 -- .. where it is handed what its parameters take
 abbrev pub GoodCallee : Types → List Function → Callee → Type 0
-GoodCallee types fs call = (k : ℕ) (g : Function) (rest : ℕ → ℕ) (xs : List Cell) (n : ℕ) (w : World) → slice_get fs k ≡ Some g → AreHandedTo types w.content (types_held types g) xs → IsStore types (λ k. times (named_in xs) k + rest k) w.content
+GoodCallee types fs call = (k : ℕ) (g : Function) (rest : ℕ → ℕ) (xs : List Cell) (n : ℕ) (w : World) → slice_get fs k ≡ Some g → AreTaken types w.content (types_taken g) xs → IsStore types (λ k. times (named_in xs) k + rest k) w.content
     → GoodCalled types g rest w.content (call k xs n w)
 
 -- ---- bits and lists
 
-back_of : (first others : List Cell) (n : ℕ) → length others ≡ n → drop (length (first ++ others) - n) (first ++ others) ≡ others
+pub back_of : (first others : List Cell) (n : ℕ) → length others ≡ n → drop (length (first ++ others) - n) (first ++ others) ≡ others
 back_of first others n e =
     let l = length-append first others in
     let k : length (first ++ others) - n ≡ length first = omega (arith, l, e) in
@@ -106,7 +108,7 @@ result_later types loose hand c d store keeps id vs waits (inr r) =
     inr (r.0, r.1, (later types loose hand c d store keeps (id ∷ []) (r.0 ∷ []) (λ n lt. waits n (let a = ap (λ (ws : List Cell). times (named_in ws) n) r.1 in omega (arith, a, lt))) (r.2, tt)).0)
 
 module _ (types : Types) (ordered : IsOrdered types) (once : HasEachOnce types) (some : HaveMembers types) (names texts : ℕ) (fs : List Function) (f : Function) (formed : is_well_formed_function types names texts fs f ≡ true) (points : ArePointsFormed types texts fs f)
-    (ready : HasReadyWays types f) (rest : ℕ → ℕ) (before : Content) (s : Setting) (call : Callee) (callees : GoodCallee types fs call) (free : (k : ℕ) (g : Function) → slice_get fs k ≡ Some g → ArePointerSlots types (types_taken g)) (given : all_keep_given types f ≡ true) where
+    (ready : HasReadyWays types f) (rest : ℕ → ℕ) (before : Content) (s : Setting) (call : Callee) (callees : GoodCallee types fs call) (given : all_keep_given types f ≡ true) where
   pub shaped : IsShaped types f
   shaped = locals_shaped types ordered names f (formed_parts types names texts fs f formed).locals
 
@@ -130,19 +132,39 @@ module _ (types : Types) (ordered : IsOrdered types) (once : HasEachOnce types) 
     are = ready.ready b (ready_of st) (record { spot = spot_at place (Action (Call target g xs)); leads = goes x.next }) inv.reached here
 
     -- the function that is called is there
-    module _ (gf : Function) (is : slice_get fs g.0 ≡ Some gf) (args : are_arguments_for types texts fs f (types_taken gf) xs ≡ true) (into : goes_to types texts fs f (ty_of types gf.result) target ≡ true) where
-      pub handed : AreHanded types ordered once texts fs f shaped rest st inv.sound.stands (poised types ordered once some names texts fs f formed points ready rest st inv.sound) (pointers_aim types ordered f st inv.sound.held inv.sound.stands.frame) inv.sound.held (types_taken gf) xs
-      handed = hands_all types ordered once texts fs f shaped rest st inv.sound.stands (poised types ordered once some names texts fs f formed points ready rest st inv.sound) (pointers_aim types ordered f st inv.sound.held inv.sound.stands.frame) inv.sound.held (types_taken gf) xs (free g.0 gf is) args
-          (bits_left true (ready_of st) (flat_map (argument_uses f) xs) (target_uses target) are.uses) (leaves_are (ready_of st) (flat_map (argument_leaves f) xs) are.leaves)
+    module _ (gf : Function) (is : slice_get fs g.0 ≡ Some gf) (args : are_arguments_for types texts fs f (types_taken gf) xs ≡ true) (own : have_own_slots types texts fs f xs ≡ true) (into : goes_to types texts fs f (ty_of types gf.result) target ≡ true) where
+      at_point : IsPoised types f st
+      at_point = poised types ordered once some names texts fs f formed points ready rest st inv.sound
 
-      pub loan : IsLent types texts fs f pointers st xs handed.values st
-      loan = lent_less types texts fs f pointers st xs handed.values (types_taken gf) st (free g.0 gf is) args handed.each (record { world = refl; cells = λ y v there e. e }) are.leaves
+      used : AreBits true (ready_of st) (flat_map (argument_uses f) xs)
+      used = bits_left true (ready_of st) (flat_map (argument_uses f) xs) (target_uses target) are.uses
+
+      pub handed : AreHanded types ordered once texts fs f shaped rest st inv.sound.stands (poised types ordered once some names texts fs f formed points ready rest st inv.sound) (pointers_aim types ordered f st inv.sound.held inv.sound.stands.frame) inv.sound.held (types_taken gf) xs
+      handed = hands_all types ordered once texts fs f shaped rest st inv.sound.stands (poised types ordered once some names texts fs f formed points ready rest st inv.sound) (pointers_aim types ordered f st inv.sound.held inv.sound.stands.frame) inv.sound.held (types_taken gf) xs args
+          used (leaves_are (ready_of st) (flat_map (argument_leaves f) xs) are.leaves)
+
+      pub loan : IsLent types ordered texts fs f rest (flat_map (argument_leaves f) xs) (slot_names xs handed.values) handed.values st (lent types f xs st)
+      loan = lends types ordered texts fs f rest xs handed.values st inv.sound (all_hand types ordered once texts fs f shaped st at_point (types_taken gf) xs handed.values args handed.each used) own are.leaves
+          (slots_kept types f given b (ready_of st) place target g xs x.next here used)
 
       abbrev left : List Cell
       left = (lent types f xs st).cells
 
       abbrev waiting : ℕ → ℕ
       waiting k = times (named_in left) k + rest k
+
+      -- what the callee begins with: each value is what its parameter takes
+      abbrev begun : Content
+      begun = (lent types f xs st).world.content
+
+      pub begun_takes : AreTaken types (lent types f xs st).world.content (types_taken gf) handed.values
+      begun_takes =
+          taken_later types (λ k. ⊥) (λ k. times (named_in st.cells) k + rest k) st.world.content (lent types f xs st).world.content inv.sound.stands.store loan.keeps (types_taken gf) handed.values
+          (λ n lt. ((λ none. none), let h = loan.store.forest.held n in omega (arith, h, lt))) handed.suit
+
+      -- what waits has its pointers still
+      pub begun_keeps : (loose : ℕ → Type 0) → Keeps types loose st.world.content (lent types f xs st).world.content
+      begun_keeps loose = keeps_more types (λ k. ⊥) loose st.world.content (lent types f xs st).world.content (λ n none. absurd none) loan.keeps
 
       target_ready : (st3 : State) → ready_of st3 ≡ ready_of (lent types f xs st) → IsTargetReady types ordered once texts fs f shaped (kinds_fit types ordered once some names texts fs f formed points ready) rest s st3 target
       target_ready st3 same = record {
@@ -161,14 +183,15 @@ module _ (types : Types) (ordered : IsOrdered types) (once : HasEachOnce types) 
               absurd (false≢true (some_same (sym one.0 ∙ slots_stay types ordered texts fs f names formed points b (ready_of st) inv.reached l.local e)))
 
       -- the slots have their values back, and then the target the result
-      pub taken_gives : (w : World) (vs : List Cell) → GoodCalled types gf (λ k. times (named_in (lent types f xs st).cells) k + rest k) st.world.content (Back 0 w vs)
+      pub taken_gives : (w : World) (vs : List Cell) → GoodCalled types gf (λ k. times (named_in (lent types f xs st).cells) k + rest k) (lent types f xs st).world.content (Back 0 w vs)
           → GivesOn types f rest w.content (bits_past types f (Action (Call target g xs)) (ready_of st)) (taken_back s types f target xs vs (record { world = w; cells = (lent types f xs st).cells }))
       taken_gives w vs h =
           let back = h.2 in
           let st2 : State = record { world = w; cells = left } in
           let hand : ℕ → ℕ = λ k. times (named_in back.first) k + rest k in
           let sound2 = less_sound types f (λ k. times (named_in vs) k + rest k) (λ k. times (named_in back.others) k + hand k) st2
-          (λ k. let a = ap (λ (ws : List Cell). times (named_in ws) k) back.are in let b = named_append back.first back.others k in omega (arith, a, b)) (behind_sound types f rest st inv.sound left (λ y v there e. loan.less.cells y v there e) w (λ k. times (named_in vs) k) h.0 h.1) in
+          (λ k. let a = ap (λ (ws : List Cell). times (named_in ws) k) back.are in let b = named_append back.first back.others k in omega (arith, a, b)) (behind_sound types f rest st inv.sound left (λ y v there e. loan.cells y v there e) w (λ k. times (named_in vs) k) h.0
+          (keeps_then types (λ k. waiting k ≡ 0) st.world.content begun w.content (begun_keeps (λ k. waiting k ≡ 0)) h.1)) in
           let drops : drop (length vs - slot_count xs) vs ≡ back.others =
           ap (λ (ws : List Cell). drop (length ws - slot_count xs) ws) back.are
           ∙ back_of back.first back.others (slot_count xs) (as_many types w.content (slot_types types (types_taken gf)) back.others back.suit ∙ slots_counted types texts fs f (types_taken gf) xs args) in
@@ -176,7 +199,7 @@ module _ (types : Types) (ordered : IsOrdered types) (once : HasEachOnce types) 
           (subst (λ (ws : List Cell). GivesOn types f rest w.content (set_bits true (target_births f target ++ target_writes f target) (ready_of st2)) (on_next (slots_returned types f xs ws st2) (target_given s types f target vs))) (sym drops)
           (on_given_next types ordered f shaped (kinds_fit types ordered once some names texts fs f formed points ready) rest s hand w.content (ready_of st2) (set_bits true (target_births f target ++ target_writes f target) (ready_of st2)) (slots_returned types f xs back.others st2) (target_given s types f target vs) (λ k. omega arith)
           (slots_give types ordered once texts fs f shaped (kinds_fit types ordered once some names texts fs f formed points ready) hand s (types_taken gf) xs back.others st2 args back.suit sound2
-          (subst (λ (bits : Ready). AreSlotsThere bits xs) (sym loan.bits) (slots_kept types f given b (ready_of st) place target g xs x.next here (bits_left true (ready_of st) (flat_map (argument_uses f) xs) (target_uses target) are.uses))))
+          (subst (λ (bits : Ready). AreSlotsThere bits xs) (sym loan.bits) (slots_kept types f given b (ready_of st) place target g xs x.next here used)))
           (λ st3 next. subst (λ (bits : Ready). GivesOn types f rest st3.world.content (set_bits true (target_births f target ++ target_writes f target) bits) (target_given s types f target vs st3)) next.bits
           (subst (λ (ws : List Cell). GivesOn types f rest st3.world.content (set_bits true (target_births f target ++ target_writes f target) (ready_of st3)) (target_given s types f target ws st3)) (sym back.are)
           (target_gives types ordered once texts fs f shaped (kinds_fit types ordered once some names texts fs f formed points ready) rest s st3 target gf.result back.first back.others (pointers_fit types ordered f st3 next.sound.held once texts fs shaped next.sound.sorted) into next.sound
@@ -184,27 +207,26 @@ module _ (types : Types) (ordered : IsOrdered types) (once : HasEachOnce types) 
           (λ n lt. ((λ z. omega (arith, z, lt)), let i = next.sound.stands.store.forest.held n in omega (arith, i, lt))) back.given)
           (target_ready st3 next.bits))))))
 
-      returned : (r : Called) → GoodCalled types gf (λ k. times (named_in (lent types f xs st).cells) k + rest k) st.world.content r → SoundAnswer types f rest before x (came_back s types f place target xs st r)
+      returned : (r : Called) → GoodCalled types gf (λ k. times (named_in (lent types f xs st).cells) k + rest k) (lent types f xs st).world.content r → SoundAnswer types f rest before x (came_back s types f place target xs st r)
       returned (Barred kind) h = tt
       returned (Quit stop w) h = h
       returned (Back m w vs) h =
-          let waits = keeps_then types (λ k. rest k ≡ 0) before st.world.content w.content inv.waits (keeps_more types (λ k. waiting k ≡ 0) (λ k. rest k ≡ 0) st.world.content w.content (λ k z. omega (arith, z)) h.1) in
+          let lends = keeps_then types (λ k. rest k ≡ 0) before st.world.content begun inv.waits (begun_keeps (λ k. rest k ≡ 0)) in
+          let waits = keeps_then types (λ k. rest k ≡ 0) before begun w.content lends (keeps_more types (λ k. waiting k ≡ 0) (λ k. rest k ≡ 0) begun w.content (λ k z. omega (arith, z)) h.1) in
           paid_good (IsSoundAt types f rest before) (IsLeft types f rest before) IsNoStray tt place w x (taken_back s types f target xs vs (record { world = w; cells = left })) m
           (gives_good b place target g xs x.next (ready_of st) w.content here inv.reached waits (taken_back s types f target xs vs (record { world = w; cells = left })) (taken_gives w vs h))
 
       called : SoundAnswer types f rest before x (act s types f call place (Call target g xs) n st)
       called =
           subst (λ (o : Option (List Cell)). SoundAnswer types f rest before x (came_back s types f place target xs st (call_with call g.0 o n (lent types f xs st).world))) (sym handed.are)
-          (subst (λ (w : World). SoundAnswer types f rest before x (came_back s types f place target xs st (call g.0 handed.values n w))) (sym loan.less.world)
-          (returned (call g.0 handed.values n st.world)
-          (callees g.0 gf waiting handed.values n st.world is handed.suit
-          (less_in_hand types (λ k. times (named_in st.cells) k + rest k) (λ k. times (named_in handed.values) k + waiting k) st.world.content (λ k. let a = loan.hand k in omega (arith, a)) inv.sound.stands.store))))
+          (returned (call g.0 handed.values n (lent types f xs st).world) (callees g.0 gf waiting handed.values n (lent types f xs st).world is begun_takes loan.store))
 
     by_function : (o : Option Function) → slice_get fs g.0 ≡ o → is_call types texts fs f o target xs ≡ true → SoundAnswer types f rest before x (act s types f call place (Call target g xs) n st)
     by_function None is e = absurd (false≢true e)
     by_function (Some gf) is e =
         let outer = and_parts (are_arguments_for types texts fs f (types_taken gf) xs) _ e in
-        called gf is outer.0 (and_parts (have_own_slots types texts fs f xs) (goes_to types texts fs f (ty_of types gf.result) target) outer.1).1
+        let inner = and_parts (have_own_slots types texts fs f xs) (goes_to types texts fs f (ty_of types gf.result) target) outer.1 in
+        called gf is outer.0 inner.0 inner.1
 
   pub calls_sound : CallsAreSound types f rest before s call
   calls_sound b place target g xs x here n st inv =

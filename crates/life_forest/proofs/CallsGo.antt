@@ -1,4 +1,4 @@
--- Each call of a program is sound that hands over no slot with a unique_ptr, however deep calls may stand.
+-- Each call of a program is sound, however deep calls may stand.
 use Rattle.std.proofs.Common.{◌≡◌, ℕ, zero, suc, ◌+◌, true, List, Option, Some, refl, sym, subst}
 use Rattle.std.specs.Prelude.{slice_get}
 use Rattle.life_types.specs.Trees.{IsOrdered}
@@ -22,24 +22,23 @@ use Rattle.life_forest.specs.Typed.{IsStore}
 use Rattle.life_forest.proofs.BodiesGo.{IsLeft, SoundAnswer, body_goes}
 use Rattle.life_forest.proofs.CallersGo.{GoodCalled, GoodCallee, calls_sound}
 use Rattle.life_forest.proofs.EnteredFrames.{GivesOn}
-use Rattle.life_forest.proofs.EntryFrames.{entry_gives, taking_all, types_held}
+use Rattle.life_forest.proofs.EntryFrames.{entry_gives, parameters_all}
 use Rattle.life_forest.proofs.GivenResults.{results_given}
 use Rattle.life_forest.proofs.GivenSlots.{slots_given, slots_named}
-use Rattle.life_forest.proofs.HandedOver.{AreHandedTo, ArePointerSlots}
+use Rattle.life_forest.proofs.HandedOver.{AreTaken}
 use Rattle.life_forest.proofs.HeldPoints.{IsNext, poised}
 use Rattle.life_forest.proofs.SettledPoints.{formed_at, kinds_fit}
 use Rattle.life_forest.proofs.SettlingLives.{HaveMembers}
 use Rattle.life_forest.proofs.Shaped.{IsShaped, locals_shaped}
 use Rattle.life_forest.proofs.Slots.{ArePointsFormed}
 
--- ---- a function without such slots
+-- ---- one function
 
 -- what is asked of a function, in a program with these types, so many names and texts, and these functions
 pub record GoesWell (types : Types) (names texts : ℕ) (fs : List Function) (f : Function) : Type 0 where
   pub formed : is_well_formed_function types names texts fs f ≡ true
   pub points : ArePointsFormed types texts fs f
   pub ready : HasReadyWays types f
-  pub free : ArePointerSlots types (types_taken f)
   pub given : all_keep_given types f ≡ true
 
 module _ (types : Types) (ordered : IsOrdered types) (once : HasEachOnce types) (some : HaveMembers types) (names texts : ℕ) (fs : List Function) (all : (k : ℕ) (g : Function) → slice_get fs k ≡ Some g → GoesWell types names texts fs g) (s : Setting) where
@@ -69,21 +68,21 @@ module _ (types : Types) (ordered : IsOrdered types) (once : HasEachOnce types) 
     begun_good c (Faults kind) w run g k = absurd g
     begun_good c Strays w run g k = absurd g
 
-    entered_good : (xs : List Cell) (n : ℕ) (w : World) → AreHandedTo types w.content (types_held types f) xs → IsStore types (λ k. times (named_in xs) k + rest k) w.content → GoodCalled types f rest w.content (entered s types (Some f) call xs n w)
-    entered_good xs n w suits store =
+    entered_good : (xs : List Cell) (n : ℕ) (w : World) → AreTaken types w.content (types_taken f) xs → IsStore types (λ k. times (named_in xs) k + rest k) w.content → GoodCalled types f rest w.content (entered s types (Some f) call xs n w)
+    entered_good xs n w taken store =
         begun_good w.content (parameters_given s types f 0 xs (frame f w)) w (λ st. finish types f (exec s types f call f.body n st))
         (entry_gives types ordered f shaped (kinds_fit types ordered once some names texts fs f well.formed well.points well.ready) rest s xs w
-        (taking_all types names f shaped (formed_at types ordered once some names texts fs f well.formed well.points well.ready) well.free) store suits)
+        (parameters_all types names f shaped (formed_at types ordered once some names texts fs f well.formed well.points well.ready)) store taken)
         (λ st next. finish_good w.content (exec s types f call f.body n st)
         (body_goes types ordered once some names texts fs f well.formed well.points well.ready rest w.content s call
-        (calls_sound types ordered once some names texts fs f well.formed well.points well.ready rest w.content s call callees (λ k g is. (all k g is).free) well.given)
+        (calls_sound types ordered once some names texts fs f well.formed well.points well.ready rest w.content s call callees well.given)
         n st next.bits next.sound next.waits))
 
 -- ---- all calls of a program
 
 pub calls_good : (s : Setting) (p : Program) (ordered : IsOrdered p.types) (once : HasEachOnce p.types) (some : HaveMembers p.types) (names texts : ℕ) → ((k : ℕ) (g : Function) → slice_get p.functions k ≡ Some g → GoesWell p.types names texts p.functions g) → (depth : ℕ)
     → GoodCallee p.types p.functions (calls s p depth)
-calls_good s p ordered once some names texts all zero k g rest xs n w is suits store = tt
-calls_good s p ordered once some names texts all (suc depth) k g rest xs n w is suits store =
+calls_good s p ordered once some names texts all zero k g rest xs n w is taken store = tt
+calls_good s p ordered once some names texts all (suc depth) k g rest xs n w is taken store =
     subst (λ (o : Option Function). GoodCalled p.types g rest w.content (entered s p.types o (calls s p depth) xs n w)) (sym is)
-    (entered_good p.types ordered once some names texts p.functions all s (calls s p depth) (calls_good s p ordered once some names texts all depth) g (all k g is) rest xs n w suits store)
+    (entered_good p.types ordered once some names texts p.functions all s (calls s p depth) (calls_good s p ordered once some names texts all depth) g (all k g is) rest xs n w taken store)

@@ -1,4 +1,4 @@
--- The frame of a callee that has no slot with a unique_ptr: each parameter is given what was handed to it, and the frame is sound.
+-- A local of a frame is given a value, a pointer or an object that was handed over, and the frame is sound.
 use Rattle.std.proofs.Common.{◌≡◌, ⊎_elim, ℕ, zero, suc, ◌+◌, ◌*◌, ◌≤◌, ◌<◌, Bool, true, false, cond, List, [], ◌∷◌, length, Option, Some, refl, sym, ap, subst, ◌∙◌, arith, ◌||◌, not}
 use Rattle.std.proofs.lemmas.Bool.{false≢true}
 use Rattle.std.specs.Prelude.{ℤ, nat_lt, slice_get, slice_set}
@@ -17,12 +17,12 @@ use Rattle.life_core.specs.declared.program.LocalKind.TheVariants as kind
 use Rattle.life_core.specs.Function.{Function}
 use Rattle.life_core.specs.Holdings.{AnObject, Holding, held_by, held_if, sort_of}
 use Rattle.life_core.specs.Kinds.{has_kind, is_object}
-use Rattle.life_core.specs.Ready.{IsBit, Ready, given_ready}
+use Rattle.life_core.specs.Ready.{Ready}
 use Rattle.life_pset.specs.Shapes.{ty_if}
 use Rattle.life_proper.specs.OperandTypes.{is_composed}
 use Rattle.life_proper.specs.Placed.{object_at, type_at}
 use Rattle.life_store.specs.Births.{with_value_object}
-use Rattle.life_store.specs.Calls.{born_with, given, given_if, given_to, number_given, parameters_given, slot_born}
+use Rattle.life_store.specs.Calls.{born_with, given, given_if, given_to, number_given, slot_born}
 use Rattle.life_store.specs.Content.{Content, Object, Slot, live_words_of}
 use Rattle.life_store.specs.Doing.{saved}
 use Rattle.life_store.specs.Effects.{Setting, Effect, Next, Traps, Faults, Strays, cell, on_next, put_cell, put_content}
@@ -30,7 +30,7 @@ use Rattle.life_store.specs.Parts.{Single, held_type_if, local_type, parts_at, w
 use Rattle.life_store.specs.Places.{found_at, found_in, here_if, on_found}
 use Rattle.life_store.specs.State.{Pointer, Cell, Empty, Named, Number, Points, State, ready_of}
 use Rattle.life_store.specs.declared.run.TrapKind.TheVariants as trap
-use Rattle.life_store.proofs.CellLemmas.{cell_cases, empty_cell_is, none_some, ready_set, some_same}
+use Rattle.life_store.proofs.CellLemmas.{cell_cases, none_some, ready_set, some_same}
 use Rattle.life_forest.specs.FrameTypes.{IsVariable, PointsWell, Stands, seen_type}
 use Rattle.life_forest.specs.Frames.{OnNext, named_in}
 use Rattle.life_forest.specs.HeldPointers.{HoldsWell}
@@ -41,7 +41,7 @@ use Rattle.life_forest.specs.Typed.{IsStore}
 use Rattle.life_forest.proofs.Counting.{one_same}
 use Rattle.life_forest.proofs.Following.{pointer_stays, variable_stays}
 use Rattle.life_forest.proofs.Frames.{first_named, less_in_hand, named_put}
-use Rattle.life_forest.proofs.HandedOver.{AreHandedTo, IsHandedTo, taken_type}
+use Rattle.life_forest.proofs.HandedOver.{AreHandedTo, IsHandedTo}
 use Rattle.life_forest.proofs.HeldPoints.{IsNext, IsSound}
 use Rattle.life_forest.proofs.Holding.{Holds, held_cell, held_holds, held_self, variable_holds}
 use Rattle.life_forest.proofs.HoldingChanges.{saved_keeps}
@@ -54,6 +54,7 @@ use Rattle.life_forest.proofs.ReadyCells.{composed_is_object, pointer_no_object,
 use Rattle.life_forest.proofs.SeenTypes.{value_parts}
 use Rattle.life_forest.proofs.Settling.{sorted_put}
 use Rattle.life_forest.proofs.Shaped.{IsShaped, no_slot}
+use Rattle.life_forest.proofs.SlotSorts.{taken_type}
 use Rattle.life_forest.proofs.StandingLives.{value_stands}
 use Rattle.life_forest.proofs.StandingNumbers.{saved_stands}
 use Rattle.life_forest.proofs.StandingPointers.{pointer_stands}
@@ -241,7 +242,7 @@ module _ (types : Types) (ordered : IsOrdered types) (f : Function) (shaped : Is
 -- ---- what was handed over stays as it is while others are given
 
 module _ (types : Types) (loose : ℕ → Type 0) (hand : ℕ → ℕ) (c d : Content) (store : IsStore types hand c) (keeps : Keeps types loose c d) where
-  one_later : (id : TyId) (v : Cell) → ((n : ℕ) → v ≡ Named n → (loose n → ⊥) × (0 < alive d n)) → IsHandedTo types c id v → IsHandedTo types d id v
+  pub one_later : (id : TyId) (v : Cell) → ((n : ℕ) → v ≡ Named n → (loose n → ⊥) × (0 < alive d n)) → IsHandedTo types c id v → IsHandedTo types d id v
   one_later id Empty waits suits = suits
   one_later id (Number z) waits suits = suits
   one_later id (Points p) waits suits = (suits.0, pointer_stays types loose c d keeps.stays (seen_type types (Some id)) p suits.1, suits.2)
@@ -261,17 +262,7 @@ module _ (types : Types) (loose : ℕ → Type 0) (hand : ℕ → ℕ) (c d : Co
     later ids vs (λ n lt. waits n (let a = first_named v vs n in omega (arith, a, lt))) suits.1,
   )
 
--- ---- the parameters, from one on
-
-one_given : (x : ℕ) (ls : List Local) → slice_set (given_ready x ls) x true ≡ given_ready (suc x) ls
-one_given x [] = refl
-one_given zero (l ∷ ls) = refl
-one_given (suc x) (l ∷ ls) = ap (λ bits. true ∷ bits) (one_given x ls)
-
-not_given : (x : ℕ) (ls : List Local) (l : Local) → slice_get ls x ≡ Some l → IsBit (given_ready x ls) x false
-not_given x [] l e = absurd (none_some e)
-not_given zero (m ∷ ls) l e = refl
-not_given (suc x) (m ∷ ls) l e = not_given x ls l e
+-- ---- one given after the other
 
 module _ (types : Types) (ordered : IsOrdered types) (f : Function) (shaped : IsShaped types f) (kinds : KindsFit types f) (rest : ℕ → ℕ) (s : Setting) where
   pub on_given_next : (less : ℕ → ℕ) (c : Content) (bits after : Ready) (e : Effect) (go : State → Effect) → ((k : ℕ) → rest k ≤ less k) → GivesOn types f less c bits e
@@ -290,26 +281,3 @@ module _ (types : Types) (ordered : IsOrdered types) (f : Function) (shaped : Is
       behind (Traps kind) h = tt
       behind (Faults kind) h = h
       behind Strays h = h
-
-  pub parameters_give : (x : ℕ) (ids : List TyId) (vs : List Cell) (st : State) → AreTaking types f x ids → IsSound types f (λ k. times (named_in vs) k + rest k) st → AreHandedTo types st.world.content ids vs → ready_of st ≡ given_ready x f.locals
-      → GivesOn types f rest st.world.content (given_ready (x + length vs) f.locals) (parameters_given s types f x vs st)
-  parameters_give x [] [] st taking sound suits bits = record {
-    sound = less_sound types f (λ k. 0 + rest k) rest st (λ k. omega arith) sound;
-    bits = let e : x ≡ x + 0 = omega arith in bits ∙ ap (λ n. given_ready n f.locals) e;
-    waits = keeps_self types (λ k. rest k ≡ 0) st.world.content;
-  }
-  parameters_give x [] (v ∷ vs) st taking sound suits bits = absurd suits
-  parameters_give x (id ∷ ids) [] st taking sound suits bits = absurd suits
-  parameters_give x (id ∷ ids) (v ∷ vs) st taking sound suits bits =
-      let one : suc x ≡ x + 1 = omega arith in
-      let all : x + 1 + length vs ≡ x + suc (length vs) = omega arith in
-      let l = taking.0.0 in
-      on_given_next (λ k. times (named_in vs) k + rest k) st.world.content (slice_set (ready_of st) x true) (given_ready (x + suc (length vs)) f.locals) (given s types f v x st) (parameters_given s types f (x + 1) vs) (λ k. omega arith)
-      (local_gives types ordered f shaped kinds (λ k. times (named_in vs) k + rest k) s x l id taking.0.1 st (empty_cell_is st.cells x (subst (λ (b : Ready). IsBit b x false) (sym bits) (not_given x f.locals l taking.0.1.there))) v
-      (less_sound types f (λ k. times (named_in (v ∷ vs)) k + rest k) (λ k. times (named_in (v ∷ [])) k + (times (named_in vs) k + rest k)) st (λ k. let a = first_named v vs k in omega (arith, a)) sound)
-      suits.0)
-      (λ st' g. subst (λ n. GivesOn types f rest st'.world.content (given_ready n f.locals) (parameters_given s types f (x + 1) vs st')) all
-      (parameters_give (x + 1) ids vs st' taking.1 g.sound
-      (later types (λ k. times (named_in vs) k + rest k ≡ 0) (λ k. times (named_in st.cells) k + (times (named_in (v ∷ vs)) k + rest k)) st.world.content st'.world.content sound.stands.store g.waits ids vs
-      (λ n lt. (λ z. omega (arith, z, lt), let h = g.sound.stands.store.forest.held n in omega (arith, h, lt))) suits.1)
-      (g.bits ∙ ap (λ (b : Ready). slice_set b x true) bits ∙ one_given x f.locals ∙ ap (λ n. given_ready n f.locals) one)))

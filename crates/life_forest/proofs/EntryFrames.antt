@@ -1,4 +1,4 @@
--- The first frame of a call that hands over no slot with a unique_ptr is sound when its parameters have what was handed over.
+-- The first frame of a call is sound when its parameters have what was handed over.
 use Rattle.std.proofs.Common.{◌≡◌, ℕ, zero, suc, ◌+◌, ◌≤◌, ◌<◌, Bool, true, false, ◌||◌, not, List, [], ◌∷◌, length, map, take, Option, Some, None, refl, sym, ap, subst, ◌∙◌, arith}
 use Rattle.std.proofs.lemmas.Bool.{and_parts, false≢true}
 use Rattle.std.proofs.lemmas.Bool.Decides.{nat_tests}
@@ -32,12 +32,14 @@ use Rattle.life_forest.specs.Owned.{times}
 use Rattle.life_forest.specs.Settled.{KindsFit}
 use Rattle.life_forest.specs.Sorted.{Fits, sort_at}
 use Rattle.life_forest.specs.Typed.{IsStore}
-use Rattle.life_forest.proofs.EnteredFrames.{AreTaking, GivesOn, IsTaking, parameters_give}
+use Rattle.life_forest.proofs.EnteredFrames.{AreTaking, GivesOn}
 use Rattle.life_forest.proofs.Frames.{less_in_hand}
-use Rattle.life_forest.proofs.HandedOver.{AreHandedTo, ArePointerSlots, taken_type}
+use Rattle.life_forest.proofs.HandedOver.{AreHandedTo, ArePointerSlots, AreTaken}
 use Rattle.life_forest.proofs.HeldPoints.{IsSound}
+use Rattle.life_forest.proofs.ParametersGo.{AreParameters, IsParameter, parameters_give}
 use Rattle.life_forest.proofs.ReadyCells.{value_points}
 use Rattle.life_forest.proofs.Shaped.{IsShaped}
+use Rattle.life_forest.proofs.SlotSorts.{taken_type}
 
 -- the types of the parameters' locals
 abbrev pub types_held : Types → Function → List TyId
@@ -59,13 +61,9 @@ or_true true b e h = h
 or_true false b e h = absurd (false≢true e)
 
 module _ (types : Types) (names : ℕ) (f : Function) (shaped : IsShaped types f) (formed_at : (x : ℕ) (l : Local) → slice_get f.locals x ≡ Some l → is_well_formed_local types names f.parameters x l ≡ true) where
-  taking_one : (x : ℕ) (l : Local) → slice_get f.locals x ≡ Some l → x < f.parameters → (is_slot_at types l.ty ≡ true → is_pointer (ty_of types (taken_type types l.ty)) ≡ true) → IsTaking types f x l (taken_type types l.ty)
-  taking_one x l there lt pointers = record { there = there; type = refl; free = λ other. no_pointer (is_slot_at types l.ty) refl other; value = λ value. by_type value }
+  parameter_one : (x : ℕ) (l : Local) → slice_get f.locals x ≡ Some l → x < f.parameters → IsParameter types f x l l.ty
+  parameter_one x l there lt = record { there = there; type = refl; value = λ value. by_type value }
     where
-      no_pointer : (b : Bool) → is_slot_at types l.ty ≡ b → is_pointer (ty_of types (taken_type types l.ty)) ≡ false → is_slot_at types l.ty ≡ false
-      no_pointer false is other = is
-      no_pointer true is other = absurd (false≢true (sym other ∙ pointers is))
-
       own : type_at types f x ≡ ty_of types (taken_type types l.ty)
       own = ap (ty_if types) (shaped x ∙ ap (held_type_if types) there)
 
@@ -82,17 +80,32 @@ module _ (types : Types) (names : ℕ) (f : Function) (shaped : IsShaped types f
           let e = and_parts (is_name_if names l.name) (not (nat_lt x f.parameters) || is_some l.name) d.1 in
           value_object l.kind t l.name (ap is_value (shaped_type ∙ own) ∙ value) c.0 d.0 (or_true (nat_lt x f.parameters) (is_some l.name) (below_true x f.parameters lt) e.1)
 
-  taking_from : (n : ℕ) (ls : List Local) (x : ℕ) → ((i : ℕ) (l : Local) → slice_get ls i ≡ Some l → slice_get f.locals (x + i) ≡ Some l) → x + n ≤ f.parameters → ArePointerSlots types (map formed.local_type (take n ls)) → AreTaking types f x (map (taken_type types) (map formed.local_type (take n ls)))
-  taking_from zero ls x inside le free = tt
-  taking_from (suc n) [] x inside le free = tt
-  taking_from (suc n) (l ∷ ls) x inside le free =
+  parameters_from : (n : ℕ) (ls : List Local) (x : ℕ) → ((i : ℕ) (l : Local) → slice_get ls i ≡ Some l → slice_get f.locals (x + i) ≡ Some l) → x + n ≤ f.parameters → AreParameters types f x (map formed.local_type (take n ls))
+  parameters_from zero ls x inside le = tt
+  parameters_from (suc n) [] x inside le = tt
+  parameters_from (suc n) (l ∷ ls) x inside le =
       let none : x + 0 ≡ x = omega arith in (
-        (l, taking_one x l (ap (slice_get f.locals) (sym none) ∙ inside 0 l refl) (omega (arith, le)) free.0),
-        taking_from n ls (x + 1) (λ i m e. let k : x + suc i ≡ x + 1 + i = omega arith in ap (slice_get f.locals) (sym k) ∙ inside (suc i) m e) (omega (arith, le)) free.1,
+        (l, parameter_one x l (ap (slice_get f.locals) (sym none) ∙ inside 0 l refl) (omega (arith, le))),
+        parameters_from n ls (x + 1) (λ i m e. let k : x + suc i ≡ x + 1 + i = omega arith in ap (slice_get f.locals) (sym k) ∙ inside (suc i) m e) (omega (arith, le)),
       )
 
+  pub parameters_all : AreParameters types f 0 (types_taken f)
+  parameters_all = parameters_from f.parameters f.locals 0 (λ i l e. let k : i ≡ 0 + i = omega arith in ap (slice_get f.locals) (sym k) ∙ e) (omega arith)
+
+  -- where no slot is one of a unique_ptr, each is like any local
+  taking_from : (x : ℕ) (ids : List TyId) → ArePointerSlots types ids → AreParameters types f x ids → AreTaking types f x (map (taken_type types) ids)
+  taking_from x [] free are = tt
+  taking_from x (id ∷ ids) free are = (
+    (are.0.0, record { there = are.0.1.there; type = ap (taken_type types) are.0.1.type; free = λ other. ap (is_slot_at types) are.0.1.type ∙ no_pointer (is_slot_at types id) free.0 other; value = are.0.1.value }),
+    taking_from (x + 1) ids free.1 are.1,
+  )
+    where
+      no_pointer : (b : Bool) → (b ≡ true → is_pointer (ty_of types (taken_type types id)) ≡ true) → is_pointer (ty_of types (taken_type types id)) ≡ false → b ≡ false
+      no_pointer false h other = refl
+      no_pointer true h other = absurd (false≢true (sym other ∙ h refl))
+
   pub taking_all : ArePointerSlots types (types_taken f) → AreTaking types f 0 (types_held types f)
-  taking_all free = taking_from f.parameters f.locals 0 (λ i l e. let k : i ≡ 0 + i = omega arith in ap (slice_get f.locals) (sym k) ∙ e) (omega arith) free
+  taking_all free = taking_from 0 (types_taken f) free parameters_all
 
 -- ---- the frame
 
@@ -104,6 +117,12 @@ none_given : (ls : List Local) → map is_there (map empty_cell ls) ≡ given_re
 none_given [] = refl
 none_given (l ∷ ls) = ap (λ bits. false ∷ bits) (none_given ls)
 
+taken_many : (types : Types) (c : Content) (ids : List TyId) (vs : List Cell) → AreTaken types c ids vs → length vs ≡ length ids
+taken_many types c [] [] taken = refl
+taken_many types c [] (v ∷ vs) taken = absurd taken
+taken_many types c (id ∷ ids) [] taken = absurd taken
+taken_many types c (id ∷ ids) (v ∷ vs) taken = ap suc (taken_many types c ids vs taken.1)
+
 pub as_many : (types : Types) (c : Content) (ids : List TyId) (vs : List Cell) → AreHandedTo types c ids vs → length vs ≡ length ids
 as_many types c [] [] suits = refl
 as_many types c [] (v ∷ vs) suits = absurd suits
@@ -111,7 +130,7 @@ as_many types c (id ∷ ids) [] suits = absurd suits
 as_many types c (id ∷ ids) (v ∷ vs) suits = ap suc (as_many types c ids vs suits.1)
 
 -- more than there are locals are none
-all_given : (types : Types) (n : ℕ) (ls : List Local) → given_ready (length (map (taken_type types) (map formed.local_type (take n ls)))) ls ≡ given_ready n ls
+all_given : (types : Types) (n : ℕ) (ls : List Local) → given_ready (length (map formed.local_type (take n ls))) ls ≡ given_ready n ls
 all_given types n [] = refl
 all_given types zero (l ∷ ls) = refl
 all_given types (suc n) (l ∷ ls) = ap (λ bits. true ∷ bits) (all_given types n ls)
@@ -136,13 +155,13 @@ module _ (types : Types) (ordered : IsOrdered types) (f : Function) (shaped : Is
       unaimed : (p : Pointer) → Empty ≡ Points p → ⊥
       unaimed p e = cc
 
-  pub entry_gives : (s : Setting) (vs : List Cell) (w : World) → AreTaking types f 0 (types_held types f) → IsStore types (λ k. times (named_in vs) k + rest k) w.content → AreHandedTo types w.content (types_held types f) vs
+  pub entry_gives : (s : Setting) (vs : List Cell) (w : World) → AreParameters types f 0 (types_taken f) → IsStore types (λ k. times (named_in vs) k + rest k) w.content → AreTaken types w.content (types_taken f) vs
       → GivesOn types f rest w.content (entry_ready f) (parameters_given s types f 0 vs (frame f w))
-  entry_gives s vs w taking store suits =
+  entry_gives s vs w are store taken =
       subst (λ (bits : Ready). GivesOn types f rest w.content bits (parameters_given s types f 0 vs (frame f w))) same
-      (parameters_give types ordered f shaped kinds rest s 0 (types_held types f) vs (frame f w) taking (first_sound vs w store) suits (none_given f.locals))
+      (parameters_give types ordered f shaped kinds rest s 0 (types_taken f) vs (frame f w) are (first_sound vs w store) taken (none_given f.locals))
     where
       same : given_ready (0 + length vs) f.locals ≡ entry_ready f
       same =
-          let k : 0 + length vs ≡ length (types_held types f) = omega (arith, as_many types w.content (types_held types f) vs suits) in
+          let k : 0 + length vs ≡ length (types_taken f) = omega (arith, taken_many types w.content (types_taken f) vs taken) in
           ap (λ n. given_ready n f.locals) k ∙ all_given types f.parameters f.locals

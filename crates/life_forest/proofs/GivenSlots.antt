@@ -1,10 +1,9 @@
 -- What stands in the slots where a function is left: in each what the type takes of which it is a slot; and the objects among that were in the hand.
-use Rattle.std.proofs.Common.{◌≡◌, ◌⊎◌, inl, inr, ℕ, zero, suc, ◌+◌, ◌≤◌, Bool, true, false, cond, List, [], ◌∷◌, ◌++◌, Option, Some, None, refl, sym, ap, subst, ◌∙◌, arith}
-use Rattle.std.proofs.lemmas.Bool.{false≢true}
+use Rattle.std.proofs.Common.{◌≡◌, inl, inr, ℕ, zero, suc, ◌+◌, ◌≤◌, Bool, true, false, cond, List, [], ◌∷◌, ◌++◌, Option, Some, None, refl, sym, ap, subst, ◌∙◌, arith}
 use Rattle.std.specs.Prelude.{drop, map, slice_get, take}
-use Rattle.life_types.specs.Pointees.{or_void, ty_of}
+use Rattle.life_types.specs.Pointees.{ty_of}
 use Rattle.life_types.specs.TypeTests.{is_pointer}
-use Rattle.life_types.specs.Types.{Types, is_slot_at, is_slot_target, is_slot_type}
+use Rattle.life_types.specs.Types.{Types, is_slot_at}
 use Rattle.life_types.specs.declared.ty.Ty.{Ty}
 use Rattle.life_types.specs.declared.ty.Ty.TheVariants as ty
 use Rattle.life_types.specs.declared.ty.TyId.{TyId}
@@ -18,7 +17,7 @@ use Rattle.life_proper.specs.WellFormed.{types_taken}
 use Rattle.life_proper.specs.WellFormed as formed
 use Rattle.life_store.specs.Calls.{slot_back, slot_cell, slots_back}
 use Rattle.life_store.specs.Effects.{cell}
-use Rattle.life_store.specs.Parts.{held_type_if, local_type, variable_type}
+use Rattle.life_store.specs.Parts.{held_type_if, local_type}
 use Rattle.life_store.specs.State.{Cell, Empty, Points, State, ready_of}
 use Rattle.life_forest.specs.FrameTypes.{IsVariable, PointsWell, seen_type}
 use Rattle.life_forest.specs.Frames.{named_in}
@@ -27,34 +26,15 @@ use Rattle.life_forest.specs.Owned.{times}
 use Rattle.life_forest.specs.Settled.{IsPoised}
 use Rattle.life_forest.specs.Sorted.{PointerFits}
 use Rattle.life_forest.proofs.Frames.{first_named}
-use Rattle.life_forest.proofs.HandedOver.{AreHandedTo, IsHandedTo, taken_type}
+use Rattle.life_forest.proofs.HandedOver.{AreHandedTo, IsHandedTo}
 use Rattle.life_forest.proofs.ReadyCells.{composed_is_object, object_cell, pointer_cell}
 use Rattle.life_forest.proofs.Shaped.{IsShaped}
+use Rattle.life_forest.proofs.SlotSorts.{IsSlotSort, slot_sort, taken_type}
 
 -- of these parameters, the types of what the slots are of
 abbrev pub slot_types : Types → List TyId → List TyId
 slot_types types [] = []
 slot_types types (id ∷ ids) = cond (is_slot_at types id) (taken_type types id ∷ slot_types types ids) (slot_types types ids)
-
--- a slot is of a pointer or of a unique_ptr
-abbrev pub IsSlotSort : Ty → Type 0
-IsSlotSort t = (is_pointer t ≡ true) ⊎ ((target : TyId) × (t ≡ ty.Unique target))
-
-pub slot_sort : (types : Types) (id : TyId) → is_slot_at types id ≡ true → IsSlotSort (ty_of types (taken_type types id))
-slot_sort types id e = go (slice_get types.types id.0) e
-  where
-    by_target : (o : Option Ty) → is_slot_target o ≡ true → IsSlotSort (or_void o)
-    by_target None k = absurd (false≢true k)
-    by_target (Some (ty.Iterator item constant)) k = inl refl
-    by_target (Some (ty.Span item constant)) k = inl refl
-    by_target (Some ty.View) k = inl refl
-    by_target (Some (ty.Unique item)) k = inr (item, refl)
-    by_target (Some _) k = absurd (false≢true k)
-
-    go : (o : Option Ty) → is_slot_type types o ≡ true → IsSlotSort (ty_of types (variable_type types id o))
-    go None h = absurd (false≢true h)
-    go (Some (ty.Reference target false)) h = subst (λ (b : Bool). IsSlotSort (ty_of types (cond b target id))) (sym h) (by_target (slice_get types.types target.0) h)
-    go (Some _) h = absurd (false≢true h)
 
 module _ (types : Types) (f : Function) (shaped : IsShaped types f) (st : State) (at_point : IsPoised types f st) (held : HoldWell types f st) (there : (x : ℕ) → slot_at types f x ≡ true → IsThere (ready_of st) x) where
   none_from : (n x : ℕ) → ((i : ℕ) → slice_get f.locals (x + i) ≡ None) → slots_back types f x n st ≡ []

@@ -200,8 +200,8 @@ module _ (types : Types) (ordered : IsOrdered types) (once : HasEachOnce types) 
   pub step_holds : (i : Step) → IsOneFrame i → is_well_formed_step types texts fs f i ≡ true → IsSlotFree types f i → AreReady (ready_of st) (touched_by f i) → IsTypedStep types f st i → OnNext (does s types f i st) (Holds types f rest st)
   step_holds (Live x how) one e free ready typed = lives_hold types ordered f rest st stands held s x how (living x how e free typed)
   step_holds (End xs) one e free ready typed = ends_hold types ordered f rest xs st stands held
-  step_holds (Eval r operation) one e free ready typed = evaluated_gives types f st Q number_holds r operation
-  step_holds (Load r o) one e free ready typed = loaded_gives types f st Q number_holds s r o
+  step_holds (Eval r operation) one e free ready typed = evaluated_gives types f st Q r (number_holds r) operation
+  step_holds (Load r o) one e free ready typed = loaded_gives types f st Q r (number_holds r) s o
   step_holds (Save o r) one e free ready typed = next_holds types f rest st stands (does s types f (Save o r) st) held (saves_keep types ordered f rest st stands o r typed.0 typed.1.0 typed.1.1 typed.2)
   step_holds (Copy to from) one e free ready typed = copy_holds to from e (step_stands types ordered f rest s st stands (Copy to from) typed)
   step_holds (Move to y) one e free ready typed = next_holds types f rest st stands (does s types f (Move to y) st) held (moves_keep types ordered f rest st stands to y typed.0 typed.1.0 typed.1.1 typed.2 typed.3)
@@ -225,16 +225,16 @@ module _ (types : Types) (ordered : IsOrdered types) (once : HasEachOnce types) 
   step_holds (Cut p q r count) one e free ready typed =
       let outer = and_parts (is_range (type_in types f p)) _ e in
       cuts_hold types ordered once texts fs f shaped rest s st stands at_point aims held p q r count typed.0 typed.1 typed.2 outer.0 (and_parts (takes types (type_in types f p) (type_in types f q)) _ outer.1).0 ready.uses.0
-  step_holds (Size r b) one e free ready typed = sizes_give types f st Q number_holds r b
-  step_holds (Same r a b equal) one e free ready typed = sames_give types f st Q number_holds s r a b equal
+  step_holds (Size r b) one e free ready typed = sizes_give types f st Q r (number_holds r) b
+  step_holds (Same r a b equal) one e free ready typed = sames_give types f st Q r (number_holds r) s a b equal
   step_holds (Changes o c) one e free ready typed =
       on_spot_next types ordered f st stands.frame o typed.0 (λ spot. changed s types f (operand_parts types f o) spot c st) Q typed.1.0 typed.1.1
       (λ n i w object place. subst (λ (id : Option TyId). OnNext (changed s types f (parts_if types id) (record { object = n; index = i; word = w }) c st) Q) (sym typed.1.0) (changed_holds o typed.0 n i w object place c typed.2))
   step_holds (Make u m) one e free ready typed = next_holds types f rest st stands (does s types f (Make u m) st) held (makes_keep types ordered f rest st stands u typed.0 typed.1 typed.2 typed.3 s m)
   step_holds (Call target g xs) one e free ready typed = absurd one
   step_holds (Ports p) one e free ready typed =
-      ports_give types f st Q (λ text. held_holds types f rest st stands (with_output text st) (written text) held)
-      (λ r z zs. held_holds types f rest st stands (put_cell r (Number z) (taking zs)) (held_cell types f st (taking zs) r (Number z) (λ n h. unlike z n h) (record { keeps = keeps_self types (IsOwned types st.world.content) st.world.content; named = λ x n k. k })) held) s p
+      ports_give types f st Q (λ text. held_holds types f rest st stands (with_output text st) (written text) held) s p
+      (λ r z zs is. held_holds types f rest st stands (put_cell r (Number z) (taking zs)) (held_cell types f st (taking zs) r (Number z) (λ n h. unlike z n h) (record { keeps = keeps_self types (IsOwned types st.world.content) st.world.content; named = λ x n k. k })) held)
     where
       taking : List ℤ → State
       taking zs = record st { world = record (st.world) { input = zs } }

@@ -71,6 +71,7 @@ pub mod OneNumber
 pub mod Operands
 pub mod OwnedAims
 pub mod Owners
+pub mod ParametersGo
 pub mod PathsApart
 pub mod Placed
 pub mod PlainTypes
@@ -96,6 +97,8 @@ pub mod SettlingPointers
 pub mod Shaped
 pub mod Shortening
 pub mod Single
+pub mod SlotPlaces
+pub mod SlotSorts
 pub mod Slots
 pub mod SlotsBorn
 pub mod SlotsGo
@@ -114,6 +117,7 @@ pub mod StandingVectors
 pub mod Staying
 pub mod StayingEdits
 pub mod Steps
+pub mod StillHanded
 pub mod Stores
 pub mod Taking
 pub mod TargetsGo

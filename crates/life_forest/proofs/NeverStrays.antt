@@ -1,10 +1,10 @@
--- No run of a proper program strays, whatever the kinds of its instructions, where no call hands over a slot with a unique_ptr.
-use Rattle.std.proofs.Common.{◌≡◌, ℕ, zero, suc, ◌+◌, ◌≤◌, ◌<◌, Bool, true, false, List, [], ◌∷◌, length, Option, Some, None, refl, sym, subst, ◌∙◌, arith, ap}
+-- No run of a proper program strays, whatever the kinds of its instructions.
+use Rattle.std.proofs.Common.{◌≡◌, ℕ, zero, suc, ◌+◌, ◌≤◌, ◌<◌, Bool, true, false, ◌&&◌, List, [], ◌∷◌, length, Option, Some, None, refl, sym, subst, ◌∙◌, arith, ap}
 use Rattle.std.proofs.lemmas.Bool.{and_parts, false≢true}
 use Rattle.std.specs.Prelude.{ℤ, map, nat_eq, nat_lt, not, slice_get, take}
 use Rattle.std.specs.List.{list_all}
 use Rattle.life_types.specs.Pointees.{or_void, ty_of}
-use Rattle.life_types.specs.TypeTests.{is_value, is_void}
+use Rattle.life_types.specs.TypeTests.{is_pointer, is_value, is_void}
 use Rattle.life_types.specs.Types.{Types, class}
 use Rattle.life_types.specs.declared.place.Place.{Place}
 use Rattle.life_types.specs.declared.ty.NameId.{NameId}
@@ -17,7 +17,7 @@ use Rattle.life_core.specs.Function.{Function, Program}
 use Rattle.life_core.specs.Holdings.{APointer, AView, AnObject, Blank, held_if, sort_of_local}
 use Rattle.life_core.specs.Proper.{HasReadyWays, HaveReadyWays, IsReadyProgram}
 use Rattle.life_proper.specs.GivenOver.{all_keep_given, keeps_all_given}
-use Rattle.life_proper.specs.WellFormed.{is_well_formed_spot, types_taken}
+use Rattle.life_proper.specs.WellFormed.{is_well_formed_spot}
 use Rattle.life_proper.specs.WellFormed as formed
 use Rattle.life_proper.specs.WellFormedPrograms.{IsWellFormedProgram, have_names, is_name, is_well_formed_function}
 use Rattle.life_proper.proofs.FormedSpots.{formed_spots}
@@ -27,7 +27,7 @@ use Rattle.life_store.specs.Calls.{entry_arguments}
 use Rattle.life_store.specs.Content.{Content, empty_content}
 use Rattle.life_store.specs.Effects.{Given}
 use Rattle.life_store.specs.Meaning.{AreObjects, Back, Barred, Called, Exhausted, Faulted, IsAdmitted, IsFound, Quit, Stray, Trapped, first_called, first_world, run_from, run_of, setting_of}
-use Rattle.life_store.specs.State.{World}
+use Rattle.life_store.specs.State.{Number, World}
 use Rattle.life_store.proofs.CellLemmas.{none_some, some_same}
 use Rattle.life_forest.specs.Frames.{named_in}
 use Rattle.life_forest.specs.Owned.{times}
@@ -35,9 +35,10 @@ use Rattle.life_forest.proofs.CallersGo.{GoodCalled}
 use Rattle.life_forest.proofs.CallsGo.{GoesWell, calls_good}
 use Rattle.life_forest.proofs.FrameChanges.{lt_of}
 use Rattle.life_forest.proofs.Frames.{less_in_hand}
-use Rattle.life_forest.proofs.HandedOver.{AreHandedTo, ArePointerSlots, taken_type, value_free}
+use Rattle.life_forest.proofs.HandedOver.{AreTaken, IsTaken, IsTakenIf}
 use Rattle.life_forest.proofs.SettlingLives.{HaveMembers}
 use Rattle.life_forest.proofs.Shaped.{local_formed, no_slot}
+use Rattle.life_forest.proofs.SlotSorts.{taken_type, value_free}
 use Rattle.life_forest.proofs.Slots.{ArePointsFormed}
 use Rattle.life_forest.proofs.Worked.{empty_store}
 
@@ -115,13 +116,19 @@ module _ (types : Types) (f : Function) (c : Content) where
   value_taken : (id : TyId) → is_value (ty_of types id) ≡ true → is_value (ty_of types (taken_type types id)) ≡ true
   value_taken id value = ap (λ (i : TyId). is_value (ty_of types i)) (no_slot types id (slice_get types.types id.0) (value_free types (slice_get types.types id.0) value)) ∙ value
 
+  value_given : (id : TyId) (z : ℤ) → is_value (ty_of types id) ≡ true → IsTaken types c id (Number z)
+  value_given id z value =
+      subst (λ (b : Bool). IsTakenIf b types c (taken_type types id) (Number z))
+      (sym (ap (λ (b : Bool). b && not (is_pointer (ty_of types (taken_type types id)))) (value_free types (slice_get types.types id.0) value)))
+      (value_taken id value)
+
   pub numbers_handed : (n : ℕ) (ls : List Local) (x : ℕ) (input : List ℤ) → AreObjects (map (sort_of_local types) (take n ls)) → n ≤ length ls → n ≤ length input → ((i : ℕ) (l : Local) → slice_get ls i ≡ Some l → is_void (ty_of types l.ty) ≡ false)
-      → AreHandedTo types c (map (taken_type types) (map formed.local_type (take n ls))) (entry_arguments types f x n input)
+      → AreTaken types c (map formed.local_type (take n ls)) (entry_arguments types f x n input)
   numbers_handed zero ls x input objects le enough solid = tt
   numbers_handed (suc n) [] x input objects le enough solid = absurd (omega (arith, le))
   numbers_handed (suc n) (l ∷ ls) x [] objects le enough solid = absurd (omega (arith, enough))
   numbers_handed (suc n) (l ∷ ls) x (z ∷ zs) objects le enough solid = (
-    value_taken l.ty (object_value l.kind (slice_get types.types l.ty.0) objects.0 (solid 0 l refl)),
+    value_given l.ty _ (object_value l.kind (slice_get types.types l.ty.0) objects.0 (solid 0 l refl)),
     numbers_handed n ls (x + 1) zs objects.1 (omega (arith, le)) (omega (arith, enough)) (λ i m e. solid (suc i) m e),
   )
 
@@ -140,13 +147,9 @@ called_found types f entry before c (Quit (Faulted kind place) w) g = tt
 called_found types f entry before c (Quit Stray w) g = g
 called_found types f entry before c (Quit Exhausted w) g = tt
 
--- a program in which each slot is one of a pointer
-pub record HandsPointerSlots (p : Program) : Type 0 where
-  pub free : (k : ℕ) (g : Function) → slice_get p.functions k ≡ Some g → ArePointerSlots p.types (types_taken g)
-
-pub never_strays : (p : Program) (given : Given) (entry : ℕ) (f : Function) (input : List ℤ) (n : ℕ) → IsWellFormedProgram p → IsReadyProgram p → keeps_all_given p ≡ true → HandsPointerSlots p → slice_get p.functions entry ≡ Some f → IsAdmitted p f input
+pub never_strays : (p : Program) (given : Given) (entry : ℕ) (f : Function) (input : List ℤ) (n : ℕ) → IsWellFormedProgram p → IsReadyProgram p → keeps_all_given p ≡ true → slice_get p.functions entry ≡ Some f → IsAdmitted p f input
     → IsFound (run_of given p entry f input n).outcome
-never_strays p given entry f input n well ready apart hands is admitted =
+never_strays p given entry f input n well ready apart is admitted =
     called_found p.types f f.place (first_world f input) empty_content (first_called given p entry f input n)
     (calls_good (setting_of given p) p well.table well.once (have_members p.types (length p.names) p.members well.members) (length p.names) (length p.texts) each given.depth entry f (λ k. 0) (entry_arguments p.types f 0 f.parameters input) n (first_world f input) is
     (numbers_handed p.types f empty_content f.parameters f.locals 0 input admitted.values admitted.room admitted.enough solid)
@@ -160,7 +163,6 @@ never_strays p given entry f input n well ready apart hands is admitted =
       formed = formed_function k g at;
       points = points_formed p.types (length p.names) (length p.texts) p.functions g (formed_function k g at);
       ready = ways_at p.types p.functions k g ready at;
-      free = hands.free k g at;
       given = all_at (all_keep_given p.types) p.functions k g apart at;
     }
 

@@ -99,7 +99,7 @@ module _ (types : Types) (ordered : IsOrdered types) (hand : ℕ → ℕ) (c : C
     abbrev emptied : Content
     emptied = wrote m 0 0 (owner_word None ∷ []) c
 
-    none_owned : (q : Parts) (k : ℕ) → times (owned_of q (owner_word None ∷ [])) k ≡ 0
+    pub none_owned : (q : Parts) (k : ℕ) → times (owned_of q (owner_word None ∷ [])) k ≡ 0
     none_owned q k = one_or_apart (times (owned_of q (0 ∷ [])) k) 0 (λ z. z) (λ nz. let r = word_owned q (0 ∷ []) k (omega arith) in absurd (no_word r.0 k r.2))
       where
         no_word : (u j : ℕ) → slice_index (0 ∷ []) u ≡ suc j → ⊥
@@ -113,7 +113,7 @@ module _ (types : Types) (ordered : IsOrdered types) (hand : ℕ → ℕ) (c : C
         no_word zero j e = omega (arith, e)
         no_word (suc u) j e = omega (arith, e)
 
-    emptied_store : IsStore types (λ k. times (owned_of p ws) k + hand k) emptied
+    pub emptied_store : IsStore types (λ k. times (owned_of p ws) k + hand k) emptied
     emptied_store = wrote_store types ordered (λ k. times (owned_of p ws) k + hand k) hand c store m 0 0 part om m_there m_within m_slot (owner_word None ∷ []) (sym one_word) (none_flat p) (λ k. let z = none_owned p k in omega arith)
 
     abbrev bare : Object
@@ -138,7 +138,7 @@ module _ (types : Types) (ordered : IsOrdered types) (hand : ℕ → ℕ) (c : C
       alike = λ k e. ap (λ (d : Content). at d.objects k) emptied_is ∙ at-set_other c.objects m k bare (told_apart m k e);
     }
 
-    alike : Alike (nat_eq m) (taken p ws c) (taken p ws emptied)
+    pub alike : Alike (nat_eq m) (taken p ws c) (taken p ws emptied)
     alike = taken_beside (nat_eq m) p ws c emptied beside (λ k lt. tell_apart m k (owned_apart k lt))
 
     m_born : m < c.births
@@ -148,7 +148,7 @@ module _ (types : Types) (ordered : IsOrdered types) (hand : ℕ → ℕ) (c : C
     none_of_it = one_or_apart (times (owned_of p ws) m) 0 (λ z. z) (λ nz. absurd (owned_apart m (omega arith) refl))
 
     -- it is emptied before or behind
-    same_moved : wrote m 0 0 (owner_word None ∷ []) (taken p ws c).1 ≡ (taken p ws emptied).1
+    pub same_moved : wrote m 0 0 (owner_word None ∷ []) (taken p ws c).1 ≡ (taken p ws emptied).1
     same_moved =
         let kept : at (taken p ws c).1.objects m ≡ Some om = taken_stays p ws c m m_born none_of_it ∙ m_there in
         let left : at (taken p ws emptied).1.objects m ≡ Some bare =

@@ -34,13 +34,13 @@ use Rattle.life_forest.proofs.FittingBirths.{got_both}
 use Rattle.life_forest.proofs.Following.{Follows, IsOwned, follows_object, next_stands, one_slot}
 use Rattle.life_forest.proofs.FrameCalls.{slot_lives}
 use Rattle.life_forest.proofs.Frames.{on_got_next}
-use Rattle.life_forest.proofs.HandedOver.{taken_type}
 use Rattle.life_forest.proofs.HeldPoints.{IsSound}
 use Rattle.life_forest.proofs.Holding.{Holds}
 use Rattle.life_forest.proofs.HoldingLives.{object_lives}
 use Rattle.life_forest.proofs.Keeping.{BornKeeps, keeps_self, object_keeps}
 use Rattle.life_forest.proofs.Puts.{puts_in, wrote_is}
 use Rattle.life_forest.proofs.Settling.{sorted_put}
+use Rattle.life_forest.proofs.SlotSorts.{taken_type}
 use Rattle.life_forest.proofs.Staying.{BornStays, object_stays, stays_self}
 
 module _ (types : Types) (ordered : IsOrdered types) (f : Function) (rest : ℕ → ℕ) (st : State) (s : Setting) (id target : TyId) (q : Parts) (is_unique : parts_at types id ≡ Unique target q) (owned : Option ℕ) (x : ℕ) (typed : local_type types f x ≡ Some id) (empty : cell st x ≡ Some Empty) where

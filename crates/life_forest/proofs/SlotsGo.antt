@@ -21,7 +21,7 @@ use Rattle.life_proper.specs.WellFormed.{are_arguments_for, is_argument_for}
 use Rattle.life_proper.proofs.HeldSorts.{same_is}
 use Rattle.life_store.specs.Calls.{slot_count, slot_returned, slots_returned}
 use Rattle.life_store.specs.Effects.{Setting, cell}
-use Rattle.life_store.specs.Parts.{Unique, location_type, parts_at}
+use Rattle.life_store.specs.Parts.{Unique, parts_at}
 use Rattle.life_store.specs.Places.{pointed}
 use Rattle.life_store.proofs.CellLemmas.{some_same}
 use Rattle.life_store.specs.State.{Cell, Empty, Named, Number, Points, State, ready_of}
@@ -32,18 +32,20 @@ use Rattle.life_forest.specs.Settled.{KindsFit}
 use Rattle.life_forest.specs.Sorted.{PointerFits}
 use Rattle.life_forest.proofs.EnteredFrames.{GivesOn, later, less_sound, on_given_next}
 use Rattle.life_forest.proofs.Frames.{first_named}
-use Rattle.life_forest.proofs.GivenSlots.{IsSlotSort, slot_sort, slot_types}
-use Rattle.life_forest.proofs.HandedOver.{AreHandedTo, IsHandedTo, composed_free, slot_taken, taken_type, value_free}
+use Rattle.life_forest.proofs.GivenSlots.{slot_types}
+use Rattle.life_forest.proofs.HandedOver.{AreHandedTo, IsHandedTo}
 use Rattle.life_forest.proofs.HeldPoints.{IsSound}
 use Rattle.life_forest.proofs.HeldPointers.{pointers_aim, pointers_fit}
 use Rattle.life_forest.proofs.Keeping.{keeps_self}
-use Rattle.life_forest.proofs.OneNumber.{number_of_type, type_there}
-use Rattle.life_forest.proofs.ReadyCells.{composed_is_object, member_is_object, object_cell}
+use Rattle.life_forest.proofs.OneNumber.{number_of_type}
+use Rattle.life_forest.proofs.ReadyCells.{member_is_object, object_cell}
 use Rattle.life_forest.proofs.SeenTypes.{parts_typed, pointer_solid}
 use Rattle.life_forest.proofs.Shaped.{IsShaped}
+use Rattle.life_forest.proofs.SlotSorts.{IsSlotSort, composed_free, slot_sort, slot_taken, taken_type, value_free}
+use Rattle.life_forest.proofs.SlotPlaces.{owner_at}
 use Rattle.life_forest.proofs.SlotsOwned.{slot_returns_well}
 use Rattle.life_forest.proofs.TargetsGo.{pointer_into, points_only}
-use Rattle.life_forest.proofs.TypedSteps.{IsPointerOf, location_of, pointer_of}
+use Rattle.life_forest.proofs.TypedSteps.{IsPointerOf, pointer_of}
 
 -- what is handed over as a slot is there
 abbrev pub AreSlotsThere : Ready → List Argument → Type 0
@@ -60,7 +62,7 @@ there_set (b ∷ bits) zero e = ap (λ c. c ∷ bits) (sym (some_same e))
 there_set (b ∷ bits) (suc x) e = ap (λ bs. b ∷ bs) (there_set bits x e)
 
 -- no argument but a slot is for a slot
-own_argument : (types : Types) (texts : ℕ) (fs : List Function) (f : Function) (id : TyId) (x : Argument) → ((l : Location) → x ≡ Slot l → ⊥) → is_argument_for types texts fs f id x ≡ true → is_slot_at types id ≡ false
+pub own_argument : (types : Types) (texts : ℕ) (fs : List Function) (f : Function) (id : TyId) (x : Argument) → ((l : Location) → x ≡ Slot l → ⊥) → is_argument_for types texts fs f id x ≡ true → is_slot_at types id ≡ false
 own_argument types texts fs f id (Value r) other e = value_free types (slice_get types.types id.0) (and_parts (is_value (ty_of types id)) (same (ty_of types id) (type_at types f r)) (and_parts (register_at types f r) _ e).1).0
 own_argument types texts fs f id (GivenOver x) other e = composed_free types (slice_get types.types id.0) (and_parts (is_composed (ty_of types id)) _ e).0
 own_argument types texts fs f id (PointerOf l) other e = not_true (is_slot_at types id) (and_parts (not (is_slot_at types id)) _ e).0
@@ -149,40 +151,9 @@ module _ (types : Types) (ordered : IsOrdered types) (once : HasEachOnce types) 
     unique_slot_gives target is (Number z) sound suits = absurd (false≢true (ap is_value (sym is) ∙ suits))
     unique_slot_gives target is (Points p) sound suits = absurd (false≢true (ap is_pointer (sym is) ∙ suits.0))
     unique_slot_gives target is (Named m) sound suits =
-        slot_returns_well types ordered f rest st id target (parts_at types target) parts l typed object.0 object.1 m sound suits.0
-      where
-        inside : type_in types f l ≡ ty.Unique target
-        inside = sym t ∙ is
-
-        solid : is_void (type_in types f l) ≡ false
-        solid = ap is_void inside
-
-        there_is : slice_get types.types id.0 ≡ Some (ty.Unique target)
-        there_is = type_there types id (ty.Unique target) is refl
-
-        parts : parts_at types id ≡ Unique target (parts_at types target)
-        parts = parts_typed types ordered id (ty.Unique target) there_is
-
-        typed : location_type types f l ≡ Some id
-        typed =
-            let of = location_of types ordered once texts fs f shaped l (type_in types f l) refl solid in
-            of.is ∙ ap Some (sym (number_of_type types once id of.number (type_in types f l) e of.there))
-
-        less : IsSound types f rest st
-        less = less_sound types f (λ k. times (m ∷ []) k + rest k) rest st (λ k. omega arith) sound
-
-        whole : l.members ≡ [] → (n : ℕ) × (cell st l.local ≡ Some (Named n))
-        whole k =
-            object_cell types f st (record { kinds = kinds; frame = sound.stands.frame; sorted = sound.sorted; pointers = pointers_fit types ordered f st sound.held once texts fs shaped sound.sorted }) l.local
-            (composed_is_object types f kinds l.local (ap is_composed (subst (λ (ns : List ℕ). ty_if types (members_type types (shapes.local_type types f l.local) ns) ≡ ty.Unique target) k inside)))
-            there
-
-        object : (n : ℕ) × (cell st l.local ≡ Some (Named n))
-        object = go l.members refl
-          where
-            go : (ms : List ℕ) → l.members ≡ ms → (n : ℕ) × (cell st l.local ≡ Some (Named n))
-            go [] k = whole k
-            go (m ∷ ms) k = member_cell less solid m ms k
+        let less = less_sound types f (λ k. times (m ∷ []) k + rest k) rest st (λ k. omega arith) sound in
+        let a = owner_at types ordered f once shaped st (record { kinds = kinds; frame = less.stands.frame; sorted = less.sorted; pointers = pointers_fit types ordered f st less.held once texts fs shaped less.sorted }) id target l e is there in
+        slot_returns_well types ordered f rest st id a.target (parts_at types a.target) (parts_typed types ordered id (ty.Unique a.target) a.there) l a.typed a.number a.named m sound suits.0
 
     slot_gives : IsSlotSort (ty_of types id) → (v : Cell) → IsSound types f (λ k. times (named_in (v ∷ [])) k + rest k) st → IsHandedTo types st.world.content id v → GivesOn types f rest st.world.content (ready_of st) (slot_returned types f l v st)
     slot_gives (inl pointer) v sound suits = pointer_slot_gives (less_sound types f (λ k. times (named_in (v ∷ [])) k + rest k) rest st (λ k. omega arith) sound) pointer v suits

@@ -1,5 +1,5 @@
 -- What each instruction on numbers gives a register, and that a frame stands behind them.
-use Rattle.std.proofs.Common.{◌≡◌, ℕ, List, [], ◌∷◌, Option, Some, Ok, Err, sym, ap, subst, ◌∙◌}
+use Rattle.std.proofs.Common.{◌≡◌, ℕ, List, [], ◌∷◌, Option, Some, Ok, Err, refl, sym, ap, subst, ◌∙◌}
 use Rattle.std.specs.Prelude.{ℤ, pos, Bool}
 use Rattle.life_types.specs.Trees.{IsOrdered}
 use Rattle.life_types.specs.Types.{Types}
@@ -39,54 +39,54 @@ on_place_each Outside go fixed Q here text = tt
 on_place_each (Wrong kind) go fixed Q here text = tt
 on_place_each Astray go fixed Q here text = tt
 
--- whatever holds where a register is given a number
-module _ (types : Types) (f : Function) (st : State) (Q : State → Type 0) (given : (r : ℕ) (z : ℤ) → Q (put_cell r (Number z) st)) where
-  computed_gives : (r : ℕ) (computed : Computed) → OnNext (computed_into r computed st) Q
-  computed_gives r (Ok z) = given r z
-  computed_gives r (Err kind) = tt
+-- whatever holds where this register is given a number
+module _ (types : Types) (f : Function) (st : State) (Q : State → Type 0) (r : ℕ) (given : (z : ℤ) → Q (put_cell r (Number z) st)) where
+  computed_gives : (computed : Computed) → OnNext (computed_into r computed st) Q
+  computed_gives (Ok z) = given z
+  computed_gives (Err kind) = tt
 
-  pub evaluated_gives : (r : ℕ) (op : Operation) → OnNext (evaluated types f r op st) Q
-  evaluated_gives r (operation.Number z) = given r z
-  evaluated_gives r (operation.Convert q) = on_number_next (cell st q) (λ z. Next (put_cell r (Number (converted (type_of types f r) z)) st)) Q (λ z. given r _)
-  evaluated_gives r (operation.Negate q) = on_number_next (cell st q) (λ z. computed_into r (negated (type_of types f r) z) st) Q (λ z. computed_gives r (negated (type_of types f r) z))
-  evaluated_gives r (operation.IsZero q) = on_number_next (cell st q) (λ z. computed_into r (truth (is_zero z)) st) Q (λ z. computed_gives r (truth (is_zero z)))
-  evaluated_gives r (operation.Binary operator a b) =
+  pub evaluated_gives : (op : Operation) → OnNext (evaluated types f r op st) Q
+  evaluated_gives (operation.Number z) = given z
+  evaluated_gives (operation.Convert q) = on_number_next (cell st q) (λ z. Next (put_cell r (Number (converted (type_of types f r) z)) st)) Q (λ z. given _)
+  evaluated_gives (operation.Negate q) = on_number_next (cell st q) (λ z. computed_into r (negated (type_of types f r) z) st) Q (λ z. computed_gives (negated (type_of types f r) z))
+  evaluated_gives (operation.IsZero q) = on_number_next (cell st q) (λ z. computed_into r (truth (is_zero z)) st) Q (λ z. computed_gives (truth (is_zero z)))
+  evaluated_gives (operation.Binary operator a b) =
       on_number_next (cell st a) (λ x. on_number (cell st b) (λ y. computed_into r (combined (type_of types f a) operator x y) st)) Q
-      (λ x. on_number_next (cell st b) (λ y. computed_into r (combined (type_of types f a) operator x y) st) Q (λ y. computed_gives r (combined (type_of types f a) operator x y)))
+      (λ x. on_number_next (cell st b) (λ y. computed_into r (combined (type_of types f a) operator x y) st) Q (λ y. computed_gives (combined (type_of types f a) operator x y)))
 
-  pub loaded_gives : (s : Setting) (r : ℕ) (o : Operand) → OnNext (loaded s types f r o st) Q
-  loaded_gives s r o = over (locate types f o st)
+  pub loaded_gives : (s : Setting) (o : Operand) → OnNext (loaded s types f r o st) Q
+  loaded_gives s o = over (locate types f o st)
     where
       over : (found : Found) → OnNext (loaded_from s types f r o st found) Q
-      over (Here n i object) = given r _
-      over (Fixed t) = on_character_next s.texts t (λ z. Next (put_cell r (Number z) st)) Q (λ z. given r z)
+      over (Here n i object) = given _
+      over (Fixed t) = on_character_next s.texts t (λ z. Next (put_cell r (Number z) st)) Q (λ z. given z)
       over Outside = tt
       over (Wrong kind) = tt
       over Astray = tt
 
   -- ---- sizes and comparisons
 
-  pub sizes_give : (r : ℕ) (b : Base) → OnNext (sized types f r b st) Q
-  sizes_give r (source.Owner o) =
+  pub sizes_give : (b : Base) → OnNext (sized types f r b st) Q
+  sizes_give (source.Owner o) =
       on_place_each (locate types f o st) (λ n i object. on_got (buffer_of st.world.content (record { object = n; index = i; word = operand_word types f o st })) (λ b. Next (put_cell r (Number (pos (size_of st.world.content b))) st))) (λ t. Strays) Q
-      (λ n i object. on_got_each (buffer_of st.world.content (record { object = n; index = i; word = operand_word types f o st })) (λ b. Next (put_cell r (Number (pos (size_of st.world.content b))) st)) Q (λ b. given r _))
+      (λ n i object. on_got_each (buffer_of st.world.content (record { object = n; index = i; word = operand_word types f o st })) (λ b. Next (put_cell r (Number (pos (size_of st.world.content b))) st)) Q (λ b. given _))
       (λ t. tt)
-  sizes_give r (source.Pointer l) = on_got_each (used st.world.content (location_cell types f l st)) (λ v. Next (put_cell r (Number (pos (seen_count v))) st)) Q (λ v. given r _)
+  sizes_give (source.Pointer l) = on_got_each (used st.world.content (location_cell types f l st)) (λ v. Next (put_cell r (Number (pos (seen_count v))) st)) Q (λ v. given _)
 
-  pub sames_give : (s : Setting) (r : ℕ) (a b : Location) (equal : Bool) → OnNext (same_into s types f r a b equal st) Q
-  sames_give s r a b equal = on_got_each (compared s types f (location_parts types f a) a b st) (λ same. Next (put_cell r (Number (told same equal)) st)) Q (λ same. given r _)
+  pub sames_give : (s : Setting) (a b : Location) (equal : Bool) → OnNext (same_into s types f r a b equal st) Q
+  sames_give s a b equal = on_got_each (compared s types f (location_parts types f a) a b st) (λ same. Next (put_cell r (Number (told same equal)) st)) Q (λ same. given _)
 
 -- .. and where something is written, or an input taken
-module _ (types : Types) (f : Function) (st : State) (Q : State → Type 0) (outputs : (text : List ℕ) → Q (with_output text st)) (takes : (r : ℕ) (z : ℤ) (zs : List ℤ) → Q (put_cell r (Number z) (record st { world = record (st.world) { input = zs } }))) where
-  pub ports_give : (s : Setting) (p : Port) → OnNext (port s types f p st) Q
-  ports_give s (Writes r) = on_number_next (cell st r) (λ z. Next (with_output (number_text (type_of types f r) z) st)) Q (λ z. outputs (number_text (type_of types f r) z))
-  ports_give s (WritesView l) =
+module _ (types : Types) (f : Function) (st : State) (Q : State → Type 0) (outputs : (text : List ℕ) → Q (with_output text st)) where
+  pub ports_give : (s : Setting) (p : Port) → ((r : ℕ) (z : ℤ) (zs : List ℤ) → p ≡ Takes r → Q (put_cell r (Number z) (record st { world = record (st.world) { input = zs } }))) → OnNext (port s types f p st) Q
+  ports_give s (Writes r) takes = on_number_next (cell st r) (λ z. Next (with_output (number_text (type_of types f r) z) st)) Q (λ z. outputs (number_text (type_of types f r) z))
+  ports_give s (WritesView l) takes =
       on_got_each (used st.world.content (location_cell types f l st)) (λ p. Next (with_output (seen_bytes s.texts st.world.content p) st)) Q (λ p. outputs (seen_bytes s.texts st.world.content p))
-  ports_give s (Takes r) = go st.world.input
+  ports_give s (Takes r) takes = go st.world.input
     where
       go : (input : List ℤ) → OnNext (input_taken r input st) Q
       go [] = tt
-      go (z ∷ zs) = takes r (as_long z) zs
+      go (z ∷ zs) = takes r (as_long z) zs refl
 
 module _ (types : Types) (ordered : IsOrdered types) (f : Function) (rest : ℕ → ℕ) (st : State) (stands : Stands types f rest st) where
   abbrev c : Content
@@ -118,5 +118,5 @@ module _ (types : Types) (ordered : IsOrdered types) (f : Function) (rest : ℕ 
 
   pub ports_stand : (s : Setting) (p : Port) → OnNext (port s types f p st) (Stands types f rest)
   ports_stand s p =
-      ports_give types f st (Stands types f rest) (λ text. record { store = stands.store; frame = stands.frame })
-      (λ r z zs. number_stands types ordered f rest (record st { world = record (st.world) { input = zs } }) (record { store = stands.store; frame = stands.frame }) r z) s p
+      ports_give types f st (Stands types f rest) (λ text. record { store = stands.store; frame = stands.frame }) s p
+      (λ r z zs is. number_stands types ordered f rest (record st { world = record (st.world) { input = zs } }) (record { store = stands.store; frame = stands.frame }) r z)

@@ -268,8 +268,8 @@ module _ (types : Types) (ordered : IsOrdered types) (f : Function) (rest : ℕ 
   pub step_stands : (i : Step) → IsTypedStep types f st i → OnNext (does s types f i st) (Stands types f rest)
   step_stands (Live x form) typed = live_stands x form typed
   step_stands (End xs) typed = ends_stand types ordered f rest xs st stands
-  step_stands (Eval r operation) typed = evaluated_gives types f st (Stands types f rest) (number_stands types ordered f rest st stands) r operation
-  step_stands (Load r o) typed = loaded_gives types f st (Stands types f rest) (number_stands types ordered f rest st stands) s r o
+  step_stands (Eval r operation) typed = evaluated_gives types f st (Stands types f rest) r (number_stands types ordered f rest st stands r) operation
+  step_stands (Load r o) typed = loaded_gives types f st (Stands types f rest) r (number_stands types ordered f rest st stands r) s o
   step_stands (Save o r) typed = saves_stand types ordered f rest st stands o r typed.0 typed.1.0 typed.1.1 typed.2
   step_stands (Copy to from) typed = copies_stand types ordered f rest st stands s to from typed.0 typed.1 typed.2.0 typed.3.0 typed.4 typed.2.1 typed.3.1
   step_stands (Move to y) typed = moves_stand types ordered f rest st stands to y typed.0 typed.1.0 typed.1.1 typed.2 typed.3
@@ -283,8 +283,8 @@ module _ (types : Types) (ordered : IsOrdered types) (f : Function) (rest : ℕ 
   step_stands (Cursor p (source.Pointer l) end) typed = seen_cursors_give types ordered f rest st stands p typed.0 AnyPointer (Stands types f rest) (stood p typed.0 typed.1) (λ t e. tt) l end typed.2.0 typed.2.1 (any_used l)
   step_stands (Advance p q r way) typed = advances_give types ordered f rest st stands p typed.0 AnyPointer (Stands types f rest) (stood p typed.0 typed.1) (λ t e. tt) s q r way typed.2.0 typed.2.1 (any_iterator q)
   step_stands (Cut p q r count) typed = cuts_give types ordered f rest st stands p typed.0 AnyPointer (Stands types f rest) (stood p typed.0 typed.1) (λ t e. tt) q r count typed.2.0 typed.2.1 (got_any (used st.world.content (location_cell types f q st)) (λ v. (i k : ℕ) → AnyPointer (part_of st.world.content.clock i k v)) (λ v i k. tt))
-  step_stands (Size r base) typed = sizes_give types f st (Stands types f rest) (number_stands types ordered f rest st stands) r base
-  step_stands (Same r a b equal) typed = sames_give types f st (Stands types f rest) (number_stands types ordered f rest st stands) s r a b equal
+  step_stands (Size r base) typed = sizes_give types f st (Stands types f rest) r (number_stands types ordered f rest st stands r) base
+  step_stands (Same r a b equal) typed = sames_give types f st (Stands types f rest) r (number_stands types ordered f rest st stands r) s a b equal
   step_stands (Changes o change) typed =
       on_spot_next types ordered f st stands.frame o typed.0 (λ spot. changed s types f (operand_parts types f o) spot change st) (Stands types f rest) typed.1.0 typed.1.1
       (λ n i w object place. subst (λ (id : Option TyId). OnNext (changed s types f (parts_if types id) (record { object = n; index = i; word = w }) change st) (Stands types f rest)) (sym typed.1.0) (typed_change typed.0 n i w object place change typed.2))

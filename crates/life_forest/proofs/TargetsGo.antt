@@ -40,7 +40,7 @@ use Rattle.life_forest.specs.Settled.{KindsFit, PointersFit, Settles}
 use Rattle.life_forest.specs.Sorted.{PointerFits}
 use Rattle.life_forest.proofs.EnteredFrames.{GivesOn, composed_points, less_sound, local_gives, value_class}
 use Rattle.life_forest.proofs.GivenResults.{IsResult}
-use Rattle.life_forest.proofs.HandedOver.{IsHandedTo, taken_type}
+use Rattle.life_forest.proofs.HandedOver.{IsHandedTo}
 use Rattle.life_forest.proofs.HeldPoints.{IsSound}
 use Rattle.life_forest.proofs.HeldPointers.{pointers_aim}
 use Rattle.life_forest.proofs.Holding.{Holds, held_cell, held_holds, held_self}
@@ -52,6 +52,7 @@ use Rattle.life_forest.proofs.SeenTypes.{alike_seen, pointer_solid}
 use Rattle.life_forest.proofs.Settling.{number_settles, pointed_settles}
 use Rattle.life_forest.proofs.SettlingPointers.{alike_fits, alike_points}
 use Rattle.life_forest.proofs.Shaped.{IsShaped, no_slot}
+use Rattle.life_forest.proofs.SlotSorts.{taken_type}
 use Rattle.life_forest.proofs.StandingPointers.{number_stands, pointed_stands}
 use Rattle.life_forest.proofs.StandingSteps.{TakesPointer}
 use Rattle.life_forest.proofs.TypedSteps.{local_of, pointer_of, value_solid}

@@ -37,7 +37,7 @@ sets_apart w (v ∷ vs) xs u k apart =
     sets_apart (w + 1) vs (slice_set xs w v) u k (⊎_elim (λ h. inl (omega (arith, h))) (λ h. inr (omega (arith, h))) apart)
     ∙ set_apart xs w v u k (⊎_elim (λ h. inl h) (λ h. inr (omega (arith, h))) apart)
 
-puts_apart : (i w : ℕ) (vs : List ℕ) (ss : List Slot) (u k : ℕ) → (u + k ≤ w) ⊎ (w + length vs ≤ u) → take k (drop u (words_if (slice_get (puts_in i w vs ss) 0))) ≡ take k (drop u (words_if (slice_get ss 0)))
+pub puts_apart : (i w : ℕ) (vs : List ℕ) (ss : List Slot) (u k : ℕ) → (u + k ≤ w) ⊎ (w + length vs ≤ u) → take k (drop u (words_if (slice_get (puts_in i w vs ss) 0))) ≡ take k (drop u (words_if (slice_get ss 0)))
 puts_apart i w vs [] u k apart = ap (λ (ss : List Slot). take k (drop u (words_if (slice_get ss 0)))) (none i w vs)
   where
     none : (i w : ℕ) (vs : List ℕ) → puts_in i w vs [] ≡ []
