@@ -1,4 +1,4 @@
--- A vector or a string that is a whole object takes the buffer of another one: it has a buffer then, and the other one may be bare.
+-- A vector or a string takes the buffer of a whole object: it has a buffer then, and that object may be bare.
 use Rattle.std.proofs.Common.{◌≡◌, ◌≢◌, ◌⊎◌, inl, inr, ⊎_elim, ℕ, suc, ◌≤◌, ◌<◌, List, [], ◌∷◌, length, Option, Some, None, refl, sym, ap, subst, ◌∙◌, arith}
 use Rattle.std.specs.Prelude.{slice_set}
 use Rattle.life_types.specs.Types.{Types}
@@ -9,9 +9,9 @@ use Rattle.life_store.specs.Held.{owned_in, owner_word, with_words, wrote, wrote
 use Rattle.life_store.specs.Owners.{Words, ended, renamed_if, taken}
 use Rattle.life_store.specs.Parts.{Parts, Text, Vector, parts_at, width}
 use Rattle.life_store.specs.Places.{spot_words}
-use Rattle.life_store.proofs.CellLemmas.{none_some, some_same}
+use Rattle.life_store.proofs.CellLemmas.{none_some, set_cases, some_same}
 use Rattle.life_cover.specs.Buffered.{AreBut, HasBuffers}
-use Rattle.life_cover.proofs.Buffering.{Have, IsOwnerAt, but_more, but_one, ended_but, ended_leaves, rename_but, set_but}
+use Rattle.life_cover.proofs.Buffering.{AllSome, Have, IsBufferOwner, IsOwnerAt, but_more, but_one, ended_but, ended_leaves, owns_but, rename_but, set_but, some_written}
 use Rattle.life_cover.proofs.OwnersStay.{read_word}
 use Rattle.life_cover.proofs.Recopying.{one_written}
 
@@ -45,7 +45,7 @@ module _ (types : Types) (bare : ℕ → Type 0) (b : ℕ) (clear : bare b → �
       }
   taken_over _ is = absurd is
 
-  module _ (p : Parts) (is : IsBufferParts p) (n m : ℕ) (n_born : n < c.births) (apart : m ≢ n) (other : b ≢ n) (owner : IsOwnerAt types c n) (one : (o : Object) → at c.objects n ≡ Some o → length o.slots ≡ 1) where
+  module _ (p : Parts) (is : IsBufferParts p) (m : ℕ) where
     abbrev v : Words
     v = taken p (suc b ∷ []) c
 
@@ -63,38 +63,64 @@ module _ (types : Types) (bare : ℕ → Type 0) (b : ℕ) (clear : bare b → �
         go None = more
         go (Some o) = set_but types (λ k. bare k ⊎ (k ≡ m)) m (with_words 0 0 (owner_word None ∷ []) o) v.1 (with_object m (with_words 0 0 (owner_word None ∷ []) o) v.1) (inl (inr refl)) refl more
 
-    abbrev left : Content
+    abbrev pub left : Content
     left = wrote m 0 0 (owner_word None ∷ []) (taken p (suc b ∷ []) c).1
 
-    abbrev cut : Content
-    cut = ended p (spot_words left (record { object = n; index = 0; word = 0 }) (width p)) left
+    -- ---- a place takes it, and nobody asks whether what that lies in is bare
 
-    left_same : (k : ℕ) → k < c.births → b ≢ k → m ≢ k → at left.objects k ≡ at c.objects k
-    left_same k lt ne_b ne_m = go (at v.1.objects m) ∙ over.others k lt ne_b
-      where
-        go : (o : Option Object) → at (wrote_if o m 0 0 (owner_word None ∷ []) (taken p (suc b ∷ []) c).1).objects k ≡ at (taken p (suc b ∷ []) c).1.objects k
-        go None = refl
-        go (Some o) = at-set_other v.1.objects m k (with_words 0 0 (owner_word None ∷ []) o) ne_m
+    module _ (n i : ℕ) (n_born : n < c.births) (other : b ≢ n) (owner : IsOwnerAt types c n) where
+      left_owner : IsOwnerAt types left n
+      left_owner o there = go (at v.1.objects m) refl there
+        where
+          go : (x : Option Object) → at v.1.objects m ≡ x → at (wrote_if x m 0 0 (owner_word None ∷ []) (taken p (suc b ∷ []) c).1).objects n ≡ Some o → IsBufferOwner types (parts_at types o.ty) × AllSome types o.slots
+          go None e here = owner o (sym (over.others n n_born other) ∙ here)
+          go (Some x) e here =
+              ⊎_elim
+              (λ same.
+              let was = owner x (sym (over.others n n_born other) ∙ ap (at v.1.objects) (sym same.0) ∙ e) in
+              subst (λ (q : Object). IsBufferOwner types (parts_at types q.ty) × AllSome types q.slots) (some_same (sym same.1 ∙ here)) (was.0, some_written types x.slots 0 0 was.1))
+              (λ apart. owner o (sym (over.others n n_born other) ∙ sym apart.1 ∙ here))
+              (set_cases v.1.objects m n (with_words 0 0 (owner_word None ∷ []) x))
 
-    was : (o : Object) → at cut.objects n ≡ Some o → at c.objects n ≡ Some o
-    was o there = sym (left_same n n_born other apart) ∙ ended_leaves types p (spot_words left (record { object = n; index = 0; word = 0 }) (width p)) left n o there
+      pub placed_buffered : AreBut types (λ k. bare k ⊎ (k ≡ m)) (moved_to p (record { object = n; index = i; word = 0 }) m (taken p (suc b ∷ []) c))
+      placed_buffered =
+          let e = ended p (spot_words left (record { object = n; index = i; word = 0 }) (width p)) left in
+          subst (λ (ws : List ℕ). AreBut types (λ k. bare k ⊎ (k ≡ m)) (wrote_if (at (ended p (spot_words left (record { object = n; index = i; word = 0 }) (width p)) left).objects n) n i 0 ws (ended p (spot_words left (record { object = n; index = i; word = 0 }) (width p)) left))) (sym over.row)
+          (owns_but types (λ k. bare k ⊎ (k ≡ m)) n i over.number e (λ o there. left_owner o (ended_leaves types p (spot_words left (record { object = n; index = i; word = 0 }) (width p)) left n o there))
+          (ended_but types (λ k. bare k ⊎ (k ≡ m)) p (spot_words left (record { object = n; index = i; word = 0 }) (width p)) left emptied))
 
-    cut_but : AreBut types (λ k. bare k ⊎ (k ≡ m)) cut
-    cut_but = ended_but types (λ k. bare k ⊎ (k ≡ m)) p (spot_words left (record { object = n; index = 0; word = 0 }) (width p)) left emptied
+    -- ---- all of an object of one slot takes it
 
-    have : (j : ℕ) (o : Object) → at cut.objects n ≡ Some o → Have types (with_words 0 0 (suc j ∷ []) o)
-    have j o there =
-        let at_c = was o there in
-        one_written (HasBuffers (parts_at types o.ty)) o.slots (suc j) (one o at_c) (λ t e. (owner o at_c).0 (slice_set t.words 0 (suc j)) j (ap owned_in (read_word t.words 0 (suc j) ((owner o at_c).1 0 t e))))
+    module _ (n : ℕ) (n_born : n < c.births) (apart : m ≢ n) (other : b ≢ n) (owner : IsOwnerAt types c n) (one : (o : Object) → at c.objects n ≡ Some o → length o.slots ≡ 1) where
+      abbrev cut : Content
+      cut = ended p (spot_words left (record { object = n; index = 0; word = 0 }) (width p)) left
 
-    pub moved_buffered : AreBut types (λ k. (bare k × (k ≢ n)) ⊎ (k ≡ m)) (moved_to p (record { object = n; index = 0; word = 0 }) m (taken p (suc b ∷ []) c))
-    moved_buffered =
-        subst (λ (ws : List ℕ). AreBut types (λ k. (bare k × (k ≢ n)) ⊎ (k ≡ m)) (wrote_if (at cut.objects n) n 0 0 ws cut)) (sym over.row)
-        (but_more types (λ k. (bare k ⊎ (k ≡ m)) × (k ≢ n)) (λ k. (bare k × (k ≢ n)) ⊎ (k ≡ m)) (wrote_if (at cut.objects n) n 0 0 (suc over.number ∷ []) cut) (λ k gone. ⊎_elim (λ was_bare. inl (was_bare, gone.1)) (λ is_m. inr is_m) gone.0)
-        (go (at cut.objects n) refl))
-      where
-        go : (x : Option Object) → at cut.objects n ≡ x → AreBut types (λ k. (bare k ⊎ (k ≡ m)) × (k ≢ n)) (wrote_if x n 0 0 (suc over.number ∷ []) cut)
-        go None e = but_one types (λ k. bare k ⊎ (k ≡ m)) n cut (λ o there. absurd (none_some (sym e ∙ there))) cut_but
-        go (Some o) e =
-            but_one types (λ k. bare k ⊎ (k ≡ m)) n (with_object n (with_words 0 0 (suc over.number ∷ []) o) cut) (λ q there. subst (Have types) (some_same (sym (at-set_same cut.objects n n (with_words 0 0 (suc over.number ∷ []) o) refl) ∙ there)) (have over.number o e))
-            (set_but types (λ k. bare k ⊎ (k ≡ m)) n (with_words 0 0 (suc over.number ∷ []) o) cut (with_object n (with_words 0 0 (suc over.number ∷ []) o) cut) (inr (have over.number o e)) refl cut_but)
+      left_same : (k : ℕ) → k < c.births → b ≢ k → m ≢ k → at left.objects k ≡ at c.objects k
+      left_same k lt ne_b ne_m = go (at v.1.objects m) ∙ over.others k lt ne_b
+        where
+          go : (o : Option Object) → at (wrote_if o m 0 0 (owner_word None ∷ []) (taken p (suc b ∷ []) c).1).objects k ≡ at (taken p (suc b ∷ []) c).1.objects k
+          go None = refl
+          go (Some o) = at-set_other v.1.objects m k (with_words 0 0 (owner_word None ∷ []) o) ne_m
+
+      was : (o : Object) → at cut.objects n ≡ Some o → at c.objects n ≡ Some o
+      was o there = sym (left_same n n_born other apart) ∙ ended_leaves types p (spot_words left (record { object = n; index = 0; word = 0 }) (width p)) left n o there
+
+      cut_but : AreBut types (λ k. bare k ⊎ (k ≡ m)) cut
+      cut_but = ended_but types (λ k. bare k ⊎ (k ≡ m)) p (spot_words left (record { object = n; index = 0; word = 0 }) (width p)) left emptied
+
+      have : (j : ℕ) (o : Object) → at cut.objects n ≡ Some o → Have types (with_words 0 0 (suc j ∷ []) o)
+      have j o there =
+          let at_c = was o there in
+          one_written (HasBuffers (parts_at types o.ty)) o.slots (suc j) (one o at_c) (λ t e. (owner o at_c).0 (slice_set t.words 0 (suc j)) j (ap owned_in (read_word t.words 0 (suc j) ((owner o at_c).1 0 t e))))
+
+      pub moved_buffered : AreBut types (λ k. (bare k × (k ≢ n)) ⊎ (k ≡ m)) (moved_to p (record { object = n; index = 0; word = 0 }) m (taken p (suc b ∷ []) c))
+      moved_buffered =
+          subst (λ (ws : List ℕ). AreBut types (λ k. (bare k × (k ≢ n)) ⊎ (k ≡ m)) (wrote_if (at cut.objects n) n 0 0 ws cut)) (sym over.row)
+          (but_more types (λ k. (bare k ⊎ (k ≡ m)) × (k ≢ n)) (λ k. (bare k × (k ≢ n)) ⊎ (k ≡ m)) (wrote_if (at cut.objects n) n 0 0 (suc over.number ∷ []) cut) (λ k gone. ⊎_elim (λ was_bare. inl (was_bare, gone.1)) (λ is_m. inr is_m) gone.0)
+          (go (at cut.objects n) refl))
+        where
+          go : (x : Option Object) → at cut.objects n ≡ x → AreBut types (λ k. (bare k ⊎ (k ≡ m)) × (k ≢ n)) (wrote_if x n 0 0 (suc over.number ∷ []) cut)
+          go None e = but_one types (λ k. bare k ⊎ (k ≡ m)) n cut (λ o there. absurd (none_some (sym e ∙ there))) cut_but
+          go (Some o) e =
+              but_one types (λ k. bare k ⊎ (k ≡ m)) n (with_object n (with_words 0 0 (suc over.number ∷ []) o) cut) (λ q there. subst (Have types) (some_same (sym (at-set_same cut.objects n n (with_words 0 0 (suc over.number ∷ []) o) refl) ∙ there)) (have over.number o e))
+              (set_but types (λ k. bare k ⊎ (k ≡ m)) n (with_words 0 0 (suc over.number ∷ []) o) cut (with_object n (with_words 0 0 (suc over.number ∷ []) o) cut) (inr (have over.number o e)) refl cut_but)

@@ -1,6 +1,7 @@
 -- Each vector and each string keeps its buffer behind births and ends, and where words of an object are written, but in objects that are left out.
 use Rattle.std.proofs.Common.{◌≡◌, ⊎_elim, ℕ, zero, suc, ◌+◌, ◌-◌, ◌≤◌, ◌<◌, List, [], ◌∷◌, ◌++◌, length, map, Option, Some, None, refl, sym, ap, subst, ◌∙◌, arith, ◌⊎◌, inl, inr, ◌≢◌}
 use Rattle.std.specs.Prelude.{drop, option_map, replicate, slice_get, slice_index, slice_set, take}
+use Rattle.std.proofs.lemmas.List.{length-set}
 use Rattle.life_types.specs.Types.{Types}
 use Rattle.life_types.specs.declared.ty.TyId.{TyId}
 use Rattle.life_store.specs.Cells.{at, set}
@@ -199,6 +200,10 @@ module _ (types : Types) where
   -- each slot has words
   abbrev pub AllSome : List Slot → Type 0
   AllSome ss = (i : ℕ) (s : Slot) → slice_get ss i ≡ Some s → 0 < length s.words
+
+  -- .. also where one word is another
+  pub some_written : (ss : List Slot) (w v : ℕ) → AllSome ss → AllSome (set_slot ss 0 (option_map (written w v) (slice_get ss 0)))
+  some_written ss w v h = each_written (λ ws. 0 < length ws) ss 0 w v (λ s e. let some = h 0 s e in let size = length-set s.words w v in omega (arith, some, size)) h
 
   -- a vector or a string
   abbrev pub IsBufferOwner : Parts → Type 0

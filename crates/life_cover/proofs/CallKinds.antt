@@ -4,7 +4,7 @@ use Rattle.std.specs.Prelude.{Contains, flat_map, slice_get, ◌&&◌}
 use Rattle.std.proofs.lemmas.Bool.{false≢true, ne_eqb}
 use Rattle.std.proofs.lemmas.List.Elements.{Contains-append_right}
 use Rattle.life_types.specs.Pointees.{ty_of}
-use Rattle.life_types.specs.TypeTests.{is_pointer}
+use Rattle.life_types.specs.TypeTests.{is_pointer, is_unique}
 use Rattle.life_types.specs.Types.{Types}
 use Rattle.life_types.specs.declared.place.Place.{Place}
 use Rattle.life_core.specs.declared.program.FnId.{FnId}
@@ -52,6 +52,7 @@ use Rattle.life_cover.specs.Passed.{IsPromised}
 use Rattle.life_cover.proofs.Arguments.{AreSlotless, IsAimedBy}
 use Rattle.life_cover.proofs.Behind.{IsBehind}
 use Rattle.life_cover.proofs.CallCovers.{call_covered, call_spares}
+use Rattle.life_cover.proofs.CalledUniques.{had_called}
 use Rattle.life_cover.proofs.GivenValues.{IsFilled, IsGiven, value_given}
 use Rattle.life_cover.proofs.KnownFrames.{IsKnownFrame, IsRight, hand_of, object_named, store_of}
 use Rattle.life_cover.proofs.Locals.{two_named}
@@ -61,6 +62,7 @@ use Rattle.life_cover.proofs.PromisedResults.{result_covered}
 use Rattle.life_cover.proofs.Putting.{set_other}
 use Rattle.life_cover.proofs.Unkilled.{no_foot}
 use Rattle.life_cover.specs.Regions.{Region}
+use Rattle.life_cover.specs.Uniques.{had_by}
 
 -- ---- the calls that are spoken of
 
@@ -71,8 +73,8 @@ IsPlainTarget types f (Some l) = (l.members ≡ []) × (slot_at types f l.local 
 
 -- the facts cover all pointers behind it, what it touched lies beneath what the frame named or is an owner behind a mutating input, and nobody comes
 -- to what the callee left so
-abbrev pub IsCalled : Types → Function → (inputs : Root → Option Region) → (S' : Fact → Type 0) → (bare over loose : ℕ → Type 0) → State → State → Type 0
-IsCalled types f inputs S' bare over loose st after = FrameCovered types f inputs S' after × (IsBehind types f inputs bare over st after × ((n : ℕ) → loose n → IsLoose types inputs (named_in after.cells) after.world.content n))
+abbrev pub IsCalled : Types → Function → (inputs : Root → Option Region) → (S' : Fact → Type 0) → (bare over lost loose : ℕ → Type 0) → State → State → Type 0
+IsCalled types f inputs S' bare over lost loose st after = FrameCovered types f inputs S' after × (IsBehind types f inputs bare over lost st after × ((n : ℕ) → loose n → IsLoose types inputs (named_in after.cells) after.world.content n))
 
 -- ---- what is handed over
 
@@ -160,6 +162,10 @@ module _ (types : Types) (f : Function) (rest : ℕ → ℕ) (inputs : Root → 
   abbrev pub IsOver : ℕ → Type 0
   IsOver y = Contains (flat_map given_argument xs) y
 
+  -- what is given the result
+  abbrev pub IsTarget : ℕ → Type 0
+  IsTarget y = (l : Location) × (target ≡ Some l) × (l.local ≡ y)
+
   -- what the callee may touch
   abbrev pub callee_foot : Foot
   callee_foot = foot_with types (mutated types gf (entry_inputs st.world.content values)) (named_in values)
@@ -176,6 +182,11 @@ module _ (types : Types) (f : Function) (rest : ℕ → ℕ) (inputs : Root → 
 
     spares : (d : Content) → Touches (kinds_of types) (foot_with types (mutated types gf (entry_inputs st.world.content values)) (named_in values)) st.world.content d → Touches (kinds_of types) (frame_foot types f inputs st.cells) st.world.content d
     spares = call_spares types f rest inputs S st k sigs number place S' target g xs right values gf at_g shaped aims (given_object types f rest inputs S st k sigs number place S' target g xs right values plain each)
+
+    -- .. and of unique_ptrs none that is named then
+    had : (d : Content) → Touches (kinds_of types) (foot_with types (mutated types gf (entry_inputs st.world.content values)) (named_in values)) st.world.content d
+        → (y m : ℕ) → cell (lent types f xs st) y ≡ Some (Named m) → is_unique (type_at types f y) ≡ true → had_by d m ≡ had_by st.world.content m
+    had = had_called types f rest inputs S st k gf xs values aims less hand
 
     -- what isn't given over is named still
     stay : (y m : ℕ) → cell st y ≡ Some (Named m) → times (named_in values) m ≡ 0 → cell (record { world = w; cells = (lent types f xs st).cells }) y ≡ Some (Named m)
@@ -204,12 +215,18 @@ module _ (types : Types) (f : Function) (rest : ℕ → ℕ) (inputs : Root → 
       unowned = loose.0.unowned;
     })
 
-    pub nothing_taken : target ≡ None → IsCalled types f inputs S' bare IsOver LeftLoose st (record { world = w; cells = (lent types f xs st).cells })
+    pub nothing_taken : target ≡ None → IsCalled types f inputs S' bare IsOver IsTarget LeftLoose st (record { world = w; cells = (lent types f xs st).cells })
     nothing_taken none = (
       call_covered types f rest inputs S st k sigs number place S' target g xs right values gf at_g shaped aims (given_object types f rest inputs S st k sigs number place S' target g xs right values plain each) back touch stay
           (λ y p e. inl (less y (Points p) refl e, ap (λ (t : Option Location). is_in_target t (local_place y)) none)),
       (
-        record { buffered = buffered; touch = spares w.content touch; named = λ y m e. inl (in_hand st.cells y m (less y (Named m) refl e)); kept = λ y m was. still_named back stay y m was },
+        record {
+          buffered = buffered;
+          touch = spares w.content touch;
+          named = λ y m e. inl (in_hand st.cells y m (less y (Named m) refl e));
+          kept = λ y m was. still_named back stay y m was;
+          had = λ y m e unique. inr (less y (Named m) refl e, had w.content touch y m e unique);
+        },
         loose_still back refl (λ y m e. e),
       ),
     )
@@ -224,7 +241,7 @@ module _ (types : Types) (f : Function) (rest : ℕ → ℕ) (inputs : Root → 
 
       -- a number or an object
       module _ (v : Cell) (names : (j : ℕ) → v ≡ Named j → (0 < times (named_in values) j) ⊎ (st.world.content.births ≤ j)) (among : (j : ℕ) → v ≡ Named j → 0 < times (named_in vs) j) (pointless : (p : Pointer) → v ≡ Points p → ⊥) where
-        taken : (after : State) → IsGiven types bare l.local v (record { world = w; cells = (lent types f xs st).cells }) after → IsCalled types f inputs S' bare IsOver LeftLoose st after
+        taken : (after : State) → IsGiven types bare l.local v (record { world = w; cells = (lent types f xs st).cells }) after → IsCalled types f inputs S' bare IsOver IsTarget LeftLoose st after
         taken after h = (
           call_covered types f rest inputs S st k sigs number place S' target g xs right values gf at_g shaped aims (given_object types f rest inputs S st k sigs number place S' target g xs right values plain each) after both stays
               (λ y p e. ⊎_elim (λ new. absurd (pointless p new.1)) (λ was. inl (less y (Points p) refl was.1, outside y was.0)) (h.points y p e)),
@@ -239,6 +256,8 @@ module _ (types : Types) (f : Function) (rest : ℕ → ℕ) (inputs : Root → 
                   (λ new. inr (let b = touch.births in omega (arith, b, new))) other)
                   (h.named y m e);
               kept = λ y m was. still_named after stays y m was;
+              had = λ y m e unique. one_or_apart l.local y (λ same. inl (l, into, same))
+                  (λ ne. let old = sym (h.stays y ne) ∙ e in inr (less y (Named m) refl old, had after.world.content both y m old unique));
             },
             λ n loose. record {
               born = let b = h.touch.births in let l = loose.0.born in omega (arith, b, l);
@@ -269,12 +288,12 @@ module _ (types : Types) (f : Function) (rest : ℕ → ℕ) (inputs : Root → 
             stays : (y m : ℕ) → cell st y ≡ Some (Named m) → times (named_in values) m ≡ 0 → cell after y ≡ Some (Named m)
             stays y m was none = h.stays y (λ same. nameless m (ap (cell st) same ∙ was)) ∙ stay y m was none
 
-        pub result_taken : (s : Setting) → IsFilled v → OnNext (result_given s types f l l.members v (record { world = w; cells = (lent types f xs st).cells })) (IsCalled types f inputs S' bare IsOver LeftLoose st)
+        pub result_taken : (s : Setting) → IsFilled v → OnNext (result_given s types f l l.members v (record { world = w; cells = (lent types f xs st).cells })) (IsCalled types f inputs S' bare IsOver IsTarget LeftLoose st)
         result_taken s is =
-            subst (λ (ms : List ℕ). OnNext (result_given s types f l ms v back) (IsCalled types f inputs S' bare IsOver LeftLoose st)) (sym whole_target.0)
+            subst (λ (ms : List ℕ). OnNext (result_given s types f l ms v back) (IsCalled types f inputs S' bare IsOver IsTarget LeftLoose st)) (sym whole_target.0)
             (each_next (result_given s types f l [] v back) (value_given types k.ordered s f l.local v back bare buffered is (λ lo m there e. ap (is_slot_local types f) (sym there) ∙ whole_target.1)))
           where
-            each_next : (e : Effect) → OnNext e (IsGiven types bare l.local v back) → OnNext e (IsCalled types f inputs S' bare IsOver LeftLoose st)
+            each_next : (e : Effect) → OnNext e (IsGiven types bare l.local v back) → OnNext e (IsCalled types f inputs S' bare IsOver IsTarget LeftLoose st)
             each_next (Next after) h = taken after h
             each_next _ h = tt
 
@@ -303,7 +322,7 @@ module _ (types : Types) (f : Function) (rest : ℕ → ℕ) (inputs : Root → 
             result_covered types f rest inputs S st k sigs number place S' target g xs right values gf at_g shaped aims (given_object types f rest inputs S st k sigs number place S' target g xs right values plain each) l.local whole_is pointer result look after touch still
             (λ y m e. object_named types f rest inputs S st k y m (old_named y m e)) p promised
 
-        pointer_taken : IsCalled types f inputs S' bare IsOver LeftLoose st after
+        pointer_taken : IsCalled types f inputs S' bare IsOver IsTarget LeftLoose st after
         pointer_taken = (
           call_covered types f rest inputs S st k sigs number place S' target g xs right values gf at_g shaped aims (given_object types f rest inputs S st k sigs number place S' target g xs right values plain each) after touch still
               (λ y q e. ⊎_elim
@@ -312,7 +331,13 @@ module _ (types : Types) (f : Function) (rest : ℕ → ℕ) (inputs : Root → 
               (λ h. inl (less y (Points q) refl h.1, outside y h.0))
               (cell_cases (lent types f xs st).cells l.local y (Points p) (Points q) e)),
           (
-            record { buffered = buffered; touch = spares w.content touch; named = λ y m e. inl (in_hand st.cells y m (old_named y m e)); kept = λ y m was. still_named after still y m was },
+            record {
+              buffered = buffered;
+              touch = spares w.content touch;
+              named = λ y m e. inl (in_hand st.cells y m (old_named y m e));
+              kept = λ y m was. still_named after still y m was;
+              had = λ y m e unique. inr (old_named y m e, had w.content touch y m (lent_named y m e) unique);
+            },
             loose_still after refl lent_named,
           ),
         )
@@ -320,9 +345,9 @@ module _ (types : Types) (f : Function) (rest : ℕ → ℕ) (inputs : Root → 
             same_pointer : {u v : Pointer} → Points u ≡ Points v → u ≡ v
             same_pointer e = cc
 
-        pub pointer_given : (s : Setting) → OnNext (result_given s types f l l.members (Points p) (record { world = w; cells = (lent types f xs st).cells })) (IsCalled types f inputs S' bare IsOver LeftLoose st)
-        pointer_given s = subst (λ (ms : List ℕ). OnNext (result_given s types f l ms (Points p) back) (IsCalled types f inputs S' bare IsOver LeftLoose st)) (sym whole_target.0) (by_local (slice_get f.locals l.local))
+        pub pointer_given : (s : Setting) → OnNext (result_given s types f l l.members (Points p) (record { world = w; cells = (lent types f xs st).cells })) (IsCalled types f inputs S' bare IsOver IsTarget LeftLoose st)
+        pointer_given s = subst (λ (ms : List ℕ). OnNext (result_given s types f l ms (Points p) back) (IsCalled types f inputs S' bare IsOver IsTarget LeftLoose st)) (sym whole_target.0) (by_local (slice_get f.locals l.local))
           where
-            by_local : (o : Option Local) → OnNext (given_if s types f o (Points p) l.local back) (IsCalled types f inputs S' bare IsOver LeftLoose st)
+            by_local : (o : Option Local) → OnNext (given_if s types f o (Points p) l.local back) (IsCalled types f inputs S' bare IsOver IsTarget LeftLoose st)
             by_local None = tt
             by_local (Some lo) = pointer_taken

@@ -28,7 +28,8 @@ use Rattle.life_forest.specs.Frames.{named_in}
 use Rattle.life_forest.specs.Kinds.{kinds_of}
 use Rattle.life_forest.specs.Typed.{IsStore}
 use Rattle.life_forest.proofs.EntryFrames.{types_held}
-use Rattle.life_forest.proofs.HandedOver.{AreHandedTo, IsHandedTo, taken_type}
+use Rattle.life_forest.proofs.HandedOver.{AreHandedTo, IsHandedTo}
+use Rattle.life_forest.proofs.SlotSorts.{taken_type}
 use Rattle.life_forest.proofs.Shaped.{IsShaped}
 use Rattle.life_cover.specs.Covers.{IsCovered}
 use Rattle.life_cover.specs.Frames.{RootStands, look_at}

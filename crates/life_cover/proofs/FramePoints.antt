@@ -27,6 +27,7 @@ use Rattle.life_forest.proofs.SettledSteps.{IsOneFrame}
 use Rattle.life_forest.proofs.SettlingLives.{HaveMembers}
 use Rattle.life_forest.proofs.Shaped.{locals_shaped}
 use Rattle.life_forest.proofs.Slots.{ArePointsFormed}
+use Rattle.life_forest.proofs.SettledPoints.{locals_stand}
 use Rattle.life_forest.proofs.TypedPoints.{slot_free}
 use Rattle.life_forest.proofs.Holding.{KeepsWaiting}
 use Rattle.life_cover.specs.Frames.{FrameCovered}
@@ -34,6 +35,7 @@ use Rattle.life_cover.specs.Inputs.{AreGiven, frame_foot}
 use Rattle.life_cover.specs.Buffered.{AreBut}
 use Rattle.life_cover.proofs.GivenOn.{given_behind}
 use Rattle.life_cover.specs.Lacking.{MayLack}
+use Rattle.life_cover.specs.Uniques.{UniquesTold}
 use Rattle.life_cover.proofs.FrameSteps.{IsSpoken}
 use Rattle.life_cover.proofs.Behind.{IsBehind, any_local}
 use Rattle.life_cover.proofs.KnownFrames.{IsKnownFrame, IsRight}
@@ -69,12 +71,13 @@ pub record IsSafe (types : Types) (f : Function) (rest : ℕ → ℕ) (inputs : 
   pub given : AreGiven types f inputs (frame_foot types f inputs st.cells) st.world.content
   pub covered : FrameCovered types f inputs S st
   pub buffered : AreBut types (MayLack types f inputs S st) st.world.content
+  pub told : UniquesTold types f S st
 
 -- .. in the next state, with these locals; what the instruction touched lies beneath what the frame named, and what waits has its pointers
 pub record IsSafeNext (types : Types) (f : Function) (rest : ℕ → ℕ) (inputs : Root → Option Region) (S : Fact → Type 0) (past : Ready) (before st : State) : Type 0 where
   pub safe : IsSafe types f rest inputs S st
   pub bits : ready_of st ≡ past
-  pub behind : IsBehind types f inputs any_local any_local before st
+  pub behind : IsBehind types f inputs any_local any_local any_local before st
   pub waits : KeepsWaiting types rest before.world.content st.world.content
 
 -- .. if there is one; there is neither a fault nor a stray step
@@ -84,8 +87,8 @@ GoesSafe types f rest inputs S bits before (Traps kind) = Unit {0}
 GoesSafe types f rest inputs S bits before (Faults kind) = ⊥
 GoesSafe types f rest inputs S bits before Strays = ⊥
 
-pub goes_safe : (types : Types) (f : Function) (rest : ℕ → ℕ) (inputs : Root → Option Region) (S : Fact → Type 0) (before : State) (bits : Ready) → HasStore types rest before → AreGiven types f inputs (frame_foot types f inputs before.cells) before.world.content → (e : Effect) → GoesOn types f rest before.world.content bits e → OnRight e (λ st. FrameCovered types f inputs S st × (AreBut types (MayLack types f inputs S st) st.world.content × IsBehind types f inputs any_local any_local before st)) → GoesSafe types f rest inputs S bits before e
-goes_safe types f rest inputs S before bits store given (Next st) goes right = record { safe = record { sound = goes.sound; given = given_behind types f rest inputs any_local any_local before st store given right.1.1; covered = right.0; buffered = right.1.0 }; bits = goes.bits; behind = right.1.1; waits = goes.waits }
+pub goes_safe : (types : Types) (f : Function) (rest : ℕ → ℕ) (inputs : Root → Option Region) (S : Fact → Type 0) (before : State) (bits : Ready) → HasStore types rest before → AreGiven types f inputs (frame_foot types f inputs before.cells) before.world.content → (e : Effect) → GoesOn types f rest before.world.content bits e → OnRight e (λ st. FrameCovered types f inputs S st × (AreBut types (MayLack types f inputs S st) st.world.content × IsBehind types f inputs any_local any_local any_local before st × UniquesTold types f S st)) → GoesSafe types f rest inputs S bits before e
+goes_safe types f rest inputs S before bits store given (Next st) goes right = record { safe = record { sound = goes.sound; given = given_behind types f rest inputs any_local any_local any_local before st store given right.1.1; covered = right.0; buffered = right.1.0; told = right.1.2 }; bits = goes.bits; behind = right.1.1; waits = goes.waits }
 goes_safe types f rest inputs S before bits store given (Traps kind) goes right = tt
 goes_safe types f rest inputs S before bits store given (Faults kind) goes right = right
 goes_safe types f rest inputs S before bits store given Strays goes right = goes
@@ -98,12 +101,14 @@ module _ (types : Types) (ordered : IsOrdered types) (once : HasEachOnce types) 
     once = once;
     plain = plain;
     shaped = locals_shaped types ordered names f (formed_parts types names texts fs f formed).locals;
+    stand = locals_stand types ordered once some names texts fs f formed points ready;
     short = short;
     stands = safe.sound.stands;
     poised = poised types ordered once some names texts fs f formed points ready rest st safe.sound;
     given = safe.given;
     covered = safe.covered;
     buffered = safe.buffered;
+    told = safe.told;
   }
 
   pub point_safe : (rest : ℕ → ℕ) (inputs : Root → Option Region) (s : Setting) (sigs : List Signature) (n : ℕ) (place : Place) (S S' : Fact → Type 0) (p : ℕ) (st : State) (l : Linked) (i : Step) → Reaches types f p (ready_of st) → numbered (code_of f) p ≡ Some l → l.spot.node ≡ Action i → IsSpoken types f i

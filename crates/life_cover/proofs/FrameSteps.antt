@@ -1,11 +1,11 @@
 -- An instruction of a frame without structs at which nothing is wrong makes no fault, and the facts behind it cover all pointers of
 -- the frame: of values, pointers, vectors, strings, iterators, spans and views, by their types alone.
-use Rattle.std.proofs.Common.{◌≡◌, ◌≢◌, ℕ, Bool, true, false, ◌&&◌, not, List, Some, refl, sym, ap, subst, ◌∙◌, [], Option}
+use Rattle.std.proofs.Common.{◌≡◌, ◌⊎◌, ◌≢◌, ℕ, Bool, true, false, ◌&&◌, not, List, Some, refl, sym, ap, subst, ◌∙◌, [], Option, inl}
 use Rattle.std.specs.Prelude.{pos}
 use Rattle.std.proofs.lemmas.Bool.{and_parts, false≢true}
 use Rattle.life_types.specs.Pointees.{ty_of}
 use Rattle.life_types.specs.Trees.{holds_unique}
-use Rattle.life_types.specs.TypeTests.{is_constant, is_iterator, is_pointer, is_value, is_view, is_void}
+use Rattle.life_types.specs.TypeTests.{is_constant, is_iterator, is_pointer, is_value, is_view, is_void, is_unique}
 use Rattle.life_types.specs.Types.{Types}
 use Rattle.life_types.specs.declared.place.Place.{Place}
 use Rattle.life_types.specs.declared.ty.Ty.{Ty}
@@ -15,7 +15,7 @@ use Rattle.life_core.specs.declared.operand.RangeEnd.{RangeEnd}
 use Rattle.life_core.specs.declared.operand.Which.{Which}
 use Rattle.life_core.specs.declared.operand.Which.TheVariants as which
 use Rattle.life_core.specs.Function.{Function}
-use Rattle.life_core.specs.Operands.{Base, Location, Source, whole}
+use Rattle.life_core.specs.Operands.{Base, Location, Source, whole, Operand}
 use Rattle.life_core.specs.Operands as named
 use Rattle.life_core.specs.Proper.{AreReady}
 use Rattle.life_core.specs.Ready.{IsThere}
@@ -26,7 +26,7 @@ use Rattle.life_pset.specs.Shapes.{has_buffer, operand_type, tree_if}
 use Rattle.life_pset.specs.declared.element.Fact.{Fact}
 use Rattle.life_pset.specs.declared.element.Root.{Root}
 use Rattle.life_contract.specs.Signatures.{Signature}
-use Rattle.life_proper.specs.OperandTypes.{aims_at, are_alike, are_compared, is_range, keeps_const, owned_element, same, seen_element, spans, takes, walks}
+use Rattle.life_proper.specs.OperandTypes.{aims_at, are_alike, are_compared, is_range, keeps_const, owned_element, same, seen_element, spans, takes, walks, gets, owned_target}
 use Rattle.life_proper.specs.Placed.{element_of, is_const_base, is_const_place, is_number, is_number_of, register_at, type_at, type_in, type_of, type_of_element}
 use Rattle.life_proper.specs.WellFormed.{is_change_of, is_port, is_source_of, is_well_formed_step}
 use Rattle.life_proper.proofs.HeldSorts.{same_is}
@@ -35,10 +35,10 @@ use Rattle.life_store.specs.Edits.{buffer_of, size_of}
 use Rattle.life_store.specs.Effects.{Effect, GotFault, Next, Setting, cell, got_or, on_got, put_cell}
 use Rattle.life_store.specs.Parts.{characters_type}
 use Rattle.life_store.specs.Places.{Spot}
-use Rattle.life_store.specs.State.{Number, Pointer, Points, State, ready_of}
+use Rattle.life_store.specs.State.{Number, Pointer, Points, State, ready_of, Named}
 use Rattle.life_store.specs.declared.run.FaultKind.TheVariants as fault
 use Rattle.life_forest.specs.FrameTypes.{seen_in}
-use Rattle.life_forest.proofs.OneNumber.{also_solid, same_solid}
+use Rattle.life_forest.proofs.OneNumber.{also_solid, same_solid, one_type, type_there}
 use Rattle.life_forest.proofs.ReadyCells.{number_any, pointer_cell}
 use Rattle.life_forest.proofs.SeenTypes.{aims_seen, iterator_points, pointer_solid, range_points, raw_points, same_if, walks_seen}
 use Rattle.life_forest.proofs.TypedSteps.{IsSlotFree, value_solid}
@@ -51,11 +51,12 @@ use Rattle.life_cover.proofs.ChangeSteps.{change_step}
 use Rattle.life_cover.proofs.CopyKinds.{copy_kind}
 use Rattle.life_cover.proofs.Copyable.{copied_type}
 use Rattle.life_cover.proofs.EndKinds.{end_kind}
-use Rattle.life_cover.proofs.KnownFrames.{at_pointer, IsKnownFrame, IsRight, reach_at, used_right, whole_location}
+use Rattle.life_cover.proofs.KnownFrames.{at_pointer, IsKnownFrame, IsRight, reach_at, used_right, whole_location, typed}
 use Rattle.life_cover.proofs.LiveKinds.{live_kind}
 use Rattle.life_cover.proofs.MakeKinds.{IsMade}
 use Rattle.life_cover.proofs.MakeSteps.{IsMadeBy, make_right}
-use Rattle.life_cover.proofs.MoveSteps.{IsSpokenMove, by_move}
+use Rattle.life_cover.proofs.MoveSteps.{by_move, unique_solid}
+use Rattle.life_cover.proofs.PlacedMoveKinds.{GivenBare, placed_move_kind}
 use Rattle.life_cover.proofs.Looks.{view_range, HasItem, aims_single, const_kept, element_item, element_ranged, seen_at, spans_range, walks_single, whole_item}
 use Rattle.life_cover.proofs.NumberKinds.{IsPort, eval_kind, load_kind, port_kind, register_covered, same_kind, seen_size_kind}
 use Rattle.life_cover.proofs.Opening.{opened}
@@ -67,6 +68,10 @@ use Rattle.life_cover.proofs.Behind.{no_local}
 use Rattle.life_cover.proofs.MoveKinds.{move_kind}
 use Rattle.life_cover.proofs.BufferMoveKinds.{MovedBare, buffer_move_kind}
 use Rattle.life_rules.proofs.Giving.{at_head}
+use Rattle.life_cover.specs.Covers.{IsSeenAs}
+use Rattle.life_cover.proofs.PlainTargets.{through_other}
+use Rattle.life_cover.proofs.TargetKinds.{get_kind, target_kind}
+use Rattle.life_cover.proofs.UniqueLocals.{unique_local}
 
 -- what a well-formed iterator is
 iterator_single : (t : Ty) → is_iterator t ≡ true → is_range t ≡ false
@@ -100,23 +105,26 @@ pub not_false : (b : Bool) → not b ≡ true → b ≡ false
 not_false true e = absurd (false≢true e)
 not_false false e = refl
 
--- ---- the kinds of instructions that are spoken of: nothing is moved to a place behind a pointer, and no unique_ptr is opened
+-- what is aimed at the target of a unique_ptr, is at an object
+gets_aims : (types : Types) (t u : Ty) → gets types t u ≡ true → aims_at types t u ≡ true
+gets_aims types (ty.Raw target constant) u e = e
+gets_aims types _ u e = absurd (false≢true e)
 
-abbrev pub IsSpokenSource : Source → Type 0
-IsSpokenSource (named.Get u) = ⊥
-IsSpokenSource _ = Unit {0}
+-- only a unique_ptr has a target
+target_unique : (types : Types) (t : Ty) → is_void (owned_target types t) ≡ false → is_unique t ≡ true
+target_unique types (ty.Unique target) e = refl
+target_unique types _ e = absurd (false≢true (sym e))
 
--- a target of a unique_ptr is another kind
-abbrev pub IsElement : Which → Type 0
-IsElement which.Target = ⊥
-IsElement _ = Unit {0}
+-- ---- the kinds of instructions that are spoken of here: all but calls
 
 abbrev pub IsSpoken : Types → Function → Step → Type 0
-IsSpoken types f (Move to y) = IsSpokenMove to
 IsSpoken types f (Call target g xs) = ⊥
-IsSpoken types f (Aim p s) = IsSpokenSource s
-IsSpoken types f (step.Element p b w) = IsElement w
 IsSpoken types f _ = Unit {0}
+
+-- an element of a range, and not the target of a unique_ptr
+abbrev IsElement : Which → Type 0
+IsElement which.Target = ⊥
+IsElement _ = Unit {0}
 
 module _ (types : Types) (f : Function) (rest : ℕ → ℕ) (inputs : Root → Option Region) (S : Fact → Type 0) (st : State) (k : IsKnownFrame types f rest inputs S st) (sigs : List Signature) (n : ℕ) (place : Place) (S' : Fact → Type 0) (texts : ℕ) (fs : List Function) (s : Setting) where
   abbrev Right : Step → Type 0
@@ -137,32 +145,51 @@ module _ (types : Types) (f : Function) (rest : ℕ → ℕ) (inputs : Root → 
   item_for : (p : ℕ) (u : Ty) (target : TyId) → is_pointer (type_at types f p) ≡ true → seen_in types (Some (type_at types f p)) ≡ Some target → HasItem types k.ordered k.once u (Some target) → HasItem types k.ordered k.once u (look_at types f p).target
   item_for p u target pointer sees item = subst (HasItem types k.ordered k.once u) (sym (seen_at types k.ordered k.once f k.shaped p (type_at types f p) refl (pointer_solid (type_at types f p) pointer) ∙ sees)) item
 
-  aim_step : (p : ℕ) (sr : Source) → IsSpokenSource sr → Right (Aim (whole p) sr) → is_source_of types texts fs f (type_at types f p) sr ≡ true → Covers (Aim (whole p) sr)
-  aim_step p named.Null spoken right e = null_kind types f rest inputs S st k sigs n place S' p (raw_points (type_at types f p) e) s right
-  aim_step p (named.Text number) spoken right e =
+  -- p sees what a unique_ptr owns
+  sees_target : (p x : ℕ) (unique : is_unique (type_at types f x) ≡ true) → aims_at types (type_at types f p) (owned_target types (type_at types f x)) ≡ true → (n : ℕ) (names : cell st x ≡ Some (Named n)) → IsSeenAs types (look_at types f p).target (unique_local types f rest inputs S st k x n names unique).target
+  sees_target p x unique aims n names =
+      let seen = aims_seen types k.ordered k.once (type_at types f p) (owned_target types (type_at types f x)) aims in
+      let u = unique_local types f rest inputs S st k x n names unique in
+      let one = ty_of types seen.target in
+      let two = owned_target types (type_at types f x) in
+      subst (λ (o : Option TyId). IsSeenAs types o u.target) (sym (seen_at types k.ordered k.once f k.shaped p (type_at types f p) refl (pointer_solid (type_at types f p) seen.pointer) ∙ seen.seen))
+      (inl (one_type types k.once seen.target u.target one (type_there types seen.target one refl (same_solid one two seen.is)) (type_there types u.target one (sym (same_is one two seen.is ∙ ap (owned_target types) u.is)) (same_solid one two seen.is))))
+
+  get_step : (p : ℕ) (u : Location) → Right (Aim (whole p) (named.Get u)) → gets types (type_at types f p) (owned_target types (type_in types f u)) ≡ true → Covers (Aim (whole p) (named.Get u))
+  get_step p u right e =
+      let seen = aims_seen types k.ordered k.once (type_at types f p) (owned_target types (type_in types f u)) (gets_aims types (type_at types f p) (owned_target types (type_in types f u)) e) in
+      let unique = target_unique types (type_in types f u) (also_solid (ty_of types seen.target) (owned_target types (type_in types f u)) seen.is) in
+      subst (λ (q : Location). Right (Aim (whole p) (named.Get q)) → is_unique (type_in types f q) ≡ true → aims_at types (type_at types f p) (owned_target types (type_in types f q)) ≡ true → Covers (Aim (whole p) (named.Get q)))
+      (whole_location types k.plain f u (unique_solid (type_in types f u) unique))
+      (λ now is aims. get_kind types f rest inputs S st k sigs n place S' s p seen.pointer (aims_single types (type_at types f p) (owned_target types (type_in types f u)) (gets_aims types (type_at types f p) (owned_target types (type_in types f u)) e)) u.local is k.told (sees_target p u.local is aims) now)
+      right unique (gets_aims types (type_at types f p) (owned_target types (type_in types f u)) e)
+
+  aim_step : (p : ℕ) (sr : Source) → Right (Aim (whole p) sr) → is_source_of types texts fs f (type_at types f p) sr ≡ true → Covers (Aim (whole p) sr)
+  aim_step p named.Null right e = null_kind types f rest inputs S st k sigs n place S' p (raw_points (type_at types f p) e) s right
+  aim_step p (named.Text number) right e =
       text_kind types f rest inputs S st k sigs n place S' p (range_points (type_at types f p) (view_range (type_at types f p) (and_parts (is_view (type_at types f p)) _ e).0)) s number right
-  aim_step p named.Empty spoken right e = empty_kind types f rest inputs S st k sigs n place S' p (range_points (type_at types f p) e) s right
-  aim_step p (named.Place o) spoken right e =
+  aim_step p named.Empty right e = empty_kind types f rest inputs S st k sigs n place S' p (range_points (type_at types f p) e) s right
+  aim_step p (named.Place o) right e =
       let both = and_parts (aims_at types (type_at types f p) (type_of types f o)) (keeps_const (is_constant (type_at types f p)) (is_const_place types f o)) e in
       let aims = both.0 in
       let seen = aims_seen types k.ordered k.once (type_at types f p) (type_of types f o) aims in
       place_kind types f rest inputs S st k sigs n place S' p seen.pointer o s right (also_solid (ty_of types seen.target) (type_of types f o) seen.is) aims (const_kept (is_constant (type_at types f p)) (is_const_place types f o) both.1)
-  aim_step p (named.Whole o) spoken right e =
+  aim_step p (named.Whole o) right e =
       let both = and_parts (spans types (type_at types f p) (type_of types f o)) (keeps_const (is_constant (type_at types f p)) (is_const_place types f o)) e in
       let all = both.0 in
       let pointer = spans_points types (type_at types f p) (type_of types f o) all in
       whole_aim_kind types f rest inputs S st k sigs n place S' p pointer o (type_of types f o) refl
       (subst (HasItem types k.ordered k.once (type_of types f o)) (sym (seen_at types k.ordered k.once f k.shaped p (type_at types f p) refl (pointer_solid (type_at types f p) pointer))) (whole_item types k.ordered k.once (type_at types f p) (type_of types f o) all))
       s right (spans_range types (type_at types f p) (type_of types f o) all) (const_kept (is_constant (type_at types f p)) (is_const_place types f o) both.1)
-  aim_step p (named.Get u) spoken right e = absurd spoken
+  aim_step p (named.Get u) right e = get_step p u right e
 
-  pub source_points : (t : Ty) (sr : Source) → IsSpokenSource sr → is_source_of types texts fs f t sr ≡ true → is_pointer t ≡ true
-  source_points t named.Null spoken e = raw_points t e
-  source_points t (named.Text number) spoken e = range_points t (view_range t (and_parts (is_view t) _ e).0)
-  source_points t named.Empty spoken e = range_points t e
-  source_points t (named.Place o) spoken e = (aims_seen types k.ordered k.once t (type_of types f o) (and_parts (aims_at types t (type_of types f o)) (keeps_const (is_constant t) (is_const_place types f o)) e).0).pointer
-  source_points t (named.Whole o) spoken e = spans_points types t (type_of types f o) (and_parts (spans types t (type_of types f o)) (keeps_const (is_constant t) (is_const_place types f o)) e).0
-  source_points t (named.Get u) spoken e = absurd spoken
+  pub source_points : (t : Ty) (sr : Source) → is_source_of types texts fs f t sr ≡ true → is_pointer t ≡ true
+  source_points t named.Null e = raw_points t e
+  source_points t (named.Text number) e = range_points t (view_range t (and_parts (is_view t) _ e).0)
+  source_points t named.Empty e = range_points t e
+  source_points t (named.Place o) e = (aims_seen types k.ordered k.once t (type_of types f o) (and_parts (aims_at types t (type_of types f o)) (keeps_const (is_constant t) (is_const_place types f o)) e).0).pointer
+  source_points t (named.Whole o) e = spans_points types t (type_of types f o) (and_parts (spans types t (type_of types f o)) (keeps_const (is_constant t) (is_const_place types f o)) e).0
+  source_points t (named.Get u) e = (aims_seen types k.ordered k.once t (owned_target types (type_in types f u)) (gets_aims types t (owned_target types (type_in types f u)) e)).pointer
 
   -- ---- elements and ends
 
@@ -187,14 +214,14 @@ module _ (types : Types) (f : Function) (rest : ℕ → ℕ) (inputs : Root → 
       unlike h = cc
   no_target which.Target is e = is
 
-  element_step : (p : ℕ) (b : Base) (w : Which) → IsElement w → Right (step.Element (whole p) b w) → aims_at types (type_at types f p) (type_of_element types f b w) ≡ true → keeps_const (is_constant (type_at types f p)) (is_const_base types f b) ≡ true
+  item_step : (p : ℕ) (b : Base) (w : Which) → IsElement w → Right (step.Element (whole p) b w) → aims_at types (type_at types f p) (type_of_element types f b w) ≡ true → keeps_const (is_constant (type_at types f p)) (is_const_base types f b) ≡ true
       → AreReady (ready_of st) (touched_by f (step.Element (whole p) b w)) → Covers (step.Element (whole p) b w)
-  element_step p (named.Owner o) w is right aims const ready =
+  item_step p (named.Owner o) w is right aims const ready =
       let seen = aims_seen types k.ordered k.once (type_at types f p) (type_of_element types f (named.Owner o) w) aims in
       owner_item_kind types f rest inputs S st k sigs n place S' p seen.pointer o (type_of types f o) refl
       (item_for p (type_of types f o) seen.target seen.pointer seen.seen (element_item types k.ordered k.once (type_of types f o) seen.target (element_type (named.Owner o) w (ty_of types seen.target) is seen.is)))
       s w (no_target w is) right (aims_single types (type_at types f p) (type_of_element types f (named.Owner o) w) aims) (const_kept (is_constant (type_at types f p)) (is_const_place types f o) const)
-  element_step p (named.Pointer l) w is right aims const ready =
+  item_step p (named.Pointer l) w is right aims const ready =
       let seen = aims_seen types k.ordered k.once (type_at types f p) (type_of_element types f (named.Pointer l) w) aims in
       let is_element = element_type (named.Pointer l) w (ty_of types seen.target) is seen.is in
       to_pointer l (range_points (type_in types f l) (element_ranged types (type_in types f l) seen.target is_element))
@@ -203,6 +230,31 @@ module _ (types : Types) (f : Function) (rest : ℕ → ℕ) (inputs : Root → 
       seen_item_kind types f rest inputs S st k sigs n place S' p seen.pointer q (held_pointer q (range_points (type_at types f q) (element_ranged types (type_at types f q) seen.target here)) there) seen.target seen.seen here
       (const_kept (is_constant (type_at types f p)) (is_constant (type_at types f q)) const) (aims_single types (type_at types f p) (type_of_element types f (named.Pointer l) w) aims) s w now)
       right is_element const ready.uses.0
+
+  -- the target of a unique_ptr, which is a local, as none is behind a pointer
+  target_step : (p : ℕ) (o : Operand) → Right (step.Element (whole p) (named.Owner o) which.Target) → aims_at types (type_at types f p) (owned_target types (type_of types f o)) ≡ true → Covers (step.Element (whole p) (named.Owner o) which.Target)
+  target_step p o right aims =
+      let seen = aims_seen types k.ordered k.once (type_at types f p) (owned_target types (type_of types f o)) aims in
+      by_operand seen.pointer (aims_single types (type_at types f p) (owned_target types (type_of types f o)) aims) o right aims (target_unique types (type_of types f o) (also_solid (ty_of types seen.target) (owned_target types (type_of types f o)) seen.is))
+    where
+      by_operand : is_pointer (type_at types f p) ≡ true → (look_at types f p).ranged ≡ false → (q : Operand) → Right (step.Element (whole p) (named.Owner q) which.Target) → aims_at types (type_at types f p) (owned_target types (type_of types f q)) ≡ true → is_unique (type_of types f q) ≡ true → Covers (step.Element (whole p) (named.Owner q) which.Target)
+      by_operand pointer single (named.Through q ms) now at is = absurd (false≢true (sym (through_other types f rest inputs S st k q ms (unique_solid (type_of types f (named.Through q ms)) is)) ∙ is))
+      by_operand pointer single (named.Name l) now at is =
+          let same_type : type_in types f l ≡ type_of types f (named.Name l) = typed types f rest inputs S st k (named.Name l) (unique_solid (type_of types f (named.Name l)) is) in
+          subst (λ (q : Location). Right (step.Element (whole p) (named.Owner (named.Name q)) which.Target) → is_unique (type_in types f q) ≡ true → aims_at types (type_at types f p) (owned_target types (type_in types f q)) ≡ true → Covers (step.Element (whole p) (named.Owner (named.Name q)) which.Target))
+          (whole_location types k.plain f l (unique_solid (type_in types f l) (ap is_unique same_type ∙ is)))
+          (λ here unique aims_l. target_kind types f rest inputs S st k sigs n place S' s p pointer single l.local unique k.told (sees_target p l.local unique aims_l) here)
+          now (ap is_unique same_type ∙ is) (subst (λ (t : Ty). aims_at types (type_at types f p) (owned_target types t) ≡ true) (sym same_type) at)
+
+  element_step : (p : ℕ) (b : Base) (w : Which) → Right (step.Element (whole p) b w) → aims_at types (type_at types f p) (type_of_element types f b w) ≡ true → keeps_const (is_constant (type_at types f p)) (is_const_base types f b) ≡ true
+      → AreReady (ready_of st) (touched_by f (step.Element (whole p) b w)) → Covers (step.Element (whole p) b w)
+  element_step p (named.Owner o) which.Target right aims const ready = target_step p o right aims
+  element_step p (named.Pointer l) which.Target right aims const ready =
+      let seen = aims_seen types k.ordered k.once (type_at types f p) ty.Void aims in
+      absurd (false≢true (sym (also_solid (ty_of types seen.target) ty.Void seen.is)))
+  element_step p b (which.Index r) right aims const ready = item_step p b (which.Index r) tt right aims const ready
+  element_step p b which.First right aims const ready = item_step p b which.First tt right aims const ready
+  element_step p b which.Last right aims const ready = item_step p b which.Last tt right aims const ready
 
   cursor_step : (p : ℕ) (b : Base) (end : RangeEnd) → Right (Cursor (whole p) b end) → walks types (type_at types f p) (element_of types f b) ≡ true → keeps_const (is_constant (type_at types f p)) (is_const_base types f b) ≡ true
       → AreReady (ready_of st) (touched_by f (Cursor (whole p) b end)) → Covers (Cursor (whole p) b end)
@@ -274,12 +326,14 @@ module _ (types : Types) (f : Function) (rest : ℕ → ℕ) (inputs : Root → 
       (not_false (is_pointer (type_of types f to)) pointer) (copied_type types f rest inputs S st k to (same_solid (type_of types f to) (type_of types f from) first.0) unique)
   step_covered (Move to y) spoken right e free ready =
       by_move types f rest inputs S st k sigs n place S' texts fs y (λ q. Covers (Move q y))
-      (λ x now unique alike other. right_weaker (does s types f (Move (named.Name (whole x)) y) st) (IsMade types f inputs S' (MayLack types f inputs S st) no_local st) (FrameCovered types f inputs S') (move_kind types f rest inputs S st k sigs n place S' s x y now unique alike other) (λ after h. h.0))
+      (λ x now unique alike other. right_weaker (does s types f (Move (named.Name (whole x)) y) st) (IsMade types f inputs S' (MayLack types f inputs S st) no_local (λ z. (x ≡ z) ⊎ (y ≡ z)) st) (FrameCovered types f inputs S') (move_kind types f rest inputs S st k sigs n place S' s x y now unique alike other) (λ after h. h.0))
       (λ x now buffer alike other.
-      right_weaker (does s types f (Move (named.Name (whole x)) y) st) (IsMade types f inputs S' (MovedBare types f rest inputs S st k x y) no_local st) (FrameCovered types f inputs S') (buffer_move_kind types f rest inputs S st k sigs n place S' s x y now buffer alike other) (λ after h. h.0))
-      to spoken right e
+      right_weaker (does s types f (Move (named.Name (whole x)) y) st) (IsMade types f inputs S' (MovedBare types f rest inputs S st k x y) no_local no_local st) (FrameCovered types f inputs S') (buffer_move_kind types f rest inputs S st k sigs n place S' s x y now buffer alike other) (λ after h. h.0))
+      (λ p members now buffer alike const.
+      right_weaker (does s types f (Move (named.Through p members) y) st) (IsMade types f inputs S' (GivenBare types f rest inputs S st k y) no_local no_local st) (FrameCovered types f inputs S') (placed_move_kind types f rest inputs S st k sigs n place S' s p members y now buffer alike const) (λ after h. h.0))
+      to right e
   step_covered (Aim p sr) spoken right e free ready =
-      to_pointer p (source_points (type_in types f p) sr spoken e) (λ q. Right (Aim q sr) → is_source_of types texts fs f (type_in types f q) sr ≡ true → Covers (Aim q sr)) (λ q now here. aim_step q sr spoken now here) right e
+      to_pointer p (source_points (type_in types f p) sr e) (λ q. Right (Aim q sr) → is_source_of types texts fs f (type_in types f q) sr ≡ true → Covers (Aim q sr)) (λ q now here. aim_step q sr now here) right e
   step_covered (Repoint p q) spoken right e free ready =
       let alike = alike_points types (type_in types f p) (type_in types f q) (and_parts (are_alike types (type_in types f p) (type_in types f q)) _ e).0 in
       to_pointer p alike.0 (λ a. Right (Repoint a q) → takes types (type_in types f a) (type_in types f q) ≡ true → Covers (Repoint a q))
@@ -291,7 +345,7 @@ module _ (types : Types) (f : Function) (rest : ℕ → ℕ) (inputs : Root → 
       let both = and_parts (aims_at types (type_in types f p) (type_of_element types f b w)) (keeps_const (is_constant (type_in types f p)) (is_const_base types f b)) e in
       to_pointer p (aims_seen types k.ordered k.once (type_in types f p) (type_of_element types f b w) both.0).pointer
       (λ q. Right (step.Element q b w) → aims_at types (type_in types f q) (type_of_element types f b w) ≡ true → keeps_const (is_constant (type_in types f q)) (is_const_base types f b) ≡ true → AreReady (ready_of st) (touched_by f (step.Element q b w)) → Covers (step.Element q b w))
-      (λ q now aims const there. element_step q b w spoken now aims const there) right both.0 both.1 ready
+      (λ q now aims const there. element_step q b w now aims const there) right both.0 both.1 ready
   step_covered (Cursor p b end) spoken right e free ready =
       let both = and_parts (walks types (type_in types f p) (element_of types f b)) (keeps_const (is_constant (type_in types f p)) (is_const_base types f b)) e in
       to_pointer p (walks_seen types k.ordered k.once (type_in types f p) (element_of types f b) both.0).pointer
@@ -326,6 +380,6 @@ module _ (types : Types) (f : Function) (rest : ℕ → ℕ) (inputs : Root → 
       let both = and_parts (is_change_of types texts fs f (type_of types f o) c) (not (is_const_place types f o)) e in
       change_step types f rest inputs S st k sigs n place S' texts fs s o (not_false (is_const_place types f o) both.1) c (type_of types f o) refl right both.0
   step_covered (Make u m) spoken right e free ready =
-      right_weaker (does s types f (Make u m) st) (IsMadeBy types f rest inputs S st k sigs n place S' texts fs s m) (FrameCovered types f inputs S') (make_right types f rest inputs S st k sigs n place S' texts fs s u m right e) (λ after h. h.0)
+      right_weaker (does s types f (Make u m) st) (IsMadeBy types f rest inputs S st k sigs n place S' texts fs s u.local m) (FrameCovered types f inputs S') (make_right types f rest inputs S st k sigs n place S' texts fs s u m right e) (λ after h. h.0)
   step_covered (Call target g xs) spoken right e free ready = absurd spoken
   step_covered (Ports p) spoken right e free ready = port_kind types f rest inputs S st k sigs n place S' s p right (port_whole p e)

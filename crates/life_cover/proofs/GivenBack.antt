@@ -23,8 +23,8 @@ use Rattle.life_store.proofs.MapLemmas.{one_or_apart}
 use Rattle.life_forest.specs.Frames.{named_in}
 use Rattle.life_forest.specs.Owned.{times}
 use Rattle.life_forest.proofs.Counting.{one_there}
-use Rattle.life_forest.proofs.GivenSlots.{IsSlotSort, named_append, slot_sort}
-use Rattle.life_forest.proofs.HandedOver.{taken_type}
+use Rattle.life_forest.proofs.GivenSlots.{named_append}
+use Rattle.life_forest.proofs.SlotSorts.{IsSlotSort, slot_sort, taken_type}
 use Rattle.life_forest.proofs.Shaped.{IsShaped}
 use Rattle.life_cover.proofs.NamedResults.{number_unnamed, pointer_unnamed}
 

@@ -14,9 +14,9 @@ use Rattle.life_cover.proofs.Behind.{IsBehind}
 use Rattle.life_cover.proofs.Inputs.{given_on}
 use Rattle.life_cover.proofs.Owning.{named_at}
 
-pub given_behind : (types : Types) (f : Function) (rest : ℕ → ℕ) (inputs : Root → Option Region) (bare over : ℕ → Type 0) (st after : State) → HasStore types rest st → AreGiven types f inputs (frame_foot types f inputs st.cells) st.world.content → IsBehind types f inputs bare over st after
+pub given_behind : (types : Types) (f : Function) (rest : ℕ → ℕ) (inputs : Root → Option Region) (bare over lost : ℕ → Type 0) (st after : State) → HasStore types rest st → AreGiven types f inputs (frame_foot types f inputs st.cells) st.world.content → IsBehind types f inputs bare over lost st after
     → AreGiven types f inputs (frame_foot types f inputs after.cells) after.world.content
-given_behind types f rest inputs bare over st after store given behind =
+given_behind types f rest inputs bare over lost st after store given behind =
     given_on types f inputs (λ m. times (named_in st.cells) m + rest m) st.world.content after.world.content store.forest (frame_foot types f inputs st.cells) given (frame_foot types f inputs after.cells) behind.touch
     (record {
       whole = λ n lt e. let x = named_at after.cells n (positive_is (times (named_in after.cells) n) e) in ⊎_elim (λ old. whole n (is_positive (times (named_in st.cells) n) old)) (λ new. absurd (omega (arith, lt, new))) (behind.named x.0 n x.1);

@@ -3,7 +3,7 @@
 use Rattle.std.proofs.Common.{◌≡◌, inr, ℕ, suc, ◌+◌, ◌*◌, Bool, true, false, List, [], ◌∷◌, Option, Some, None, refl, sym, ap, subst, ◌∙◌, ◌≤◌, arith, length, ◌≢◌, ◌<◌}
 use Rattle.std.specs.Prelude.{ℤ, cond, nat_lt, slice_get, if◌then◌else◌}
 use Rattle.std.proofs.lemmas.Bool.{false≢true}
-use Rattle.life_types.specs.TypeTests.{is_pointer, is_value, is_void}
+use Rattle.life_types.specs.TypeTests.{is_pointer, is_unique, is_value, is_void}
 use Rattle.life_types.specs.Trees.{IsOrdered}
 use Rattle.life_types.specs.Types.{Types, class}
 use Rattle.life_types.specs.declared.ty.Ty.{Ty}
@@ -22,7 +22,7 @@ use Rattle.life_pset.specs.declared.element.AbsPlace.{AbsPlace}
 use Rattle.life_pset.specs.declared.element.Root.{Root}
 use Rattle.life_pset.specs.declared.element.Root.TheVariants as root
 use Rattle.life_pset.specs.Places.{path}
-use Rattle.life_proper.specs.Placed.{type_of, is_const_place}
+use Rattle.life_proper.specs.Placed.{type_at, type_of, is_const_place}
 use Rattle.life_store.specs.Births.{born_object, born_owner, live_as, live_local, live_of, live_over, with_value_object}
 use Rattle.life_store.specs.Cells.{at}
 use Rattle.life_store.specs.Content.{Object, live_words_of, newborn, resized, with_birth, with_object, with_word, Content}
@@ -56,6 +56,9 @@ use Rattle.life_cover.proofs.Copies.{IsWhole, whole_parts}
 use Rattle.life_cover.proofs.CopyKinds.{IsCopyable, copy_right, reached_holds}
 use Rattle.life_cover.proofs.HeldElements.{vector_operand, vector_parts}
 use Rattle.life_cover.proofs.KeptBuffers.{at_start, by_next, holder_born, holder_parts, is_owner, text_operand, text_parts}
+use Rattle.life_cover.specs.Uniques.{had_by}
+use Rattle.life_cover.proofs.Opening.{region_all}
+use Rattle.life_cover.proofs.UniquesStay.{had_beside, had_nothing, reached_other}
 use Rattle.life_cover.proofs.KnownFrames.{IsKnownFrame, IsRight, reach_at, used_right, hand_of, store_of, solid_type, whole_location}
 use Rattle.life_cover.proofs.Reaching.{IsReached, Reach, reached, fixed, outside, astray, spot_is}
 use Rattle.life_cover.proofs.Recopying.{IsCopied, IsOwningRow, born_buffered, copied_but, replaced_buffered, replaced_one}
@@ -92,18 +95,19 @@ module _ (types : Types) (f : Function) (rest : ℕ → ℕ) (inputs : Root → 
         set_but types (MayLack types f inputs S st) r.region.object (with_word r.index r.region.word word r.holder) st.world.content (with_object r.region.object (with_word r.index r.region.word word r.holder) st.world.content)
         (inr (single_have types (with_word r.index r.region.word word r.holder) (holder_parts types f rest inputs S st k o r s Single (value_there types f rest inputs S st k o r value)))) refl k.buffered
 
-    found_saved : Reach types f st (StandsAt inputs) (may_change types f) S o → (z : ℤ) → OnNext (on_found (locate types f o st) (λ n i object. Next (saved z n i (operand_word types f o st) object st))) (IsBehind types f inputs (MayLack types f inputs S st) no_local st)
+    found_saved : Reach types f st (StandsAt inputs) (may_change types f) S o → (z : ℤ) → OnNext (on_found (locate types f o st) (λ n i object. Next (saved z n i (operand_word types f o st) object st))) (IsBehind types f inputs (MayLack types f inputs S st) no_local no_local st)
     found_saved (reached r) z =
-        subst (λ found. OnNext (on_found found (λ n i object. Next (saved z n i (operand_word types f o st) object st))) (IsBehind types f inputs (MayLack types f inputs S st) no_local st)) (sym r.found)
-        (subst (λ w. IsBehind types f inputs (MayLack types f inputs S st) no_local st (put_content (with_object r.region.object (with_word r.index w (word_of_number z) r.holder) st.world.content) st)) (sym r.word)
-        (behind_content types f inputs (MayLack types f inputs S st) no_local st (with_object r.region.object (with_word r.index r.region.word (word_of_number z) r.holder) st.world.content) (saved_buffered r (word_of_number z))
-        (nothing_spares types f rest inputs S st k (with_object r.region.object (with_word r.index r.region.word (word_of_number z) r.holder) st.world.content) (saved_touches types f rest inputs S st k o r value (word_of_number z)))))
-    found_saved (fixed c e single) z = subst (λ found. OnNext (on_found found (λ n i object. Next (saved z n i (operand_word types f o st) object st))) (IsBehind types f inputs (MayLack types f inputs S st) no_local st)) (sym e) tt
-    found_saved (outside e) z = subst (λ found. OnNext (on_found found (λ n i object. Next (saved z n i (operand_word types f o st) object st))) (IsBehind types f inputs (MayLack types f inputs S st) no_local st)) (sym e) tt
-    found_saved (astray e) z = subst (λ found. OnNext (on_found found (λ n i object. Next (saved z n i (operand_word types f o st) object st))) (IsBehind types f inputs (MayLack types f inputs S st) no_local st)) (sym e) tt
+        subst (λ found. OnNext (on_found found (λ n i object. Next (saved z n i (operand_word types f o st) object st))) (IsBehind types f inputs (MayLack types f inputs S st) no_local no_local st)) (sym r.found)
+        (subst (λ w. IsBehind types f inputs (MayLack types f inputs S st) no_local no_local st (put_content (with_object r.region.object (with_word r.index w (word_of_number z) r.holder) st.world.content) st)) (sym r.word)
+        (behind_content types f inputs (MayLack types f inputs S st) no_local no_local st (with_object r.region.object (with_word r.index r.region.word (word_of_number z) r.holder) st.world.content) (saved_buffered r (word_of_number z))
+        (nothing_spares types f rest inputs S st k (with_object r.region.object (with_word r.index r.region.word (word_of_number z) r.holder) st.world.content) (saved_touches types f rest inputs S st k o r value (word_of_number z)))
+        (λ x n e unique. inr (had_nothing types f rest inputs S st k (with_object r.region.object (with_word r.index r.region.word (word_of_number z) r.holder) st.world.content) (saved_touches types f rest inputs S st k o r value (word_of_number z)) x n e unique))))
+    found_saved (fixed c e single) z = subst (λ found. OnNext (on_found found (λ n i object. Next (saved z n i (operand_word types f o st) object st))) (IsBehind types f inputs (MayLack types f inputs S st) no_local no_local st)) (sym e) tt
+    found_saved (outside e) z = subst (λ found. OnNext (on_found found (λ n i object. Next (saved z n i (operand_word types f o st) object st))) (IsBehind types f inputs (MayLack types f inputs S st) no_local no_local st)) (sym e) tt
+    found_saved (astray e) z = subst (λ found. OnNext (on_found found (λ n i object. Next (saved z n i (operand_word types f o st) object st))) (IsBehind types f inputs (MayLack types f inputs S st) no_local no_local st)) (sym e) tt
 
-    pub save_behind : Reach types f st (StandsAt inputs) (may_change types f) S o → (q : ℕ) → OnNext (does s types f (Save o q) st) (IsBehind types f inputs (MayLack types f inputs S st) no_local st)
-    save_behind reach q = on_number_next (cell st q) (λ z. on_found (locate types f o st) (λ n i object. Next (saved z n i (operand_word types f o st) object st))) (IsBehind types f inputs (MayLack types f inputs S st) no_local st) (found_saved reach)
+    pub save_behind : Reach types f st (StandsAt inputs) (may_change types f) S o → (q : ℕ) → OnNext (does s types f (Save o q) st) (IsBehind types f inputs (MayLack types f inputs S st) no_local no_local st)
+    save_behind reach q = on_number_next (cell st q) (λ z. on_found (locate types f o st) (λ n i object. Next (saved z n i (operand_word types f o st) object st))) (IsBehind types f inputs (MayLack types f inputs S st) no_local no_local st) (found_saved reach)
 
   -- ---- a copy is written where an operand is reached
 
@@ -213,26 +217,36 @@ module _ (types : Types) (f : Function) (rest : ℕ → ℕ) (inputs : Root → 
       copied_over_at : (r : IsReached types f st (StandsAt inputs) (may_change types f) S o) → Operand → Effect
       copied_over_at r q = go (record { object = r.region.object; index = r.index; word = r.region.word })
 
+pub copyable_other : (t : Ty) → IsCopyable t → is_unique t ≡ false
+copyable_other (ty.Unique target) can = absurd can
+copyable_other _ can = refl
+
 -- .. and what is touched is what is owned there
 module _ (types : Types) (f : Function) (rest : ℕ → ℕ) (inputs : Root → Option Region) (S : Fact → Type 0) (st : State) (k : IsKnownFrame types f rest inputs S st) (sigs : List Signature) (n : ℕ) (place : Place) (S' : Fact → Type 0) (s : Setting) (to from : Operand)
     (free : is_const_place types f to ≡ false) (right : IsRight sigs types n f place (Copy to from) S S') (solid_to : is_void (type_of types f to) ≡ false) (solid_from : is_void (type_of types f from) ≡ false) (alike : type_of types f to ≡ type_of types f from) where
   abbrev IsSpared : State → Type 0
   IsSpared after = (after.cells ≡ st.cells) × Touches (kinds_of types) (frame_foot types f inputs st.cells) st.world.content after.world.content
+      × ((x j : ℕ) → slice_get st.cells x ≡ Some (Named j) → is_unique (type_at types f x) ≡ true → had_by after.world.content j ≡ had_by st.world.content j)
 
-  pub copy_behind : is_pointer (type_of types f to) ≡ false → IsCopyable (type_of types f to) → OnNext (does s types f (Copy to from) st) (IsBehind types f inputs (CopiedBare types f rest inputs S st k to s to) no_local st)
+  pub copy_behind : is_pointer (type_of types f to) ≡ false → IsCopyable (type_of types f to) → OnNext (does s types f (Copy to from) st) (IsBehind types f inputs (CopiedBare types f rest inputs S st k to s to) no_local no_local st)
   copy_behind pointer can =
-      both_next (does s types f (Copy to from) st) (λ after. AreBut types (CopiedBare types f rest inputs S st k to s to) after.world.content) IsSpared (IsBehind types f inputs (CopiedBare types f rest inputs S st k to s to) no_local st)
+      both_next (does s types f (Copy to from) st) (λ after. AreBut types (CopiedBare types f rest inputs S st k to s to) after.world.content) IsSpared (IsBehind types f inputs (CopiedBare types f rest inputs S st k to s to) no_local no_local st)
       (copy_buffered types f rest inputs S st k to s (reach_at types f rest inputs S st k to solid_to (λ q h. used_right sigs types n f place (Copy to from) S right.clean q (Contains-append_left (used_in to) (used_in from) q h))) from solid_to pointer can)
       (right_next (does s types f (Copy to from) st) IsSpared
       (copy_right types f rest inputs S st k sigs n place S' s to from free right solid_to solid_from alike IsSpared
-      (λ r value none ws one. (refl, nothing_spares types f rest inputs S st k (wrote_spot (record { object = r.region.object; index = r.index; word = r.region.word }) ws st.world.content) (words_touches types f rest inputs S st k to r value ws one)))
+      (λ r value none ws one. (
+        refl,
+        nothing_spares types f rest inputs S st k (wrote_spot (record { object = r.region.object; index = r.index; word = r.region.word }) ws st.world.content) (words_touches types f rest inputs S st k to r value ws one),
+        λ x j e unique. had_nothing types f rest inputs S st k (wrote_spot (record { object = r.region.object; index = r.index; word = r.region.word }) ws st.world.content) (words_touches types f rest inputs S st k to r value ws one) x j e unique,
+      ))
       (λ r owns d touch. (
         refl,
         change_spares types f rest inputs S st k to r
             (reached_owning sigs types n f place (Copy to from) S right.clean to (λ x. ap (λ b. if b then kept_through types n f place x to else []) owns) k.ordered k.plain inputs st k.given.each r (r.change free) (reached_holds types f rest inputs S st k sigs n place S' s to from free right solid_to solid_from alike r owns))
             d touch,
+        λ x j e unique. had_beside types f rest inputs S st k r.region (region_all types f rest inputs S st k to r) (reached_other types f rest inputs S st k to r solid_to (copyable_other (type_of types f to) can)) d touch x j e unique,
       )) pointer can))
-      (λ after buffered h. behind_same types f inputs (CopiedBare types f rest inputs S st k to s to) no_local st after h.0 buffered h.1)
+      (λ after buffered h. behind_same types f inputs (CopiedBare types f rest inputs S st k to s to) no_local no_local st after h.0 buffered h.1 (λ x j e unique. inr (h.2 x j e unique)))
 
 -- ---- a local comes to life
 
@@ -270,23 +284,24 @@ object_parts types ordered f x l there object = parts_made types ordered l.ty �
 module _ (types : Types) (f : Function) (rest : ℕ → ℕ) (inputs : Root → Option Region) (S : Fact → Type 0) (st : State) (k : IsKnownFrame types f rest inputs S st) (s : Setting) (x : ℕ) (form : Form) where
   module _ (empty : (n : ℕ) → slice_get st.cells x ≡ Some (Named n) → ⊥) where
     -- where only a new object came
-    new_behind : (m : ℕ) (d : Content) → st.world.content.births ≤ m → AreBut types (MayLack types f inputs S st) d → Touches (kinds_of types) no_foot st.world.content d → IsBehind types f inputs (MayLack types f inputs S st) no_local st (put_cell x (Named m) (put_content d st))
-    new_behind m d new buffered touch = behind_cell types f inputs (MayLack types f inputs S st) no_local st x empty (Named m) d (λ n e. subst (λ j. st.world.content.births ≤ j) (same e) new) buffered (nothing_spares types f rest inputs S st k d touch)
+    new_behind : (m : ℕ) (d : Content) → st.world.content.births ≤ m → AreBut types (MayLack types f inputs S st) d → Touches (kinds_of types) no_foot st.world.content d → IsBehind types f inputs (MayLack types f inputs S st) no_local (λ y. x ≡ y) st (put_cell x (Named m) (put_content d st))
+    new_behind m d new buffered touch = behind_cell types f inputs (MayLack types f inputs S st) no_local (λ y. x ≡ y) st x empty (Named m) d (λ n e. (subst (λ j. st.world.content.births ≤ j) (same e) new, λ unique. refl)) buffered (nothing_spares types f rest inputs S st k d touch)
+        (λ y n ne e unique. inr (had_nothing types f rest inputs S st k d touch y n e unique))
       where
         same : {i j : ℕ} → Named i ≡ Named j → i ≡ j
         same e = cc
 
-    owner_born : (ty : TyId) → OnNext (born_owner s ty (parts_at types ty) form x st) (IsBehind types f inputs (MayLack types f inputs S st) no_local st)
+    owner_born : (ty : TyId) → OnNext (born_owner s ty (parts_at types ty) form x st) (IsBehind types f inputs (MayLack types f inputs S st) no_local (λ y. x ≡ y) st)
     owner_born ty =
-        on_got_next (object_with s ty (parts_at types ty) (fresh s form (parts_at types ty)) st.world.content) (λ b. Next (put_cell x (Named b.0) (put_content b.1 st))) (λ b. AreBut types (MayLack types f inputs S st) b.1 × IsNew types st.world.content b) (IsBehind types f inputs (MayLack types f inputs S st) no_local st)
+        on_got_next (object_with s ty (parts_at types ty) (fresh s form (parts_at types ty)) st.world.content) (λ b. Next (put_cell x (Named b.0) (put_content b.1 st))) (λ b. AreBut types (MayLack types f inputs S st) b.1 × IsNew types st.world.content b) (IsBehind types f inputs (MayLack types f inputs S st) no_local (λ y. x ≡ y) st)
         (both_got (object_with s ty (parts_at types ty) (fresh s form (parts_at types ty)) st.world.content) (λ b. AreBut types (MayLack types f inputs S st) b.1) (IsNew types st.world.content)
         (born_buffered types k.ordered s (MayLack types f inputs S st) form ty st.world.content (whole_parts types k.plain ty) k.buffered) (owner_new types k.ordered (hand_of rest st) st.world.content (store_of types f rest inputs S st k) ty s form))
         (λ b h. new_behind b.0 b.1 h.1.0 h.0 h.1.1)
 
-    value_born : (ty : TyId) → parts_at types ty ≡ Single → OnNext (born_object s ty x st) (IsBehind types f inputs (MayLack types f inputs S st) no_local st)
+    value_born : (ty : TyId) → parts_at types ty ≡ Single → OnNext (born_object s ty x st) (IsBehind types f inputs (MayLack types f inputs S st) no_local (λ y. x ≡ y) st)
     value_born ty single = if_room (nat_lt s.given.cells (live_words_of st.world.content + (2 + 1 * 1)))
       where
-        if_room : (b : Bool) → OnNext (cond b (Traps trap.Cells) (Next (put_cell x (Named st.world.content.births) (put_content (with_value_object ty st.world.content) st)))) (IsBehind types f inputs (MayLack types f inputs S st) no_local st)
+        if_room : (b : Bool) → OnNext (cond b (Traps trap.Cells) (Next (put_cell x (Named st.world.content.births) (put_content (with_value_object ty st.world.content) st)))) (IsBehind types f inputs (MayLack types f inputs S st) no_local (λ y. x ≡ y) st)
         if_room true = tt
         if_room false =
             new_behind st.world.content.births (with_value_object ty st.world.content) (omega arith)
@@ -294,29 +309,29 @@ module _ (types : Types) (f : Function) (rest : ℕ → ℕ) (inputs : Root → 
             (inr (single_have types (resized (st.world.content.clock + 1) 1 0 (newborn ty 1 1 st.world.content.clock)) single)) refl (birth_but types (MayLack types f inputs S st) ty 1 1 st.world.content k.buffered))
             (value_touches types k.ordered (hand_of rest st) st.world.content (store_of types f rest inputs S st k) ty)
 
-    of_parts : (ty : TyId) (p : Parts) → parts_at types ty ≡ p → OnNext (live_of s ty p form x st) (IsBehind types f inputs (MayLack types f inputs S st) no_local st)
+    of_parts : (ty : TyId) (p : Parts) → parts_at types ty ≡ p → OnNext (live_of s ty p form x st) (IsBehind types f inputs (MayLack types f inputs S st) no_local (λ y. x ≡ y) st)
     of_parts ty Single e = tt
     of_parts ty Raw e = tt
-    of_parts ty Iterates e = behind_pointer types f inputs (MayLack types f inputs S st) no_local st k.buffered x empty Wild
-    of_parts ty Views e = behind_pointer types f inputs (MayLack types f inputs S st) no_local st k.buffered x empty empty_view
-    of_parts ty (Text id) e = subst (λ (p : Parts). OnNext (born_owner s ty p form x st) (IsBehind types f inputs (MayLack types f inputs S st) no_local st)) e (owner_born ty)
-    of_parts ty (Vector id element) e = subst (λ (p : Parts). OnNext (born_owner s ty p form x st) (IsBehind types f inputs (MayLack types f inputs S st) no_local st)) e (owner_born ty)
-    of_parts ty (Unique id target) e = subst (λ (p : Parts). OnNext (born_owner s ty p form x st) (IsBehind types f inputs (MayLack types f inputs S st) no_local st)) e (owner_born ty)
-    of_parts ty (Member first others) e = subst (λ (p : Parts). OnNext (born_owner s ty p form x st) (IsBehind types f inputs (MayLack types f inputs S st) no_local st)) e (owner_born ty)
+    of_parts ty Iterates e = behind_pointer types f inputs (MayLack types f inputs S st) no_local (λ y. x ≡ y) st k.buffered x empty Wild
+    of_parts ty Views e = behind_pointer types f inputs (MayLack types f inputs S st) no_local (λ y. x ≡ y) st k.buffered x empty empty_view
+    of_parts ty (Text id) e = subst (λ (p : Parts). OnNext (born_owner s ty p form x st) (IsBehind types f inputs (MayLack types f inputs S st) no_local (λ y. x ≡ y) st)) e (owner_born ty)
+    of_parts ty (Vector id element) e = subst (λ (p : Parts). OnNext (born_owner s ty p form x st) (IsBehind types f inputs (MayLack types f inputs S st) no_local (λ y. x ≡ y) st)) e (owner_born ty)
+    of_parts ty (Unique id target) e = subst (λ (p : Parts). OnNext (born_owner s ty p form x st) (IsBehind types f inputs (MayLack types f inputs S st) no_local (λ y. x ≡ y) st)) e (owner_born ty)
+    of_parts ty (Member first others) e = subst (λ (p : Parts). OnNext (born_owner s ty p form x st) (IsBehind types f inputs (MayLack types f inputs S st) no_local (λ y. x ≡ y) st)) e (owner_born ty)
     of_parts ty NoMember e = tt
 
-    as_held : (h : Holding) (ty : TyId) → (h ≡ AnObject → parts_at types ty ≡ Single) → OnNext (live_as s types h ty form x st) (IsBehind types f inputs (MayLack types f inputs S st) no_local st)
+    as_held : (h : Holding) (ty : TyId) → (h ≡ AnObject → parts_at types ty ≡ Single) → OnNext (live_as s types h ty form x st) (IsBehind types f inputs (MayLack types f inputs S st) no_local (λ y. x ≡ y) st)
     as_held Blank ty single = of_parts ty (parts_at types ty) refl
     as_held AnObject ty single = value_born ty (single refl)
     as_held ANumber ty single = tt
-    as_held APointer ty single = behind_pointer types f inputs (MayLack types f inputs S st) no_local st k.buffered x empty (born_pointer form)
-    as_held AView ty single = behind_pointer types f inputs (MayLack types f inputs S st) no_local st k.buffered x empty empty_view
+    as_held APointer ty single = behind_pointer types f inputs (MayLack types f inputs S st) no_local (λ y. x ≡ y) st k.buffered x empty (born_pointer form)
+    as_held AView ty single = behind_pointer types f inputs (MayLack types f inputs S st) no_local (λ y. x ≡ y) st k.buffered x empty empty_view
 
-  over_cell : (v : Option Cell) → slice_get st.cells x ≡ v → (h : Holding) (ty : TyId) → (h ≡ AnObject → parts_at types ty ≡ Single) → OnNext (live_over s types v h ty form x st) (IsBehind types f inputs (ReplacedBare types f rest inputs S st x) no_local st)
+  over_cell : (v : Option Cell) → slice_get st.cells x ≡ v → (h : Holding) (ty : TyId) → (h ≡ AnObject → parts_at types ty ≡ Single) → OnNext (live_over s types v h ty form x st) (IsBehind types f inputs (ReplacedBare types f rest inputs S st x) no_local (λ y. x ≡ y) st)
   over_cell None e h ty single = tt
-  over_cell (Some Empty) e h ty single = next_more (live_as s types h ty form x st) (IsBehind types f inputs (MayLack types f inputs S st) no_local st) (IsBehind types f inputs (ReplacedBare types f rest inputs S st x) no_local st)
+  over_cell (Some Empty) e h ty single = next_more (live_as s types h ty form x st) (IsBehind types f inputs (MayLack types f inputs S st) no_local (λ y. x ≡ y) st) (IsBehind types f inputs (ReplacedBare types f rest inputs S st x) no_local (λ y. x ≡ y) st)
       (as_held (λ n named. unlike n (some_same (sym e ∙ named))) h ty single)
-      (λ after. behind_more types f inputs (MayLack types f inputs S st) no_local (ReplacedBare types f rest inputs S st x) no_local st after (λ n b. (b, λ named. unlike n (some_same (sym e ∙ named)))) (λ y none. none))
+      (λ after. behind_more types f inputs (MayLack types f inputs S st) no_local (λ y. x ≡ y) (ReplacedBare types f rest inputs S st x) no_local (λ y. x ≡ y) st after (λ n b. (b, λ named. unlike n (some_same (sym e ∙ named)))) (λ y none. none) (λ y same. same))
     where
       unlike : (n : ℕ) → Empty ≡ Named n → ⊥
       unlike n is = cc
@@ -324,11 +339,11 @@ module _ (types : Types) (f : Function) (rest : ℕ → ℕ) (inputs : Root → 
   over_cell (Some (Number z)) e h ty single = tt
   over_cell (Some (Points p)) e h ty single = tt
 
-  pub live_behind : OnNext (does s types f (Live x form) st) (IsBehind types f inputs (ReplacedBare types f rest inputs S st x) no_local st)
+  pub live_behind : OnNext (does s types f (Live x form) st) (IsBehind types f inputs (ReplacedBare types f rest inputs S st x) no_local (λ y. x ≡ y) st)
   live_behind = by_local (slice_get f.locals x) refl
     where
-      by_local : (o : Option Local) → slice_get f.locals x ≡ o → OnNext (live_local s types f (slice_get f.locals x) form x st) (IsBehind types f inputs (ReplacedBare types f rest inputs S st x) no_local st)
-      by_local None e = subst (λ (o : Option Local). OnNext (live_local s types f o form x st) (IsBehind types f inputs (ReplacedBare types f rest inputs S st x) no_local st)) (sym e) tt
+      by_local : (o : Option Local) → slice_get f.locals x ≡ o → OnNext (live_local s types f (slice_get f.locals x) form x st) (IsBehind types f inputs (ReplacedBare types f rest inputs S st x) no_local (λ y. x ≡ y) st)
+      by_local None e = subst (λ (o : Option Local). OnNext (live_local s types f o form x st) (IsBehind types f inputs (ReplacedBare types f rest inputs S st x) no_local (λ y. x ≡ y) st)) (sym e) tt
       by_local (Some l) e =
-          subst (λ (o : Option Local). OnNext (live_local s types f o form x st) (IsBehind types f inputs (ReplacedBare types f rest inputs S st x) no_local st)) (sym e)
+          subst (λ (o : Option Local). OnNext (live_local s types f o form x st) (IsBehind types f inputs (ReplacedBare types f rest inputs S st x) no_local (λ y. x ≡ y) st)) (sym e)
           (over_cell (cell st x) refl (sort_of types f x) l.ty (object_parts types k.ordered f x l e))

@@ -42,6 +42,7 @@ use Rattle.life_rules.proofs.Giving.{at_head, flat_map_into}
 use Rattle.life_store.specs.Effects.{cell}
 use Rattle.life_store.specs.Parts.{local_type}
 use Rattle.life_store.specs.State.{Named, Number, State}
+use Rattle.life_forest.proofs.CopiedTypes.{LocalsStand}
 use Rattle.life_forest.specs.FrameTypes.{Stands}
 use Rattle.life_forest.specs.Frames.{named_in}
 use Rattle.life_forest.specs.Owned.{times}
@@ -57,6 +58,7 @@ use Rattle.life_cover.specs.Buffered.{AreBut}
 use Rattle.life_cover.specs.Frames.{FrameCovered, RootStands}
 use Rattle.life_cover.specs.Inputs.{AreGiven, StandsAt, frame_foot, may_change, owning}
 use Rattle.life_cover.specs.Kills.{Closed, IsUnnamed}
+use Rattle.life_cover.specs.Uniques.{UniquesTold}
 use Rattle.life_cover.specs.Lacking.{IsUnmoved, MayLack}
 use Rattle.life_cover.specs.Regions.{Region}
 use Rattle.life_cover.specs.Roots.{AreRooted}
@@ -65,19 +67,21 @@ use Rattle.life_cover.proofs.PointerKinds.{IsClean, IsCleanOfTwo}
 use Rattle.life_cover.proofs.Reaching.{Reach, named_reach, through_reach, unranged_target}
 use Rattle.life_cover.proofs.Using.{NotInvalid}
 
--- the frame stands, each cell is of its local's sort, its inputs stand apart, the facts cover its pointers, and each vector and each string has its buffer, but for locals that
+-- the types of its locals may stand, the frame stands, each cell is of its local's sort, its inputs stand apart, the facts cover its pointers, and each vector and each string has its buffer, but for locals that
 -- facts say were moved from, and what other frames name
 pub record IsKnownFrame (types : Types) (f : Function) (rest : ℕ → ℕ) (inputs : Root → Option Region) (S : Fact → Type 0) (st : State) : Type 0 where
   pub ordered : IsOrdered types
   pub once : HasEachOnce types
   pub plain : types.structs ≡ []
   pub shaped : IsShaped types f
+  pub stand : LocalsStand types ordered f
   pub short : AreShort (elements_of types f)
   pub stands : Stands types f rest st
   pub poised : IsPoised types f st
   pub given : AreGiven types f inputs (frame_foot types f inputs st.cells) st.world.content
   pub covered : FrameCovered types f inputs S st
   pub buffered : AreBut types (MayLack types f inputs S st) st.world.content
+  pub told : UniquesTold types f S st
 
 -- nothing is wrong at the instruction, no fact points into an object that it gives over, or says that it was moved from, and the facts behind it are
 -- what the rules give

@@ -1,5 +1,5 @@
 -- What gives a pointer that is a local a value leaves all objects as they are: whatever holds where the local has any pointer holds behind it.
-use Rattle.std.proofs.Common.{ℕ, Option}
+use Rattle.std.proofs.Common.{ℕ, Option, Some, None}
 use Rattle.life_types.specs.Types.{Types}
 use Rattle.life_core.specs.declared.instr.Direction.{Direction}
 use Rattle.life_core.specs.declared.operand.RangeEnd.{RangeEnd}
@@ -8,13 +8,13 @@ use Rattle.life_core.specs.declared.operand.Which.TheVariants as which
 use Rattle.life_core.specs.Function.{Function}
 use Rattle.life_core.specs.Operands.{Base, Location, Operand, Source, whole}
 use Rattle.life_core.specs.Operands as named
-use Rattle.life_store.specs.Doing.{advanced, aimed, count_in, cursor, cut, element, element_at, on_character, owner_element, pointer_to, type_if, whole_of}
-use Rattle.life_store.specs.Edits.{buffer_of, size_of}
+use Rattle.life_store.specs.Doing.{advanced, aimed, count_in, cursor, cut, element, element_at, on_character, owner_element, pointer_to, type_if, whole_of, owned_pointer, target_at}
+use Rattle.life_store.specs.Edits.{buffer_of, size_of, owned_at}
 use Rattle.life_store.specs.Effects.{Setting, Effect, Strays, cell, on_got, on_number, on_pointer, put_cell, type_of}
 use Rattle.life_store.specs.Iterators.{at_index, chosen, count_of, directed, element_of, end_index, index_in, iterator, stepped}
 use Rattle.life_store.specs.Owners.{empty_view}
 use Rattle.life_store.specs.Parts.{location_type}
-use Rattle.life_store.specs.Places.{Spot, locate, location_cell, on_spot, operand_word, pointed}
+use Rattle.life_store.specs.Places.{Spot, locate, location_cell, on_spot, operand_word, pointed, owner_spot_if}
 use Rattle.life_store.specs.State.{Pointer, Null, Static, Points, State}
 use Rattle.life_store.specs.Views.{is_span, part_count, part_of, seen_count, used, viewed}
 use Rattle.life_forest.specs.Frames.{OnNext}
@@ -22,25 +22,25 @@ use Rattle.life_forest.proofs.GivenPointers.{on_pointer_next}
 use Rattle.life_forest.proofs.StandingChanges.{on_got_each, on_number_next}
 use Rattle.life_forest.proofs.StandingCopies.{on_character_next}
 use Rattle.life_forest.proofs.StandingNumbers.{on_place_each}
-use Rattle.life_cover.proofs.FrameSteps.{IsElement, IsSpokenSource}
 
 module _ (types : Types) (f : Function) (st : State) (Q : State → Type 0) (x : ℕ) (given : (v : Pointer) → Q (put_cell x (Points v) st)) where
   on_spot_each : (o : Operand) (go : Spot → Effect) → ((spot : Spot) → OnNext (go spot) Q) → OnNext (on_spot types f o st go) Q
   on_spot_each o go each =
       on_place_each (locate types f o st) (λ n i object. go (record { object = n; index = i; word = operand_word types f o st })) (λ c. Strays) Q (λ n i object. each (record { object = n; index = i; word = operand_word types f o st })) (λ c. tt)
 
-  pub aims_leave : (s : Setting) (sr : Source) → IsSpokenSource sr → OnNext (aimed s types f (whole x) sr st) Q
-  aims_leave s named.Null plain = given Null
-  aims_leave s (named.Text n) plain = given (viewed s.texts n)
-  aims_leave s named.Empty plain = given empty_view
-  aims_leave s (named.Place o) plain =
+  pub aims_leave : (s : Setting) (sr : Source) → OnNext (aimed s types f (whole x) sr st) Q
+  aims_leave s named.Null = given Null
+  aims_leave s (named.Text n) = given (viewed s.texts n)
+  aims_leave s named.Empty = given empty_view
+  aims_leave s (named.Place o) =
       on_place_each (locate types f o st) (λ n i object. pointed types f (whole x) (pointer_to st.world.content n i (operand_word types f o st)) st) (λ c. on_character s.texts c (λ z. pointed types f (whole x) (at_index 0 c.index (Static c)) st)) Q
       (λ n i object. given (pointer_to st.world.content n i (operand_word types f o st)))
       (λ c. on_character_next s.texts c (λ z. pointed types f (whole x) (at_index 0 c.index (Static c)) st) Q (λ z. given (at_index 0 c.index (Static c))))
-  aims_leave s (named.Whole o) plain =
+  aims_leave s (named.Whole o) =
       on_spot_each o (λ spot. on_got (buffer_of st.world.content spot) (λ b. pointed types f (whole x) (whole_of st.world.content b) st))
       (λ spot. on_got_each (buffer_of st.world.content spot) (λ b. pointed types f (whole x) (whole_of st.world.content b) st) Q (λ b. given (whole_of st.world.content b)))
-  aims_leave s (named.Get u) plain = absurd plain
+  aims_leave s (named.Get u) =
+      on_got_each (owner_spot_if types f u (cell st u.local)) (λ spot. pointed types f (whole x) (owned_pointer st.world.content (owned_at st.world.content spot)) st) Q (λ spot. given (owned_pointer st.world.content (owned_at st.world.content spot)))
 
   pub repoints_leave : (q : Location) → OnNext (on_pointer (location_cell types f q st) (λ v. pointed types f (whole x) v st)) Q
   repoints_leave q = on_pointer_next (location_cell types f q st) (λ v. pointed types f (whole x) v st) Q (λ v e. given v)
@@ -48,18 +48,22 @@ module _ (types : Types) (f : Function) (st : State) (Q : State → Type 0) (x :
   element_leaves : (w : Which) (size : ℕ) (base : Pointer) → OnNext (element_at types f (whole x) w size base st) Q
   element_leaves w size base = on_got_each (chosen st w size) (λ i. pointed types f (whole x) (element_of st.world.content.clock i base) st) Q (λ i. given (element_of st.world.content.clock i base))
 
-  pub elements_leave : (b : Base) (w : Which) → IsElement w → OnNext (element types f (whole x) b w st) Q
-  elements_leave (named.Owner o) w is = on_spot_each o (λ spot. owner_element types f (whole x) spot w st) (λ spot. of spot w is)
+  pub elements_leave : (b : Base) (w : Which) → OnNext (element types f (whole x) b w st) Q
+  elements_leave (named.Owner o) w = on_spot_each o (λ spot. owner_element types f (whole x) spot w st) (λ spot. of spot w)
     where
       item : (spot : Spot) (v : Which) → OnNext (on_got (buffer_of st.world.content spot) (λ b. element_at types f (whole x) v (size_of st.world.content b) (pointer_to st.world.content b 0 0) st)) Q
       item spot v = on_got_each (buffer_of st.world.content spot) (λ b. element_at types f (whole x) v (size_of st.world.content b) (pointer_to st.world.content b 0 0) st) Q (λ b. element_leaves v (size_of st.world.content b) (pointer_to st.world.content b 0 0))
 
-      of : (spot : Spot) (v : Which) → IsElement v → OnNext (owner_element types f (whole x) spot v st) Q
-      of spot (which.Index r) h = item spot (which.Index r)
-      of spot which.First h = item spot which.First
-      of spot which.Last h = item spot which.Last
-      of spot which.Target h = absurd h
-  elements_leave (named.Pointer l) w is =
+      target : (o : Option ℕ) → OnNext (target_at types f (whole x) o st) Q
+      target None = tt
+      target (Some b) = given (pointer_to st.world.content b 0 0)
+
+      of : (spot : Spot) (v : Which) → OnNext (owner_element types f (whole x) spot v st) Q
+      of spot (which.Index r) = item spot (which.Index r)
+      of spot which.First = item spot which.First
+      of spot which.Last = item spot which.Last
+      of spot which.Target = target (owned_at st.world.content spot)
+  elements_leave (named.Pointer l) w =
       on_got_each (used st.world.content (location_cell types f l st)) (λ v. element_at types f (whole x) w (seen_count v) v st) Q (λ v. element_leaves w (seen_count v) v)
 
   pub cursors_leave : (b : Base) (end : RangeEnd) → OnNext (cursor types f (whole x) b end st) Q

@@ -16,6 +16,7 @@ pub mod CallKinds
 pub mod CalledBuffers
 pub mod CalledElsewhere
 pub mod CalledRight
+pub mod CalledUniques
 pub mod CalmFacts
 pub mod ChangeKinds
 pub mod ChangeSteps
@@ -26,7 +27,6 @@ pub mod CopyKinds
 pub mod Copyable
 pub mod Edges
 pub mod Elsewhere
-pub mod Emptied
 pub mod EndKinds
 pub mod Entered
 pub mod EraseKinds
@@ -36,6 +36,7 @@ pub mod FramePoints
 pub mod FrameSteps
 pub mod Fresh
 pub mod GivenBack
+pub mod GivenBuffers
 pub mod GivenInputs
 pub mod GivenMade
 pub mod GivenOn
@@ -66,10 +67,10 @@ pub mod MoveKinds
 pub mod MoveSteps
 pub mod Moved
 pub mod MovedFacts
+pub mod MovedUniques
 pub mod Mutated
 pub mod NamedResults
 pub mod NumberKinds
-pub mod NumberSteps
 pub mod Opening
 pub mod Owned
 pub mod OwnerElements
@@ -78,6 +79,8 @@ pub mod OwnerMoves
 pub mod OwnerPointers
 pub mod OwnersStay
 pub mod Owning
+pub mod PlacedMoveKinds
+pub mod PlainTargets
 pub mod PointerInputs
 pub mod PointerKinds
 pub mod Pointers
@@ -107,6 +110,10 @@ pub mod TargetKinds
 pub mod Unaimed
 pub mod UniqueFacts
 pub mod UniqueLocals
+pub mod UniqueTests
+pub mod UniquesBorn
+pub mod UniquesGiven
+pub mod UniquesStay
 pub mod Unkept
 pub mod Unkilled
 pub mod Unmoved

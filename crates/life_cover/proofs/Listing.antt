@@ -6,7 +6,7 @@ use Rattle.std.proofs.lemmas.Bool.{false≢true}
 use Rattle.std.proofs.lemmas.List.Elements.{Contains-append_left, Contains-append_right}
 use Rattle.life_types.specs.Pointees.{or_void, ty_of}
 use Rattle.life_types.specs.Trees.{IsOrdered, TypeTree, Text, Vector, Unique, Void, Member, tree_at, tree_of, members_at}
-use Rattle.life_types.specs.TypeTests.{is_pointer}
+use Rattle.life_types.specs.TypeTests.{is_pointer, is_unique}
 use Rattle.life_types.specs.Types.{Types}
 use Rattle.life_types.specs.declared.ty.Ty.{Ty}
 use Rattle.life_types.specs.declared.ty.Ty.TheVariants as variant
@@ -17,7 +17,7 @@ use Rattle.life_core.specs.declared.program.LocalKind.{LocalKind}
 use Rattle.life_core.specs.declared.program.LocalKind.TheVariants.{Object, Register, Range}
 use Rattle.life_core.specs.Function.{Function}
 use Rattle.life_core.specs.Kinds.{has_kind, is_object}
-use Rattle.life_pset.specs.Elements.{caused_elements, elements_of, input_places, inputs_of, local_locations, local_place, locations_from, locations_of, object_places, objects_from, places_from, places_in, pointers_in}
+use Rattle.life_pset.specs.Elements.{caused_elements, elements_of, input_places, inputs_of, local_locations, local_place, locations_from, locations_of, object_places, objects_from, places_from, places_in, pointers_in, locations_in}
 use Rattle.life_pset.specs.Places.{member_place, owned_place, stepped}
 use Rattle.life_pset.specs.Shapes.{is_variable, local_type, shape, shape_of, ty_if, is_variable_of}
 use Rattle.life_pset.specs.declared.element.AbsPlace.{AbsPlace}
@@ -53,6 +53,18 @@ module _ (types : Types) (ordered : IsOrdered types) where
       go None h = absurd (false≢true h)
       go (Some t) h = one_pointer (local_place x) types (tree_at types) t h
 
+  -- .. and so is a unique_ptr
+  pub unique_among : (kind : LocalKind) (id : TyId) (a : AbsPlace) → is_unique (ty_of types id) ≡ true → Contains (locations_in types kind id a) a
+  unique_among kind id a unique = either (is_variable kind (ty_of types id)) a (pointers_in a (tree_at types id)) (ap (pointers_in a) (tree_made types ordered id) ∙ go (slice_get types.types id.0) unique)
+    where
+      go : (o : Option Ty) → is_unique (or_void o) ≡ true → pointers_in a (tree_of types (tree_at types) o) ≡ a ∷ []
+      go (Some (variant.Unique target)) h = refl
+      go None h = absurd (false≢true h)
+      go (Some _) h = absurd (false≢true h)
+
+  pub unique_location : (n x : ℕ) (l : Local) → is_unique (ty_of types (shape types n x l)) ≡ true → Contains (local_locations types n x l) (local_place x)
+  unique_location n x l = unique_among l.kind (shape types n x l) (local_place x)
+
   location_among : (n : ℕ) (ls : List Local) (first k x : ℕ) (l : Local) → first + k ≡ x → slice_get ls k ≡ Some l → Contains (local_locations types n x l) (local_place x) → Contains (locations_from types n first ls) (local_place x)
   location_among n [] first k x l is e has = absurd (none_some e)
   location_among n (m ∷ ls) first zero x l is e has =
@@ -79,6 +91,14 @@ module _ (types : Types) (ordered : IsOrdered types) where
       go : (o : Option Local) → slice_get f.locals x ≡ o → is_pointer (ty_if types (shape_of types f.parameters x o)) ≡ true → Contains (locations_of types f) (local_place x)
       go None e h = absurd (false≢true h)
       go (Some l) e h = location_among f.parameters f.locals 0 x x l (omega arith) e (own_location f.parameters x l h)
+
+  -- .. and a unique_ptr
+  pub unique_listed : (f : Function) (x : ℕ) → is_unique (type_at types f x) ≡ true → Contains (locations_of types f) (local_place x)
+  unique_listed f x unique = go (slice_get f.locals x) refl unique
+    where
+      go : (o : Option Local) → slice_get f.locals x ≡ o → is_unique (ty_if types (shape_of types f.parameters x o)) ≡ true → Contains (locations_of types f) (local_place x)
+      go None e h = absurd (false≢true h)
+      go (Some l) e h = location_among f.parameters f.locals 0 x x l (omega arith) e (unique_location f.parameters x l h)
 
 -- ---- places
 
@@ -170,6 +190,9 @@ module _ (types : Types) (ordered : IsOrdered types) where
 
     pub null_known : Contains (elements_of types f) element.Null
     null_known = at_head element.Null (element.Own ∷ element.Static ∷ behind)
+
+    pub own_known : Contains (elements_of types f) element.Own
+    own_known = in_tail element.Null (element.Own ∷ element.Static ∷ behind) element.Own (at_head element.Own (element.Static ∷ behind))
 
     pub caused_known : (e : Element) → Contains (caused_elements f) e → Contains (elements_of types f) e
     caused_known e h = listed e (Contains-append_right (map element.At (objects_from types f.parameters 0 f.locals)) (map element.At (flat_map (input_places types) (inputs_of types f)) ++ caused_elements f) e

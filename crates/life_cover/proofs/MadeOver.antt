@@ -20,6 +20,7 @@ use Rattle.life_pset.specs.declared.element.Root.{Root}
 use Rattle.life_contract.specs.Signatures.{Signature}
 use Rattle.life_proper.specs.Placed.{object_at, type_at}
 use Rattle.life_rules.specs.Carrying.{writes}
+use Rattle.life_rules.specs.Matching.{fact_at}
 use Rattle.life_rules.proofs.Giving.{at_head}
 use Rattle.life_store.specs.Cells.{at}
 use Rattle.life_store.specs.Content.{Content, Object, Slot, word_in}
@@ -37,7 +38,7 @@ use Rattle.life_forest.specs.Frames.{named_in}
 use Rattle.life_forest.specs.Kinds.{kinds_of, owned_type, rank_of}
 use Rattle.life_forest.specs.Owned.{every, owns, times}
 use Rattle.life_forest.specs.Typed.{IsStore}
-use Rattle.life_forest.specs.Values.{listed}
+use Rattle.life_forest.specs.Values.{AllWide, listed}
 use Rattle.life_forest.specs.Within.{LiesWithin}
 use Rattle.life_forest.proofs.Above.{above_apart, above_unowned, owner_above}
 use Rattle.life_forest.proofs.Below.{is_positive, positive_is}
@@ -50,12 +51,14 @@ use Rattle.life_forest.proofs.Given as given
 use Rattle.life_forest.proofs.Members.{within_self}
 use Rattle.life_forest.proofs.Steps.{touches_more, touches_then}
 use Rattle.life_cover.specs.Buffered.{AreBut, HasBuffers}
+use Rattle.life_cover.specs.Covers.{CoversOwner}
 use Rattle.life_cover.specs.Frames.{FrameCovered, RootStands, look_at}
 use Rattle.life_cover.specs.Inputs.{StandsAt, frame_foot, may_change, owning}
 use Rattle.life_cover.specs.Kills.{Guards, IsUnnamed, LeftBy}
 use Rattle.life_cover.specs.Lacking.{IsUnmoved, MayLack}
 use Rattle.life_cover.specs.Regions.{IsAt, Region, foot_of}
-use Rattle.life_cover.proofs.Behind.{behind_empty}
+use Rattle.life_cover.specs.Uniques.{had_by}
+use Rattle.life_cover.proofs.Behind.{behind_empty, TellsLost}
 use Rattle.life_cover.proofs.Buffers.{buffer_lives, buffer_low}
 use Rattle.life_cover.proofs.Copies.{whole_parts}
 use Rattle.life_cover.proofs.GivenMade.{given_buffered, given_touches}
@@ -64,18 +67,22 @@ use Rattle.life_cover.proofs.Killing.{cover_on}
 use Rattle.life_cover.proofs.KnownFrames.{IsKnownFrame, IsRight, hand_of, rooted_of, store_of}
 use Rattle.life_cover.proofs.Lacking.{local_whole, low_whole}
 use Rattle.life_cover.proofs.Left.{left_by_name}
+use Rattle.life_cover.proofs.Listing.{own_known, unique_listed}
 use Rattle.life_cover.proofs.LiveKinds.{object_faultless}
+use Rattle.life_cover.proofs.Locals.{named_once}
 use Rattle.life_cover.proofs.MakeKinds.{IsMade}
 use Rattle.life_cover.proofs.OwnerKinds.{right_got}
 use Rattle.life_cover.proofs.OwnersStay.{owned_is}
 use Rattle.life_cover.proofs.Pointers.{OnRight, right_then}
 use Rattle.life_cover.proofs.PushKinds.{elsewhere, roots_left, split}
 use Rattle.life_cover.proofs.PushedObjects.{pushed_foot}
-use Rattle.life_cover.proofs.Putting.{other_local}
+use Rattle.life_cover.proofs.Putting.{other_local, set_other}
 use Rattle.life_cover.proofs.Rebuffering.{IsFree}
-use Rattle.life_cover.proofs.Remade.{put_touches, replaced_buffered}
+use Rattle.life_cover.proofs.Remade.{hand_apart, put_touches, replaced_buffered, replaced_has}
 use Rattle.life_cover.proofs.Sparing.{place_within}
+use Rattle.life_cover.proofs.Takes.{named_fact}
 use Rattle.life_cover.proofs.UniqueLocals.{IsUniqueLocal, on_location_local, unique_local}
+use Rattle.life_cover.proofs.UniquesStay.{had_but_given}
 
 module _ (types : Types) (f : Function) (rest : ℕ → ℕ) (inputs : Root → Option Region) (S : Fact → Type 0) (st : State) (k : IsKnownFrame types f rest inputs S st) (sigs : List Signature) (number : ℕ) (place : Place) (S' : Fact → Type 0) (s : Setting) (x : ℕ) (unique : is_unique (type_at types f x) ≡ true) (y : ℕ)
     (object : object_at types f y ≡ true) (right : IsRight sigs types number f place (Make (operands.whole x) (made.Of y)) S S') where
@@ -230,12 +237,52 @@ module _ (types : Types) (f : Function) (rest : ℕ → ℕ) (inputs : Root → 
             part = (place_within types f rest inputs S st k (local_place x) region at_x refl).part;
           })
 
-      made_safe : AreBut types (MayLack types f inputs S st) d → IsMade types f inputs S' (MayLack types f inputs S st) (λ z. y ≡ z) st (put_cell y Empty (put_content d st))
-      made_safe buffered = (covered, behind_empty types f inputs (MayLack types f inputs S st) (λ z. y ≡ z) st y (λ j is. refl) d buffered spared)
+      fact : S' (fact_at (local_place x) element.Own)
+      fact =
+          named_fact sigs types f place (Make (operands.whole x) (made.Of y)) S S' right.closed (operands.whole x) element.Own (at_head (fact_at (local_place x) element.Own) []) (unique_listed types k.ordered f x unique) (own_known types k.ordered f)
 
-    put_safe : (b : ℕ × Content) → IsGivenObject b → IsMade types f inputs S' (MayLack types f inputs S st) (λ z. y ≡ z) st (put_cell y Empty (remade (Unique u.target p) (record { object = n; index = 0; word = 0 }) b st))
+      -- they are two
+      others : y ≢ x
+      others same = apart (named_once (some_same (sym named_x ∙ ap (cell st) (sym same) ∙ named_y)))
+
+      -- it has what it is given
+      told : (b : ℕ) → had_by d n ≡ Some b → TellsLost types f S' (λ z. x ≡ z) (put_cell y Empty (put_content d st))
+      told b has z j same e is = record {
+        known = element.Own;
+        holds = subst (λ v. S' (fact_at (local_place v) element.Own)) same fact;
+        covers = subst (CoversOwner true element.Own) (sym (ap (had_by d) (named_once (some_same (sym e ∙ ap (slice_get (slice_set st.cells y Empty)) (sym same) ∙ set_other st.cells y x Empty others ∙ named_x))) ∙ has)) tt;
+      }
+
+      made_safe : (b : ℕ) → had_by d n ≡ Some b → AreBut types (MayLack types f inputs S st) d → IsMade types f inputs S' (MayLack types f inputs S st) (λ z. y ≡ z) (λ z. x ≡ z) st (put_cell y Empty (put_content d st))
+      made_safe b has buffered = (
+        covered,
+        behind_empty types f inputs (MayLack types f inputs S st) (λ z. y ≡ z) (λ z. x ≡ z) st y (λ j is. refl) d buffered spared (λ z j ne e is. had_but_given types f rest inputs S st k x n y m named_x named_y u.number d touch z j ne e is),
+        told b has,
+      )
+
+    -- it has the object
+    object_has : (b : ℕ × Content) → IsGivenObject b → had_by (replaced (parts_at types u.number) (record { object = n; index = 0; word = 0 }) (owner_word (Some b.0) ∷ [], b.1)) n ≡ Some b.0
+    object_has b h =
+        replaced_has types (and_all (foot_of types region) (b.0 ∷ [])) b.1 n u.variable.object u.variable.slot (parts_at types u.number) (owner_word (Some b.0)) h.stands.other u.variable.one wide born
+        (hand_apart (kinds_of types) (λ j. times (b.0 ∷ []) j + (times (named_in (slice_set st.cells y Empty)) j + rest j)) b.1 (and_all (foot_of types region) (b.0 ∷ [])) n h.store.forest
+        (let e = in_hand (slice_set st.cells y Empty) x n (set_other st.cells y x Empty (λ same. apart (named_once (some_same (sym named_x ∙ ap (cell st) (sym same) ∙ named_y)))) ∙ named_x) in omega (arith, e))
+        (λ e. let same = one_there b.0 n (let q = positive_is (times (b.0 ∷ []) n) e in omega (arith, q)) in let fresh = h.fresh in let old = k.stands.store.forest.births n u.variable.object u.variable.there in omega (arith, same, fresh, old)))
+        (put_touches types k.ordered (λ j. times (named_in (slice_set st.cells y Empty)) j + rest j) n u.number u.variable.object within slot u.target u.parts b h.store h.stands.other h.stands.object h.stands.there h.stands.type)
+      where
+        born : n < b.1.births
+        born = let up = h.touch.births in let old = k.stands.store.forest.births n u.variable.object u.variable.there in omega (arith, up, old)
+
+        wide : 0 < length u.variable.slot.words
+        wide =
+            let fit = (store_of types f rest inputs S st k).fit n u.variable.object u.variable.there in
+            let a = (subst (AllWide u.variable.object.width) u.variable.one fit.slots).0 in
+            let b = fit.width in
+            let e = ap (λ id. width (parts_at types id)) u.type ∙ ap width u.parts in
+            omega (arith, a, b, e)
+
+    put_safe : (b : ℕ × Content) → IsGivenObject b → IsMade types f inputs S' (MayLack types f inputs S st) (λ z. y ≡ z) (λ z. x ≡ z) st (put_cell y Empty (remade (Unique u.target p) (record { object = n; index = 0; word = 0 }) b st))
     put_safe b h =
-        subst (λ (q : Parts). IsMade types f inputs S' (MayLack types f inputs S st) (λ z. y ≡ z) st (put_cell y Empty (put_content (replaced q (record { object = n; index = 0; word = 0 }) (owner_word (Some b.0) ∷ [], b.1)) st))) u.parts
+        subst (λ (q : Parts). IsMade types f inputs S' (MayLack types f inputs S st) (λ z. y ≡ z) (λ z. x ≡ z) st (put_cell y Empty (put_content (replaced q (record { object = n; index = 0; word = 0 }) (owner_word (Some b.0) ∷ [], b.1)) st))) u.parts
         (made_safe (replaced (parts_at types u.number) (record { object = n; index = 0; word = 0 }) (owner_word (Some b.0) ∷ [], b.1))
         (touches_then (kinds_of types) (hand_of rest st) st.world.content (store_of types f rest inputs S st k).forest (all_of (m ∷ [])) (and_all (foot_of types region) (b.0 ∷ [])) (pushed_foot types region m) b.1
         (replaced (parts_at types u.number) (record { object = n; index = 0; word = 0 }) (owner_word (Some b.0) ∷ [], b.1)) h.touch
@@ -245,28 +292,29 @@ module _ (types : Types) (f : Function) (rest : ℕ → ℕ) (inputs : Root → 
           whole = λ j lt e. let new = one_there b.0 j (let q = positive_is (times (b.0 ∷ []) j) e in omega (arith, q)) in let fresh = h.fresh in absurd (omega (arith, new, fresh, lt));
           part = λ j lt. inr (λ w e. e);
         }))
+        b.0 (object_has b h)
         (replaced_buffered types (MayLack types f inputs S st) b.1 n (parts_at types u.number) (owner_word (Some b.0)) (bufferless b.1 h.stands.other) h.buffered))
 
-    object_made : OnRight (made_of s types f (Unique u.target p) (record { object = n; index = 0; word = 0 }) y (Some (Named m)) st) (IsMade types f inputs S' (MayLack types f inputs S st) (λ z. y ≡ z) st)
+    object_made : OnRight (made_of s types f (Unique u.target p) (record { object = n; index = 0; word = 0 }) y (Some (Named m)) st) (IsMade types f inputs S' (MayLack types f inputs S st) (λ z. y ≡ z) (λ z. x ≡ z) st)
     object_made =
-        subst (λ (q : Parts). OnRight (on_got (object_with s u.target p (λ d. Got (consumed q m d)) st.world.content) (λ b. Next (put_cell y Empty (remade (Unique u.target p) (record { object = n; index = 0; word = 0 }) b st)))) (IsMade types f inputs S' (MayLack types f inputs S st) (λ z. y ≡ z) st))
+        subst (λ (q : Parts). OnRight (on_got (object_with s u.target p (λ d. Got (consumed q m d)) st.world.content) (λ b. Next (put_cell y Empty (remade (Unique u.target p) (record { object = n; index = 0; word = 0 }) b st)))) (IsMade types f inputs S' (MayLack types f inputs S st) (λ z. y ≡ z) (λ z. x ≡ z) st))
         (sym (ap (parts_if types) typed))
-        (right_then (object_with s u.target p value st.world.content) (λ b. Next (put_cell y Empty (remade (Unique u.target p) (record { object = n; index = 0; word = 0 }) b st))) IsGivenObject (IsMade types f inputs S' (MayLack types f inputs S st) (λ z. y ≡ z) st)
+        (right_then (object_with s u.target p value st.world.content) (λ b. Next (put_cell y Empty (remade (Unique u.target p) (record { object = n; index = 0; word = 0 }) b st))) IsGivenObject (IsMade types f inputs S' (MayLack types f inputs S st) (λ z. y ≡ z) (λ z. x ≡ z) st)
         (right_got (object_with s u.target p value st.world.content) IsGivenObject given_object (object_faultless s u.target p value st.world.content (λ d. tt)))
         put_safe)
 
   -- ---- the kind
 
   pub object_kind : ((n : ℕ) (named : cell st x ≡ Some (Named n)) → local_type types f y ≡ Some (unique_local types f rest inputs S st k x n named unique).target) → ((z : ℤ) → cell st y ≡ Some (Number z) → ⊥)
-      → OnRight (does s types f (Make (operands.whole x) (made.Of y)) st) (IsMade types f inputs S' (MayLack types f inputs S st) (λ z. y ≡ z) st)
+      → OnRight (does s types f (Make (operands.whole x) (made.Of y)) st) (IsMade types f inputs S' (MayLack types f inputs S st) (λ z. y ≡ z) (λ z. x ≡ z) st)
   object_kind typed uncounted =
-      on_location_local types f rest inputs S st k x (λ spot. made_of s types f (location_parts types f (operands.whole x)) spot y (cell st y) st) (IsMade types f inputs S' (MayLack types f inputs S st) (λ z. y ≡ z) st)
+      on_location_local types f rest inputs S st k x (λ spot. made_of s types f (location_parts types f (operands.whole x)) spot y (cell st y) st) (IsMade types f inputs S' (MayLack types f inputs S st) (λ z. y ≡ z) (λ z. x ≡ z) st)
       (λ n named.
       let u = unique_local types f rest inputs S st k x n named unique in
-      subst (λ (q : Parts). OnRight (made_of s types f q (record { object = n; index = 0; word = 0 }) y (cell st y) st) (IsMade types f inputs S' (MayLack types f inputs S st) (λ z. y ≡ z) st)) (sym (ap (parts_if types) u.typed ∙ u.parts)) (over n named (cell st y) refl))
+      subst (λ (q : Parts). OnRight (made_of s types f q (record { object = n; index = 0; word = 0 }) y (cell st y) st) (IsMade types f inputs S' (MayLack types f inputs S st) (λ z. y ≡ z) (λ z. x ≡ z) st)) (sym (ap (parts_if types) u.typed ∙ u.parts)) (over n named (cell st y) refl))
     where
       over : (n : ℕ) (named : cell st x ≡ Some (Named n)) (w : Option Cell) → cell st y ≡ w
-          → OnRight (made_of s types f (Unique (unique_local types f rest inputs S st k x n named unique).target (parts_at types (unique_local types f rest inputs S st k x n named unique).target)) (record { object = n; index = 0; word = 0 }) y w st) (IsMade types f inputs S' (MayLack types f inputs S st) (λ z. y ≡ z) st)
+          → OnRight (made_of s types f (Unique (unique_local types f rest inputs S st k x n named unique).target (parts_at types (unique_local types f rest inputs S st k x n named unique).target)) (record { object = n; index = 0; word = 0 }) y w st) (IsMade types f inputs S' (MayLack types f inputs S st) (λ z. y ≡ z) (λ z. x ≡ z) st)
       over n named None e = tt
       over n named (Some Empty) e = tt
       over n named (Some (Points q)) e = tt

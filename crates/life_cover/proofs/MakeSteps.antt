@@ -58,14 +58,14 @@ module _ (types : Types) (texts : ℕ) (fs : List Function) (f : Function) where
 
 module _ (types : Types) (f : Function) (rest : ℕ → ℕ) (inputs : Root → Option Region) (S : Fact → Type 0) (st : State) (k : IsKnownFrame types f rest inputs S st) (sigs : List Signature) (number : ℕ) (place : Place) (S' : Fact → Type 0) (texts : ℕ) (fs : List Function) (s : Setting) where
   -- what is known behind it
-  abbrev pub IsMadeBy : Made → State → Type 0
-  IsMadeBy m after = IsMade types f inputs S' (MayLack types f inputs S st) (λ z. Contains (given_made m) z) st after
+  abbrev pub IsMadeBy : ℕ → Made → State → Type 0
+  IsMadeBy x m after = IsMade types f inputs S' (MayLack types f inputs S st) (λ z. Contains (given_made m) z) (λ z. x ≡ z) st after
 
   -- more may be given over
-  more_over : (m : Made) (over : ℕ → Type 0) → ((z : ℕ) → over z → Contains (given_made m) z) → (e : Effect) → OnRight e (IsMade types f inputs S' (MayLack types f inputs S st) over st) → OnRight e (IsMadeBy m)
-  more_over m over gives e h =
-      right_weaker e (IsMade types f inputs S' (MayLack types f inputs S st) over st) (IsMadeBy m) h
-      (λ after a. (a.0, behind_more types f inputs (MayLack types f inputs S st) over (MayLack types f inputs S st) (λ z. Contains (given_made m) z) st after (λ n b. b) gives a.1))
+  more_over : (x : ℕ) (m : Made) (over : ℕ → Type 0) → ((z : ℕ) → over z → Contains (given_made m) z) → (e : Effect) → OnRight e (IsMade types f inputs S' (MayLack types f inputs S st) over (λ z. x ≡ z) st) → OnRight e (IsMadeBy x m)
+  more_over x m over gives e h =
+      right_weaker e (IsMade types f inputs S' (MayLack types f inputs S st) over (λ z. x ≡ z) st) (IsMadeBy x m) h
+      (λ after a. (a.0, behind_more types f inputs (MayLack types f inputs S st) over (λ z. x ≡ z) (MayLack types f inputs S st) (λ z. Contains (given_made m) z) (λ z. x ≡ z) st after (λ n b. b) gives (λ z same. same) a.1, a.2))
 
   -- ---- of an operand
 
@@ -83,9 +83,9 @@ module _ (types : Types) (f : Function) (rest : ℕ → ℕ) (inputs : Root → 
       consumed : (if is_value (ty_of types target) then is_number_of types f (ty_of types target) y else is_given types f (ty_of types target) y) ≡ true
       consumed = subst (λ (t : Ty). is_consumed types f (owned_target types t) y ≡ true) is e
 
-      of_number : is_value (ty_of types target) ≡ true → OnRight (does s types f (Make (whole x) (made.Of y)) st) (IsMadeBy (made.Of y))
+      of_number : is_value (ty_of types target) ≡ true → OnRight (does s types f (Make (whole x) (made.Of y)) st) (IsMadeBy x (made.Of y))
       of_number value =
-          more_over (made.Of y) no_local (λ z none. absurd none) (does s types f (Make (whole x) (made.Of y)) st)
+          more_over x (made.Of y) no_local (λ z none. absurd none) (does s types f (Make (whole x) (made.Of y)) st)
           (number_kind types f rest inputs S st k sigs number place S' s x unique y right
           (λ n named.
           let id = (unique_local types f rest inputs S st k x n named unique).target in
@@ -93,9 +93,9 @@ module _ (types : Types) (f : Function) (rest : ℕ → ℕ) (inputs : Root → 
           value_parts types k.ordered id (ty_of types id) (type_there types id (ty_of types id) refl (value_solid (ty_of types id) plain)) plain)
           (number_free types f rest inputs S st k y (number_any types f (ty_of types target) y (subst (λ b. (if b then is_number_of types f (ty_of types target) y else is_given types f (ty_of types target) y) ≡ true) value consumed))))
 
-      of_object : is_value (ty_of types target) ≡ false → OnRight (does s types f (Make (whole x) (made.Of y)) st) (IsMadeBy (made.Of y))
+      of_object : is_value (ty_of types target) ≡ false → OnRight (does s types f (Make (whole x) (made.Of y)) st) (IsMadeBy x (made.Of y))
       of_object other =
-          more_over (made.Of y) (λ z. y ≡ z) (λ z same. subst (Contains (y ∷ [])) same (at_head y [])) (does s types f (Make (whole x) (made.Of y)) st)
+          more_over x (made.Of y) (λ z. y ≡ z) (λ z same. subst (Contains (y ∷ [])) same (at_head y [])) (does s types f (Make (whole x) (made.Of y)) st)
           (object_kind types f rest inputs S st k sigs number place S' s x unique y outer.0 right (λ n named. typed ∙ ap Some (target_is n named)) (λ z there. object_uncounted types f rest inputs S st k y z outer.0 there))
         where
           outer : (object_at types f y ≡ true) × ((not (result_at types f y) && (not (slot_at types f y) && same (ty_of types target) (type_at types f y))) ≡ true)
@@ -104,21 +104,21 @@ module _ (types : Types) (f : Function) (rest : ℕ → ℕ) (inputs : Root → 
           typed : local_type types f y ≡ Some target
           typed = given_type types k.ordered k.once f k.shaped y target (and_parts (not (slot_at types f y)) _ (and_parts (not (result_at types f y)) _ outer.1).1).1
 
-      by_value : (value : Bool) → is_value (ty_of types target) ≡ value → OnRight (does s types f (Make (whole x) (made.Of y)) st) (IsMadeBy (made.Of y))
+      by_value : (value : Bool) → is_value (ty_of types target) ≡ value → OnRight (does s types f (Make (whole x) (made.Of y)) st) (IsMadeBy x (made.Of y))
       by_value true e = of_number e
       by_value false e = of_object e
 
-    operand_made : OnRight (does s types f (Make (whole x) (made.Of y)) st) (IsMadeBy (made.Of y))
+    operand_made : OnRight (does s types f (Make (whole x) (made.Of y)) st) (IsMadeBy x (made.Of y))
     operand_made = let u = unique_is (type_at types f x) unique in by_value u.0 u.1 (is_value (ty_of types u.0)) refl
 
   -- ---- each
 
-  by_made : (x : ℕ) (m : Made) → IsRight sigs types number f place (Make (whole x) m) S S' → is_made_for types texts fs f (type_at types f x) m ≡ true → OnRight (does s types f (Make (whole x) m) st) (IsMadeBy m)
-  by_made x made.Null right e = more_over made.Null no_local (λ z none. absurd none) (does s types f (Make (whole x) made.Null) st) (null_kind types f rest inputs S st k sigs number place S' s x e right)
-  by_made x made.Zero right e = more_over made.Zero no_local (λ z none. absurd none) (does s types f (Make (whole x) made.Zero) st) (fresh_kind types f rest inputs S st k sigs number place S' s x e right)
+  by_made : (x : ℕ) (m : Made) → IsRight sigs types number f place (Make (whole x) m) S S' → is_made_for types texts fs f (type_at types f x) m ≡ true → OnRight (does s types f (Make (whole x) m) st) (IsMadeBy x m)
+  by_made x made.Null right e = more_over x made.Null no_local (λ z none. absurd none) (does s types f (Make (whole x) made.Null) st) (null_kind types f rest inputs S st k sigs number place S' s x e right)
+  by_made x made.Zero right e = more_over x made.Zero no_local (λ z none. absurd none) (does s types f (Make (whole x) made.Zero) st) (fresh_kind types f rest inputs S st k sigs number place S' s x e right)
   by_made x (made.Of y) right e = operand_made x y right e
 
-  pub make_right : (u : Location) (m : Made) → IsRight sigs types number f place (Make u m) S S' → is_made_for types texts fs f (type_in types f u) m ≡ true → OnRight (does s types f (Make u m) st) (IsMadeBy m)
+  pub make_right : (u : Location) (m : Made) → IsRight sigs types number f place (Make u m) S S' → is_made_for types texts fs f (type_in types f u) m ≡ true → OnRight (does s types f (Make u m) st) (IsMadeBy u.local m)
   make_right u m right e =
-      subst (λ (q : Location). IsRight sigs types number f place (Make q m) S S' → is_made_for types texts fs f (type_in types f q) m ≡ true → OnRight (does s types f (Make q m) st) (IsMadeBy m))
+      subst (λ (q : Location). IsRight sigs types number f place (Make q m) S S' → is_made_for types texts fs f (type_in types f q) m ≡ true → OnRight (does s types f (Make q m) st) (IsMadeBy u.local m))
       (whole_location types k.plain f u (unique_solid types texts fs f (type_in types f u) (unique_of types texts fs f (type_in types f u) m e))) (by_made u.local m) right e

@@ -1,4 +1,5 @@
--- An owner is moved to another one that is a local, as it is asked of well-formed instructions: a unique_ptr, a vector or a string.
+-- An owner is moved, as it is asked of well-formed instructions: a unique_ptr, a vector or a string to another local, and a vector or a string to a
+-- place behind a pointer.
 use Rattle.std.proofs.Common.{◌≡◌, ℕ, Bool, true, false, List, refl, sym, subst, ◌∙◌, arith, ◌≢◌, ◌⊎◌, ⊎_elim, inl, inr, Option}
 use Rattle.std.specs.Prelude.{nat_eq, not}
 use Rattle.std.proofs.lemmas.Bool.{and_parts, false≢true}
@@ -23,12 +24,8 @@ use Rattle.life_proper.proofs.HeldSorts.{same_is}
 use Rattle.life_store.specs.State.{State}
 use Rattle.life_forest.proofs.OneNumber.{same_solid}
 use Rattle.life_cover.proofs.KnownFrames.{IsKnownFrame, IsRight, typed, whole_location, solid_type}
+use Rattle.life_cover.proofs.PlainTargets.{through_other}
 use Rattle.life_cover.specs.Regions.{Region}
-
--- a place behind a pointer isn't spoken of
-abbrev pub IsSpokenMove : Operand → Type 0
-IsSpokenMove (named.Name l) = Unit {0}
-IsSpokenMove (named.Through p members) = ⊥
 
 -- what is moved is a unique_ptr, a vector or a string
 owner_sort : (t : Ty) → is_owner t ≡ true → (is_unique t ≡ true) ⊎ (has_buffer t ≡ true)
@@ -53,7 +50,12 @@ module _ (types : Types) (f : Function) (rest : ℕ → ℕ) (inputs : Root → 
   abbrev pub OfLocals : (is_sort : Ty → Bool) → (Operand → Type 0) → Type 0
   OfLocals is_sort Q = (x : ℕ) → IsRight sigs types number f place (Move (named.Name (whole x)) y) S S' → is_sort (type_at types f x) ≡ true → type_at types f x ≡ type_at types f y → x ≢ y → Q (named.Name (whole x))
 
-  module _ (Q : Operand → Type 0) (unique : OfLocals is_unique Q) (buffer : OfLocals has_buffer Q) where
+  -- .. and of places behind pointers
+  abbrev pub OfPlaces : (Operand → Type 0) → Type 0
+  OfPlaces Q = (p : Location) (members : List ℕ) → IsRight sigs types number f place (Move (named.Through p members) y) S S' → has_buffer (type_at types f y) ≡ true → type_of types f (named.Through p members) ≡ type_at types f y
+      → is_const_place types f (named.Through p members) ≡ false → Q (named.Through p members)
+
+  module _ (Q : Operand → Type 0) (unique : OfLocals is_unique Q) (buffer : OfLocals has_buffer Q) (placed : OfPlaces Q) where
     at_whole : (x : ℕ) → IsRight sigs types number f place (Move (named.Name (whole x)) y) S S' → (is_unique (type_at types f x) ≡ true) ⊎ (has_buffer (type_at types f x) ≡ true) → same (type_of types f (named.Name (whole x))) (type_at types f y) ≡ true
         → is_itself types texts fs f y (named.Name (whole x)) ≡ false → Q (named.Name (whole x))
     at_whole x right sort alike other = ⊎_elim (λ is. unique x right is types_same apart) (λ is. buffer x right is types_same apart) sort
@@ -64,9 +66,25 @@ module _ (types : Types) (f : Function) (rest : ℕ → ℕ) (inputs : Root → 
         apart : x ≢ y
         apart h = false≢true (sym other ∙ subst (λ z. nat_eq x z ≡ true) h (eq_same x))
 
-    pub by_move : (to : Operand) → IsSpokenMove to → IsRight sigs types number f place (Move to y) S S' → is_well_formed_step types texts fs f (Move to y) ≡ true → Q to
-    by_move (named.Through p members) spoken right e = absurd spoken
-    by_move (named.Name l) spoken right e =
+    -- what is behind a pointer is no unique_ptr
+    at_place : (p : Location) (members : List ℕ) → IsRight sigs types number f place (Move (named.Through p members) y) S S' → is_owner (type_of types f (named.Through p members)) ≡ true → same (type_of types f (named.Through p members)) (type_at types f y) ≡ true
+        → is_const_place types f (named.Through p members) ≡ false → Q (named.Through p members)
+    at_place p members right owner alike free =
+        let solid = same_solid (type_of types f (named.Through p members)) (type_at types f y) alike in
+        let types_same = same_is (type_of types f (named.Through p members)) (type_at types f y) alike in
+        ⊎_elim
+        (λ is. absurd (false≢true (sym (through_other types f rest inputs S st k p members solid) ∙ is)))
+        (λ is. placed p members right (subst (λ (t : Ty). has_buffer t ≡ true) types_same is) types_same free) (owner_sort (type_of types f (named.Through p members)) owner)
+
+    pub by_move : (to : Operand) → IsRight sigs types number f place (Move to y) S S' → is_well_formed_step types texts fs f (Move to y) ≡ true → Q to
+    by_move (named.Through p members) right e =
+        let outer = and_parts (is_owner (type_of types f (named.Through p members))) _ e in
+        let object = and_parts (object_at types f y) _ outer.1 in
+        let alike = and_parts (same (type_of types f (named.Through p members)) (type_at types f y)) _ object.1 in
+        let result = and_parts (not (result_at types f y)) _ alike.1 in
+        let itself = and_parts (not (is_itself types texts fs f y (named.Through p members))) (not (is_const_place types f (named.Through p members))) result.1 in
+        at_place p members right outer.0 alike.0 (not_true (is_const_place types f (named.Through p members)) itself.1)
+    by_move (named.Name l) right e =
         let outer = and_parts (is_owner (type_of types f (named.Name l))) _ e in
         let object = and_parts (object_at types f y) _ outer.1 in
         let alike = and_parts (same (type_of types f (named.Name l)) (type_at types f y)) _ object.1 in

@@ -57,7 +57,7 @@ module _ (types : Types) (ordered : IsOrdered types) (hand : ℕ → ℕ) (c : C
   taken_is : (ws : List ℕ) → taken (parts_at types id) ws c ≡ (ws, c)
   taken_is ws = ap (λ (q : Parts). taken q ws c) is_unique
 
-  out : IsStore types (λ k. times (owned_of (parts_at types id) (owner_word owned ∷ [])) k + hand k) (wrote m 0 0 (owner_word None ∷ []) c) × Flat (wrote m 0 0 (owner_word None ∷ []) c) (parts_at types id) (owner_word owned ∷ []) × (length (owner_word owned ∷ []) ≡ width_at types id)
+  pub out : IsStore types (λ k. times (owned_of (parts_at types id) (owner_word owned ∷ [])) k + hand k) (wrote m 0 0 (owner_word None ∷ []) c) × Flat (wrote m 0 0 (owner_word None ∷ []) c) (parts_at types id) (owner_word owned ∷ []) × (length (owner_word owned ∷ []) ≡ width_at types id)
   out =
       subst (λ (v : List ℕ × Content). IsStore types (λ k. times (owned_of (parts_at types id) v.0) k + hand k) (wrote m 0 0 (owner_word None ∷ []) v.1) × Flat (wrote m 0 0 (owner_word None ∷ []) v.1) (parts_at types id) v.0 × (length v.0 ≡ width_at types id))
       (taken_is (owner_word owned ∷ []))
@@ -68,10 +68,8 @@ module _ (types : Types) (ordered : IsOrdered types) (hand : ℕ → ℕ) (c : C
   nothing_owned : (k : ℕ) → times (owned_of (parts_at types id) (owner_word None ∷ [])) k ≡ 0
   nothing_owned k = ap (λ r. times (owned_of r (owner_word None ∷ [])) k) is_unique
 
-  in_feet : (u : ℕ) → 0 ≤ u → u < 0 + width (parts_at types id) → (is_value ((kinds_of types).word o.ty u) || (both_feet types into from).part n u) ≡ true
-  in_feet u le less =
-      or_right (is_value ((kinds_of types).word o.ty u)) ((both_feet types into from).part n u)
-      (or_left (is_in_region types into n u) (is_in_region types from n u) (in_region types into n u (record { object = refl; first = le; last = less })))
+  in_feet : (u : ℕ) → 0 ≤ u → u < 0 + width (parts_at types id) → (both_feet types into from).part n u ≡ true
+  in_feet u le less = or_left (is_in_region types into n u) (is_in_region types from n u) (in_region types into n u (record { object = refl; first = le; last = less }))
 
   -- what the one that gives had is beneath its word
   given_low : (k : ℕ) → 0 < times (owned_of (parts_at types id) (spot_words c (record { object = m; index = 0; word = 0 }) (width_at types id))) k → Beneath (kinds_of types) c (both_feet types into from) k
@@ -91,28 +89,33 @@ module _ (types : Types) (ordered : IsOrdered types) (hand : ℕ → ℕ) (c : C
       (or_right (is_in_region types into m (0 + u)) (is_in_region types from m (0 + u)) (in_region types from m (0 + u) (record { object = refl; first = omega arith; last = omega (arith, less) }))))
       (λ k born own. let e = nothing_owned k in absurd (omega (arith, e, own)))
 
-  kept : at (wrote m 0 0 (owner_word None ∷ []) c).objects n ≡ Some o
+  pub kept : at (wrote m 0 0 (owner_word None ∷ []) c).objects n ≡ Some o
   kept = ap (λ (d : Content). at d.objects n) (wrote_is c m 0 0 (owner_word None ∷ []) om m_there) ∙ at-set_other c.objects m n _ apart ∙ there
 
-  second : Touches (kinds_of types) (and_all (both_feet types into from) (owned_of (parts_at types id) (owner_word owned ∷ []))) (wrote m 0 0 (owner_word None ∷ []) c)
+  -- what it takes is put where it lies
+  put : (t : Foot) → ((u : ℕ) → 0 ≤ u → u < 0 + width (parts_at types id) → t.part n u ≡ true) → Touches (kinds_of types) (and_all t (owned_of (parts_at types id) (owner_word owned ∷ []))) (wrote m 0 0 (owner_word None ∷ []) c)
       (replaced (parts_at types id) (record { object = n; index = 0; word = 0 }) (owner_word owned ∷ [], wrote m 0 0 (owner_word None ∷ []) c))
-  second =
+  put t inside =
       let before : (ℕ → ℕ) = λ k. times (owned_of (parts_at types id) (owner_word owned ∷ [])) k + hand k in
       let lies = lies_at types ordered before emptied out.0 n 0 0 id o kept within lt in
       replaced_touches (kinds_of types) emptied (record { object = n; index = 0; word = 0 }) (parts_at types id) o lies (owner_word owned ∷ []) out.2 before hand out.0.forest (spot_known types ordered before emptied out.0 n 0 0 id o kept within lt)
       (flat_lower types ordered emptied o.ty id 0 (owner_word owned ∷ []) within out.2 out.1) (λ k. omega arith)
-      (and_all (both_feet types into from) (owned_of (parts_at types id) (owner_word owned ∷ []))) in_feet
-      (λ k own. value_beneath (kinds_of types) emptied (record { object = n; index = 0; word = 0 }) (parts_at types id) o lies (and_all (both_feet types into from) (owned_of (parts_at types id) (owner_word owned ∷ []))) covers k own)
+      (and_all t (owned_of (parts_at types id) (owner_word owned ∷ []))) (λ u le less. or_right (is_value ((kinds_of types).word o.ty u)) (t.part n u) (inside u le less))
+      (λ k own. value_beneath (kinds_of types) emptied (record { object = n; index = 0; word = 0 }) (parts_at types id) o lies (and_all t (owned_of (parts_at types id) (owner_word owned ∷ []))) covers k own)
       (λ k born own. whole k (is_positive (times (owned_of (parts_at types id) (owner_word owned ∷ [])) k) own))
     where
-      covers : Covers (kinds_of types) (and_all (both_feet types into from) (owned_of (parts_at types id) (owner_word owned ∷ []))) (record { object = n; index = 0; word = 0 }) (parts_at types id)
-      covers u less = or_right (is_value (kind_in (parts_at types id) u)) ((both_feet types into from).part n (0 + u))
-          (or_left (is_in_region types into n (0 + u)) (is_in_region types from n (0 + u)) (in_region types into n (0 + u) (record { object = refl; first = omega arith; last = omega (arith, less) })))
+      covers : Covers (kinds_of types) (and_all t (owned_of (parts_at types id) (owner_word owned ∷ []))) (record { object = n; index = 0; word = 0 }) (parts_at types id)
+      covers u less = or_right (is_value (kind_in (parts_at types id) u)) (t.part n (0 + u)) (inside (0 + u) (omega arith) (omega (arith, less)))
+
+  -- so nothing else is touched then
+  pub put_touches : Touches (kinds_of types) (and_all (foot_of types (record { object = n; word = 0; ty = id })) (owned_of (parts_at types id) (owner_word owned ∷ []))) (wrote m 0 0 (owner_word None ∷ []) c)
+      (replaced (parts_at types id) (record { object = n; index = 0; word = 0 }) (owner_word owned ∷ [], wrote m 0 0 (owner_word None ∷ []) c))
+  put_touches = put (foot_of types into) (λ u le less. in_region types into n u (record { object = refl; first = le; last = less }))
 
   pub moved_touches : Touches (kinds_of types) (both_feet types (record { object = n; word = 0; ty = id }) (record { object = m; word = 0; ty = id })) c
       (replaced (parts_at types id) (record { object = n; index = 0; word = 0 }) (owner_word owned ∷ [], wrote m 0 0 (owner_word None ∷ []) c))
   moved_touches =
       touches_then (kinds_of types) hand c store.forest (both_feet types into from) (and_all (both_feet types into from) (owned_of (parts_at types id) (owner_word owned ∷ []))) (both_feet types into from) emptied
-      (replaced (parts_at types id) (record { object = n; index = 0; word = 0 }) (owner_word owned ∷ [], emptied)) emptied_touches second (within_self (kinds_of types) c (both_feet types into from))
+      (replaced (parts_at types id) (record { object = n; index = 0; word = 0 }) (owner_word owned ∷ [], emptied)) emptied_touches (put (both_feet types into from) in_feet) (within_self (kinds_of types) c (both_feet types into from))
       (within_all (kinds_of types) c (both_feet types into from) (owned_of (parts_at types id) (owner_word owned ∷ []))
       (λ k own born. given_low k (subst (λ (ws : List ℕ). 0 < times (owned_of (parts_at types id) ws) k) (sym are) own)))

@@ -1,27 +1,28 @@
--- What the facts say behind a move of one whole local to another: those on pointers into what either had are invalid, and what is touched lies beneath
--- what the frame names.
+-- What the facts say behind a move of a whole local to another, or to a place behind a pointer: those on pointers into what either had are invalid, and
+-- what is touched lies beneath what the frame names.
 use Rattle.std.proofs.Common.{◌≡◌, ◌≢◌, inl, inr, ⊎_elim, ◌⊎◌, ℕ, Bool, true, false, List, [], ◌∷◌, ◌++◌, Option, Some, refl, sym, ap, subst, ◌∙◌, arith}
-use Rattle.std.specs.Prelude.{◌||◌, ◌&&◌, Contains, not}
+use Rattle.std.specs.Prelude.{◌||◌, ◌&&◌, Contains, cond, if◌then◌else◌, not}
 use Rattle.std.proofs.lemmas.Bool.{false≢true}
 use Rattle.std.proofs.lemmas.List.Elements.{Contains-append_left, Contains-append_right}
 use Rattle.life_types.specs.Types.{Types}
 use Rattle.life_types.specs.declared.place.Place.{Place}
 use Rattle.life_types.specs.declared.ty.TyId.{TyId}
 use Rattle.life_core.specs.Function.{Function}
-use Rattle.life_core.specs.Operands.{whole}
+use Rattle.life_core.specs.Operands.{Location, whole}
 use Rattle.life_core.specs.Operands as named
-use Rattle.life_core.specs.Step.{Move}
-use Rattle.life_pset.specs.Elements.{changed, local_place, moved}
-use Rattle.life_pset.specs.Places.{under}
+use Rattle.life_core.specs.Step.{Move, Step}
+use Rattle.life_pset.specs.Elements.{changed, local_place, moved, owner_changed}
+use Rattle.life_pset.specs.Places.{members_place, under}
 use Rattle.life_pset.specs.declared.element.AbsPlace.{AbsPlace}
 use Rattle.life_pset.specs.declared.element.Cause.{Cause}
 use Rattle.life_pset.specs.declared.element.Element.{Element}
 use Rattle.life_pset.specs.declared.element.Element.TheVariants as element
 use Rattle.life_pset.specs.declared.element.Fact.{Fact}
 use Rattle.life_pset.specs.declared.element.Root.{Root}
-use Rattle.life_contract.specs.Located.{is_location}
+use Rattle.life_pset.proofs.Numbers.{place_laws}
+use Rattle.life_contract.specs.Located.{is_location, located}
 use Rattle.life_contract.specs.Signatures.{Signature}
-use Rattle.life_rules.specs.Carrying.{drops, is_gone, killed_facts, killed_fact, kills, makes, writes}
+use Rattle.life_rules.specs.Carrying.{drops, is_gone, killed_facts, killed_fact, killed_through, kills, makes, writes}
 use Rattle.life_rules.specs.Matching.{fact_at, given_if, points_under, unless}
 use Rattle.life_rules.specs.declared.kill.Kill.{Kill}
 use Rattle.life_rules.proofs.Giving.{at_head, in_tail}
@@ -29,7 +30,7 @@ use Rattle.life_store.specs.Cells.{at}
 use Rattle.life_store.specs.Content.{Content}
 use Rattle.life_store.specs.Effects.{cell, put_content}
 use Rattle.life_store.specs.Parts.{local_type}
-use Rattle.life_store.specs.State.{Named, Points, State}
+use Rattle.life_store.specs.State.{Named, Pointer, Points, State}
 use Rattle.life_store.proofs.CellLemmas.{some_same}
 use Rattle.life_store.proofs.MapLemmas.{one_or_apart}
 use Rattle.life_forest.specs.Forest.{Beneath, Touches, part, under as further, whole as one}
@@ -41,14 +42,16 @@ use Rattle.life_cover.specs.Inputs.{StandsAt, frame_foot, may_change, owning}
 use Rattle.life_cover.specs.Kills.{Closed, Guards, LeftBy, is_hit}
 use Rattle.life_cover.specs.Regions.{IsAt, Region, foot_of, is_in_region}
 use Rattle.life_cover.proofs.Changes.{place_guards}
+use Rattle.life_cover.proofs.Guarding.{same_region}
 use Rattle.life_cover.proofs.Inside.{region_within}
 use Rattle.life_cover.proofs.Killing.{cover_on}
 use Rattle.life_cover.proofs.KnownFrames.{IsKnownFrame, IsRight, hand_of, rooted_of, store_of}
 use Rattle.life_cover.proofs.Left.{caused_of, kept_by}
 use Rattle.life_cover.proofs.Locals.{two_named}
 use Rattle.life_cover.proofs.Moved.{both_feet}
+use Rattle.life_cover.proofs.Opening.{place_all}
 use Rattle.life_cover.proofs.Putting.{other_local}
-use Rattle.life_cover.proofs.Sparing.{local_low}
+use Rattle.life_cover.proofs.Sparing.{local_low, place_within}
 
 pub both_false : (a b : Bool) → a ≡ false → b ≡ false → (a || b) ≡ false
 both_false true b e f = e
@@ -66,28 +69,28 @@ pub or_behind : (a b : Bool) → b ≡ true → (a || b) ≡ true
 or_behind true b e = refl
 or_behind false b e = e
 
+hit_either : (a b : AbsPlace) (e : Element) → is_hit (λ c. under a c || under b c) e ≡ (points_under a e || points_under b e)
+hit_either a b element.Null = refl
+hit_either a b (element.Invalid c) = refl
+hit_either a b (element.Moved c) = refl
+hit_either a b element.Own = refl
+hit_either a b element.Static = refl
+hit_either a b (element.At p) = refl
+
+given : (b : Bool) (z : Fact) → b ≡ true → Contains (given_if b z) z
+given b z e = subst (λ t. Contains (given_if t z) z) (sym e) (at_head z [])
+
+both_true : (a b : Bool) → a ≡ true → b ≡ false → (a && not b) ≡ true
+both_true true b e g = ap not g
+both_true false b e g = e
+
 -- ---- what the rules leave
 
 module _ (sigs : List Signature) (types : Types) (f : Function) (place : Place) (x y : ℕ) (S S' : Fact → Type 0) (closed : Closed sigs types f place (Move (named.Name (whole x)) y) S S') (Stands : Root → Region → Type 0) where
-  hit_under : (e : Element) → is_hit (λ a. under (local_place y) a || under (local_place x) a) e ≡ (points_under (local_place y) e || points_under (local_place x) e)
-  hit_under element.Null = refl
-  hit_under (element.Invalid c) = refl
-  hit_under (element.Moved c) = refl
-  hit_under element.Own = refl
-  hit_under element.Static = refl
-  hit_under (element.At b) = refl
-
-  given : (b : Bool) (z : Fact) → b ≡ true → Contains (given_if b z) z
-  given b z e = subst (λ t. Contains (given_if t z) z) (sym e) (at_head z [])
-
-  both_true : (a b : Bool) → a ≡ true → b ≡ false → (a && not b) ≡ true
-  both_true true b e g = ap not g
-  both_true false b e g = e
-
   pub left_by_move : LeftBy Stands (λ a. under (local_place y) a || under (local_place x) a) (writes (Move (named.Name (whole x)) y)) S S'
   left_by_move = record {
     kept = λ l e s free not_hit. kept_by sigs types f place (Move (named.Name (whole x)) y) S S' closed Stands l e s
-        (both_false (is_gone types f place (Move (named.Name (whole x)) y) e) (writes (Move (named.Name (whole x)) y) l) (sym (hit_under e) ∙ not_hit) free);
+        (both_false (is_gone types f place (Move (named.Name (whole x)) y) e) (writes (Move (named.Name (whole x)) y) l) (sym (hit_either (local_place y) (local_place x) e) ∙ not_hit) free);
     hit = λ l a r s stands free hit. ⊎_elim (λ h. by_source l a s free h) (λ h. by_target l a s free h) (either_true (under (local_place y) a) (under (local_place x) a) hit);
   }
     where
@@ -125,36 +128,122 @@ module _ (sigs : List Signature) (types : Types) (f : Function) (place : Place) 
             (given (under (local_place x) a && not (writes (Move (named.Name (whole x)) y) l)) (fact_at l (element.Invalid (changed place x))) (both_true (under (local_place x) a) (writes (Move (named.Name (whole x)) y) l) hit free))),
       )
 
--- what is beneath the owners of two objects is beneath those of one
-pub split : (types : Types) (c : Content) (a b : Region) → a.object ≢ b.object → (n : ℕ) → Beneath (kinds_of types) c (both_feet types a b) n → Beneath (kinds_of types) c (foot_of types a) n ⊎ Beneath (kinds_of types) c (foot_of types b) n
-split types c a b ne n (one _ e) = absurd (false≢true e)
-split types c a b ne n (part m _ own) = one_or_apart m a.object
+-- .. and behind a pointer that may point to a place
+module _ (sigs : List Signature) (types : Types) (f : Function) (place : Place) (p : Location) (members : List ℕ) (y : ℕ) (a0 : AbsPlace) (S S' : Fact → Type 0) (closed : Closed sigs types f place (Move (named.Through p members) y) S S')
+    (target : S (fact_at (located p) (element.At a0))) (Stands : Root → Region → Type 0) where
+  abbrev i : Step
+  i = Move (named.Through p members) y
+
+  none_second : (a b : Bool) → (a || b) ≡ false → (a || false) ≡ false
+  none_second true b e = e
+  none_second false b e = refl
+
+  abbrev source : Kill
+  source = record { owner = local_place y; cause = moved place y }
+
+  -- what points under the local
+  by_local : (l a : AbsPlace) → S (fact_at l (element.At a)) → writes i l ≡ false → under (local_place y) a ≡ true → (cause : Cause) × S' (fact_at l (element.Invalid cause))
+  by_local l a s free hit = (
+    moved place y,
+    closed.one (fact_at l (element.At a)) (fact_at l (element.Invalid (moved place y))) s
+        (caused_of types f l (element.At a) (element.Invalid (moved place y)) (closed.of (fact_at l (element.At a)) s)
+        (closed.causes (element.Invalid (moved place y)) (at_head (element.Invalid (moved place y)) (element.Moved (moved place y) ∷ element.Invalid (owner_changed place) ∷ []))))
+        (Contains-append_right (unless (drops types f place i (fact_at l (element.At a))) (fact_at l (element.At a)))
+        (killed_facts (kills types f place i) i (fact_at l (element.At a)) ++ makes sigs types f place i (fact_at l (element.At a))) (fact_at l (element.Invalid (moved place y)))
+        (Contains-append_left (killed_facts (kills types f place i) i (fact_at l (element.At a))) (makes sigs types f place i (fact_at l (element.At a))) (fact_at l (element.Invalid (moved place y)))
+        (Contains-append_left (killed_fact (Some source) i (fact_at l (element.At a))) [] (fact_at l (element.Invalid (moved place y)))
+        (given (under (local_place y) a && not (writes i l)) (fact_at l (element.Invalid (moved place y))) (both_true (under (local_place y) a) (writes i l) hit free))))),
+  )
+
+  -- .. and under what the pointer may point to
+  by_pointer : (l a : AbsPlace) → S (fact_at l (element.At a)) → writes i l ≡ false → under (local_place y) a ≡ false → under (members_place a0 members) a ≡ true → (cause : Cause) × S' (fact_at l (element.Invalid cause))
+  by_pointer l a s free other hit = (
+    owner_changed place,
+    closed.two (fact_at (located p) (element.At a0)) (fact_at l (element.At a)) (fact_at l (element.Invalid (owner_changed place))) target s
+        (caused_of types f l (element.At a) (element.Invalid (owner_changed place)) (closed.of (fact_at l (element.At a)) s)
+        (closed.causes (element.Invalid (owner_changed place))
+        (in_tail (element.Invalid (moved place y)) (element.Moved (moved place y) ∷ element.Invalid (owner_changed place) ∷ []) (element.Invalid (owner_changed place))
+        (in_tail (element.Moved (moved place y)) (element.Invalid (owner_changed place) ∷ []) (element.Invalid (owner_changed place)) (at_head (element.Invalid (owner_changed place)) [])))))
+        (subst (λ b. Contains (if b then [] else killed_through place i (named.Through p members) (fact_at (located p) (element.At a0)) (fact_at l (element.At a))) (fact_at l (element.Invalid (owner_changed place)))) (sym other)
+        (subst (λ t. Contains (cond t (given_if (under (members_place a0 members) a && not (writes i l)) (fact_at l (element.Invalid (owner_changed place)))) []) (fact_at l (element.Invalid (owner_changed place)))) (sym (place_laws.refl (located p)))
+        (given (under (members_place a0 members) a && not (writes i l)) (fact_at l (element.Invalid (owner_changed place))) (both_true (under (members_place a0 members) a) (writes i l) hit free)))),
+  )
+
+  by_either : (l a : AbsPlace) → S (fact_at l (element.At a)) → writes i l ≡ false → (here : Bool) → under (local_place y) a ≡ here → (here || under (members_place a0 members) a) ≡ true → (cause : Cause) × S' (fact_at l (element.Invalid cause))
+  by_either l a s free true e hit = by_local l a s free e
+  by_either l a s free false e hit = by_pointer l a s free e hit
+
+  pub left_by_placed : LeftBy Stands (λ a. under (local_place y) a || under (members_place a0 members) a) (writes (Move (named.Through p members) y)) S S'
+  left_by_placed = record {
+    kept = λ l e s free not_hit. kept_by sigs types f place i S S' closed Stands l e s
+        (both_false (is_gone types f place i e) (writes i l) (none_second (points_under (local_place y) e) (points_under (members_place a0 members) e) (sym (hit_either (local_place y) (members_place a0 members) e) ∙ not_hit)) free);
+    hit = λ l a r s stands free hit. by_either l a s free (under (local_place y) a) refl hit;
+  }
+
+-- what is beneath the owners of two regions, which are one where they lie in one object, is beneath those of one
+pub split : (types : Types) (c : Content) (a b : Region) → (a.object ≡ b.object → a ≡ b) → (n : ℕ) → Beneath (kinds_of types) c (both_feet types a b) n → Beneath (kinds_of types) c (foot_of types a) n ⊎ Beneath (kinds_of types) c (foot_of types b) n
+split types c a b alike n (one _ e) = absurd (false≢true e)
+split types c a b alike n (part m _ own) = one_or_apart m a.object
     (λ same. inl (part m n (let le = owns_le (kinds_of types) ((both_feet types a b).part m) ((foot_of types a).part m) (at c.objects m) n (in_a same) in omega (arith, own, le))))
     (λ other. inr (part m n (let le = owns_le (kinds_of types) ((both_feet types a b).part m) ((foot_of types b).part m) (at c.objects m) n (in_b other) in omega (arith, own, le))))
   where
     in_a : m ≡ a.object → (w : ℕ) → (is_in_region types a m w || is_in_region types b m w) ≡ true → is_in_region types a m w ≡ true
-    in_a same w e = ⊎_elim (λ h. h) (λ h. absurd (ne (sym same ∙ (region_within types b m w h).object))) (either_true (is_in_region types a m w) (is_in_region types b m w) e)
+    in_a same w e = ⊎_elim (λ h. h) (λ h. subst (λ (r : Region). is_in_region types r m w ≡ true) (sym (alike (sym same ∙ (region_within types b m w h).object))) h) (either_true (is_in_region types a m w) (is_in_region types b m w) e)
 
     in_b : m ≢ a.object → (w : ℕ) → (is_in_region types a m w || is_in_region types b m w) ≡ true → is_in_region types b m w ≡ true
     in_b other w e = ⊎_elim (λ h. absurd (other (region_within types a m w h).object)) (λ h. h) (either_true (is_in_region types a m w) (is_in_region types b m w) e)
-split types c a b ne n (further m _ low own) = ⊎_elim (λ l. inl (further m n l own)) (λ l. inr (further m n l own)) (split types c a b ne m low)
+split types c a b alike n (further m _ low own) = ⊎_elim (λ l. inl (further m n l own)) (λ l. inr (further m n l own)) (split types c a b alike m low)
+
+-- ---- a place, and a whole local of its type
+
+module _ (types : Types) (f : Function) (rest : ℕ → ℕ) (inputs : Root → Option Region) (S : Fact → Type 0) (st : State) (k : IsKnownFrame types f rest inputs S st) (to : AbsPlace) (into : Region) (own : owning types f to.root ≡ true)
+    (at_to : IsAt types st.world.content (RootStands types f (StandsAt inputs) st.cells) to into) (y m : ℕ) (named_y : cell st y ≡ Some (Named m)) (typed_y : local_type types f y ≡ Some into.ty) where
+  abbrev pub from : Region
+  from = record { object = m; word = 0; ty = into.ty }
+
+  at_y : IsAt types st.world.content (RootStands types f (StandsAt inputs) st.cells) (local_place y) from
+  at_y = record { start = from; stands = (named_y, refl, typed_y); lies = refl }
+
+  -- where they lie in one object, they are one
+  alike : into.object ≡ m → into ≡ from
+  alike same = same_region into from same (place_all types f rest inputs S st k to into at_to).word refl
+
+  guards : Guards types st.world.content (RootStands types f (StandsAt inputs) st.cells) S (λ a. under (local_place y) a || under to a) (both_feet types into from)
+  guards a r names at_r low = ⊎_elim
+      (λ h. or_behind (under (local_place y) a) (under to a) (place_guards types k.ordered (hand_of rest st) st.world.content st.world.content (store_of types f rest inputs S st k) (RootStands types f (StandsAt inputs) st.cells) (may_change types f) (owning types f) (rooted_of types f rest inputs S st k) S to into own at_to a r names at_r h))
+      (λ h. or_before (under (local_place y) a) (under to a) (place_guards types k.ordered (hand_of rest st) st.world.content st.world.content (store_of types f rest inputs S st k) (RootStands types f (StandsAt inputs) st.cells) (may_change types f) (owning types f) (rooted_of types f rest inputs S st k) S (local_place y) from refl at_y a r names at_r h))
+      (split types st.world.content into from alike r.object low)
+
+  -- the facts that the rules leave cover all pointers
+  pub placed_covered : (written : AbsPlace → Bool) (S' : Fact → Type 0) → LeftBy (RootStands types f (StandsAt inputs) st.cells) (λ a. under (local_place y) a || under to a) written S S' → ((z : ℕ) (v : Pointer) → cell st z ≡ Some (Points v) → written (local_place z) ≡ false)
+      → (d : Content) → Touches (kinds_of types) (both_feet types into (record { object = m; word = 0; ty = into.ty })) st.world.content d → FrameCovered types f inputs S' (put_content d st)
+  placed_covered written S' left free d touch z v e =
+      cover_on types k.ordered (hand_of rest st) st.world.content d (store_of types f rest inputs S st k) (both_feet types into from) touch (RootStands types f (StandsAt inputs) st.cells) (RootStands types f (StandsAt inputs) st.cells) (may_change types f) (rooted_of types f rest inputs S st k).fits
+      (λ a. under (local_place y) a || under to a) written S S' left guards (λ a r names spared stands. stands) (local_place z) (look_at types f z) v (free z v e) (k.covered z v e)
+
+  -- what both had lies beneath what is named, or behind a mutating input
+  pub placed_spares : (d : Content) → Touches (kinds_of types) (both_feet types into (record { object = m; word = 0; ty = into.ty })) st.world.content d → Touches (kinds_of types) (frame_foot types f inputs st.cells) st.world.content d
+  placed_spares d touch =
+      touches_more (kinds_of types) (hand_of rest st) st.world.content (store_of types f rest inputs S st k).forest (both_feet types into from) (frame_foot types f inputs st.cells) d touch
+      (record {
+        whole = λ j born e. absurd (false≢true e);
+        part = λ j born. one_or_apart j m
+            (λ is. inl (subst (Beneath (kinds_of types) st.world.content (frame_foot types f inputs st.cells)) (sym is) (local_low types f rest inputs S st k y m named_y)))
+            (λ not_m. ⊎_elim (λ low. inl low)
+            (λ in_foot. inr (λ v e. ⊎_elim (λ h. in_foot v h) (λ h. absurd (not_m (region_within types from j v h).object)) (either_true (is_in_region types into j v) (is_in_region types from j v) e)))
+            ((place_within types f rest inputs S st k to into at_to own).part j born));
+      })
 
 -- ---- two locals of one type
 
 module _ (types : Types) (f : Function) (rest : ℕ → ℕ) (inputs : Root → Option Region) (S : Fact → Type 0) (st : State) (k : IsKnownFrame types f rest inputs S st) (sigs : List Signature) (number : ℕ) (place : Place) (S' : Fact → Type 0) (x y : ℕ)
     (right : IsRight sigs types number f place (Move (named.Name (whole x)) y) S S') (other : x ≢ y) (id : TyId) (typed_x : local_type types f x ≡ Some id) (typed_y : local_type types f y ≡ Some id)
     (n m : ℕ) (named_x : cell st x ≡ Some (Named n)) (named_y : cell st y ≡ Some (Named m)) where
-  abbrev pub into : Region
-  into = record { object = n; word = 0; ty = id }
+  abbrev into_x : Region
+  into_x = record { object = n; word = 0; ty = id }
 
-  abbrev pub from : Region
-  from = record { object = m; word = 0; ty = id }
-
-  at_x : IsAt types st.world.content (RootStands types f (StandsAt inputs) st.cells) (local_place x) into
-  at_x = record { start = into; stands = (named_x, refl, typed_x); lies = refl }
-
-  at_y : IsAt types st.world.content (RootStands types f (StandsAt inputs) st.cells) (local_place y) from
-  at_y = record { start = from; stands = (named_y, refl, typed_y); lies = refl }
+  at_x : IsAt types st.world.content (RootStands types f (StandsAt inputs) st.cells) (local_place x) into_x
+  at_x = record { start = into_x; stands = (named_x, refl, typed_x); lies = refl }
 
   pub locals_apart : m ≢ n
   locals_apart same =
@@ -163,33 +252,16 @@ module _ (types : Types) (f : Function) (rest : ℕ → ℕ) (inputs : Root → 
       let alive = alive_le (kinds_of types) st.world.content n in
       omega (arith, two, held, alive)
 
-  guards : Guards types st.world.content (RootStands types f (StandsAt inputs) st.cells) S (λ a. under (local_place y) a || under (local_place x) a) (both_feet types into from)
-  guards a r names at_r low = ⊎_elim
-      (λ h. or_behind (under (local_place y) a) (under (local_place x) a) (place_guards types k.ordered (hand_of rest st) st.world.content st.world.content (store_of types f rest inputs S st k) (RootStands types f (StandsAt inputs) st.cells) (may_change types f) (owning types f) (rooted_of types f rest inputs S st k) S (local_place x) into refl at_x a r names at_r h))
-      (λ h. or_before (under (local_place y) a) (under (local_place x) a) (place_guards types k.ordered (hand_of rest st) st.world.content st.world.content (store_of types f rest inputs S st k) (RootStands types f (StandsAt inputs) st.cells) (may_change types f) (owning types f) (rooted_of types f rest inputs S st k) S (local_place y) from refl at_y a r names at_r h))
-      (split types st.world.content into from (λ e. locals_apart (sym e)) r.object low)
-
-  pub moved_covered : (d : Content) → Touches (kinds_of types) (both_feet types into from) st.world.content d → FrameCovered types f inputs S' (put_content d st)
-  moved_covered d touch z v e =
-      cover_on types k.ordered (hand_of rest st) st.world.content d (store_of types f rest inputs S st k) (both_feet types into from) touch (RootStands types f (StandsAt inputs) st.cells) (RootStands types f (StandsAt inputs) st.cells) (may_change types f) (rooted_of types f rest inputs S st k).fits
-      (λ a. under (local_place y) a || under (local_place x) a) (writes (Move (named.Name (whole x)) y)) S S' (left_by_move sigs types f place x y S S' right.closed (RootStands types f (StandsAt inputs) st.cells)) guards (λ a r names free stands. stands)
-      (local_place z) (look_at types f z) v (both_false (is_location (whole y) (local_place z)) (is_location (whole x) (local_place z)) (other_local y z (not_z y m named_y)) (other_local x z (not_z x n named_x))) (k.covered z v e)
+  pub moved_covered : (d : Content) → Touches (kinds_of types) (both_feet types (record { object = n; word = 0; ty = id }) (record { object = m; word = 0; ty = id })) st.world.content d → FrameCovered types f inputs S' (put_content d st)
+  moved_covered =
+      placed_covered types f rest inputs S st k (local_place x) into_x refl at_x y m named_y typed_y (writes (Move (named.Name (whole x)) y)) S' (left_by_move sigs types f place x y S S' right.closed (RootStands types f (StandsAt inputs) st.cells))
+      (λ z v e. both_false (is_location (whole y) (local_place z)) (is_location (whole x) (local_place z)) (other_local y z (not_z z v e y m named_y)) (other_local x z (not_z z v e x n named_x)))
     where
-      unlike : (j : ℕ) → Named j ≡ Points v → ⊥
-      unlike j h = cc
+      unlike : (j : ℕ) (v : Pointer) → Named j ≡ Points v → ⊥
+      unlike j v h = cc
 
-      not_z : (q j : ℕ) → cell st q ≡ Some (Named j) → q ≢ z
-      not_z q j named same = unlike j (some_same (sym named ∙ ap (cell st) same ∙ e))
+      not_z : (z : ℕ) (v : Pointer) → cell st z ≡ Some (Points v) → (q j : ℕ) → cell st q ≡ Some (Named j) → q ≢ z
+      not_z z v e q j named same = unlike j v (some_same (sym named ∙ ap (cell st) same ∙ e))
 
-  -- what both had lies beneath what is named
-  pub moved_spares : (d : Content) → Touches (kinds_of types) (both_feet types into from) st.world.content d → Touches (kinds_of types) (frame_foot types f inputs st.cells) st.world.content d
-  moved_spares d touch =
-      touches_more (kinds_of types) (hand_of rest st) st.world.content (store_of types f rest inputs S st k).forest (both_feet types into from) (frame_foot types f inputs st.cells) d touch
-      (record {
-        whole = λ j born e. absurd (false≢true e);
-        part = λ j born. one_or_apart j n
-            (λ is. inl (subst (Beneath (kinds_of types) st.world.content (frame_foot types f inputs st.cells)) (sym is) (local_low types f rest inputs S st k x n named_x)))
-            (λ not_n. one_or_apart j m
-            (λ is. inl (subst (Beneath (kinds_of types) st.world.content (frame_foot types f inputs st.cells)) (sym is) (local_low types f rest inputs S st k y m named_y)))
-            (λ not_m. inr (λ v e. absurd (⊎_elim (λ h. not_n (region_within types into j v h).object) (λ h. not_m (region_within types from j v h).object) (either_true (is_in_region types into j v) (is_in_region types from j v) e)))));
-      })
+  pub moved_spares : (d : Content) → Touches (kinds_of types) (both_feet types (record { object = n; word = 0; ty = id }) (record { object = m; word = 0; ty = id })) st.world.content d → Touches (kinds_of types) (frame_foot types f inputs st.cells) st.world.content d
+  moved_spares = placed_spares types f rest inputs S st k (local_place x) into_x refl at_x y m named_y typed_y

@@ -37,7 +37,7 @@ use Rattle.life_cover.specs.Passed.{parameter_input}
 use Rattle.life_cover.proofs.InputPlaces.{input_known}
 use Rattle.life_cover.proofs.Listing.{one_pointer, place_itself}
 
-lt_true : (a b : ℕ) → a < b → nat_lt a b ≡ true
+pub lt_true : (a b : ℕ) → a < b → nat_lt a b ≡ true
 lt_true a b h = grind (arith, nat_tests)
 
 -- ---- pairs of a list

@@ -54,6 +54,8 @@ use Rattle.life_cover.proofs.Unmoved.{derived_unmoved, given_never}
 use Rattle.life_forest.specs.Typed.{IsStore}
 use Rattle.life_core.specs.declared.program.FnId.{FnId}
 use Rattle.life_core.specs.Operands.{Argument, Location}
+use Rattle.life_cover.proofs.UniqueTests.{IsToldBy, test_told}
+use Rattle.life_cover.specs.Uniques.{UniquesTold}
 
 -- control enters by the first point, if by any
 enters_first : (e : Entry) → IsSome (target_of e 1 no_exits) → target_of e 1 no_exits ≡ Some 1
@@ -87,7 +89,7 @@ pub record IsLeftSafe (sigs : List Signature) (types : Types) (f : Function) (re
 abbrev pub SafeAnswer : List Signature → Types → Function → (ℕ → ℕ) → (Root → Option Region) → Content → List ℕ → Exits → Answer → Type 0
 SafeAnswer sigs types f rest inputs before given = GoodAnswer (IsSafeAt sigs types f rest inputs before given) (IsLeftSafe sigs types f rest inputs before given) IsSafeStop
 
--- each instruction of the body is a call that is spoken of, or of another kind that is
+-- each instruction of the body is a call that is spoken of, or no call
 abbrev pub IsSpokenAction : Types → Function → Step → Type 0
 IsSpokenAction types f (Call target g xs) = IsPlainTarget types f target × AreSlotless xs
 IsSpokenAction types f i = IsSpoken types f i
@@ -154,20 +156,20 @@ module _ (types : Types) (ordered : IsOrdered types) (once : HasEachOnce types) 
   -- a state that stays as it is is safe at the point to which a branch leads, with what the branch passes on
   branch_safe : (b : ℕ) (place : Place) (t : Test) (held failed : Option ℕ) (branch : Option Bool) (to : Option ℕ) (st : State) → numbered (code_of f) b ≡ Some (record { spot = spot_at place (Question t); leads = parts held failed })
       → Contains (parts held failed) (record { branch = branch; to = to }) → IsSome to → IsSafeAt sigs types f rest inputs before given b st → ((n : ℕ) → MayLack types f inputs (FactsAt sigs types f b) st n → MayLack types f inputs (LeadFacts to) st n)
-      → FrameCovered types f inputs (LeadFacts to) st → InvAt (IsSafeAt sigs types f rest inputs before given) to st
-  branch_safe b place t held failed branch None st here among is inv lacks covered = absurd (false≢true is)
-  branch_safe b place t held failed branch (Some q) st here among is inv lacks covered = record {
+      → FrameCovered types f inputs (LeadFacts to) st → UniquesTold types f (LeadFacts to) st → InvAt (IsSafeAt sigs types f rest inputs before given) to st
+  branch_safe b place t held failed branch None st here among is inv lacks covered told = absurd (false≢true is)
+  branch_safe b place t held failed branch (Some q) st here among is inv lacks covered told = record {
     reached = goes_on {l = record { spot = spot_at place (Question t); leads = parts held failed }} inv.reached here among refl;
-    safe = record { sound = inv.safe.sound; given = inv.safe.given; covered = covered; buffered = but_more types (MayLack types f inputs (FactsAt sigs types f b) st) (MayLack types f inputs (FactsAt sigs types f q) st) st.world.content lacks inv.safe.buffered };
+    safe = record { sound = inv.safe.sound; given = inv.safe.given; covered = covered; buffered = but_more types (MayLack types f inputs (FactsAt sigs types f b) st) (MayLack types f inputs (FactsAt sigs types f q) st) st.world.content lacks inv.safe.buffered; told = told };
     own = inv.own;
     waits = inv.waits;
   }
 
-  verdict_good : (held failed : Option ℕ) (st : State) (v : Verdict) → Answers st v → IsCoveredBy types f inputs (LeadFacts held) (LeadFacts failed) v → (FrameCovered types f inputs (LeadFacts held) st → InvAt (IsSafeAt sigs types f rest inputs before given) held st)
-      → (FrameCovered types f inputs (LeadFacts failed) st → InvAt (IsSafeAt sigs types f rest inputs before given) failed st) → GoodVerdict (IsSafeAt sigs types f rest inputs before given) IsSafeStop held failed v
-  verdict_good held failed st (Holds n after) is covered a b = subst (InvAt (IsSafeAt sigs types f rest inputs before given) held) (sym is) (a (subst (FrameCovered types f inputs (LeadFacts held)) is covered))
-  verdict_good held failed st (Fails n after) is covered a b = subst (InvAt (IsSafeAt sigs types f rest inputs before given) failed) (sym is) (b (subst (FrameCovered types f inputs (LeadFacts failed)) is covered))
-  verdict_good held failed st (CutShort stop w) is covered a b = absurd is
+  verdict_good : (held failed : Option ℕ) (st : State) (v : Verdict) → Answers st v → IsCoveredBy types f inputs (LeadFacts held) (LeadFacts failed) v → IsToldBy types f (LeadFacts held) (LeadFacts failed) v → (FrameCovered types f inputs (LeadFacts held) st → UniquesTold types f (LeadFacts held) st → InvAt (IsSafeAt sigs types f rest inputs before given) held st)
+      → (FrameCovered types f inputs (LeadFacts failed) st → UniquesTold types f (LeadFacts failed) st → InvAt (IsSafeAt sigs types f rest inputs before given) failed st) → GoodVerdict (IsSafeAt sigs types f rest inputs before given) IsSafeStop held failed v
+  verdict_good held failed st (Holds n after) is covered told a b = subst (InvAt (IsSafeAt sigs types f rest inputs before given) held) (sym is) (a (subst (FrameCovered types f inputs (LeadFacts held)) is covered) (subst (UniquesTold types f (LeadFacts held)) is told))
+  verdict_good held failed st (Fails n after) is covered told a b = subst (InvAt (IsSafeAt sigs types f rest inputs before given) failed) (sym is) (b (subst (FrameCovered types f inputs (LeadFacts failed)) is covered) (subst (UniquesTold types f (LeadFacts failed)) is told))
+  verdict_good held failed st (CutShort stop w) is covered told a b = absurd is
 
   asks : (b : ℕ) (place : Place) (t : Test) (held failed : Option ℕ) → numbered (code_of f) b ≡ Some (record { spot = spot_at place (Question t); leads = parts held failed }) → (n : ℕ) (st : State) → IsSafeAt sigs types f rest inputs before given b st
       → GoodVerdict (IsSafeAt sigs types f rest inputs before given) IsSafeStop held failed (test_at types f t n st)
@@ -176,8 +178,9 @@ module _ (types : Types) (ordered : IsOrdered types) (once : HasEachOnce types) 
       let on = ready.leads_on b (ready_of st) l inv.reached here in
       verdict_good held failed st (test_at types f t n st) (held_answers types ordered once some names texts fs f formed points ready rest b st l t n inv.reached here refl inv.safe.sound)
       (test_covered types f inputs (FactsAt sigs types f b) st (LeadFacts held) (LeadFacts failed) inv.safe.covered plain texts fs t n (points b l here) (held_facts b place t held failed here) (failed_facts b place t held failed here))
-      (λ covered. branch_safe b place t held failed (Some true) held st here (0, omega arith, refl) on.0 inv (lacking (LeadFacts held) true (held_facts b place t held failed here)) covered)
-      (λ covered. branch_safe b place t held failed (Some false) failed st here (1, omega arith, refl) on.1.0 inv (lacking (LeadFacts failed) false (failed_facts b place t held failed here)) covered)
+      (test_told types f (FactsAt sigs types f b) (LeadFacts held) (LeadFacts failed) st inv.safe.told plain texts fs t n (points b l here) (held_facts b place t held failed here) (failed_facts b place t held failed here))
+      (λ covered told. branch_safe b place t held failed (Some true) held st here (0, omega arith, refl) on.0 inv (lacking (LeadFacts held) true (held_facts b place t held failed here)) covered told)
+      (λ covered told. branch_safe b place t held failed (Some false) failed st here (1, omega arith, refl) on.1.0 inv (lacking (LeadFacts failed) false (failed_facts b place t held failed here)) covered told)
     where
       lacking : (S' : Fact → Type 0) (branch : Bool) → Passes t branch (FactsAt sigs types f b) S' → (m : ℕ) → MayLack types f inputs (FactsAt sigs types f b) st m → MayLack types f inputs S' st m
       lacking S' branch passes = passed_lacking types f rest inputs plain texts fs (FactsAt sigs types f b) S' st t branch (points b (record { spot = spot_at place (Question t); leads = parts held failed }) here) passes

@@ -1,11 +1,11 @@
 -- A call that hands over no slot makes no fault, if none of the callee does, and the caller is safe behind it.
-use Rattle.std.proofs.Common.{◌≡◌, ◌⊎◌, inl, inr, ℕ, ◌+◌, ◌≤◌, ◌<◌, Bool, true, false, if◌then◌else◌, List, [], ◌∷◌, ◌++◌, Option, Some, None, refl, sym, ap, subst, ◌∙◌, arith}
+use Rattle.std.proofs.Common.{◌≡◌, ◌⊎◌, inl, inr, ℕ, ◌+◌, ◌≤◌, ◌<◌, Bool, true, false, if◌then◌else◌, List, [], ◌∷◌, ◌++◌, Option, Some, None, refl, sym, ap, subst, ◌∙◌, arith, ⊎_elim}
 use Rattle.std.specs.Prelude.{Contains, drop, flat_map, length, option_map, slice_get, ◌&&◌, ◌||◌, ◌-◌}
 use Rattle.std.proofs.lemmas.Bool.{and_parts, false≢true, ne_eqb}
 use Rattle.std.proofs.lemmas.Option.{slice_get-map}
 use Rattle.life_types.specs.Pointees.{ty_of}
 use Rattle.life_types.specs.Trees.{IsOrdered}
-use Rattle.life_types.specs.TypeTests.{is_pointer, is_void}
+use Rattle.life_types.specs.TypeTests.{is_pointer, is_void, is_unique}
 use Rattle.life_types.specs.Types.{HasEachOnce, Types}
 use Rattle.life_types.specs.declared.place.Place.{Place}
 use Rattle.life_types.specs.declared.ty.Ty.{Ty}
@@ -14,7 +14,7 @@ use Rattle.life_core.specs.declared.exits.Exits.{Exits}
 use Rattle.life_core.specs.declared.program.FnId.{FnId}
 use Rattle.life_core.specs.Function.{Function}
 use Rattle.life_core.specs.Linked.{code_of, goes, numbered, spot_at}
-use Rattle.life_core.specs.Operands.{Argument, Location}
+use Rattle.life_core.specs.Operands.{Argument, GivenOver, Location, PointerOf, Slot, Value, whole}
 use Rattle.life_core.specs.Proper.{HasReadyWays, IsNodeReady, bits_past}
 use Rattle.life_core.specs.Ready.{AreBits, Ready}
 use Rattle.life_core.specs.Step.{Call}
@@ -33,7 +33,7 @@ use Rattle.life_proper.specs.Placed.{is_number, object_at, type_at, type_in}
 use Rattle.life_proper.specs.WellFormed.{are_arguments_for, goes_to, have_own_slots, is_call, is_whole, types_taken}
 use Rattle.life_proper.specs.WellFormedPrograms.{is_well_formed_function}
 use Rattle.life_proper.proofs.SortedNodes.{formed_parts}
-use Rattle.life_rules.specs.Calling.{is_in_target}
+use Rattle.life_rules.specs.Calling.{is_in_target, called_none, fixed_into}
 use Rattle.life_rules.specs.Diagnosing.{IsDiagnosed}
 use Rattle.life_rules.specs.declared.diag.Diag.{Diag}
 use Rattle.life_store.specs.Calls.{first_given, lent, result_given, slot_count, taken_back, target_given, all_handed}
@@ -55,9 +55,10 @@ use Rattle.life_forest.proofs.EnteredFrames.{GivesOn}
 use Rattle.life_forest.proofs.EntryFrames.{types_held}
 use Rattle.life_forest.proofs.Frames.{less_in_hand}
 use Rattle.life_forest.proofs.GivenResults.{IsBack, IsResult}
-use Rattle.life_forest.proofs.HandedOver.{AreHandedTo, ArePointerSlots, IsHandedTo, HandEach}
+use Rattle.life_forest.proofs.HandedOver.{AreHandedTo, ArePointerSlots, AreTaken, IsHandedTo, HandEach, free_taken}
 use Rattle.life_forest.proofs.Holding.{KeepsWaiting}
 use Rattle.life_forest.proofs.Keeping.{keeps_more, keeps_then}
+use Rattle.life_forest.proofs.LentFrames.{pointers_lend, slot_names}
 use Rattle.life_forest.proofs.SettlingLives.{HaveMembers}
 use Rattle.life_forest.proofs.SettlingPointers.{alike_points}
 use Rattle.life_forest.proofs.Shaped.{IsShaped, locals_shaped}
@@ -89,6 +90,16 @@ use Rattle.life_cover.specs.Frames.{FrameCovered, look_at}
 use Rattle.life_cover.specs.Inputs.{AreGiven, entry_inputs, foot_with, frame_foot, mutated}
 use Rattle.life_cover.specs.Passed.{ArePassed, IsPromised}
 use Rattle.life_cover.specs.Regions.{Region}
+use Rattle.life_pset.specs.declared.element.Element.{Element}
+use Rattle.life_pset.specs.declared.element.Element.TheVariants as element
+use Rattle.life_proper.proofs.HeldSorts.{same_is}
+use Rattle.life_rules.specs.Matching.{fact_at}
+use Rattle.life_cover.specs.Covers.{IsOwnerTold}
+use Rattle.life_cover.specs.Uniques.{UniquesTold, had_by}
+use Rattle.life_cover.proofs.Listing.{null_known, own_known, unique_listed}
+use Rattle.life_cover.proofs.Takes.{named_fact}
+use Rattle.life_cover.proofs.UniqueFacts.{unique_told}
+use Rattle.life_cover.proofs.UniquesGiven.{any_told, null_result, own_result}
 
 -- ---- what a call gives back
 
@@ -110,13 +121,13 @@ SafeCallee types fs call = (k : ℕ) (g : Function) (rest : ℕ → ℕ) (xs : L
 
 -- the facts cover all pointers behind it, and the buffers are there
 abbrev IsTaken : Types → Function → (inputs : Root → Option Region) → (S : Fact → Type 0) → State → State → Type 0
-IsTaken types f inputs S st after = FrameCovered types f inputs S after × (AreBut types (MayLack types f inputs S after) after.world.content × IsBehind types f inputs any_local any_local st after)
+IsTaken types f inputs S st after = FrameCovered types f inputs S after × (AreBut types (MayLack types f inputs S after) after.world.content × IsBehind types f inputs any_local any_local any_local st after × UniquesTold types f S after)
 
 -- the frame goes on, and is safe
 call_goes : (types : Types) (f : Function) (rest : ℕ → ℕ) (inputs : Root → Option Region) (S : Fact → Type 0) (bits : Ready) (st : State) (w : World) (e : Effect) → HasStore types rest st → AreGiven types f inputs (frame_foot types f inputs st.cells) st.world.content → GivesOn types f rest w.content bits e
     → KeepsWaiting types rest st.world.content w.content → OnNext e (IsTaken types f inputs S st) → GoesSafe types f rest inputs S bits st e
 call_goes types f rest inputs S bits st w (Next after) store given g waits h = record {
-  safe = record { sound = g.sound; given = given_behind types f rest inputs any_local any_local st after store given h.1.1; covered = h.0; buffered = h.1.0 };
+  safe = record { sound = g.sound; given = given_behind types f rest inputs any_local any_local any_local st after store given h.1.1; covered = h.0; buffered = h.1.0; told = h.1.2 };
   bits = g.bits;
   behind = h.1.1;
   waits = keeps_then types (λ n. rest n ≡ 0) st.world.content w.content after.world.content waits g.waits;
@@ -124,6 +135,15 @@ call_goes types f rest inputs S bits st w (Next after) store given g waits h = r
 call_goes types f rest inputs S bits st w (Traps kind) store given g waits h = tt
 call_goes types f rest inputs S bits st w (Faults kind) store given g waits h = absurd g
 call_goes types f rest inputs S bits st w Strays store given g waits h = absurd g
+
+-- nothing comes out of a slot where there is none
+slotless_names : (xs : List Argument) (vs : List Cell) → AreSlotless xs → slot_names xs vs ≡ []
+slotless_names [] vs none = refl
+slotless_names (x ∷ xs) [] none = refl
+slotless_names (Value r ∷ xs) (v ∷ vs) none = slotless_names xs vs none.1
+slotless_names (PointerOf l ∷ xs) (v ∷ vs) none = slotless_names xs vs none.1
+slotless_names (GivenOver y ∷ xs) (v ∷ vs) none = slotless_names xs vs none.1
+slotless_names (Slot l ∷ xs) (v ∷ vs) none = absurd none.0
 
 module _ (types : Types) (ordered : IsOrdered types) (once : HasEachOnce types) (some : HaveMembers types) (names texts : ℕ) (fs : List Function) (f : Function) (formed : is_well_formed_function types names texts fs f ≡ true) (points : ArePointsFormed types texts fs f)
     (ready : HasReadyWays types f) (plain : types.structs ≡ []) (short : AreShort (elements_of types f)) (kept : all_keep_given types f ≡ true) (spoken : IsSpokenBody types f) (sigs : List Signature) (number : ℕ) (none : (d : Diag) → IsDiagnosed sigs types number f d → ⊥)
@@ -143,27 +163,33 @@ module _ (types : Types) (ordered : IsOrdered types) (once : HasEachOnce types) 
     are : IsNodeReady types f (ready_of st) (Action (Call target g xs))
     are = ready.ready b (ready_of st) (record { spot = spot_at place (Action (Call target g xs)); leads = goes x.next }) inv.reached here
 
-    module _ (gf : Function) (is : slice_get fs g.0 ≡ Some gf) (args : are_arguments_for types texts fs f (types_taken gf) xs ≡ true) (into : goes_to types texts fs f (ty_of types gf.result) target ≡ true) where
+    module _ (gf : Function) (is : slice_get fs g.0 ≡ Some gf) (args : are_arguments_for types texts fs f (types_taken gf) xs ≡ true) (own : have_own_slots types texts fs f xs ≡ true) (into : goes_to types texts fs f (ty_of types gf.result) target ≡ true) where
       abbrev over : List Cell
-      over = (callers.handed types ordered once some names texts fs f formed points ready rest before s call callees free kept b place target g xs x here n st sound_at gf is args into).values
+      over = (callers.handed types ordered once some names texts fs f formed points ready rest before s call callees kept b place target g xs x here n st sound_at gf is args own into).values
 
       handed_each : HandEach types f st xs over
-      handed_each = (callers.handed types ordered once some names texts fs f formed points ready rest before s call callees free kept b place target g xs x here n st sound_at gf is args into).each
+      handed_each = (callers.handed types ordered once some names texts fs f formed points ready rest before s call callees kept b place target g xs x here n st sound_at gf is args own into).each
 
       handed_all : all_handed types f st xs ≡ Some over
-      handed_all = (callers.handed types ordered once some names texts fs f formed points ready rest before s call callees free kept b place target g xs x here n st sound_at gf is args into).are
+      handed_all = (callers.handed types ordered once some names texts fs f formed points ready rest before s call callees kept b place target g xs x here n st sound_at gf is args own into).are
+
+      handed_taken : AreTaken types st.world.content (types_taken gf) over
+      handed_taken = (callers.handed types ordered once some names texts fs f formed points ready rest before s call callees kept b place target g xs x here n st sound_at gf is args own into).suit
 
       handed_suit : AreHandedTo types st.world.content (types_held types gf) over
-      handed_suit = (callers.handed types ordered once some names texts fs f formed points ready rest before s call callees free kept b place target g xs x here n st sound_at gf is args into).suit
+      handed_suit = free_taken types st.world.content (types_taken gf) over (free g.0 gf is) handed_taken
 
       left_world : (lent types f xs st).world ≡ st.world
-      left_world = (callers.loan types ordered once some names texts fs f formed points ready rest before s call callees free kept b place target g xs x here n st sound_at gf is args into).less.world
+      left_world = pointers_lend types texts fs f (callers.pointers types ordered once some names texts fs f formed points ready rest before s call callees kept) (types_taken gf) xs st (free g.0 gf is) args
 
       left_less : (y : ℕ) (v : Cell) → is_there v ≡ true → cell (lent types f xs st) y ≡ Some v → cell st y ≡ Some v
-      left_less = (callers.loan types ordered once some names texts fs f formed points ready rest before s call callees free kept b place target g xs x here n st sound_at gf is args into).less.cells
+      left_less = (callers.loan types ordered once some names texts fs f formed points ready rest before s call callees kept b place target g xs x here n st sound_at gf is args own into).cells
 
       left_hand : (j : ℕ) → times (named_in (lent types f xs st).cells) j + times (named_in over) j ≡ times (named_in st.cells) j
-      left_hand = (callers.loan types ordered once some names texts fs f formed points ready rest before s call callees free kept b place target g xs x here n st sound_at gf is args into).hand
+      left_hand j =
+          let hand = (callers.loan types ordered once some names texts fs f formed points ready rest before s call callees kept b place target g xs x here n st sound_at gf is args own into).hand j in
+          let none = ap (λ (ms : List ℕ). times ms j) (slotless_names xs over spoken_of.1) in
+          omega (arith, hand, none)
 
       -- what is named elsewhere meanwhile
       abbrev waiting : ℕ → ℕ
@@ -199,7 +225,16 @@ module _ (types : Types) (ordered : IsOrdered types) (once : HasEachOnce types) 
               takes_across types ordered once gf shaped_g f known_at.shaped l.local gf.parameters
               (subst (λ (t : Ty). takes types (type_at types f l.local) t ≡ true) (sym (result_typed types gf (formed_parts types names texts fs gf (all_formed g.0 gf is)).result result)) (subst (λ (t : Ty). takes types t (ty_of types gf.result) ≡ true) type_is takes_result))
 
-        -- anything else to an object that isn't there yet, or to a number
+        -- anything else to one of its type
+        result_same : is_pointer (ty_of types gf.result) ≡ false → ty_of types gf.result ≡ type_at types f l.local
+        result_same pointerless =
+            same_is (ty_of types gf.result) (type_in types f l)
+            (and_parts (same (ty_of types gf.result) (type_in types f l)) _
+            (and_parts (is_whole l) _
+            (subst (λ (p : Bool). (if p then takes types (type_in types f l) (ty_of types gf.result) else (is_whole l && (same (ty_of types gf.result) (type_in types f l) && (object_at types f l.local || is_number types f l.local)))) ≡ true) pointerless into_l)).1).0
+            ∙ type_is
+
+        -- an object that isn't there yet, or a number
         sort : is_pointer (ty_of types gf.result) ≡ false → (object_at types f l.local || is_number types f l.local) ≡ true
         sort pointerless =
             (and_parts (same (ty_of types gf.result) (type_in types f l)) _
@@ -266,6 +301,9 @@ module _ (types : Types) (ordered : IsOrdered types) (once : HasEachOnce types) 
           abbrev Given : ℕ → Type 0
           Given y = Contains (flat_map given_argument xs) y
 
+          abbrev Taken : ℕ → Type 0
+          Taken y = (l : Location) × (target ≡ Some l) × (l.local ≡ y)
+
           -- what the callee may touch lies nowhere above what inputs stand for
           input_apart : (r : Root) (a : Region) → inputs r ≡ Some a
               → (a.object < st.world.content.births) × (Beneath (kinds_of types) st.world.content (foot_with types (mutated types gf (entry_inputs st.world.content over)) (named_in over)) a.object → ⊥)
@@ -281,7 +319,7 @@ module _ (types : Types) (ordered : IsOrdered types) (once : HasEachOnce types) 
               called_spared types plain waiting (mutated types gf (entry_inputs st.world.content over)) (named_in over) st.world.content w.content over_store h.1.0 (MayLack types f inputs (FactsAt sigs types f b) st)
               (IsLoose types (entry_inputs st.world.content over) (named_in vs) w.content) known_at.buffered h.0 (λ a among l. let m = mutated_from types gf (entry_inputs st.world.content over) a among in l.spared m.0 a m.1 refl) inputs input_apart
 
-          by_target : (t : Option Location) → target ≡ t → OnNext (target_given s types f t vs (left w)) (IsCalled types f inputs (FactsAt sigs types f q) Left Given Loose st)
+          by_target : (t : Option Location) → target ≡ t → OnNext (target_given s types f t vs (left w)) (IsCalled types f inputs (FactsAt sigs types f q) Left Given Taken Loose st)
           by_target None at_t =
               nothing_taken types f rest inputs (FactsAt sigs types f b) st known_at sigs number place (FactsAt sigs types f q) target g xs right over gf (heads g.0 gf is) shaped_g aims spoken_of.1 handed_each left_less left_hand w h.1.0 Left buffers vs at_t
           by_target (Some l) at_t = of_result back.given
@@ -295,7 +333,7 @@ module _ (types : Types) (ordered : IsOrdered types) (once : HasEachOnce types) 
                   let i = one_same j j refl in
                   omega (arith, a, i)
 
-              of_cell : (v : Cell) → vs ≡ v ∷ back.others → IsHandedTo types w.content gf.result v → OnNext (result_given s types f l l.members v (left w)) (IsCalled types f inputs (FactsAt sigs types f q) Left Given Loose st)
+              of_cell : (v : Cell) → vs ≡ v ∷ back.others → IsHandedTo types w.content gf.result v → OnNext (result_given s types f l l.members v (left w)) (IsCalled types f inputs (FactsAt sigs types f q) Left Given Taken Loose st)
               of_cell Empty one suits = absurd suits
               of_cell (Named m) one suits =
                   result_taken types f rest inputs (FactsAt sigs types f b) st known_at sigs number place (FactsAt sigs types f q) target g xs right over gf (heads g.0 gf is) shaped_g aims spoken_of.1 handed_each left_less left_hand w h.1.0 Left buffers vs l at_t plain_target (nameless l at_t plain_target) (Named m)
@@ -313,15 +351,15 @@ module _ (types : Types) (ordered : IsOrdered types) (once : HasEachOnce types) 
                   pointer_given types f rest inputs (FactsAt sigs types f b) st known_at sigs number place (FactsAt sigs types f q) target g xs right over gf (heads g.0 gf is) shaped_g aims spoken_of.1 handed_each left_less left_hand w h.1.0 Left buffers vs l at_t plain_target (nameless l at_t plain_target) p
                   (target_points l at_t plain_target suits.0) suits.0 (result_look l at_t plain_target suits.0) (h.1.1.1 p suits.0 (ap (λ (us : List Cell). slice_get us 0) one)) s
 
-              of_result : IsResult types w.content gf.result back.first → OnNext (first_given s types f vs l (left w)) (IsCalled types f inputs (FactsAt sigs types f q) Left Given Loose st)
+              of_result : IsResult types w.content gf.result back.first → OnNext (first_given s types f vs l (left w)) (IsCalled types f inputs (FactsAt sigs types f q) Left Given Taken Loose st)
               of_result (inl void) = absurd (no_void l at_t plain_target (ty_of types gf.result) void.0 (into_l l at_t plain_target))
               of_result (inr r) =
                   let one : vs ≡ r.0 ∷ back.others = back.are ∙ ap (λ (us : List Cell). us ++ back.others) r.1 in
-                  subst (λ (us : List Cell). OnNext (first_given s types f us l (left w)) (IsCalled types f inputs (FactsAt sigs types f q) Left Given Loose st)) (sym one) (of_cell r.0 one r.2)
+                  subst (λ (us : List Cell). OnNext (first_given s types f us l (left w)) (IsCalled types f inputs (FactsAt sigs types f q) Left Given Taken Loose st)) (sym one) (of_cell r.0 one r.2)
 
-          taken_all : OnNext (taken_back s types f target xs vs (left w)) (IsCalled types f inputs (FactsAt sigs types f q) Left Given Loose st)
+          taken_all : OnNext (taken_back s types f target xs vs (left w)) (IsCalled types f inputs (FactsAt sigs types f q) Left Given Taken Loose st)
           taken_all =
-              subst (λ (e : Effect). OnNext (on_next e (target_given s types f target vs)) (IsCalled types f inputs (FactsAt sigs types f q) Left Given Loose st)) (sym (nothing_returned types f st xs spoken_of.1 (drop (length vs - slot_count xs) vs) (left w)))
+              subst (λ (e : Effect). OnNext (on_next e (target_given s types f target vs)) (IsCalled types f inputs (FactsAt sigs types f q) Left Given Taken Loose st)) (sym (nothing_returned types f st xs spoken_of.1 (drop (length vs - slot_count xs) vs) (left w)))
               (by_target target refl)
 
           -- a local that names something isn't given the result
@@ -338,19 +376,55 @@ module _ (types : Types) (ordered : IsOrdered types) (once : HasEachOnce types) 
           still : (m : ℕ) → MayLack types f inputs (FactsAt sigs types f b) st m → StillLacks types f rest inputs (FactsAt sigs types f b) st sigs number place (FactsAt sigs types f q) (Call target g xs) right Left Given m
           still m lacks = record { lacks = lacks; kept = λ moved over. right.unmoved moved.local moved.owner over moved.cause moved.holds; unwritten = λ moved. unwritten moved.local m moved.names }
 
+          -- what a result that is a unique_ptr has, the facts say
+          module _ (l : Location) (at_l : target ≡ Some l) (unique : is_unique (type_at types f l.local) ≡ true) where
+            plain_l : IsPlainTarget types f (Some l)
+            plain_l = subst (IsPlainTarget types f) at_l spoken_of.0
+
+            unique_result : is_unique (ty_of types gf.result) ≡ true
+            unique_result = by_sort (is_pointer (ty_of types gf.result)) refl
+              where
+                no_pointer : (t : Ty) → is_unique t ≡ true → is_pointer t ≡ true → ⊥
+                no_pointer (ty.Unique inner) u p = false≢true p
+                no_pointer _ u p = false≢true u
+
+                by_sort : (b : Bool) → is_pointer (ty_of types gf.result) ≡ b → is_unique (ty_of types gf.result) ≡ true
+                by_sort true pointer = absurd (no_pointer (type_at types f l.local) unique (target_points l at_l plain_l pointer))
+                by_sort false pointer = ap is_unique (result_same l at_l plain_l pointer) ∙ unique
+
+            result_fact : (e : Element) → Contains (elements_of types f) e → Contains (fixed_into types (signature_of gf) (Some (whole l.local))) (fact_at (local_place l.local) e) → FactsAt sigs types f q (fact_at (local_place l.local) e)
+            result_fact e known has =
+                named_fact sigs types f place (Call target g xs) (FactsAt sigs types f b) (FactsAt sigs types f q) right.closed (whole l.local) e
+                (subst (λ (o : Option Signature). Contains (called_none types o target) (fact_at (local_place l.local) e)) (sym (heads g.0 gf is))
+                (subst (λ (t : Option Location). Contains (called_none types (Some (signature_of gf)) t) (fact_at (local_place l.local) e)) (sym (at_l ∙ ap (λ (ms : List ℕ). Some (record { local = l.local; members = ms })) plain_l.0)) has))
+                (unique_listed types ordered f l.local unique) known
+
+            result_told : (owned : Option ℕ) → IsOwnerTold (FactsAt sigs types f q) (local_place l.local) true owned
+            result_told =
+                any_told (FactsAt sigs types f q) (local_place l.local) (result_fact element.Own (own_known types ordered f) (own_result types ordered gf unique_result l.local))
+                (result_fact element.Null (null_known types ordered f) (null_result types ordered gf unique_result l.local))
+
+          told : (after : State) → IsBehind types f inputs Left Given Taken st after → UniquesTold types f (FactsAt sigs types f q) after
+          told after behind y m named unique = ⊎_elim
+              (λ taken. subst (λ z. IsOwnerTold (FactsAt sigs types f q) (local_place z) true (had_by after.world.content m)) taken.2 (result_told taken.0 taken.1 (subst (λ z. is_unique (type_at types f z) ≡ true) (sym taken.2) unique) (had_by after.world.content m)))
+              (λ same. subst (IsOwnerTold (FactsAt sigs types f q) (local_place y) true) (sym same.1)
+              (unique_told sigs types f place (Call target g xs) (FactsAt sigs types f b) (FactsAt sigs types f q) right.closed (local_place y) (had_by st.world.content m) (unwritten y m same.0) (known_at.told y m same.0 unique)))
+              (behind.had y m named unique)
+
           taken_safe : OnNext (taken_back s types f target xs vs (left w)) (IsTaken types f inputs (FactsAt sigs types f q) st)
           taken_safe = go (taken_back s types f target xs vs (left w)) taken_all
             where
-              by_case : (after : State) → IsBehind types f inputs Left Given st after → ((m : ℕ) → Loose m → IsLoose types inputs (named_in after.cells) after.world.content m) → (m : ℕ) → Left m → MayLack types f inputs (FactsAt sigs types f q) after m
-              by_case after behind loose m (inl lacks) = lacks_on types f rest inputs (FactsAt sigs types f b) st sigs number place (FactsAt sigs types f q) (Call target g xs) right Left Given after behind m (still m lacks)
+              by_case : (after : State) → IsBehind types f inputs Left Given Taken st after → ((m : ℕ) → Loose m → IsLoose types inputs (named_in after.cells) after.world.content m) → (m : ℕ) → Left m → MayLack types f inputs (FactsAt sigs types f q) after m
+              by_case after behind loose m (inl lacks) = lacks_on types f rest inputs (FactsAt sigs types f b) st sigs number place (FactsAt sigs types f q) (Call target g xs) right Left Given Taken after behind m (still m lacks)
               by_case after behind loose m (inr l) = inr (loose m (l.0, (let z = l.1 in omega (arith, z)), l.2))
 
-              go : (e : Effect) → OnNext e (IsCalled types f inputs (FactsAt sigs types f q) Left Given Loose st) → OnNext e (IsTaken types f inputs (FactsAt sigs types f q) st)
+              go : (e : Effect) → OnNext e (IsCalled types f inputs (FactsAt sigs types f q) Left Given Taken Loose st) → OnNext e (IsTaken types f inputs (FactsAt sigs types f q) st)
               go (Next after) t = (
                 t.0,
                 (
                   but_more types Left (MayLack types f inputs (FactsAt sigs types f q) after) after.world.content (by_case after t.1.0 t.1.1) t.1.0.buffered,
-                  behind_more types f inputs Left Given any_local any_local st after (λ m c. tt) (λ y c. tt) t.1.0,
+                  behind_more types f inputs Left Given Taken any_local any_local any_local st after (λ m c. tt) (λ y c. tt) (λ y c. tt) t.1.0,
+                  told after t.1.0,
                 ),
               )
               go (Traps kind) t = tt
@@ -366,7 +440,8 @@ module _ (types : Types) (ordered : IsOrdered types) (once : HasEachOnce types) 
             (subst (λ (to : Option ℕ). GoodEffect (IsSafeAt sigs types f rest inputs before given) IsSafeStop place to (taken_back s types f target xs vs (left w))) (sym next)
             (effect_good types ordered once some names texts fs f formed points ready plain short kept spoken sigs number none rest inputs before given hand store s b q place (Call target g xs) st lead inv (taken_back s types f target xs vs (left w))
             (call_goes types f rest inputs (FactsAt sigs types f q) (bits_past types f (Action (Call target g xs)) (ready_of st)) st w (taken_back s types f target xs vs (left w)) inv.safe.sound.stands.store inv.safe.given
-            (callers.taken_gives types ordered once some names texts fs f formed points ready rest before s call callees free kept b place target g xs x here n st sound_at gf is args into w vs good) waits (taken_safe w vs good.2 h))))
+            (callers.taken_gives types ordered once some names texts fs f formed points ready rest before s call callees kept b place target g xs x here n st sound_at gf is args own into w vs
+            (subst (λ (u : World). GoodCalled types gf waiting u.content (Back 0 w vs)) (sym left_world) good)) waits (taken_safe w vs good.2 h))))
           where
             waits : KeepsWaiting types rest st.world.content w.content
             waits = keeps_more types (λ j. waiting j ≡ 0) (λ j. rest j ≡ 0) st.world.content w.content (λ j z. omega (arith, z)) good.1
@@ -375,7 +450,7 @@ module _ (types : Types) (ordered : IsOrdered types) (once : HasEachOnce types) 
         called_at next =
             subst (λ (o : Option (List Cell)). SafeAnswer sigs types f rest inputs before given x (came_back s types f place target xs st (call_with call g.0 o n (lent types f xs st).world))) (sym handed_all)
             (subst (λ (w : World). SafeAnswer sigs types f rest inputs before given x (came_back s types f place target xs st (call g.0 over n w))) (sym left_world)
-            (returned next (call g.0 over n st.world) (callees g.0 gf waiting over n st.world is handed_suit over_store) (safe g.0 gf waiting over n st.world is handed_suit over_store (but_more types (MayLack types f inputs (FactsAt sigs types f b) st) (IsLoose types (entry_inputs st.world.content over) (named_in over) st.world.content) st.world.content given_whole inv.safe.buffered) inputs_given handed_passed)))
+            (returned next (call g.0 over n st.world) (callees g.0 gf waiting over n st.world is handed_taken over_store) (safe g.0 gf waiting over n st.world is handed_suit over_store (but_more types (MayLack types f inputs (FactsAt sigs types f b) st) (IsLoose types (entry_inputs st.world.content over) (named_in over) st.world.content) st.world.content given_whole inv.safe.buffered) inputs_given handed_passed)))
 
       called : SafeAnswer sigs types f rest inputs before given x (act s types f call place (Call target g xs) n st)
       called = by_next x.next refl
@@ -390,7 +465,8 @@ module _ (types : Types) (ordered : IsOrdered types) (once : HasEachOnce types) 
     by_function None is e = absurd (false≢true e)
     by_function (Some gf) is e =
         let outer = and_parts (are_arguments_for types texts fs f (types_taken gf) xs) _ e in
-        called gf is outer.0 (and_parts (have_own_slots types texts fs f xs) (goes_to types texts fs f (ty_of types gf.result) target) outer.1).1
+        let inner = and_parts (have_own_slots types texts fs f xs) (goes_to types texts fs f (ty_of types gf.result) target) outer.1 in
+        called gf is outer.0 inner.0 inner.1
 
   pub calls_safe : CallsAreSafe sigs types f rest inputs before given s call
   calls_safe b place target g xs x here n st inv =

@@ -21,6 +21,7 @@ use Rattle.life_pset.specs.Elements.{AreShort, elements_of}
 use Rattle.life_contract.specs.Signatures.{signature_of, signatures_of}
 use Rattle.life_pset.specs.declared.element.Root.{Root}
 use Rattle.life_proper.specs.GivenOver.{all_keep_given, keeps_all_given}
+use Rattle.life_proper.specs.WellFormed.{types_taken}
 use Rattle.life_proper.specs.WellFormedPrograms.{IsWellFormedProgram, is_well_formed_function}
 use Rattle.life_proper.proofs.SortedNodes.{formed_parts}
 use Rattle.life_proper.proofs.SpotTests.{all_at}
@@ -41,14 +42,14 @@ use Rattle.life_forest.specs.Owned.{times}
 use Rattle.life_forest.specs.Typed.{IsStore}
 use Rattle.life_forest.specs.Forest.{Foot}
 use Rattle.life_forest.proofs.EnteredFrames.{GivesOn, AreTaking}
-use Rattle.life_forest.proofs.EntryFrames.{entry_gives, taking_all, types_held}
+use Rattle.life_forest.proofs.EntryFrames.{entry_gives, parameters_all, taking_all, types_held}
 use Rattle.life_forest.proofs.Below.{positive_is}
 use Rattle.life_forest.proofs.Frames.{less_in_hand}
-use Rattle.life_forest.proofs.HandedOver.{AreHandedTo}
+use Rattle.life_forest.proofs.HandedOver.{AreHandedTo, ArePointerSlots, free_handed, free_taken}
 use Rattle.life_forest.specs.Settled.{IsPoised}
 use Rattle.life_forest.specs.Sorted.{PointerFits}
 use Rattle.life_forest.proofs.HeldPoints.{IsNext, poised}
-use Rattle.life_forest.proofs.NeverStrays.{HandsPointerSlots, have_members, none_named, numbers_handed, points_formed}
+use Rattle.life_forest.proofs.NeverStrays.{have_members, none_named, numbers_handed, points_formed}
 use Rattle.life_forest.proofs.SettledPoints.{formed_at, kinds_fit}
 use Rattle.life_forest.proofs.SettlingLives.{HaveMembers}
 use Rattle.life_forest.proofs.Shaped.{IsShaped, locals_shaped}
@@ -75,6 +76,7 @@ use Rattle.life_cover.proofs.SafeCalls.{SafeCalled, SafeCallee, calls_safe}
 use Rattle.life_cover.specs.Inputs.{AreGiven, StandsAt, entry_inputs, foot_with, frame_foot, mutated}
 use Rattle.life_cover.specs.Passed.{ArePassed, IsPromised}
 use Rattle.life_cover.specs.Regions.{Region}
+use Rattle.life_cover.proofs.UniquesGiven.{entry_uniques}
 
 -- ---- the entry is given numbers
 
@@ -105,6 +107,7 @@ nothing_entered types f foot c vs none = record {
 
 -- what is asked of a function of a program, beside what keeps it from straying
 pub record IsSafeFunction (types : Types) (fs : List Function) (number : ℕ) (f : Function) : Type 0 where
+  pub free : ArePointerSlots types (types_taken f)
   pub short : AreShort (elements_of types f)
   pub spoken : IsSpokenBody types f
   pub none : (d : Diag) → IsDiagnosed (signatures_of fs) types number f d → ⊥
@@ -127,7 +130,7 @@ module _ (types : Types) (ordered : IsOrdered types) (once : HasEachOnce types) 
     shaped = locals_shaped types ordered names f (formed_parts types names texts fs f well.formed).locals
 
     taking : AreTaking types f 0 (types_held types f)
-    taking = taking_all types names f shaped (formed_at types ordered once some names texts fs f well.formed well.points well.ready) well.free
+    taking = taking_all types names f shaped (formed_at types ordered once some names texts fs f well.formed well.points well.ready) asked.free
 
     -- ---- at the entry
 
@@ -147,6 +150,7 @@ module _ (types : Types) (ordered : IsOrdered types) (once : HasEachOnce types) 
       covered = λ y v e.
           entered_covered types ordered f shaped (signatures_of fs) (λ j. times (named_in xs) j + rest j) w.content xs store apart suits passed st.world.content begun.own.touch st.cells y v (begun.points y v e);
       buffered = but_more types (IsLoose types inputs (named_in xs) w.content) (MayLack types f inputs (FactsAt (signatures_of fs) types f 1) st) st.world.content (λ j loose. inr (still_loose st begun j loose)) begun.buffered;
+      told = entry_uniques types ordered f (signatures_of fs) st next.bits;
     }
 
     -- ---- where it is left
@@ -181,12 +185,13 @@ module _ (types : Types) (ordered : IsOrdered types) (once : HasEachOnce types) 
     pub entered_safe : SafeCalled types f (entry_inputs w.content xs) (named_in xs) w.content (entered s types (Some f) call xs n w)
     entered_safe =
         begun_safe (parameters_given s types f 0 xs (frame f w)) (λ st. finish types f (exec s types f call f.body n st))
-        (entry_gives types ordered f shaped (kinds_fit types ordered once some names texts fs f well.formed well.points well.ready) rest s xs w taking store suits)
+        (entry_gives types ordered f shaped (kinds_fit types ordered once some names texts fs f well.formed well.points well.ready) rest s xs w
+        (parameters_all types names f shaped (formed_at types ordered once some names texts fs f well.formed well.points well.ready)) store (free_handed types w.content (types_taken f) xs asked.free suits))
         (parameters_begun types ordered s f inputs xs (λ j. times (named_in xs) j + rest j) w.content store 0 (types_held types f) xs taking suits (λ i v e. let k : i ≡ 0 + i = omega arith in ap (slice_get xs) (sym k) ∙ e) (frame f w) (frame_begun types f inputs xs w buffered))
         (λ st next begun. finish_safe (exec s types f call f.body n st)
         (body_safe types ordered once some names texts fs f well.formed well.points well.ready plain asked.short well.given asked.spoken (signatures_of fs) number asked.none rest inputs w.content (named_in xs) (λ j. times (named_in xs) j + rest j) store s call
         (calls_safe types ordered once some names texts fs f well.formed well.points well.ready plain asked.short well.given asked.spoken (signatures_of fs) number asked.none rest inputs w.content (named_in xs) (λ j. times (named_in xs) j + rest j) store s call callees
-        (λ k g at_k. (all k g at_k).free) safe (λ k g at_k. slice_get-map signature_of fs k ∙ ap (option_map signature_of) at_k) (λ k g at_k. (all k g at_k).formed))
+        (λ k g at_k. (all_safe k g at_k).free) safe (λ k g at_k. slice_get-map signature_of fs k ∙ ap (option_map signature_of) at_k) (λ k g at_k. (all k g at_k).formed))
         n st next.bits (begun_safe_at st next begun) begun.own next.waits))
 
 -- ---- all calls of a program
@@ -211,12 +216,16 @@ called_safe types f inputs given c entry before (Quit Exhausted w) g = tt
 nothing_buffered : (types : Types) (bare : ℕ → Type 0) → AreBut types bare empty_content
 nothing_buffered types bare n i o s free there slot = absurd (none_some (sym (at-none n) ∙ there))
 
+-- a program in which each slot is one of a pointer
+pub record HandsPointerSlots (p : Program) : Type 0 where
+  pub free : (k : ℕ) (g : Function) → slice_get p.functions k ≡ Some g → ArePointerSlots p.types (types_taken g)
+
 pub safe_runs : (p : Program) (given : Given) (entry : ℕ) (f : Function) (input : List ℤ) (n : ℕ) → IsWellFormedProgram p → ((k : ℕ) (g : Function) → slice_get p.functions k ≡ Some g → HasReadyWays p.types g) → keeps_all_given p ≡ true → HandsPointerSlots p → p.types.structs ≡ []
     → ((k : ℕ) (g : Function) → slice_get p.functions k ≡ Some g → AreShort (elements_of p.types g) × IsSpokenBody p.types g) → ((d : Diag) → IsProgramDiagnosed p d → ⊥) → slice_get p.functions entry ≡ Some f → IsAdmitted p f input → IsNoFault (run_of given p entry f input n).outcome
 safe_runs p given entry f input n well ready apart hands plain spoken none is admitted =
     called_safe p.types f (entry_inputs empty_content vs) (named_in vs) empty_content f.place (first_world f input) (first_called given p entry f input n)
     (all_calls_safe (setting_of given p) p well.table well.once (have_members p.types (length p.names) p.members well.members) plain (length p.names) (length p.texts) each asked given.depth entry f (λ k. 0) (entry_arguments p.types f 0 f.parameters input) n (first_world f input) is
-    (numbers_handed p.types f empty_content f.parameters f.locals 0 input admitted.values admitted.room admitted.enough solid)
+    (free_taken p.types empty_content (types_taken f) vs (hands.free entry f is) (numbers_handed p.types f empty_content f.parameters f.locals 0 input admitted.values admitted.room admitted.enough solid))
     (less_in_hand p.types (λ k. 0) (λ k. times (named_in (entry_arguments p.types f 0 f.parameters input)) k + 0) empty_content (λ k. let z = none_named p.types f empty_content 0 f.parameters input k in omega (arith, z)) (empty_store p.types))
     (nothing_buffered p.types (IsLoose p.types (entry_inputs empty_content vs) (named_in vs) empty_content)) (nothing_entered p.types f (foot_with p.types (mutated p.types f (entry_inputs empty_content vs)) (named_in vs)) empty_content vs pointless) (λ q u e. absurd (pointless q u e)))
   where
@@ -235,12 +244,12 @@ safe_runs p given entry f input n well ready apart hands plain spoken none is ad
       formed = formed_function k g at_k;
       points = points_formed p.types (length p.names) (length p.texts) p.functions g (formed_function k g at_k);
       ready = ready k g at_k;
-      free = hands.free k g at_k;
       given = all_at (all_keep_given p.types) p.functions k g apart at_k;
     }
 
     asked : (k : ℕ) (g : Function) → slice_get p.functions k ≡ Some g → IsSafeFunction p.types p.functions k g
     asked k g at_k = record {
+      free = hands.free k g at_k;
       short = (spoken k g at_k).0;
       spoken = (spoken k g at_k).1;
       none = λ d h.

@@ -66,7 +66,7 @@ module _ (types : Types) (f : Function) (rest : ℕ → ℕ) (inputs : Root → 
     pub kept : (m : IsMovedFrom types f S st.cells n) → over m.local → ⊥
     pub unwritten : (m : IsMovedFrom types f S st.cells n) → writes i (local_place m.local) ≡ false
 
-  module _ (after : State) (h : IsBehind types f inputs bare over st after) where
+  module _ (lost : ℕ → Type 0) (after : State) (h : IsBehind types f inputs bare over lost st after) where
     new : (j : ℕ) → j < st.world.content.births → 0 < times (named_in after.cells) j → 0 < times (named_in st.cells) j
     new j born lt = let x = named_at after.cells j lt in ⊎_elim (λ old. old) (λ late. absurd (omega (arith, born, late))) (h.named x.0 j x.1)
 

@@ -1,6 +1,6 @@
 -- An instruction of a frame without structs, at which nothing is wrong, makes no fault; and what is known of the frame before it is
 -- known behind it: the facts cover all pointers, and each vector and each string has its buffer. What it touches lies beneath what the frame names.
-use Rattle.std.proofs.Common.{◌≡◌, ℕ, Bool, true, false, ◌&&◌, not, Option, Some, None, List, refl, sym, ap, subst, ◌∙◌, ◌≢◌, [], ◌∷◌, inl, inr, ⊎_elim}
+use Rattle.std.proofs.Common.{◌≡◌, ◌⊎◌, ℕ, Bool, true, false, ◌&&◌, not, Option, Some, None, List, refl, sym, ap, subst, ◌∙◌, ◌≢◌, [], ◌∷◌, inl, inr, ⊎_elim}
 use Rattle.std.specs.Prelude.{if◌then◌else◌, Contains, ℤ, nat_eq, slice_get}
 use Rattle.std.specs.List.{list_any}
 use Rattle.std.proofs.lemmas.Bool.{and_parts, false≢true, ne_eqb}
@@ -24,7 +24,7 @@ use Rattle.life_core.specs.declared.instr.Made.{Made}
 use Rattle.life_pset.specs.Shapes.{operand_type, tree_if, has_buffer}
 use Rattle.life_pset.specs.declared.element.Element.TheVariants as element
 use Rattle.life_pset.specs.declared.element.Fact.{Fact}
-use Rattle.life_pset.specs.Elements.{local_place, moved, changed as changed_by}
+use Rattle.life_pset.specs.Elements.{changed_in, local_place, moved}
 use Rattle.life_pset.specs.Places.{is_within}
 use Rattle.life_contract.specs.Signatures.{Signature}
 use Rattle.life_contract.specs.Located.{is_location, is_rooted, located}
@@ -32,6 +32,7 @@ use Rattle.life_proper.specs.OperandTypes.{aims_at, are_alike, is_range, keeps_c
 use Rattle.life_proper.specs.Placed.{element_of, is_const_base, is_const_place, is_given, is_number_of, object_at, register_at, result_at, slot_at, type_at, type_in, type_of, type_of_element, is_number}
 use Rattle.life_proper.specs.WellFormed.{is_change_of, is_well_formed_step, is_port}
 use Rattle.life_proper.specs.GivenOver.{given_step}
+use Rattle.life_store.specs.Births.{end_locals}
 use Rattle.life_store.specs.Doing.{changed, does, pushes, with_output}
 use Rattle.life_store.specs.Effects.{Effect, Next, Traps, Faults, Strays, Setting, cell, put_cell}
 use Rattle.life_store.specs.Parts.{Vector, local_type, operand_parts, parts_at}
@@ -43,7 +44,7 @@ use Rattle.life_forest.specs.Settled.{IsPoised}
 use Rattle.life_forest.proofs.OneNumber.{same_solid, type_there}
 use Rattle.life_forest.proofs.ReadyCells.{number_any}
 use Rattle.life_forest.proofs.SeenTypes.{aims_seen, iterator_points, pointer_solid, range_points, value_parts, walks_seen}
-use Rattle.life_cover.proofs.NumberSteps.{evaluated_gives, loaded_gives, ports_give, sames_give, sizes_give}
+use Rattle.life_forest.proofs.StandingNumbers.{evaluated_gives, loaded_gives, ports_give, sames_give, sizes_give}
 use Rattle.life_forest.proofs.TypedSteps.{IsSlotFree, value_solid}
 use Rattle.life_cover.specs.Frames.{FrameCovered}
 use Rattle.life_cover.specs.Inputs.{may_change, owning, StandsAt}
@@ -53,28 +54,33 @@ use Rattle.life_cover.proofs.GivenOn.{given_behind}
 use Rattle.life_cover.proofs.Opening.{text_opened, vector_opened}
 use Rattle.life_cover.proofs.Writing.{change_owning}
 use Rattle.life_cover.specs.Buffered.{AreBut}
-use Rattle.life_cover.specs.Lacking.{MayLack}
+use Rattle.life_cover.specs.Covers.{IsOwnerTold}
+use Rattle.life_cover.specs.Uniques.{UniquesTold, had_by}
+use Rattle.life_cover.proofs.UniqueFacts.{unique_told}
+use Rattle.life_cover.proofs.UniquesBorn.{live_tells}
+use Rattle.life_cover.specs.Lacking.{IsMovedFrom, MayLack}
 use Rattle.life_cover.proofs.Copyable.{copied_type}
 use Rattle.life_cover.proofs.FrameSteps.{IsSpoken, alike_points, not_false, source_points, step_covered}
 use Rattle.life_cover.proofs.HeldElements.{vector_operand}
-use Rattle.life_cover.proofs.KeptBuffers.{IsKept as IsKeptChange, by_change, by_next, ends_behind, text_behind, vector_behind, IsAmong, LeftBare}
-use Rattle.life_cover.proofs.KeptCopies.{copy_behind, live_behind, save_behind, CopiedBare, ReplacedBare}
-use Rattle.life_cover.proofs.KnownFrames.{at_pointer, IsKnownFrame, IsRight, number_free, object_uncounted, reach_at, used_right, whole_location, pointer_free, solid_type}
+use Rattle.life_cover.proofs.KeptBuffers.{IsKept as IsKeptChange, by_change, by_next, ends_behind, text_behind, vector_behind, IsAmong, LeftBare, ends_tell}
+use Rattle.life_cover.proofs.KeptCopies.{copy_behind, live_behind, save_behind, CopiedBare, ReplacedBare, copyable_other}
+use Rattle.life_cover.proofs.KnownFrames.{at_pointer, IsKnownFrame, IsRight, number_free, object_uncounted, reach_at, used_right, whole_location, pointer_free, solid_type, typed}
 use Rattle.life_cover.proofs.Leaving.{advances_leave, aims_leave, cursors_leave, cuts_leave, elements_leave, repoints_leave}
 use Rattle.life_cover.proofs.Looks.{given_type}
 use Rattle.life_cover.proofs.Pointers.{OnRight, right_weaker}
 use Rattle.life_cover.proofs.PushedObjects.{object_pushed}
 use Rattle.life_cover.proofs.Reaching.{IsReached, Reach}
-use Rattle.life_cover.proofs.Behind.{IsBehind, behind_input, behind_number, behind_pointer, behind_self, right_next, any_local, no_local, behind_more}
+use Rattle.life_cover.proofs.Behind.{IsBehind, behind_input, behind_number, behind_pointer, behind_self, right_next, any_local, no_local, behind_more, TellsLost, both_next, tells_none}
 use Rattle.life_cover.proofs.MakeKinds.{IsMade}
 use Rattle.life_cover.proofs.MakeSteps.{IsMadeBy, make_right, unique_of}
-use Rattle.life_cover.proofs.MoveSteps.{unique_solid, OfLocals, by_move}
+use Rattle.life_cover.proofs.MoveSteps.{unique_solid, OfLocals, OfPlaces, by_move}
 use Rattle.life_cover.proofs.Lacking.{owner_whole, variable_here}
 use Rattle.life_cover.proofs.Putting.{other_local}
 use Rattle.life_cover.proofs.StillLacking.{StillLacks, still_lacking, loose_still, moved_on}
 use Rattle.life_cover.proofs.MovedFacts.{both_false}
 use Rattle.life_cover.proofs.MoveKinds.{move_kind}
 use Rattle.life_cover.proofs.BufferMoveKinds.{MovedBare, buffer_move_kind}
+use Rattle.life_cover.proofs.PlacedMoveKinds.{GivenBare, placed_move_kind}
 use Rattle.life_cover.proofs.Listing.{variable_listed}
 use Rattle.life_cover.proofs.Left.{caused_known}
 use Rattle.life_cover.proofs.Buffering.{but_more}
@@ -98,14 +104,18 @@ both_right Strays P Q h k = tt
 module _ (types : Types) (f : Function) (rest : ℕ → ℕ) (inputs : Root → Option Region) (S : Fact → Type 0) (st : State) (k : IsKnownFrame types f rest inputs S st) (sigs : List Signature) (n : ℕ) (place : Place) (S' : Fact → Type 0) (texts : ℕ) (fs : List Function) (s : Setting) where
   -- the buffers are there but in what may be bare then, and what is touched lies beneath what the frame names
   abbrev pub IsKept : State → Type 0
-  IsKept after = AreBut types (MayLack types f inputs S' after) after.world.content × IsBehind types f inputs any_local any_local st after
+  IsKept after = AreBut types (MayLack types f inputs S' after) after.world.content × IsBehind types f inputs any_local any_local any_local st after × UniquesTold types f S' after
+
+  -- what is known behind it beside pointers
+  abbrev Held : (bare over lost : ℕ → Type 0) → State → Type 0
+  Held bare over lost after = IsBehind types f inputs bare over lost st after × TellsLost types f S' lost after
 
   -- what a change gives over
   abbrev Gives : Step → ℕ → Type 0
   Gives i y = Contains (given_step i) y
 
   abbrev Behind : Step → Type 0
-  Behind i = OnNext (does s types f i st) (IsBehind types f inputs (MayLack types f inputs S st) (Gives i) st)
+  Behind i = OnNext (does s types f i st) (IsBehind types f inputs (MayLack types f inputs S st) (Gives i) no_local st)
 
   abbrev Right : Step → Type 0
   Right i = IsRight sigs types n f place i S S'
@@ -113,13 +123,13 @@ module _ (types : Types) (f : Function) (rest : ℕ → ℕ) (inputs : Root → 
   -- ---- changes
 
   -- more may be given over
-  more_given : (e : Effect) (over more : ℕ → Type 0) → ((y : ℕ) → over y → more y) → OnNext e (IsBehind types f inputs (MayLack types f inputs S st) over st) → OnNext e (IsBehind types f inputs (MayLack types f inputs S st) more st)
-  more_given (Next after) over more gives h = behind_more types f inputs (MayLack types f inputs S st) over (MayLack types f inputs S st) more st after (λ n b. b) gives h
+  more_given : (e : Effect) (over more : ℕ → Type 0) → ((y : ℕ) → over y → more y) → OnNext e (IsBehind types f inputs (MayLack types f inputs S st) over no_local st) → OnNext e (IsBehind types f inputs (MayLack types f inputs S st) more no_local st)
+  more_given (Next after) over more gives h = behind_more types f inputs (MayLack types f inputs S st) over no_local (MayLack types f inputs S st) more no_local st after (λ n b. b) gives (λ y l. l) h
   more_given (Traps kind) over more gives h = tt
   more_given (Faults kind) over more gives h = tt
   more_given Strays over more gives h = tt
 
-  no_more : (e : Effect) (more : ℕ → Type 0) → OnNext e (IsBehind types f inputs (MayLack types f inputs S st) no_local st) → OnNext e (IsBehind types f inputs (MayLack types f inputs S st) more st)
+  no_more : (e : Effect) (more : ℕ → Type 0) → OnNext e (IsBehind types f inputs (MayLack types f inputs S st) no_local no_local st) → OnNext e (IsBehind types f inputs (MayLack types f inputs S st) more no_local st)
   no_more e more = more_given e no_local more (λ y none. absurd none)
 
   module _ (o : Operand) (free : is_const_place types f o ≡ false) (c : Change) (right : Right (Changes o c)) where
@@ -162,7 +172,7 @@ module _ (types : Types) (f : Function) (rest : ℕ → ℕ) (inputs : Root → 
 
     -- what a change does with the owner, where it is reached
     by_owner : is_void (type_of types f o) ≡ false → (IsReached types f st (StandsAt inputs) (may_change types f) S o → Behind (Changes o c)) → Behind (Changes o c)
-    by_owner solid each = by_next types f inputs S st o (reach_owner solid) (λ spot. changed s types f (operand_parts types f o) spot c st) (IsBehind types f inputs (MayLack types f inputs S st) (Gives (Changes o c)) st) each
+    by_owner solid each = by_next types f inputs S st o (reach_owner solid) (λ spot. changed s types f (operand_parts types f o) spot c st) (IsBehind types f inputs (MayLack types f inputs S st) (Gives (Changes o c)) no_local st) each
 
     plain_changed : (element : TyId) → type_of types f o ≡ ty.Vector element → (d : Change) → c ≡ d → IsPlain element d → is_change_of types texts fs f (ty.Vector element) d ≡ true → Behind (Changes o c)
     plain_changed element is d one plain e =
@@ -178,10 +188,10 @@ module _ (types : Types) (f : Function) (rest : ℕ → ℕ) (inputs : Root → 
         typed : local_type types f x ≡ Some element
         typed = given_type types k.ordered k.once f k.shaped x element (and_parts (not (slot_at types f x)) _ (and_parts (not (result_at types f x)) _ outer.1).1).1
 
-        nothing : (r : IsReached types f st (StandsAt inputs) (may_change types f) S o) (v : Option Cell) → cell st x ≡ v → ((spot : Spot) → OnNext (pushes s types f (Vector element (parts_at types element)) spot x v st) (IsBehind types f inputs (MayLack types f inputs S st) (Gives (Changes o (PushBack x))) st)) → Behind (Changes o (PushBack x))
+        nothing : (r : IsReached types f st (StandsAt inputs) (may_change types f) S o) (v : Option Cell) → cell st x ≡ v → ((spot : Spot) → OnNext (pushes s types f (Vector element (parts_at types element)) spot x v st) (IsBehind types f inputs (MayLack types f inputs S st) (Gives (Changes o (PushBack x))) no_local st)) → Behind (Changes o (PushBack x))
         nothing r v there none =
             by_change types f rest inputs S st k o r s (Gives (Changes o (PushBack x))) (Vector element (parts_at types element)) (vector_operand types f rest inputs S st k o r element is) (PushBack x)
-            (subst (λ (w : Option Cell). OnNext (pushes s types f (Vector element (parts_at types element)) (record { object = r.region.object; index = r.index; word = r.region.word }) x w st) (IsBehind types f inputs (MayLack types f inputs S st) (Gives (Changes o (PushBack x))) st)) (sym there)
+            (subst (λ (w : Option Cell). OnNext (pushes s types f (Vector element (parts_at types element)) (record { object = r.region.object; index = r.index; word = r.region.word }) x w st) (IsBehind types f inputs (MayLack types f inputs S st) (Gives (Changes o (PushBack x))) no_local st)) (sym there)
             (none (record { object = r.region.object; index = r.index; word = r.region.word })))
 
         by_cell : (r : IsReached types f st (StandsAt inputs) (may_change types f) S o) (v : Option Cell) → cell st x ≡ v → Behind (Changes o (PushBack x))
@@ -218,34 +228,67 @@ module _ (types : Types) (f : Function) (rest : ℕ → ℕ) (inputs : Root → 
 
   -- ---- what may be bare behind an instruction
 
-  module _ (i : Step) (right : Right i) (bare over : ℕ → Type 0) where
+  module _ (i : Step) (right : Right i) (bare over lost : ℕ → Type 0) where
     abbrev Still : ℕ → Type 0
     Still = StillLacks types f rest inputs S st sigs n place S' i right bare over
 
-    kept_by : ((m : ℕ) → bare m → Still m) → OnNext (does s types f i st) (IsBehind types f inputs bare over st) → OnNext (does s types f i st) IsKept
-    kept_by each = go (does s types f i st)
+    kept_by : ((m : ℕ) → bare m → Still m) → ((y : ℕ) → is_unique (type_at types f y) ≡ true → lost y ⊎ (writes i (local_place y) ≡ false)) → OnNext (does s types f i st) (Held bare over lost) → OnNext (does s types f i st) IsKept
+    kept_by each free = go (does s types f i st)
       where
-        go : (e : Effect) → OnNext e (IsBehind types f inputs bare over st) → OnNext e IsKept
-        go (Next after) h = (still_lacking types f rest inputs S st sigs n place S' i right bare over after h each, behind_more types f inputs bare over any_local any_local st after (λ m b. tt) (λ y o. tt) h)
+        told : (after : State) → Held bare over lost after → UniquesTold types f S' after
+        told after h x j named unique =
+            ⊎_elim (λ l. h.1 x j l named unique)
+            (λ unwritten. ⊎_elim (λ l. h.1 x j l named unique)
+            (λ same. subst (IsOwnerTold S' (local_place x) true) (sym same.1) (unique_told sigs types f place i S S' right.closed (local_place x) (had_by st.world.content j) unwritten (k.told x j same.0 unique)))
+            (h.0.had x j named unique)) (free x unique)
+
+        go : (e : Effect) → OnNext e (Held bare over lost) → OnNext e IsKept
+        go (Next after) h = (
+          still_lacking types f rest inputs S st sigs n place S' i right bare over lost after h.0 each,
+          behind_more types f inputs bare over lost any_local any_local any_local st after (λ m b. tt) (λ y o. tt) (λ y l. tt) h.0,
+          told after h,
+        )
         go (Traps kind) h = tt
         go (Faults kind) h = tt
         go Strays h = tt
 
-  -- where no vector and no string is written, and what is given over wasn't moved from
-  plain_kept : (i : Step) (right : Right i) (over : ℕ → Type 0) → ((y : ℕ) → over y → Gives i y) → ((y : ℕ) → has_buffer (type_at types f y) ≡ true → writes i (local_place y) ≡ false) → OnNext (does s types f i st) (IsBehind types f inputs (MayLack types f inputs S st) over st)
-      → OnNext (does s types f i st) IsKept
-  plain_kept i right over gives free =
-      kept_by i right (MayLack types f inputs S st) over
-      (λ m lacks. record { lacks = lacks; kept = λ moved o. right.unmoved moved.local moved.owner (gives moved.local o) moved.cause moved.holds; unwritten = λ moved. free moved.local moved.owner })
+  -- of no unique_ptr sight is lost
+  none_lost : (bare over : ℕ → Type 0) (e : Effect) → OnNext e (IsBehind types f inputs bare over no_local st) → OnNext e (Held bare over no_local)
+  none_lost bare over (Next after) h = (h, tells_none types f S' after)
+  none_lost bare over (Traps kind) h = tt
+  none_lost bare over (Faults kind) h = tt
+  none_lost bare over Strays h = tt
 
-  -- a pointer is no vector and no string
-  pointer_apart : (x y : ℕ) → is_pointer (type_at types f x) ≡ true → has_buffer (type_at types f y) ≡ true → x ≢ y
-  pointer_apart x y pointer buffer same = unlike (type_at types f x) pointer (subst (λ z. has_buffer (type_at types f z) ≡ true) (sym same) buffer)
+  -- where no vector and no string is written, and what is given over wasn't moved from
+  lost_kept : (i : Step) (right : Right i) (over lost : ℕ → Type 0) → ((y : ℕ) → over y → Gives i y) → ((y : ℕ) → has_buffer (type_at types f y) ≡ true → writes i (local_place y) ≡ false)
+      → ((y : ℕ) → is_unique (type_at types f y) ≡ true → lost y ⊎ (writes i (local_place y) ≡ false))
+      → OnNext (does s types f i st) (Held (MayLack types f inputs S st) over lost) → OnNext (does s types f i st) IsKept
+  lost_kept i right over lost gives free free_unique =
+      kept_by i right (MayLack types f inputs S st) over lost
+      (λ m lacks. record { lacks = lacks; kept = λ moved o. right.unmoved moved.local moved.owner (gives moved.local o) moved.cause moved.holds; unwritten = λ moved. free moved.local moved.owner }) free_unique
+
+  -- a vector, a string or a unique_ptr
+  abbrev IsOwnerLocal : ℕ → Type 0
+  IsOwnerLocal y = (has_buffer (type_at types f y) ≡ true) ⊎ (is_unique (type_at types f y) ≡ true)
+
+  -- .. and no unique_ptr either
+  plain_kept : (i : Step) (right : Right i) (over : ℕ → Type 0) → ((y : ℕ) → over y → Gives i y) → ((y : ℕ) → IsOwnerLocal y → writes i (local_place y) ≡ false) → OnNext (does s types f i st) (IsBehind types f inputs (MayLack types f inputs S st) over no_local st)
+      → OnNext (does s types f i st) IsKept
+  plain_kept i right over gives free h = lost_kept i right over no_local gives (λ y buffer. free y (inl buffer)) (λ y unique. inr (free y (inr unique))) (none_lost (MayLack types f inputs S st) over (does s types f i st) h)
+
+  -- a pointer is none of them
+  pointer_apart : (x y : ℕ) → is_pointer (type_at types f x) ≡ true → IsOwnerLocal y → x ≢ y
+  pointer_apart x y pointer owner same =
+      ⊎_elim (λ b. no_buffer (type_at types f x) pointer (subst (λ z. has_buffer (type_at types f z) ≡ true) (sym same) b)) (λ u. no_unique (type_at types f x) pointer (subst (λ z. is_unique (type_at types f z) ≡ true) (sym same) u)) owner
     where
-      unlike : (t : Ty) → is_pointer t ≡ true → has_buffer t ≡ true → ⊥
-      unlike ty.Text p b = false≢true p
-      unlike (ty.Vector element) p b = false≢true p
-      unlike _ p b = false≢true b
+      no_buffer : (t : Ty) → is_pointer t ≡ true → has_buffer t ≡ true → ⊥
+      no_buffer ty.Text p b = false≢true p
+      no_buffer (ty.Vector element) p b = false≢true p
+      no_buffer _ p b = false≢true b
+
+      no_unique : (t : Ty) → is_pointer t ≡ true → is_unique t ≡ true → ⊥
+      no_unique (ty.Unique target) p u = false≢true p
+      no_unique _ p u = false≢true u
 
   -- ---- a pointer that is a local is given a value
 
@@ -257,27 +300,30 @@ module _ (types : Types) (f : Function) (rest : ℕ → ℕ) (inputs : Root → 
 
   -- a pointer alone is another one
   pointed : (x : ℕ) → is_pointer (type_at types f x) ≡ true → (i : Step) → ((y : ℕ) → writes i (local_place y) ≡ is_location (whole x) (local_place y))
-      → (((v : Pointer) → IsBehind types f inputs (MayLack types f inputs S st) no_local st (put_cell x (Points v) st)) → OnNext (does s types f i st) (IsBehind types f inputs (MayLack types f inputs S st) no_local st)) → Kept i
+      → (((v : Pointer) → IsBehind types f inputs (MayLack types f inputs S st) no_local no_local st (put_cell x (Points v) st)) → OnNext (does s types f i st) (IsBehind types f inputs (MayLack types f inputs S st) no_local no_local st)) → Kept i
   pointed x is i written gives right =
       plain_kept i right no_local (λ y none. absurd none) (λ y buffer. written y ∙ other_local x y (pointer_apart x y is buffer))
-      (gives (behind_pointer types f inputs (MayLack types f inputs S st) no_local st k.buffered x (pointer_free types f rest inputs S st k x is)))
+      (gives (behind_pointer types f inputs (MayLack types f inputs S st) no_local no_local st k.buffered x (pointer_free types f rest inputs S st k x is)))
 
   -- .. or a number
   counted : (r : ℕ) → is_number types f r ≡ true → (i : Step) → ((y : ℕ) → writes i (local_place y) ≡ false)
-      → (((z : ℤ) → IsBehind types f inputs (MayLack types f inputs S st) no_local st (put_cell r (Number z) st)) → OnNext (does s types f i st) (IsBehind types f inputs (MayLack types f inputs S st) no_local st)) → Kept i
+      → (((z : ℤ) → IsBehind types f inputs (MayLack types f inputs S st) no_local no_local st (put_cell r (Number z) st)) → OnNext (does s types f i st) (IsBehind types f inputs (MayLack types f inputs S st) no_local no_local st)) → Kept i
   counted r is i written gives right =
-      plain_kept i right no_local (λ y none. absurd none) (λ y buffer. written y) (gives (behind_number types f inputs (MayLack types f inputs S st) no_local st k.buffered r (number_free types f rest inputs S st k r is)))
+      plain_kept i right no_local (λ y none. absurd none) (λ y buffer. written y) (gives (behind_number types f inputs (MayLack types f inputs S st) no_local no_local st k.buffered r (number_free types f rest inputs S st k r is)))
 
   -- a local comes to life that named nothing
-  born_kept : (x : ℕ) (form : Form) (right : Right (Live x form)) → OnNext (does s types f (Live x form) st) IsKept
-  born_kept x form right =
-      kept_by (Live x form) right (ReplacedBare types f rest inputs S st x) no_local
+  born_kept : (x : ℕ) (form : Form) (right : Right (Live x form)) → slot_at types f x ≡ false → OnNext (does s types f (Live x form) st) IsKept
+  born_kept x form right free =
+      kept_by (Live x form) right (ReplacedBare types f rest inputs S st x) no_local (λ y. x ≡ y)
       (λ m b. record {
         lacks = b.0;
         kept = λ moved none. none;
         unwritten = λ moved. apart x moved.local (λ same. b.1 (subst (λ y. slice_get st.cells y ≡ Some (Named m)) (sym same) moved.names));
       })
-      (live_behind types f rest inputs S st k s x form)
+      (λ y unique. one_or_apart x y (λ same. inl same) (λ ne. inr (apart x y ne)))
+      (both_next (does s types f (Live x form) st) (IsBehind types f inputs (ReplacedBare types f rest inputs S st x) no_local (λ y. x ≡ y) st) (TellsLost types f S' (λ y. x ≡ y))
+      (Held (ReplacedBare types f rest inputs S st x) no_local (λ y. x ≡ y))
+      (live_behind types f rest inputs S st k s x form) (live_tells types f rest inputs S st k sigs n place S' s x form right free) (λ after h t. (h, t)))
     where
       apart : (a y : ℕ) → a ≢ y → is_rooted a (local_place y) ≡ false
       apart a y ne = ne_eqb a y ne
@@ -285,9 +331,22 @@ module _ (types : Types) (f : Function) (rest : ℕ → ℕ) (inputs : Root → 
   -- what ended is bare no more
   ended_kept : (xs : List ℕ) (right : Right (End xs)) → OnNext (does s types f (End xs) st) IsKept
   ended_kept xs right =
-      kept_by (End xs) right (LeftBare (MayLack types f inputs S st) xs st) (IsAmong xs)
+      kept_by (End xs) right (LeftBare (MayLack types f inputs S st) xs st) (IsAmong xs) (IsAmong xs)
       (λ m b. record { lacks = b.0; kept = λ moved among. b.1 moved.local among moved.names; unwritten = λ moved. not_true (list_any (λ z. nat_eq z moved.local) xs) (λ among. b.1 moved.local among moved.names) })
-      (ends_behind types f rest inputs S st k s xs)
+      (λ y unique. by y (list_any (λ z. nat_eq z y) xs) refl)
+      (both_next (does s types f (End xs) st) (IsBehind types f inputs (LeftBare (MayLack types f inputs S st) xs st) (IsAmong xs) (IsAmong xs) st) (TellsLost types f S' (IsAmong xs))
+      (Held (LeftBare (MayLack types f inputs S st) xs st) (IsAmong xs) (IsAmong xs))
+      (ended_lost (end_locals types f xs st) (ends_behind types f rest inputs S st k s xs)) (ends_tell types f rest inputs S st k s xs S') (λ after h t. (h, t)))
+    where
+      by : (y : ℕ) (b : Bool) → list_any (λ z. nat_eq z y) xs ≡ b → IsAmong xs y ⊎ (list_any (λ z. nat_eq z y) xs ≡ false)
+      by y true e = inl e
+      by y false e = inr e
+
+      ended_lost : (e : Effect) → OnNext e (IsBehind types f inputs (LeftBare (MayLack types f inputs S st) xs st) (IsAmong xs) no_local st) → OnNext e (IsBehind types f inputs (LeftBare (MayLack types f inputs S st) xs st) (IsAmong xs) (IsAmong xs) st)
+      ended_lost (Next after) h = behind_more types f inputs (LeftBare (MayLack types f inputs S st) xs st) (IsAmong xs) no_local (LeftBare (MayLack types f inputs S st) xs st) (IsAmong xs) (IsAmong xs) st after (λ m b. b) (λ y o. o) (λ y none. absurd none) h
+      ended_lost (Traps kind) h = tt
+      ended_lost (Faults kind) h = tt
+      ended_lost Strays h = tt
 
   copied_kept : (to from : Operand) (right : Right (Copy to from)) → is_well_formed_step types texts fs f (Copy to from) ≡ true → OnNext (does s types f (Copy to from) st) IsKept
   copied_kept to from right e =
@@ -295,10 +354,20 @@ module _ (types : Types) (f : Function) (rest : ℕ → ℕ) (inputs : Root → 
       let pointer = (and_parts (not (is_pointer (type_of types f to))) _ first.1).0 in
       let unique = (and_parts (not (holds_unique (tree_if types (operand_type types f to)))) _ (and_parts (not (is_pointer (type_of types f to))) _ first.1).1).0 in
       let solid = same_solid (type_of types f to) (type_of types f from) first.0 in
-      kept_by (Copy to from) right (CopiedBare types f rest inputs S st k to s to) no_local (λ m b. still to from right solid m b)
-      (copy_behind types f rest inputs S st k sigs n place S' s to from (not_false (is_const_place types f to) (and_parts (not (holds_unique (tree_if types (operand_type types f to)))) (not (is_const_place types f to)) (and_parts (not (is_pointer (type_of types f to))) _ first.1).1).1) right solid (ap is_void (sym (same_is (type_of types f to) (type_of types f from) first.0)) ∙ solid) (same_is (type_of types f to) (type_of types f from) first.0) (not_false (is_pointer (type_of types f to)) pointer)
-      (copied_type types f rest inputs S st k to solid unique))
+      kept_by (Copy to from) right (CopiedBare types f rest inputs S st k to s to) no_local no_local (λ m b. still to from right solid m b) (λ y is. inr (apart to from solid (copyable_other (type_of types f to) (copied_type types f rest inputs S st k to solid unique)) y is))
+      (none_lost (CopiedBare types f rest inputs S st k to s to) no_local (does s types f (Copy to from) st) (copy_behind types f rest inputs S st k sigs n place S' s to from (not_false (is_const_place types f to) (and_parts (not (holds_unique (tree_if types (operand_type types f to)))) (not (is_const_place types f to)) (and_parts (not (is_pointer (type_of types f to))) _ first.1).1).1) right solid (ap is_void (sym (same_is (type_of types f to) (type_of types f from) first.0)) ∙ solid) (same_is (type_of types f to) (type_of types f from) first.0) (not_false (is_pointer (type_of types f to)) pointer)
+      (copied_type types f rest inputs S st k to solid unique)))
     where
+      -- what is copied is no unique_ptr
+      apart : (q from : Operand) → is_void (type_of types f q) ≡ false → is_unique (type_of types f q) ≡ false → (y : ℕ) → is_unique (type_at types f y) ≡ true → writes (Copy q from) (local_place y) ≡ false
+      apart (named.Through p members) from solid other y is = refl
+      apart (named.Name l) from solid other y is =
+          let here = whole_location types k.plain f l (solid_type types f rest inputs S st k (named.Name l) solid) in
+          subst (λ (q : Location). is_within (located q) (local_place y) ≡ false) here
+          (ap (λ c. c && true)
+          (ne_eqb l.local y
+          (λ same. false≢true (sym other ∙ ap is_unique (sym (typed types f rest inputs S st k (named.Name l) solid)) ∙ subst (λ (q : Location). is_unique (type_in types f q) ≡ true) here (subst (λ z. is_unique (type_at types f z) ≡ true) (sym same) is)))))
+
       still : (q from : Operand) (right : Right (Copy q from)) → is_void (type_of types f q) ≡ false → (m : ℕ) → CopiedBare types f rest inputs S st k to s q m → StillLacks types f rest inputs S st sigs n place S' (Copy q from) right (CopiedBare types f rest inputs S st k to s q) no_local m
       still (named.Through p members) from right solid m b = record { lacks = b; kept = λ moved none. none; unwritten = λ moved. refl }
       still (named.Name l) from right solid m b = record {
@@ -309,7 +378,7 @@ module _ (types : Types) (f : Function) (rest : ℕ → ℕ) (inputs : Root → 
       }
 
   -- only a pointer is given a position
-  erased_apart : (o : Operand) (c : Change) (t : Ty) → is_change_of types texts fs f t c ≡ true → (y : ℕ) → has_buffer (type_at types f y) ≡ true → writes (Changes o c) (local_place y) ≡ false
+  erased_apart : (o : Operand) (c : Change) (t : Ty) → is_change_of types texts fs f t c ≡ true → (y : ℕ) → IsOwnerLocal y → writes (Changes o c) (local_place y) ≡ false
   erased_apart o (Erase at into) (ty.Vector element) e y buffer =
       let walk = (and_parts (walks types (type_in types f at) (ty_of types element)) (walks types (type_in types f into) (ty_of types element)) e).1 in
       to_pointer into (walks_seen types k.ordered k.once (type_in types f into) (ty_of types element) walk).pointer (λ q. is_location q (local_place y) ≡ false) (λ x is. other_local x y (pointer_apart x y is buffer))
@@ -342,58 +411,91 @@ module _ (types : Types) (f : Function) (rest : ℕ → ℕ) (inputs : Root → 
   -- a unique_ptr is moved
   unique_kept : (y : ℕ) → OfLocals types f rest inputs S st k sigs n place S' texts fs y is_unique (λ q. OnNext (does s types f (Move q y) st) IsKept)
   unique_kept y x now unique alike other =
-      plain_kept (Move (named.Name (whole x)) y) now no_local (λ z none. absurd none)
+      lost_kept (Move (named.Name (whole x)) y) now no_local (λ z. (x ≡ z) ⊎ (y ≡ z)) (λ z none. absurd none)
       (λ z buffer.
       both_false (is_location (whole y) (local_place z)) (is_location (whole x) (local_place z)) (other_local y z (unique_apart y z (subst (λ (t : Ty). is_unique t ≡ true) alike unique) buffer)) (other_local x z (unique_apart x z unique buffer)))
-      (right_next (does s types f (Move (named.Name (whole x)) y) st) (IsBehind types f inputs (MayLack types f inputs S st) no_local st)
-      (right_weaker (does s types f (Move (named.Name (whole x)) y) st) (IsMade types f inputs S' (MayLack types f inputs S st) no_local st) (IsBehind types f inputs (MayLack types f inputs S st) no_local st) (move_kind types f rest inputs S st k sigs n place S' s x y now unique alike other) (λ after h. h.1)))
+      (λ z is. one_or_apart x z (λ same. inl (inl same))
+      (λ not_x. one_or_apart y z (λ same. inl (inr same)) (λ not_y. inr (both_false (is_location (whole y) (local_place z)) (is_location (whole x) (local_place z)) (other_local y z not_y) (other_local x z not_x)))))
+      (right_next (does s types f (Move (named.Name (whole x)) y) st) (Held (MayLack types f inputs S st) no_local (λ z. (x ≡ z) ⊎ (y ≡ z)))
+      (right_weaker (does s types f (Move (named.Name (whole x)) y) st) (IsMade types f inputs S' (MayLack types f inputs S st) no_local (λ z. (x ≡ z) ⊎ (y ≡ z)) st) (Held (MayLack types f inputs S st) no_local (λ z. (x ≡ z) ⊎ (y ≡ z))) (move_kind types f rest inputs S st k sigs n place S' s x y now unique alike other) (λ after h. (h.1, h.2))))
 
   -- .. a vector or a string: a fact says so then
-  buffer_kept : (y : ℕ) → OfLocals types f rest inputs S st k sigs n place S' texts fs y has_buffer (λ q. OnNext (does s types f (Move q y) st) IsKept)
-  buffer_kept y x now buffer alike other =
-      go (does s types f (Move (named.Name (whole x)) y) st)
-      (right_next (does s types f (Move (named.Name (whole x)) y) st) (IsBehind types f inputs (MovedBare types f rest inputs S st k x y) no_local st)
-      (right_weaker (does s types f (Move (named.Name (whole x)) y) st) (IsMade types f inputs S' (MovedBare types f rest inputs S st k x y) no_local st) (IsBehind types f inputs (MovedBare types f rest inputs S st k x y) no_local st) (buffer_move_kind types f rest inputs S st k sigs n place S' s x y now buffer alike other)
-      (λ after h. h.1)))
-    where
-      owner_y : has_buffer (type_at types f y) ≡ true
-      owner_y = subst (λ (t : Ty). has_buffer t ≡ true) alike buffer
+  module _ (to : Operand) (y : ℕ) (now : Right (Move to y)) (owner_y : has_buffer (type_at types f y) ≡ true) where
+    told : (j : ℕ) → slice_get st.cells y ≡ Some (Named j) → S' (fact_at (local_place y) (element.Moved (moved place y)))
+    told j names =
+        now.closed.none (fact_at (local_place y) (element.Moved (moved place y)))
+        ((is_of_iff types f (fact_at (local_place y) (element.Moved (moved place y)))).1 (
+          variable_listed types k.ordered f y (variable_here types f rest inputs S st k y j names owner_y),
+          caused_known types f (element.Moved (moved place y)) (now.closed.causes (element.Moved (moved place y)) (in_tail (element.Invalid (moved place y)) (element.Moved (moved place y) ∷ element.Invalid (changed_in place to) ∷ []) (element.Moved (moved place y)) (at_head (element.Moved (moved place y)) (element.Invalid (changed_in place to) ∷ [])))),
+        ))
+        (at_head (fact_at (local_place y) (element.Moved (moved place y))) (whole_facts types f to))
 
-      told : (j : ℕ) → slice_get st.cells y ≡ Some (Named j) → S' (fact_at (local_place y) (element.Moved (moved place y)))
-      told j names =
-          now.closed.none (fact_at (local_place y) (element.Moved (moved place y)))
-          ((is_of_iff types f (fact_at (local_place y) (element.Moved (moved place y)))).1 (
-            variable_listed types k.ordered f y (variable_here types f rest inputs S st k y j names owner_y),
-            caused_known types f (element.Moved (moved place y)) (now.closed.causes (element.Moved (moved place y)) (in_tail (element.Invalid (moved place y)) (element.Moved (moved place y) ∷ element.Invalid (changed_by place x) ∷ []) (element.Moved (moved place y)) (at_head (element.Moved (moved place y)) (element.Invalid (changed_by place x) ∷ [])))),
-          ))
-          (at_head (fact_at (local_place y) (element.Moved (moved place y))) (whole_facts types f (named.Name (whole x))))
-
-      now_lacks : (after : State) → IsBehind types f inputs (MovedBare types f rest inputs S st k x y) no_local st after → (j : ℕ) → slice_get st.cells y ≡ Some (Named j) → MayLack types f inputs S' after j
+    -- what may be bare, but for what is written, and what is moved; no unique_ptr is written
+    module _ (bare : ℕ → Type 0) (free : (z : ℕ) → is_unique (type_at types f z) ≡ true → writes (Move to y) (local_place z) ≡ false) (lacks : (j : ℕ) → bare j → (MayLack types f inputs S st j × ((m : IsMovedFrom types f S st.cells j) → m.local ≢ y → writes (Move to y) (local_place m.local) ≡ false)) ⊎ (slice_get st.cells y ≡ Some (Named j))) where
+      now_lacks : (after : State) → IsBehind types f inputs bare no_local no_local st after → (j : ℕ) → slice_get st.cells y ≡ Some (Named j) → MayLack types f inputs S' after j
       now_lacks after h j names = ⊎_elim (λ none. absurd none) (λ still. inl (record { local = y; names = still; owner = owner_y; cause = moved place y; holds = told j names })) (h.kept y j names)
 
-      still_lacks : (after : State) → IsBehind types f inputs (MovedBare types f rest inputs S st k x y) no_local st after → (j : ℕ) → MovedBare types f rest inputs S st k x y j → MayLack types f inputs S' after j
-      still_lacks after h j (inr names) = now_lacks after h j names
-      still_lacks after h j (inl (inr loose, free)) = loose_still types f rest inputs S st sigs n place S' (Move (named.Name (whole x)) y) now (MovedBare types f rest inputs S st k x y) no_local after h j loose
-      still_lacks after h j (inl (inl m, free)) = one_or_apart m.local y
-          (λ same. now_lacks after h j (subst (λ z. slice_get st.cells z ≡ Some (Named j)) same m.names))
-          (λ ne.
-          moved_on types f rest inputs S st sigs n place S' (Move (named.Name (whole x)) y) now (MovedBare types f rest inputs S st k x y) no_local after h j m (λ none. none)
-          (both_false (is_location (whole y) (local_place m.local)) (is_location (whole x) (local_place m.local)) (other_local y m.local (λ e. ne (sym e))) (other_local x m.local (λ e. free (subst (λ z. slice_get st.cells z ≡ Some (Named j)) (sym e) m.names)))))
+      still_lacks : (after : State) → IsBehind types f inputs bare no_local no_local st after → (j : ℕ) → bare j → MayLack types f inputs S' after j
+      still_lacks after h j is = ⊎_elim (λ was. go was.0 was.1) (λ names. now_lacks after h j names) (lacks j is)
+        where
+          go : MayLack types f inputs S st j → ((m : IsMovedFrom types f S st.cells j) → m.local ≢ y → writes (Move to y) (local_place m.local) ≡ false) → MayLack types f inputs S' after j
+          go (inr loose) unwritten = loose_still types f rest inputs S st sigs n place S' (Move to y) now bare no_local no_local after h j loose
+          go (inl m) unwritten = one_or_apart m.local y
+              (λ same. now_lacks after h j (subst (λ z. slice_get st.cells z ≡ Some (Named j)) same m.names))
+              (λ ne. moved_on types f rest inputs S st sigs n place S' (Move to y) now bare no_local no_local after h j m (λ none. none) (unwritten m ne))
 
-      go : (e : Effect) → OnNext e (IsBehind types f inputs (MovedBare types f rest inputs S st k x y) no_local st) → OnNext e IsKept
-      go (Next after) h = (
-        but_more types (MovedBare types f rest inputs S st k x y) (MayLack types f inputs S' after) after.world.content (still_lacks after h) h.buffered,
-        behind_more types f inputs (MovedBare types f rest inputs S st k x y) no_local any_local any_local st after (λ m b. tt) (λ z o. tt) h,
+      moved_kept : OnNext (does s types f (Move to y) st) (IsBehind types f inputs bare no_local no_local st) → OnNext (does s types f (Move to y) st) IsKept
+      moved_kept = go (does s types f (Move to y) st)
+        where
+          go : (e : Effect) → OnNext e (IsBehind types f inputs bare no_local no_local st) → OnNext e IsKept
+          go (Next after) h = (
+            but_more types bare (MayLack types f inputs S' after) after.world.content (still_lacks after h) h.buffered,
+            behind_more types f inputs bare no_local no_local any_local any_local any_local st after (λ m b. tt) (λ z o. tt) (λ z l. tt) h,
+            λ x j named unique. ⊎_elim (λ none. absurd none)
+                (λ same. subst (IsOwnerTold S' (local_place x) true) (sym same.1) (unique_told sigs types f place (Move to y) S S' now.closed (local_place x) (had_by st.world.content j) (free x unique) (k.told x j same.0 unique)))
+                (h.had x j named unique),
+          )
+          go (Traps kind) h = tt
+          go (Faults kind) h = tt
+          go Strays h = tt
+
+  buffer_kept : (y : ℕ) → OfLocals types f rest inputs S st k sigs n place S' texts fs y has_buffer (λ q. OnNext (does s types f (Move q y) st) IsKept)
+  buffer_kept y x now buffer alike other =
+      moved_kept (named.Name (whole x)) y now (subst (λ (t : Ty). has_buffer t ≡ true) alike buffer) (MovedBare types f rest inputs S st k x y) apart lacks
+      (right_next (does s types f (Move (named.Name (whole x)) y) st) (IsBehind types f inputs (MovedBare types f rest inputs S st k x y) no_local no_local st)
+      (right_weaker (does s types f (Move (named.Name (whole x)) y) st) (IsMade types f inputs S' (MovedBare types f rest inputs S st k x y) no_local no_local st) (IsBehind types f inputs (MovedBare types f rest inputs S st k x y) no_local no_local st) (buffer_move_kind types f rest inputs S st k sigs n place S' s x y now buffer alike other)
+      (λ after h. h.1)))
+    where
+      apart : (z : ℕ) → is_unique (type_at types f z) ≡ true → writes (Move (named.Name (whole x)) y) (local_place z) ≡ false
+      apart z is = both_false (is_location (whole y) (local_place z)) (is_location (whole x) (local_place z)) (other_local y z (λ same. unique_apart z y is (subst (λ (t : Ty). has_buffer t ≡ true) alike buffer) (sym same))) (other_local x z (λ same. unique_apart z x is buffer (sym same)))
+
+      lacks : (j : ℕ) → MovedBare types f rest inputs S st k x y j
+          → (MayLack types f inputs S st j × ((m : IsMovedFrom types f S st.cells j) → m.local ≢ y → writes (Move (named.Name (whole x)) y) (local_place m.local) ≡ false)) ⊎ (slice_get st.cells y ≡ Some (Named j))
+      lacks j (inr names) = inr names
+      lacks j (inl was) = inl (
+        was.0,
+        λ m ne. both_false (is_location (whole y) (local_place m.local)) (is_location (whole x) (local_place m.local)) (other_local y m.local (λ e. ne (sym e))) (other_local x m.local (λ e. was.1 (subst (λ z. slice_get st.cells z ≡ Some (Named j)) (sym e) m.names))),
       )
-      go (Traps kind) h = tt
-      go (Faults kind) h = tt
-      go Strays h = tt
+
+  placed_kept : (y : ℕ) → OfPlaces types f rest inputs S st k sigs n place S' texts fs y (λ q. OnNext (does s types f (Move q y) st) IsKept)
+  placed_kept y p members now buffer alike free =
+      moved_kept (named.Through p members) y now buffer (GivenBare types f rest inputs S st k y) (λ z is. both_false (is_location (whole y) (local_place z)) false (other_local y z (λ same. unique_apart z y is buffer (sym same))) refl) lacks
+      (right_next (does s types f (Move (named.Through p members) y) st) (IsBehind types f inputs (GivenBare types f rest inputs S st k y) no_local no_local st)
+      (right_weaker (does s types f (Move (named.Through p members) y) st) (IsMade types f inputs S' (GivenBare types f rest inputs S st k y) no_local no_local st) (IsBehind types f inputs (GivenBare types f rest inputs S st k y) no_local no_local st)
+      (placed_move_kind types f rest inputs S st k sigs n place S' s p members y now buffer alike free) (λ after h. h.1)))
+    where
+      lacks : (j : ℕ) → GivenBare types f rest inputs S st k y j
+          → (MayLack types f inputs S st j × ((m : IsMovedFrom types f S st.cells j) → m.local ≢ y → writes (Move (named.Through p members) y) (local_place m.local) ≡ false)) ⊎ (slice_get st.cells y ≡ Some (Named j))
+      lacks j (inr names) = inr names
+      lacks j (inl was) = inl (was, λ m ne. both_false (is_location (whole y) (local_place m.local)) false (other_local y m.local (λ e. ne (sym e))) refl)
 
   made_kept : (u : Location) (m : Made) → (right : Right (Make u m)) → is_well_formed_step types texts fs f (Make u m) ≡ true → OnNext (does s types f (Make u m) st) IsKept
   made_kept u m right e =
-      plain_kept (Make u m) right (Gives (Make u m)) (λ y given. given) (made_apart u m e)
-      (right_next (does s types f (Make u m) st) (IsBehind types f inputs (MayLack types f inputs S st) (Gives (Make u m)) st)
-      (right_weaker (does s types f (Make u m) st) (IsMadeBy types f rest inputs S st k sigs n place S' texts fs s m) (IsBehind types f inputs (MayLack types f inputs S st) (Gives (Make u m)) st) (make_right types f rest inputs S st k sigs n place S' texts fs s u m right e) (λ after h. h.1)))
+      lost_kept (Make u m) right (Gives (Make u m)) (λ z. u.local ≡ z) (λ y given. given) (made_apart u m e)
+      (λ z is. one_or_apart u.local z (λ same. inl same)
+      (λ ne. inr (subst (λ (q : Location). is_location q (local_place z) ≡ false) (whole_location types k.plain f u (unique_solid (type_in types f u) (unique_of types texts fs f (type_in types f u) m e))) (other_local u.local z ne))))
+      (right_next (does s types f (Make u m) st) (Held (MayLack types f inputs S st) (Gives (Make u m)) (λ z. u.local ≡ z))
+      (right_weaker (does s types f (Make u m) st) (IsMadeBy types f rest inputs S st k sigs n place S' texts fs s u.local m) (Held (MayLack types f inputs S st) (Gives (Make u m)) (λ z. u.local ≡ z)) (make_right types f rest inputs S st k sigs n place S' texts fs s u m right e) (λ after h. (h.1, h.2))))
 
   taken_number : (p : Port) (r : ℕ) → p ≡ Takes r → is_port types texts fs f p ≡ true → is_number types f r ≡ true
   taken_number (Takes q) r is e = subst (λ z. is_number types f z ≡ true) (same is) (number_any types f ty.Long q e)
@@ -411,60 +513,60 @@ module _ (types : Types) (f : Function) (rest : ℕ → ℕ) (inputs : Root → 
 
   -- ---- each instruction
 
-  pub step_kept : (i : Step) → IsSpoken types f i → Right i → is_well_formed_step types texts fs f i ≡ true → OnNext (does s types f i st) IsKept
-  step_kept (Live x form) spoken right e = born_kept x form right
-  step_kept (End xs) spoken right e = ended_kept xs right
-  step_kept (Eval r o) spoken right e = counted r (and_parts (is_number types f r) _ e).0 (Eval r o) (λ y. refl) (λ given. evaluated_gives types f st (IsBehind types f inputs (MayLack types f inputs S st) no_local st) r given o) right
-  step_kept (Load r o) spoken right e =
+  pub step_kept : (i : Step) → IsSpoken types f i → Right i → is_well_formed_step types texts fs f i ≡ true → IsSlotFree types f i → OnNext (does s types f i st) IsKept
+  step_kept (Live x form) spoken right e free = born_kept x form right free
+  step_kept (End xs) spoken right e free = ended_kept xs right
+  step_kept (Eval r o) spoken right e free = counted r (and_parts (is_number types f r) _ e).0 (Eval r o) (λ y. refl) (λ given. evaluated_gives types f st (IsBehind types f inputs (MayLack types f inputs S st) no_local no_local st) r given o) right
+  step_kept (Load r o) spoken right e free =
       let value = (and_parts (is_value (type_of types f o)) (same (type_of types f o) (type_at types f r)) (and_parts (register_at types f r) (is_value (type_of types f o) && same (type_of types f o) (type_at types f r)) e).1).0 in
-      counted r (number_any types f (type_of types f o) r e) (Load r o) (λ y. refl) (λ given. loaded_gives types f st (IsBehind types f inputs (MayLack types f inputs S st) no_local st) r given s o) right
-  step_kept (Save o r) spoken right e =
+      counted r (number_any types f (type_of types f o) r e) (Load r o) (λ y. refl) (λ given. loaded_gives types f st (IsBehind types f inputs (MayLack types f inputs S st) no_local no_local st) r given s o) right
+  step_kept (Save o r) spoken right e free =
       let number = (and_parts (is_number_of types f (type_of types f o) r) (not (is_const_place types f o)) e).0 in
       let value = (and_parts (is_value (type_of types f o)) (same (type_of types f o) (type_at types f r)) (and_parts (register_at types f r) (is_value (type_of types f o) && same (type_of types f o) (type_at types f r)) number).1).0 in
       plain_kept (Save o r) right no_local (λ y none. absurd none) (λ y buffer. refl)
       (save_behind types f rest inputs S st k o s value (reach_at types f rest inputs S st k o (value_solid (type_of types f o) value) (λ q h. used_right sigs types n f place (Save o r) S right.clean q h)) r)
-  step_kept (Copy to from) spoken right e = copied_kept to from right e
-  step_kept (Move to y) spoken right e = by_move types f rest inputs S st k sigs n place S' texts fs y (λ q. OnNext (does s types f (Move q y) st) IsKept) (unique_kept y) (buffer_kept y) to spoken right e
-  step_kept (Aim p sr) spoken right e =
-      to_pointer p (source_points types f rest inputs S st k sigs n place S' texts fs s (type_in types f p) sr spoken e) (λ q. Kept (Aim q sr))
-      (λ x is. pointed x is (Aim (whole x) sr) (λ y. refl) (λ given. aims_leave types f st (IsBehind types f inputs (MayLack types f inputs S st) no_local st) x given s sr spoken)) right
-  step_kept (Repoint p q) spoken right e =
+  step_kept (Copy to from) spoken right e free = copied_kept to from right e
+  step_kept (Move to y) spoken right e free = by_move types f rest inputs S st k sigs n place S' texts fs y (λ q. OnNext (does s types f (Move q y) st) IsKept) (unique_kept y) (buffer_kept y) (placed_kept y) to right e
+  step_kept (Aim p sr) spoken right e free =
+      to_pointer p (source_points types f rest inputs S st k sigs n place S' texts fs s (type_in types f p) sr e) (λ q. Kept (Aim q sr))
+      (λ x is. pointed x is (Aim (whole x) sr) (λ y. refl) (λ given. aims_leave types f st (IsBehind types f inputs (MayLack types f inputs S st) no_local no_local st) x given s sr)) right
+  step_kept (Repoint p q) spoken right e free =
       to_pointer p (alike_points types (type_in types f p) (type_in types f q) (and_parts (are_alike types (type_in types f p) (type_in types f q)) _ e).0).0 (λ a. Kept (Repoint a q))
-      (λ x is. pointed x is (Repoint (whole x) q) (λ y. refl) (λ given. repoints_leave types f st (IsBehind types f inputs (MayLack types f inputs S st) no_local st) x given q)) right
-  step_kept (step.Element p b w) spoken right e =
+      (λ x is. pointed x is (Repoint (whole x) q) (λ y. refl) (λ given. repoints_leave types f st (IsBehind types f inputs (MayLack types f inputs S st) no_local no_local st) x given q)) right
+  step_kept (step.Element p b w) spoken right e free =
       let both = and_parts (aims_at types (type_in types f p) (type_of_element types f b w)) (keeps_const (is_constant (type_in types f p)) (is_const_base types f b)) e in
       to_pointer p (aims_seen types k.ordered k.once (type_in types f p) (type_of_element types f b w) both.0).pointer (λ q. Kept (step.Element q b w))
-      (λ x is. pointed x is (step.Element (whole x) b w) (λ y. refl) (λ given. elements_leave types f st (IsBehind types f inputs (MayLack types f inputs S st) no_local st) x given b w spoken)) right
-  step_kept (Cursor p b end) spoken right e =
+      (λ x is. pointed x is (step.Element (whole x) b w) (λ y. refl) (λ given. elements_leave types f st (IsBehind types f inputs (MayLack types f inputs S st) no_local no_local st) x given b w)) right
+  step_kept (Cursor p b end) spoken right e free =
       let both = and_parts (walks types (type_in types f p) (element_of types f b)) (keeps_const (is_constant (type_in types f p)) (is_const_base types f b)) e in
       to_pointer p (walks_seen types k.ordered k.once (type_in types f p) (element_of types f b) both.0).pointer (λ q. Kept (Cursor q b end))
-      (λ x is. pointed x is (Cursor (whole x) b end) (λ y. refl) (λ given. cursors_leave types f st (IsBehind types f inputs (MayLack types f inputs S st) no_local st) x given b end)) right
-  step_kept (Advance p q r way) spoken right e =
+      (λ x is. pointed x is (Cursor (whole x) b end) (λ y. refl) (λ given. cursors_leave types f st (IsBehind types f inputs (MayLack types f inputs S st) no_local no_local st) x given b end)) right
+  step_kept (Advance p q r way) spoken right e free =
       to_pointer p (iterator_points (type_in types f p) (and_parts (is_iterator (type_in types f p)) _ e).0) (λ a. Kept (Advance a q r way))
-      (λ x is. pointed x is (Advance (whole x) q r way) (λ y. refl) (λ given. advances_leave types f st (IsBehind types f inputs (MayLack types f inputs S st) no_local st) x given s q r way)) right
-  step_kept (Cut p q r count) spoken right e =
+      (λ x is. pointed x is (Advance (whole x) q r way) (λ y. refl) (λ given. advances_leave types f st (IsBehind types f inputs (MayLack types f inputs S st) no_local no_local st) x given s q r way)) right
+  step_kept (Cut p q r count) spoken right e free =
       to_pointer p (range_points (type_in types f p) (and_parts (is_range (type_in types f p)) _ e).0) (λ a. Kept (Cut a q r count))
-      (λ x is. pointed x is (Cut (whole x) q r count) (λ y. refl) (λ given. cuts_leave types f st (IsBehind types f inputs (MayLack types f inputs S st) no_local st) x given q r count)) right
-  step_kept (Size r b) spoken right e =
-      counted r (number_any types f ty.Size r (and_parts (is_number_of types f ty.Size r) (not (is_void (element_of types f b))) e).0) (Size r b) (λ y. refl) (λ given. sizes_give types f st (IsBehind types f inputs (MayLack types f inputs S st) no_local st) r given b) right
-  step_kept (Same r a b equal) spoken right e =
+      (λ x is. pointed x is (Cut (whole x) q r count) (λ y. refl) (λ given. cuts_leave types f st (IsBehind types f inputs (MayLack types f inputs S st) no_local no_local st) x given q r count)) right
+  step_kept (Size r b) spoken right e free =
+      counted r (number_any types f ty.Size r (and_parts (is_number_of types f ty.Size r) (not (is_void (element_of types f b))) e).0) (Size r b) (λ y. refl) (λ given. sizes_give types f st (IsBehind types f inputs (MayLack types f inputs S st) no_local no_local st) r given b) right
+  step_kept (Same r a b equal) spoken right e free =
       counted r (number_any types f ty.Bool r (and_parts (is_number_of types f ty.Bool r) (are_compared types (type_in types f a) (type_in types f b)) e).0) (Same r a b equal) (λ y. refl)
-      (λ given. sames_give types f st (IsBehind types f inputs (MayLack types f inputs S st) no_local st) r given s a b equal) right
-  step_kept (Changes o c) spoken right e =
+      (λ given. sames_give types f st (IsBehind types f inputs (MayLack types f inputs S st) no_local no_local st) r given s a b equal) right
+  step_kept (Changes o c) spoken right e free =
       let both = and_parts (is_change_of types texts fs f (type_of types f o) c) (not (is_const_place types f o)) e in
       plain_kept (Changes o c) right (Gives (Changes o c)) (λ y given. given) (erased_apart o c (type_of types f o) both.0) (change_behind o (not_false (is_const_place types f o) both.1) c right (type_of types f o) refl both.0)
-  step_kept (Make u m) spoken right e = made_kept u m right e
-  step_kept (Call target g xs) spoken right e = absurd spoken
-  step_kept (Ports p) spoken right e =
+  step_kept (Make u m) spoken right e free = made_kept u m right e
+  step_kept (Call target g xs) spoken right e free = absurd spoken
+  step_kept (Ports p) spoken right e free =
       plain_kept (Ports p) right no_local (λ y none. absurd none) (λ y buffer. refl)
-      (ports_give types f st (IsBehind types f inputs (MayLack types f inputs S st) no_local st) (λ text. behind_self types f inputs (MayLack types f inputs S st) no_local st k.buffered (with_output text st) refl refl) s p
-      (λ r z zs is. behind_input types f inputs (MayLack types f inputs S st) no_local st k.buffered r (number_free types f rest inputs S st k r (taken_number p r is e)) z zs))
+      (ports_give types f st (IsBehind types f inputs (MayLack types f inputs S st) no_local no_local st) (λ text. behind_self types f inputs (MayLack types f inputs S st) no_local no_local st k.buffered (with_output text st) refl refl) s p
+      (λ r z zs is. behind_input types f inputs (MayLack types f inputs S st) no_local no_local st k.buffered r (number_free types f rest inputs S st k r (taken_number p r is e)) z zs))
 
   -- what is known of it before
   pub step_right : (i : Step) → IsSpoken types f i → Right i → is_well_formed_step types texts fs f i ≡ true → IsSlotFree types f i → AreReady (ready_of st) (touched_by f i) → OnRight (does s types f i st) (λ after. FrameCovered types f inputs S' after × IsKept after)
   step_right i spoken right e free ready =
-      both_right (does s types f i st) (FrameCovered types f inputs S') IsKept (step_covered types f rest inputs S st k sigs n place S' texts fs s i spoken right e free ready) (step_kept i spoken right e)
+      both_right (does s types f i st) (FrameCovered types f inputs S') IsKept (step_covered types f rest inputs S st k sigs n place S' texts fs s i spoken right e free ready) (step_kept i spoken right e free)
 
   -- .. is known behind it, where its store and its cells stand
   pub known_behind : (after : State) → FrameCovered types f inputs S' after × IsKept after → Stands types f rest after → IsPoised types f after → IsKnownFrame types f rest inputs S' after
-  known_behind after h stands poised = record { ordered = k.ordered; once = k.once; plain = k.plain; shaped = k.shaped; short = k.short; stands = stands; poised = poised; given = given_behind types f rest inputs any_local any_local st after k.stands.store k.given h.1.1; covered = h.0; buffered = h.1.0 }
+  known_behind after h stands poised = record { ordered = k.ordered; once = k.once; plain = k.plain; shaped = k.shaped; stand = k.stand; short = k.short; stands = stands; poised = poised; given = given_behind types f rest inputs any_local any_local any_local st after k.stands.store k.given h.1.1; covered = h.0; buffered = h.1.0; told = h.1.2 }
