@@ -1,0 +1,9 @@
+pub mod Bounded
+pub mod Edits
+pub mod Erasing
+pub mod Failures
+pub mod Given
+pub mod NewObjects
+pub mod Owners
+pub mod Ready
+pub mod Steps
