@@ -1,21 +1,22 @@
 -- What a cell that is looked at holds.
-use Rattle.std.proofs.Common.{◌≡◌, true, false, [], ◌∷◌, Option, Some, None, refl, sym}
+use Rattle.std.proofs.Common.{◌≡◌, zero, suc, true, false, List, [], ◌∷◌, Option, Some, None, refl, sym, ap}
 use Rattle.std.proofs.lemmas.Bool.{false≢true}
 use Rattle.std.proofs.lemmas.Option.{none-some, same_Some}
-use Rattle.std.specs.Prelude.{ℕ, ℤ, pos}
-use Rattle.life_types.specs.Types.{Types}
+use Rattle.std.specs.Prelude.{ℕ, ℤ, cond, option_map, pos, slice_get}
+use Rattle.life_types.specs.Types.{Types, is_slot_at}
 use Rattle.life_types.specs.declared.ty.TyId.{TyId}
 use Rattle.life_core.specs.Holdings.{Holding, sort_of}
 use Rattle.life_core.specs.declared.instr.Form.{Form}
 use Rattle.life_core.specs.declared.program.Local.{Local}
 use Rattle.life_core.specs.Function.{Function}
-use Rattle.life_store.specs.Calls.{number_handed, pointer_handed}
-use Rattle.life_store.specs.Doing.{Setting, Strays, cell, end_cell, live_local, live_over}
+use Rattle.life_store.specs.Calls.{cell_back, given_to, number_handed, object_handed, pointer_handed, slot_born}
+use Rattle.life_store.specs.Doing.{Setting, Next, Strays, cell, end_cell, live_local, live_over, put_cell}
 use Rattle.life_store.specs.Meaning.{value_in}
 use Rattle.life_store.specs.Parts.{Parts}
 use Rattle.life_store.specs.State.{Cell, Empty, Named, Number, Points, State}
-use Rattle.life_cells.specs.Cells.{number_in, object_in, pointer_in}
-use Rattle.life_interp.specs.SoFar.{given_to}
+use Rattle.life_cells.specs.Cells.{cell_seen, cells_seen, number_in, object_in, pointer_in}
+use Rattle.life_cells.specs.declared.cell.Cell as machine
+use Rattle.life_interp.specs.Cells.{is_vacant, one_seen}
 use Rattle.life_interp.specs.Steps.{is_free}
 
 -- ---- what comes to life
@@ -67,11 +68,28 @@ pointer_handed_none (Some (Named n)) e = refl
 pointer_handed_none (Some (Number z)) e = refl
 pointer_handed_none (Some (Points p)) e = absurd (none-some p e)
 
-pub given_strays : (s : Setting) (sort : Holding) (ty : TyId) (v : Cell) (x : ℕ) (st : State) → None ≡ number_in (Some v) → None ≡ pointer_in (Some v) → given_to s sort ty v x st ≡ Strays
-given_strays s sort ty Empty x st e k = refl
-given_strays s sort ty (Named n) x st e k = refl
-given_strays s sort ty (Number z) x st e k = absurd (none-some z e)
-given_strays s sort ty (Points p) x st e k = absurd (none-some p k)
+pub object_handed_none : (o : Option Cell) → None ≡ object_in o → None ≡ object_handed o
+object_handed_none None e = refl
+object_handed_none (Some Empty) e = refl
+object_handed_none (Some (Named n)) e = absurd (none-some n e)
+object_handed_none (Some (Number z)) e = refl
+object_handed_none (Some (Points p)) e = refl
+
+-- a local that is no slot
+module _ (s : Setting) (types : Types) (sort : Holding) (ty : TyId) (plain : is_slot_at types ty ≡ false) (x : ℕ) (st : State) where
+  -- .. is given nothing
+  pub given_nothing : (v : Cell) → is_vacant v ≡ true → given_to s types sort ty v x st ≡ Strays
+  given_nothing Empty e = ap (λ b. cond b (slot_born s types ty None x st) Strays) plain
+  given_nothing (Named n) e = absurd (false≢true e)
+  given_nothing (Number z) e = absurd (false≢true e)
+  given_nothing (Points p) e = absurd (false≢true e)
+
+  -- .. or an object or a pointer as it is
+  pub given_as : (v : Cell) → None ≡ number_in (Some v) → is_vacant v ≡ false → given_to s types sort ty v x st ≡ Next (put_cell x v st)
+  given_as Empty e k = absurd (true_false k)
+  given_as (Named n) e k = ap (λ b. cond b (slot_born s types ty (Some n) x st) (Next (put_cell x (Named n) st))) plain
+  given_as (Number z) e k = absurd (none-some z e)
+  given_as (Points p) e k = refl
 
 -- ---- the value that is told
 
@@ -86,3 +104,29 @@ told_some Empty z e = absurd (none-some z (sym e))
 told_some (Named n) z e = absurd (none-some z (sym e))
 told_some (Number y) z e = same_Some z y e
 told_some (Points p) z e = absurd (none-some z (sym e))
+
+-- ---- what is given back
+
+-- what a local holds is what its cell stands for
+pub cells_at : (cells : List machine.Cell) (x : ℕ) (v : machine.Cell) → slice_get cells x ≡ Some v → slice_get (cells_seen cells) x ≡ Some (cell_seen v)
+cells_at [] x v e = absurd (none-some v e)
+cells_at (w ∷ ws) zero v e = ap (λ (k : machine.Cell). Some (cell_seen k)) (same_Some w v e)
+cells_at (w ∷ ws) (suc x) v e = cells_at ws x v e
+
+pub object_back : (o : Option Cell) (v : Cell) → Some v ≡ object_handed o → v ∷ [] ≡ cell_back o
+object_back None v e = absurd (none-some v (sym e))
+object_back (Some Empty) v e = absurd (none-some v (sym e))
+object_back (Some (Named n)) v e = ap (λ c. c ∷ []) (same_Some v (Named n) e)
+object_back (Some (Number z)) v e = absurd (none-some v (sym e))
+object_back (Some (Points p)) v e = absurd (none-some v (sym e))
+
+pub pointer_alone : (o : Option Cell) (v : Option machine.Cell) → None ≡ object_handed o → option_map cell_seen v ≡ pointer_handed o → one_seen v ≡ cell_back o
+pointer_alone None None e k = refl
+pointer_alone (Some Empty) None e k = refl
+pointer_alone (Some (Named n)) v e k = absurd (none-some (Named n) e)
+pointer_alone (Some (Number z)) None e k = refl
+pointer_alone (Some (Points p)) None e k = absurd (none-some (Points p) k)
+pointer_alone (Some (Points p)) (Some v) e k = ap (λ c. c ∷ []) (same_Some (cell_seen v) (Points p) k)
+pointer_alone None (Some v) e k = absurd (none-some (cell_seen v) (sym k))
+pointer_alone (Some Empty) (Some v) e k = absurd (none-some (cell_seen v) (sym k))
+pointer_alone (Some (Number z)) (Some v) e k = absurd (none-some (cell_seen v) (sym k))

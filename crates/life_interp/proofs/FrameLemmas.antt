@@ -8,9 +8,8 @@ use Rattle.life_core.specs.Linked.{enter, no_exits}
 use Rattle.life_core.specs.declared.program.Local.{Local}
 use Rattle.life_types.specs.Types.{Types}
 use Rattle.life_types.specs.declared.place.Place.{Place}
-use Rattle.life_store.specs.Calls.{pointer_back, pointer_handed, with_handed}
+use Rattle.life_store.specs.Calls.{parameters_given, pointer_back, pointer_handed, with_handed}
 use Rattle.life_store.specs.Doing.{Setting, Next}
-use Rattle.life_interp.specs.SoFar.{parameters_given}
 use Rattle.life_store.specs.Content.{Content}
 use Rattle.life_store.specs.Meaning.{empty_cell, frame}
 use Rattle.life_store.specs.References.{Rows}
@@ -21,8 +20,7 @@ use Rattle.life_cells.specs.Fits.{CellFits, CellsFit, IsFit}
 use Rattle.life_interp.specs.Frames.{all_cells, function_at, stack_seen, waiting_cells, waiting_seen, AreThere}
 use Rattle.life_interp.specs.Steps.{TellsEnd}
 use Rattle.life_interp.specs.Walk as walk
-use Rattle.life_interp.specs.PointsSoFar.{entered_in}
-use Rattle.life_interp.specs.Walk.{Go, let_in}
+use Rattle.life_interp.specs.Walk.{Go, entered_in, let_in}
 use Rattle.life_interp.specs.Walking.{barred_of, Halts}
 use Rattle.life_interp.specs.declared.ending.Ending.{Ending}
 use Rattle.life_interp.specs.declared.ending.Ending.TheVariants as ending
@@ -108,21 +106,21 @@ frame_is f c cells n output input e k =
 
 module _ (s : Setting) (p : Program) (g : ℕ) (f : Function) (values : List state.Cell) (place : Place) (c : Content) (there : slice_get p.functions g ≡ Some f) where
   pub enter_halts : (e : Ending) → ((output : List ℕ) (input : List ℤ) → TellsEnd (parameters_given s p.types f 0 values (frame f (world_of c output input))) e) → (ws : List walk.Waiting) (ins : List ℤ)
-      → Halts (λ go n output. entered_in s p go ws place (world_of c output ins) (slice_get p.functions g) values) c ins (barred_of place e)
+      → Halts (λ go n output. entered_in s p go ws place (world_of c output ins) (world_of c output ins) (slice_get p.functions g) values) c ins (barred_of place e)
   enter_halts (ending.Trap kind) h ws ins = λ go n output.
-      ap (λ o. entered_in s p go ws place (world_of c output ins) o values) there ∙ ap (let_in (go ws f (enter f.body 1 no_exits)) place (world_of c output ins)) (h output ins)
+      ap (λ o. entered_in s p go ws place (world_of c output ins) (world_of c output ins) o values) there ∙ ap (let_in (go ws f (enter f.body 1 no_exits)) place (world_of c output ins)) (h output ins)
   enter_halts (ending.Fault kind) h ws ins = λ go n output.
-      ap (λ o. entered_in s p go ws place (world_of c output ins) o values) there ∙ ap (let_in (go ws f (enter f.body 1 no_exits)) place (world_of c output ins)) (h output ins)
+      ap (λ o. entered_in s p go ws place (world_of c output ins) (world_of c output ins) o values) there ∙ ap (let_in (go ws f (enter f.body 1 no_exits)) place (world_of c output ins)) (h output ins)
   enter_halts ending.Stray h ws ins = λ go n output.
-      ap (λ o. entered_in s p go ws place (world_of c output ins) o values) there ∙ ap (let_in (go ws f (enter f.body 1 no_exits)) place (world_of c output ins)) (h output ins)
+      ap (λ o. entered_in s p go ws place (world_of c output ins) (world_of c output ins) o values) there ∙ ap (let_in (go ws f (enter f.body 1 no_exits)) place (world_of c output ins)) (h output ins)
   enter_halts ending.NoMemory h ws ins = tt
   enter_halts ending.WriteFault h ws ins = h [] []
 
   pub enter_goes : (d : Content) (cells : List Cell) → ((output : List ℕ) (input : List ℤ) → parameters_given s p.types f 0 values (frame f (world_of c output input)) ≡ Next (state_of d cells output input))
       → (go : Go) (ws : List walk.Waiting) (output : List ℕ) (ins : List ℤ)
-      → entered_in s p go ws place (world_of c output ins) (slice_get p.functions g) values ≡ go ws (function_at p.functions g) (enter (function_at p.functions g).body 1 no_exits) (state_of d cells output ins)
+      → entered_in s p go ws place (world_of c output ins) (world_of c output ins) (slice_get p.functions g) values ≡ go ws (function_at p.functions g) (enter (function_at p.functions g).body 1 no_exits) (state_of d cells output ins)
   enter_goes d cells h go ws output ins =
-      ap (λ o. entered_in s p go ws place (world_of c output ins) o values) there
+      ap (λ o. entered_in s p go ws place (world_of c output ins) (world_of c output ins) o values) there
       ∙ ap (let_in (go ws f (enter f.body 1 no_exits)) place (world_of c output ins)) (h output ins)
       ∙ ap (λ (k : Function). go ws k (enter k.body 1 no_exits) (state_of d cells output ins)) (sym (function_there p.functions g f there))
 

@@ -8,7 +8,7 @@ use Rattle.life_core.specs.declared.program.Local.{Local}
 use Rattle.life_core.specs.Function.{Function}
 use Rattle.life_core.specs.Holdings.{Holding, held_by}
 use Rattle.life_store.specs.Doing.{Setting, Effect, Next, Traps, Here, found_at, on_found, on_next, put_cell, saved, with_value_object, word_of_number}
-use Rattle.life_interp.specs.SoFar.{born_with, given, given_if, given_to}
+use Rattle.life_store.specs.Calls.{born_with, given, given_if, given_to}
 use Rattle.life_store.specs.Cells.{at, set, at-set_same}
 use Rattle.life_store.specs.Content.{Content, cost, newborn, with_object, with_word, live_words_of}
 use Rattle.life_store.specs.References.{Rows}
@@ -85,9 +85,9 @@ gives_nothing limit c = record { births = omega arith; clock = omega arith; with
 -- ---- which local
 
 pub given_is : (s : Setting) (types : Types) (f : Function) (v : state.Cell) (x : ℕ) (l : Local) (k : Holding) (st : State) → slice_get f.locals x ≡ Some l → k ≡ held_by types (Some l)
-    → given s types f v x st ≡ given_to s k l.ty v x st
+    → given s types f v x st ≡ given_to s types k l.ty v x st
 given_is s types f v x l k st there sort =
-    ap (λ o. given_if s types f o v x st) there ∙ ap (λ o. given_to s (held_by types o) l.ty v x st) there ∙ ap (λ h. given_to s h l.ty v x st) (sym sort)
+    ap (λ o. given_if s types f o v x st) there ∙ ap (λ o. given_to s types (held_by types o) l.ty v x st) there ∙ ap (λ h. given_to s types h l.ty v x st) (sym sort)
 
 -- ---- one after the other
 

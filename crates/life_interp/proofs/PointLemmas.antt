@@ -17,14 +17,12 @@ use Rattle.life_core.specs.declared.operand.Location.{Location}
 use Rattle.life_core.specs.declared.program.FnId.{FnId}
 use Rattle.life_types.specs.declared.place.Place.{Place}
 use Rattle.life_store.specs.Content.{Content}
-use Rattle.life_store.specs.Doing.{Setting, Next}
-use Rattle.life_interp.specs.SoFar.{does}
+use Rattle.life_store.specs.Doing.{Setting, Next, does}
 use Rattle.life_cells.specs.Cells.{state_of}
 use Rattle.life_interp.specs.Cells.{world_of}
 use Rattle.life_interp.specs.Frames.{function_at, point_at, stack_seen}
 use Rattle.life_interp.specs.Runs.{links_seen}
-use Rattle.life_interp.specs.PointsSoFar.{at_node, at_point}
-use Rattle.life_interp.specs.Walk.{Go, moved}
+use Rattle.life_interp.specs.Walk.{Go, at_node, at_point, moved}
 use Rattle.life_interp.specs.Walking.{acts, from, halt_of, here, passes, Doing, IsOwn, Moves, PointEnds, PointLeads, StepEnds, Sunk, Takes}
 use Rattle.life_interp.specs.declared.ending.Ending.{Ending}
 use Rattle.life_interp.specs.declared.ending.Ending.TheVariants as ending

@@ -24,7 +24,6 @@ use Rattle.life_cells.specs.Cells.{state_of}
 use Rattle.life_interp.specs.Cells.{world_of}
 use Rattle.life_interp.specs.Frames.{function_at, stack_seen, AllBegin}
 use Rattle.life_interp.specs.Runs.{barred_as, IsBarred, RunEnds, TakesFront}
-use Rattle.life_interp.specs.SoFar as so_far
 use Rattle.life_interp.specs.Sound.{AreSound}
 use Rattle.life_interp.specs.Steps.{TellsEnd}
 use Rattle.life_interp.specs.Walk.{walk}
@@ -36,7 +35,6 @@ use Rattle.life_interp.specs.declared.frames.Frames.{Frames}
 use Rattle.life_interp.specs.declared.frames.Waiting.{Waiting}
 use Rattle.life_interp.specs.declared.outcome.Outcome.TheVariants as outcome
 use Rattle.life_interp.proofs.CodeLists.{function_there}
-use Rattle.life_interp.proofs.SameCalls.{entry_values, parameters_same}
 use Rattle.life_interp.proofs.SoundEntry.{first_sound}
 use Rattle.life_interp.proofs.SoundPrograms.{never_lost}
 use Rattle.life_interp.proofs.SoundSteps.{with_ports}
@@ -101,10 +99,6 @@ module _ (given : Given) (p : Program) (entry : ℕ) (f : Function) (input : Lis
   abbrev begins : Effect
   begins = parameters_given (setting_of given p) p.types f 0 arguments (frame f first)
 
-  -- .. as the machine makes them
-  begins_same : begins ≡ so_far.parameters_given (setting_of given p) p.types f 0 arguments (frame f first)
-  begins_same = parameters_same (setting_of given p) p.types f arguments 0 (frame f first) (entry_values p.types f 0 f.parameters input)
-
   abbrev body : ℕ → State → Called
   body d st = finish p.types f (exec (setting_of given p) p.types f (calls (setting_of given p) p d) f.body n st)
 
@@ -142,11 +136,10 @@ module _ (given : Given) (p : Program) (entry : ℕ) (f : Function) (input : Lis
   ends_barred le ending.WriteFault h k t = nothing_front k run.output t
 
   module _ (le : 1 ≤ given.depth) (c : Content) (empty : c ≡ empty_content) (x : Ending)
-      (h : (output : List ℕ) (ins : List ℤ) → TellsEnd (so_far.parameters_given (setting_of given p) p.types f 0 arguments (frame f (world_of c output ins))) x) where
+      (h : (output : List ℕ) (ins : List ℤ) → TellsEnd (parameters_given (setting_of given p) p.types f 0 arguments (frame f (world_of c output ins))) x) where
     tells : TellsEnd begins x
     tells =
-        subst (λ (e : Effect). TellsEnd e x) (sym begins_same)
-        (subst (λ (d : Content). TellsEnd (so_far.parameters_given (setting_of given p) p.types f 0 arguments (frame f (world_of d [] (drop f.parameters input)))) x) empty (h [] (drop f.parameters input)))
+        subst (λ (d : Content). TellsEnd (parameters_given (setting_of given p) p.types f 0 arguments (frame f (world_of d [] (drop f.parameters input)))) x) empty (h [] (drop f.parameters input))
 
     pub can_be_barred : IsBarred x
     can_be_barred = barred_so le x tells
@@ -172,12 +165,12 @@ module _ (given : Given) (p : Program) (entry : ℕ) (f : Function) (input : Lis
 
   -- .. as the machine begins it
   pub run_from_frames : (frames : Frames) (c d : Content) (taken : ℕ) → 1 ≤ given.depth → frames.function ≡ entry → frames.point ≡ Some 1 → frames.waiting.items ≡ [] → taken ≡ f.parameters → c ≡ empty_content
-      → ((output : List ℕ) (ins : List ℤ) → so_far.parameters_given (setting_of given p) p.types f 0 arguments (frame f (world_of c output ins)) ≡ Next (state_of d frames.cells.items output ins))
+      → ((output : List ℕ) (ins : List ℤ) → parameters_given (setting_of given p) p.types f 0 arguments (frame f (world_of c output ins)) ≡ Next (state_of d frames.cells.items output ins))
       → run ≡ run_from f.place first (from p.functions frames d (drop taken input) (walk (setting_of given p) p n) n [])
   run_from_frames frames c d taken le function point waiting count empty let_in =
       let s = setting_of given p in
       let st = λ (k : ℕ). state_of d frames.cells.items [] (drop k input) in
-      let is = begins_same ∙ subst (λ (x : Content). so_far.parameters_given s p.types f 0 arguments (frame f (world_of x [] (drop f.parameters input))) ≡ Next (st f.parameters)) empty (let_in [] (drop f.parameters input)) in
+      let is = subst (λ (x : Content). parameters_given s p.types f 0 arguments (frame f (world_of x [] (drop f.parameters input))) ≡ Next (st f.parameters)) empty (let_in [] (drop f.parameters input)) in
       let here = function_there p.functions entry f there in
       run_walks (st f.parameters) le is
       ∙ ap (λ (k : ℕ). run_from f.place first (walk s p n [] f (Some 1) (st k))) (sym count)
@@ -187,11 +180,11 @@ module _ (given : Given) (p : Program) (entry : ℕ) (f : Function) (input : Lis
 
   -- its frame is sound
   pub begins_sound : (frames : Frames) (c d : Content) → frames.function ≡ entry → frames.point ≡ Some 1 → frames.waiting.items ≡ [] → c ≡ empty_content
-      → ((output : List ℕ) (ins : List ℤ) → so_far.parameters_given (setting_of given p) p.types f 0 arguments (frame f (world_of c output ins)) ≡ Next (state_of d frames.cells.items output ins)) → IsSoundWalk p frames d
+      → ((output : List ℕ) (ins : List ℤ) → parameters_given (setting_of given p) p.types f 0 arguments (frame f (world_of c output ins)) ≡ Next (state_of d frames.cells.items output ins)) → IsSoundWalk p frames d
   begins_sound frames c d function point waiting empty let_in =
       let s = setting_of given p in
       let st = state_of d frames.cells.items [] (drop f.parameters input) in
-      let is = begins_same ∙ subst (λ (x : Content). so_far.parameters_given s p.types f 0 arguments (frame f (world_of x [] (drop f.parameters input))) ≡ Next st) empty (let_in [] (drop f.parameters input)) in
+      let is = subst (λ (x : Content). parameters_given s p.types f 0 arguments (frame f (world_of x [] (drop f.parameters input))) ≡ Next st) empty (let_in [] (drop f.parameters input)) in
       let first = with_ports p [] f (enter f.body 1 no_exits) st [] [] (first_sound p entry f input proper there admitted s st is) in
       subst (λ (ws : List Waiting). AreSound p (stack_seen p.functions ws) (function_at p.functions frames.function) frames.point (state_of d frames.cells.items [] [])) (sym waiting)
       (subst (λ (g : Function). AreSound p [] g frames.point (state_of d frames.cells.items [] [])) (sym (ap (function_at p.functions) function ∙ function_there p.functions entry f there))

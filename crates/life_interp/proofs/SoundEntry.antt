@@ -1,5 +1,5 @@
 -- The first frame of a run is sound.
-use Rattle.std.proofs.Common.{◌≡◌, ℕ, ◌+◌, Bool, true, false, List, [], length, refl, sym, subst, ◌∙◌, arith, Some}
+use Rattle.std.proofs.Common.{◌≡◌, ℕ, ◌+◌, Bool, true, false, List, [], length, refl, subst, arith, Some}
 use Rattle.std.proofs.lemmas.Bool.{and_parts, false≢true}
 use Rattle.std.specs.Prelude.{ℤ, not, slice_get}
 use Rattle.life_types.specs.Pointees.{ty_of}
@@ -18,7 +18,7 @@ use Rattle.life_store.specs.State.{Cell, State}
 use Rattle.life_forest.specs.Frames.{named_in}
 use Rattle.life_forest.specs.Owned.{times}
 use Rattle.life_forest.proofs.EnteredFrames.{GivesOn}
-use Rattle.life_forest.proofs.EntryFrames.{entry_gives, taking_all}
+use Rattle.life_forest.proofs.EntryFrames.{entry_gives, parameters_all}
 use Rattle.life_forest.proofs.Frames.{less_in_hand}
 use Rattle.life_forest.proofs.HeldPoints.{IsNext}
 use Rattle.life_forest.proofs.NeverStrays.{none_named, numbers_handed}
@@ -26,11 +26,8 @@ use Rattle.life_forest.proofs.SettledPoints.{formed_at, kinds_fit}
 use Rattle.life_forest.proofs.Shaped.{local_formed, locals_shaped}
 use Rattle.life_forest.proofs.Worked.{empty_store}
 use Rattle.life_interp.specs.Sound.{AreSound, in_waiting}
-use Rattle.life_interp.proofs.SameCalls.{entry_values, parameters_same}
 use Rattle.life_interp.proofs.SoundCalls.{first_reached}
 use Rattle.life_interp.proofs.SoundPrograms.{goes_well, members}
-use Rattle.life_interp.proofs.StaticCalls.{entered_static, entry_static}
-use Rattle.life_interp.proofs.StaticCells.{Keeps}
 
 not_true : (b : Bool) → not b ≡ true → b ≡ false
 not_true true k = absurd (false≢true k)
@@ -51,17 +48,15 @@ module _ (p : Program) (entry : ℕ) (f : Function) (input : List ℤ) (proper :
       let next : IsNext p.types f (in_waiting []) empty_content (entry_ready f) st =
       subst (GivesOn p.types f (in_waiting []) empty_content (entry_ready f)) e
       (entry_gives p.types table f shaped (kinds_fit p.types table proper.well_formed.once some names texts p.functions f one.formed one.points one.ready) (in_waiting []) s arguments (first_world f input)
-      (taking_all p.types names f shaped (formed_at p.types table proper.well_formed.once some names texts p.functions f one.formed one.points one.ready) one.free)
+      (parameters_all p.types names f shaped (formed_at p.types table proper.well_formed.once some names texts p.functions f one.formed one.points one.ready))
       (less_in_hand p.types (λ k. 0) (λ k. times (named_in arguments) k + in_waiting [] k) empty_content (λ k. let z = none_named p.types f empty_content 0 f.parameters input k in omega (arith, z)) (empty_store p.types))
       (numbers_handed p.types f empty_content f.parameters f.locals 0 input admitted.values admitted.room admitted.enough solid)) in
-      let so_begins = sym (parameters_same s p.types f arguments 0 (frame f (first_world f input)) (entry_values p.types f 0 f.parameters input)) ∙ e in
       record {
         proper = proper;
         own = entry;
         there = there;
         sound = next.sound;
         reached = first_reached p.types f st (enter f.body 1 no_exits) refl one.ready.begins next.bits;
-        views = subst (Keeps p.types f) so_begins (entered_static s p.types f (first_world f input) arguments (entry_static p.types f 0 f.parameters input f.locals));
         waiting = tt;
       }
     where

@@ -1,5 +1,5 @@
 -- The machine's frames are sound behind what its functions do.
-use Rattle.std.proofs.Common.{◌≡◌, ◌⊎◌, ℕ, ◌<◌, List, [], ◌∷◌, ◌++◌, length, Option, Some, None, Result, Ok, Err, OnOk, refl, sym, ap, subst, ◌∙◌}
+use Rattle.std.proofs.Common.{◌≡◌, ◌⊎◌, ℕ, ◌<◌, List, [], ◌∷◌, ◌++◌, length, map, Option, Some, None, Result, Ok, Err, OnOk, refl, sym, ap, subst, ◌∙◌}
 use Rattle.std.proofs.lemmas.Option.{none-some}
 use Rattle.std.specs.Prelude.{ℤ, option_and_then, option_map}
 use Rattle.std.specs.declared.alloc.Global.{Global}
@@ -8,18 +8,19 @@ use Rattle.life_types.specs.declared.place.Place.{Place}
 use Rattle.life_core.specs.declared.program.FnId.{FnId}
 use Rattle.life_core.specs.Function.{Function, Program}
 use Rattle.life_core.specs.Linked.{Lead, Linked, code_of, enter, goes, no_exits, numbered, spot_at}
-use Rattle.life_core.specs.Operands.{Argument, Location, location_of}
+use Rattle.life_core.specs.Operands.{Argument, Location, argument_of, location_of}
 use Rattle.life_core.specs.Step.{Step, Call, Test}
 use Rattle.life_core.specs.Tree.{Node, Action, Question, Return}
+use Rattle.life_store.specs.Calls.{all_handed, parameters_given, results, taken_back, target_given}
 use Rattle.life_store.specs.Content.{Content}
-use Rattle.life_store.specs.Doing.{Setting, Next}
+use Rattle.life_store.specs.Doing.{Setting, Next, does}
 use Rattle.life_store.specs.Meaning.{frame}
 use Rattle.life_store.specs.State as state
 use Rattle.life_store.specs.State.{State}
 use Rattle.life_cells.specs.Cells.{cells_seen, state_of}
 use Rattle.life_interp.specs.Cells.{one_seen, world_of}
+use Rattle.life_interp.specs.Done.{AreDone, IsDone, IsDoneTarget, left_by}
 use Rattle.life_interp.specs.Frames.{function_at, point_at, stack_seen, waiting_seen, AllBegin}
-use Rattle.life_interp.specs.SoFar as so_far
 use Rattle.life_interp.specs.Sound.{AreSound, IsAsking, IsAt}
 use Rattle.life_interp.specs.Walk as walk
 use Rattle.life_interp.specs.Walk.{first_way, second_way}
@@ -30,10 +31,9 @@ use Rattle.life_cells.specs.declared.cell.Cell.{Cell}
 use Rattle.life_interp.proofs.CodeLists.{there_at}
 use Rattle.life_interp.proofs.FrameLemmas.{stack_push}
 use Rattle.life_interp.proofs.Leads.{action_here, return_here}
-use Rattle.life_interp.proofs.SameCalls.{handed_same, handed_values, parameters_same}
-use Rattle.life_interp.proofs.SameSteps.{does_same}
-use Rattle.life_interp.proofs.SoundCalls.{back_sound, call_sound, taken_is}
-use Rattle.life_interp.proofs.SoundSteps.{arguments_served, formed_here, locals_served, served_here, step_sound, test_sound, with_ports}
+use Rattle.life_interp.proofs.Slotless.{lent_is, taken_is}
+use Rattle.life_interp.proofs.SoundCalls.{back_sound, call_sound, waiting_done}
+use Rattle.life_interp.proofs.SoundSteps.{done_here, step_sound, test_sound, with_ports}
 
 -- ---- what stands at the point leads on as its kind does
 
@@ -92,14 +92,11 @@ module _ (p : Program) (frames : Frames) (c : Content) (sound : IsSoundWalk p fr
 
   -- behind an instruction
   pub own_sound : (place : Place) (i : Step) (to : Option ℕ) → StandsHere p frames place (Action i) (goes to) → IsOwn i → (f : Function) → function_at p.functions frames.function ≡ f → (s : Setting) (ins rest : List ℤ) (text : List ℕ) (d : Content) (new : List Cell)
-      → so_far.does s p.types f i (state_of c frames.cells.items [] ins) ≡ Next (state_of d new text rest) → AreSound p (stack_seen p.functions frames.waiting.items) (function_at p.functions frames.function) to (state_of d new [] [])
+      → does s p.types f i (state_of c frames.cells.items [] ins) ≡ Next (state_of d new text rest) → AreSound p (stack_seen p.functions frames.waiting.items) (function_at p.functions frames.function) to (state_of d new [] [])
   own_sound place i to stands own f is s ins rest text d new e =
       let h = is_here place (Action i) (goes to) stands in
       let l : Linked = record { spot = spot_at place (Action i); leads = goes to } in
-      let same =
-      does_same s p.types (length p.texts) p.functions function (locals_served p stack function h.point (at ins) (h.known ins) l h.here) (at ins) (h.known ins).views i
-      (formed_here p stack function h.point (at ins) (h.known ins) l h.here i refl) (served_here p stack function h.point (at ins) (h.known ins) l h.here i refl) in
-      let done = same ∙ ap (λ (g : Function). so_far.does s p.types g i (at ins)) is ∙ e in
+      let done = ap (λ (g : Function). does s p.types g i (at ins)) is ∙ e in
       with_ports p stack function to (state_of d new text rest) [] [] (step_sound p stack function h.point (at ins) (h.known ins) l h.here i refl own s (state_of d new text rest) done)
 
   -- behind a test
@@ -116,10 +113,10 @@ module _ (p : Program) (frames : Frames) (c : Content) (sound : IsSoundWalk p fr
 
   -- a function that is called
   pub called_sound : {A E : Type 0} (place : Place) (target : Option Location) (g : FnId) (xs : List Argument) (to : Option ℕ) → StandsHere p frames place (Action (Call target g xs)) (goes to) → g.0 < length p.functions → AllBegin p.functions → (values : List state.Cell)
-      → so_far.all_handed (state_of c frames.cells.items [] []) xs ≡ Some values → (s : Setting) (d : Content) (cells : List Cell)
-      → so_far.parameters_given s p.types (function_at p.functions g.0) 0 values (frame (function_at p.functions g.0) (world_of c [] [])) ≡ Next (state_of d cells [] []) → (new : Frames) (result : Result A E)
+      → all_handed p.types (function_at p.functions frames.function) (state_of c frames.cells.items [] []) xs ≡ Some values → (s : Setting) (d : Content) (cells : List Cell)
+      → parameters_given s p.types (function_at p.functions g.0) 0 values (frame (function_at p.functions g.0) (world_of c [] [])) ≡ Next (state_of d cells [] []) → (new : Frames) (result : Result A E)
       → OnOk result (new.function ≡ g.0) → OnOk result (new.point ≡ Some 1) → OnOk result (new.cells.items ≡ cells)
-      → OnOk result ((fs : List Function) → stack_seen fs new.waiting.items ≡ record { function = function_at fs frames.function; cells = cells_seen frames.cells.items; place = place; to = to; target = target; arguments = xs } ∷ stack_seen fs frames.waiting.items)
+      → OnOk result ((fs : List Function) → stack_seen fs new.waiting.items ≡ record { function = function_at fs frames.function; cells = left_by xs (cells_seen frames.cells.items); place = place; to = to; target = target; arguments = xs } ∷ stack_seen fs frames.waiting.items)
       → OnOk result (IsSoundWalk p new d)
   called_sound place target g xs to stands lt begin values are s d cells begins new (Err e) function_is point_is cells_are stacked = tt
   called_sound place target g xs to stands lt begin values are s d cells begins new (Ok a) function_is point_is cells_are stacked =
@@ -129,22 +126,24 @@ module _ (p : Program) (frames : Frames) (c : Content) (sound : IsSoundWalk p fr
       let there = there_at p.functions g.0 lt in
       let st = at [] in
       let known = h.known [] in
-      let served = arguments_served p stack function h.point st known l h.here target g xs refl in
-      let handed = handed_same p.types function st xs served.0 ∙ are in
-      let same = parameters_same s p.types gf values 0 (frame gf (world_of c [] [])) (handed_values st xs values are) in
-      let went = call_sound p stack function h.point st known l h.here target g xs refl gf there s values handed (state_of d cells [] []) (same ∙ begins) in
+      let done = (done_here p stack function h.point st known l h.here (Call target g xs) refl).1 in
+      let went =
+      subst (λ (cs : List state.Cell). AreSound p (record { function = function; cells = cs; place = place; to = to; target = target; arguments = xs } ∷ stack) gf (enter gf.body 1 no_exits) (state_of d cells [] []))
+      (ap (λ (u : State). u.cells) (lent_is p.types function xs st done))
+      (call_sound p stack function h.point st known l h.here target g xs refl gf there s values are (state_of d cells [] [])
+      (ap (λ (u : State). parameters_given s p.types gf 0 values (frame gf u.world)) (lent_is p.types function xs st done) ∙ begins)) in
       subst (λ (ws : List walk.Waiting). AreSound p ws (function_at p.functions new.function) new.point (state_of d new.cells.items [] [])) (sym (stacked p.functions))
       (subst (λ (n : ℕ). AreSound p (walks ∷ stack) (function_at p.functions n) new.point (state_of d new.cells.items [] [])) (sym function_is)
       (subst (λ (to' : Option ℕ). AreSound p (walks ∷ stack) gf to' (state_of d new.cells.items [] [])) (begin g.0 gf there ∙ sym point_is)
       (subst (λ (vs : List Cell). AreSound p (walks ∷ stack) gf (enter gf.body 1 no_exits) (state_of d vs [] [])) (sym cells_are) went)))
     where
       walks : walk.Waiting
-      walks = record { function = function; cells = cells_seen frames.cells.items; place = place; to = to; target = target; arguments = xs }
+      walks = record { function = function; cells = left_by xs (cells_seen frames.cells.items); place = place; to = to; target = target; arguments = xs }
 
   -- the frame that waited for a function that is left
   pub returned_sound : (place : Place) → StandsHere p frames place Return [] → (ws : List Waiting) (w : Waiting) → frames.waiting.items ≡ ws ++ w ∷ [] → (given : Option Cell)
-      → one_seen given ≡ so_far.results p.types (function_at p.functions frames.function) (state_of c frames.cells.items [] []) → (s : Setting) (d : Content) (cells : List Cell)
-      → so_far.target_given s p.types (function_at p.functions w.function) (option_map location_of w.target.now) (one_seen given) (state_of c w.cells.items [] []) ≡ Next (state_of d cells [] [])
+      → one_seen given ≡ results p.types (function_at p.functions frames.function) (state_of c frames.cells.items [] []) → (s : Setting) (d : Content) (cells : List Cell)
+      → target_given s p.types (function_at p.functions w.function) (option_map location_of w.target.now) (one_seen given) (state_of c w.cells.items [] []) ≡ Next (state_of d cells [] [])
       → AreSound p (stack_seen p.functions ws) (function_at p.functions w.function) w.to (state_of d cells [] [])
   returned_sound place stands ws w stacked given gives s d cells takes =
       let h = is_here place Return [] stands in
@@ -155,6 +154,21 @@ module _ (p : Program) (frames : Frames) (c : Content) (sound : IsSoundWalk p fr
       let pushed = ap (stack_seen p.functions) stacked ∙ stack_push p.functions ws w in
       let known = subst (λ (us : List walk.Waiting). AreSound p us function (Some h.point) st) pushed (h.known []) in
       let same =
-      taken_is p v vs function h.point st known l h.here refl s
-      ∙ ap (λ (rs : List state.Cell). so_far.target_given s p.types v.function v.target rs (record { world = st.world; cells = v.cells })) (sym gives) in
+      ap (λ (rs : List state.Cell). taken_back s p.types v.function v.target v.arguments rs (record { world = st.world; cells = v.cells })) (sym gives)
+      ∙ taken_is p.types v.function s v.target v.arguments (one_seen given) (record { world = st.world; cells = v.cells }) (waiting_done p v vs function h.point st known l h.here refl).1 in
       back_sound p v vs function h.point st known l h.here refl s (state_of d cells [] []) (same ∙ takes)
+
+  -- .. waits for a call that the machine does
+  pub waits_done : (place : Place) → StandsHere p frames place Return [] → (ws : List Waiting) (w : Waiting) → frames.waiting.items ≡ ws ++ w ∷ [] → IsDoneTarget (option_map location_of w.target.now) × AreDone (map argument_of w.arguments.now)
+  waits_done place stands ws w stacked =
+      let h = is_here place Return [] stands in
+      let l : Linked = record { spot = spot_at place Return; leads = [] } in
+      let pushed = ap (stack_seen p.functions) stacked ∙ stack_push p.functions ws w in
+      let known = subst (λ (us : List walk.Waiting). AreSound p us function (Some h.point) (at [])) pushed (h.known []) in
+      waiting_done p (waiting_seen p.functions w) (stack_seen p.functions ws) function h.point (at []) known l h.here refl
+
+  -- an instruction that stands there is one that the machine does
+  pub stands_done : (place : Place) (i : Step) (to : Option ℕ) → StandsHere p frames place (Action i) (goes to) → IsDone i
+  stands_done place i to stands =
+      let h = is_here place (Action i) (goes to) stands in
+      done_here p stack function h.point (at []) (h.known []) (record { spot = spot_at place (Action i); leads = goes to }) h.here i refl

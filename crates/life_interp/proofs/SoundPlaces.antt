@@ -2,7 +2,7 @@
 use Rattle.std.proofs.Common.{◌≡◌, ℕ, ◌+◌, ◌^◌, ◌≤◌, Bool, true, false, List, length, Some, refl, sym, ap, subst, ◌∙◌, arith}
 use Rattle.std.proofs.lemmas.Bool.{and_parts, false≢true}
 use Rattle.std.specs.Prelude.{◌&&◌, not}
-use Rattle.life_types.specs.TypeTests.{is_constant, is_iterator, is_pointer, is_value, is_void}
+use Rattle.life_types.specs.TypeTests.{is_constant, is_iterator, is_pointer, is_value, is_view, is_void}
 use Rattle.life_types.specs.Types.{Types}
 use Rattle.life_types.specs.declared.ty.Ty.{Ty}
 use Rattle.life_types.specs.declared.ty.Ty.TheVariants as ty
@@ -11,7 +11,7 @@ use Rattle.life_core.specs.Function.{Function, Program}
 use Rattle.life_core.specs.Linked.{Linked, code_of, numbered}
 use Rattle.life_core.specs.Operands.{Base, Location, Operand, Source}
 use Rattle.life_core.specs.Operands as source
-use Rattle.life_core.specs.Step.{Step, Live, End, Eval, Load, Save, Copy, Move, Aim, Repoint, Element, Cursor, Advance, Cut, Size, Same, Changes, Make, Call, Ports}
+use Rattle.life_core.specs.Step.{Step, Live, End, Eval, Load, Save, Copy, Move, Aim, Repoint, Element, Cursor, Advance, Cut, Size, Same, Changes, Make, Call, Ports, Writes, WritesView, Takes}
 use Rattle.life_core.specs.Tree.{Action, Node}
 use Rattle.life_proper.specs.OperandTypes.{aims_at, are_alike, are_compared, is_range, keeps_const, owned_element, same, seen_element, takes, walks}
 use Rattle.life_proper.specs.Placed.{element_of, is_const_base, is_const_place, is_number_of, register_at, type_at, type_in, type_of, type_of_element}
@@ -39,7 +39,7 @@ use Rattle.life_interp.specs.Walk.{Waiting}
 use Rattle.life_interp.specs.declared.layouts.Layouts.{Layouts}
 use Rattle.life_interp.proofs.HeldPlaces.{IsOwning, number_placed, owner_held, owner_placed, placed, pointer_held}
 use Rattle.life_interp.proofs.SoundPrograms.{goes_well, members}
-use Rattle.life_interp.proofs.ViewPlaces.{compared_see}
+use Rattle.life_interp.proofs.ViewPlaces.{compared_see, views_see}
 use Rattle.life_interp.proofs.WideTypes.{are_wide}
 
 -- ---- an instruction
@@ -62,9 +62,13 @@ module _ (p : Program) (ws : List Waiting) (f : Function) (q : ℕ) (st : State)
 pub owns_owning : (types : Types) (part id : TyId) → OwnsType (parts_at types part) id → IsOwning (parts_at types part)
 owns_owning types part id owns = let one = owns.one in record { wide = omega (arith, one); owner = owns.owner }
 
-not_false : (b : Bool) → not b ≡ true → b ≡ false
+pub not_false : (b : Bool) → not b ≡ true → b ≡ false
 not_false true e = absurd (false≢true e)
 not_false false e = refl
+
+view_is : (t : Ty) → is_view t ≡ true → t ≡ ty.View
+view_is ty.View e = refl
+view_is _ e = absurd (false≢true e)
 
 void_void : (t : Ty) → is_void t ≡ false → t ≡ ty.Void → ⊥
 void_void t e is = false≢true (sym e ∙ ap is_void is)
@@ -75,31 +79,31 @@ compared_points types ty.View ty.View e = (refl, refl)
 compared_points types _ _ e = absurd (false≢true e)
 
 module _ (p : Program) (f : Function) (st : State) (i : Step) (at : IsAt p f i st) (narrow : (ty : TyId) → width_at p.types ty ≤ 2 ^ 32) where
-  abbrev hand : ℕ → ℕ
+  abbrev pub hand : ℕ → ℕ
   hand j = times (named_in st.cells) j + in_waiting at.behind j
 
-  shaped : IsShaped p.types f
+  pub shaped : IsShaped p.types f
   shaped = let w = goes_well p at.sound.proper at.sound.own f at.sound.there in locals_shaped p.types at.sound.proper.well_formed.table (length p.names) f (formed_parts p.types (length p.names) (length p.texts) p.functions f w.formed).locals
 
-  aims : PointersAim p.types f st
+  pub aims : PointersAim p.types f st
   aims = pointers_aim p.types at.sound.proper.well_formed.table f st at.sound.sound.held at.sound.sound.stands.frame
 
-  formed_at : is_well_formed_step p.types (length p.texts) p.functions f i ≡ true
+  pub formed_at : is_well_formed_step p.types (length p.texts) p.functions f i ≡ true
   formed_at =
       let w = goes_well p at.sound.proper at.sound.own f at.sound.there in
       subst (λ (n : Node). is_well_formed_node p.types (length p.texts) p.functions f n ≡ true) at.is (w.points at.point at.linked at.here)
 
-  at_point : IsPoised p.types f st
+  pub at_point : IsPoised p.types f st
   at_point = poised_here p at.behind f at.point st at.sound at.linked at.here
 
-  typed : IsTypedStep p.types f st i
+  pub typed : IsTypedStep p.types f st i
   typed = typed_here p at.behind f at.point st at.sound at.linked at.here i at.is
 
-  wide : (id : TyId) → 1 ≤ width_at p.types id
+  pub wide : (id : TyId) → 1 ≤ width_at p.types id
   wide id = are_wide p.types at.sound.proper.well_formed.table (members p at.sound.proper) id
 
   -- a location of a pointer
-  held_pointer : (l : Location) → is_pointer (type_in p.types f l) ≡ true → HoldsPointer p.types f l st
+  pub held_pointer : (l : Location) → is_pointer (type_in p.types f l) ≡ true → HoldsPointer p.types f l st
   held_pointer l is =
       let q = pointer_of p.types at.sound.proper.well_formed.table at.sound.proper.well_formed.once (length p.texts) p.functions f shaped st aims at.sound.sound.sorted l (type_in p.types f l) refl is in
       pointer_held p.types at.sound.proper.well_formed.table narrow f hand st at.sound.sound.stands.store at.sound.sound.stands.frame l q.part q.takes.0 q.takes.1
@@ -197,4 +201,11 @@ module _ (p : Program) (f : Function) (st : State) (layouts : Layouts) (ready : 
   has_places (Changes o change) at = tt
   has_places (Make u made) at = tt
   has_places (Call target g xs) at = tt
-  has_places (Ports port) at = tt
+  has_places (Ports (Writes r)) at = tt
+  has_places (Ports (WritesView l)) at =
+      let view = view_is (type_in p.types f l) (formed_at p f st (Ports (WritesView l)) at ready.narrow) in (
+        held_pointer p f st (Ports (WritesView l)) at ready.narrow l (ap is_pointer view),
+        views_see p.types at.sound.proper.well_formed.table at.sound.proper.well_formed.once (length p.texts) p.functions f (shaped p f st (Ports (WritesView l)) at ready.narrow) st (aims p f st (Ports (WritesView l)) at ready.narrow) at.sound.sound.sorted
+            (at_point p f st (Ports (WritesView l)) at ready.narrow).pointers l view,
+      )
+  has_places (Ports (Takes r)) at = tt

@@ -1,20 +1,17 @@
 -- Behind an instruction of the frame at hand, and behind a test, all frames are sound still.
 use Rattle.std.proofs.Common.{◌≡◌, ◌⊎◌, ⊎_elim, ℕ, ◌+◌, true, false, List, [], ◌∷◌, length, Option, Some, None, refl, sym, subst, arith}
-use Rattle.std.proofs.lemmas.Bool.{and_parts, false≢true}
+use Rattle.std.proofs.lemmas.Bool.{false≢true}
 use Rattle.std.specs.Prelude.{ℤ, Contains, IsSome}
-use Rattle.std.specs.List.{list_all}
 use Rattle.life_types.specs.Types.{Types}
 use Rattle.life_core.specs.Function.{Function, Program}
 use Rattle.life_core.specs.Linked.{Lead, Linked, code_of, numbered, parts, spot_at}
 use Rattle.life_core.specs.Proper.{bits_past, goes_on}
-use Rattle.life_core.specs.Operands.{Argument, Location}
-use Rattle.life_core_served.specs.Served.{is_served_argument, is_served_local, is_served_node, is_served_step, is_served_target}
-use Rattle.life_core.specs.Step.{Step, Call, Test}
-use Rattle.life_core.specs.declared.program.FnId.{FnId}
+use Rattle.life_core_served.specs.Served.{is_served_node, is_served_step}
+use Rattle.life_core.specs.Step.{Step, Test}
 use Rattle.life_core.specs.Tree.{Node, Action, Question}
 use Rattle.life_proper.specs.WellFormed.{is_well_formed_node, is_well_formed_step}
 use Rattle.life_core_served.proofs.PointsAsked.{point_served}
-use Rattle.life_core_served.proofs.ServedLocals.{served_locals}
+use Rattle.life_store.specs.Calls.{lent}
 use Rattle.life_store.specs.Content.{Content}
 use Rattle.life_store.specs.Doing.{Setting, Next, does}
 use Rattle.life_store.specs.State.{State, ready_of}
@@ -25,13 +22,13 @@ use Rattle.life_forest.proofs.BodiesGo.{IsSoundAt, leads}
 use Rattle.life_forest.proofs.HeldPoints.{GoesOn, IsNext, IsSound, held_goes}
 use Rattle.life_forest.proofs.Holding.{KeepsWaiting}
 use Rattle.life_forest.proofs.Keeping.{keeps_more, keeps_then}
-use Rattle.life_interp.specs.Sound.{AreSound, AreWaiting, ComesTo, in_waiting}
+use Rattle.life_interp.specs.Done.{IsDone}
+use Rattle.life_interp.specs.Sound.{AreSound, AreWaiting, ComesTo, IsAt, in_waiting}
 use Rattle.life_interp.specs.Walk.{Waiting, first_way, second_way}
 use Rattle.life_interp.specs.Walking.{IsOwn}
 use Rattle.life_interp.proofs.Leads.{action_here, question_here}
+use Rattle.life_interp.proofs.ServedSteps.{served_done}
 use Rattle.life_interp.proofs.SoundPrograms.{functions, goes_well, members, own_one}
-use Rattle.life_interp.proofs.StaticCells.{Keeps}
-use Rattle.life_interp.proofs.StaticSteps.{step_static}
 
 -- ---- what was written and what is to be read doesn't matter
 
@@ -51,7 +48,6 @@ with_ports p ws f to st output input sound = record {
   there = sound.there;
   sound = same_sound p.types f (in_waiting ws) st output input sound.sound;
   reached = same_reached p.types f to st output input sound.reached;
-  views = sound.views;
   waiting = sound.waiting;
 }
 
@@ -71,9 +67,8 @@ waiting_on p g (v ∷ vs) c d keeps h = (
     before = h.0.before;
     sound = h.0.sound;
     left = h.0.left;
-    keeps = keeps_then p.types (λ n. times (named_in v.cells) n + in_waiting vs n ≡ 0) h.0.before.world.content c d h.0.keeps keeps;
+    keeps = keeps_then p.types (λ n. times (named_in v.cells) n + in_waiting vs n ≡ 0) (lent p.types v.function v.arguments h.0.before).world.content c d h.0.keeps keeps;
     reached = h.0.reached;
-    views = h.0.views;
   },
   waiting_on p v.function vs c d (keeps_more p.types (λ n. times (named_in v.cells) n + in_waiting vs n ≡ 0) (λ n. in_waiting vs n ≡ 0) c d (λ n z. omega (arith, z)) keeps) h.1,
 )
@@ -87,18 +82,13 @@ module _ (p : Program) (ws : List Waiting) (f : Function) (q : ℕ) (st : State)
   abbrev types : Types
   types = p.types
 
-  pub locals_served : list_all (is_served_local p.types) f.locals ≡ true
-  locals_served = served_locals types f (functions p sound.proper sound.own f sound.there).served
-
   -- the instruction that stands there is served, and well formed
   pub served_here : (i : Step) → l.spot.node ≡ Action i → is_served_step p.types f i ≡ true
   served_here i is = subst (λ (n : Node). is_served_node types f n ≡ true) is (point_served types (length p.texts) p.functions f (functions p sound.proper sound.own f sound.there) q l here)
 
-  -- .. so a call hands over neither a slot nor an object, and its result goes to a whole local
-  pub arguments_served : (target : Option Location) (g : FnId) (xs : List Argument) → l.spot.node ≡ Action (Call target g xs) → (list_all is_served_argument xs ≡ true) × (is_served_target target ≡ true)
-  arguments_served target g xs is =
-      let both = and_parts (is_served_target target) (list_all is_served_argument xs) (served_here (Call target g xs) is) in
-      (both.1, both.0)
+  -- .. so it is one that the machine does
+  pub done_here : (i : Step) → l.spot.node ≡ Action i → IsDone i
+  done_here i is = served_done p.types f i (served_here i is)
 
   pub formed_here : (i : Step) → l.spot.node ≡ Action i → is_well_formed_step p.types (length p.texts) p.functions f i ≡ true
   formed_here i is = subst (λ (n : Node). is_well_formed_node types (length p.texts) p.functions f n ≡ true) is ((goes_well p sound.proper sound.own f sound.there).points q l here)
@@ -111,9 +101,6 @@ module _ (p : Program) (ws : List Waiting) (f : Function) (q : ℕ) (st : State)
         let w = goes_well p sound.proper sound.own f sound.there in
         held_goes types sound.proper.well_formed.table sound.proper.well_formed.once (members p sound.proper) (length p.names) (length p.texts) p.functions f w.formed w.points w.ready (in_waiting ws) s q st l i sound.reached here is (own_one i own) sound.sound
 
-    sees : Keeps types f (does s types f i st)
-    sees = step_static types (length p.texts) p.functions f locals_served s st sound.views i (formed_here i is) (served_here i is)
-
     pub step_sound : (st' : State) → does s types f i st ≡ Next st' → AreSound p ws f (first_way l.leads) st'
     step_sound st' e =
         let w = goes_well p sound.proper sound.own f sound.there in
@@ -125,7 +112,6 @@ module _ (p : Program) (ws : List Waiting) (f : Function) (q : ℕ) (st : State)
           there = sound.there;
           sound = next.sound;
           reached = reached_so types f (in_waiting ws) st.world.content (first_way l.leads) st' at;
-          views = subst (Keeps types f) e sees;
           waiting = waiting_on p f ws st.world.content st'.world.content next.waits sound.waiting;
         }
 
@@ -138,7 +124,7 @@ module _ (p : Program) (ws : List Waiting) (f : Function) (q : ℕ) (st : State)
         goes_on {l = record { spot = spot_at l.spot.place (Question t); leads = parts (first_way l.leads) (second_way l.leads) }} sound.reached (question_here f q l here t is) among e
 
     led : (to : Option ℕ) → InvAt (ComesTo types f) to st → AreSound p ws f to st
-    led to reached = record { proper = sound.proper; own = sound.own; there = sound.there; sound = sound.sound; reached = reached; views = sound.views; waiting = sound.waiting }
+    led to reached = record { proper = sound.proper; own = sound.own; there = sound.there; sound = sound.sound; reached = reached; waiting = sound.waiting }
 
     pub test_sound : (to : Option ℕ) → (to ≡ first_way l.leads) ⊎ (to ≡ second_way l.leads) → AreSound p ws f to st
     test_sound to e =
@@ -148,3 +134,7 @@ module _ (p : Program) (ws : List Waiting) (f : Function) (q : ℕ) (st : State)
         (λ h. subst (λ (x : Option ℕ). AreSound p ws f x st) (sym h) (led (first_way l.leads) (lead_reached (record { branch = Some true; to = first_way l.leads }) (0, omega arith, refl) (first_way l.leads) refl on.0)))
         (λ h. subst (λ (x : Option ℕ). AreSound p ws f x st) (sym h) (led (second_way l.leads) (lead_reached (record { branch = Some false; to = second_way l.leads }) (1, omega arith, refl) (second_way l.leads) refl on.1.0)))
         e
+
+-- the instruction at a point is one that the machine does
+pub is_done : (p : Program) (f : Function) (i : Step) (st : State) → IsAt p f i st → IsDone i
+is_done p f i st at = done_here p at.behind f at.point st at.sound at.linked at.here i at.is

@@ -23,7 +23,7 @@ use Rattle.life_forest.proofs.TypedSteps.{PointersAim, pointer_of}
 use Rattle.life_cells.specs.Typed.{SeesCharacters}
 
 module _ (types : Types) (ordered : IsOrdered types) (once : HasEachOnce types) (texts : ℕ) (fs : List Function) (f : Function) (shaped : IsShaped types f) (st : State) (aims : PointersAim types f st) (sorted : AreSorted types f st.cells) (fits : PointersFit types f st) where
-  views_see : (l : Location) → type_in types f l ≡ ty.View → SeesCharacters types f l st
+  pub views_see : (l : Location) → type_in types f l ≡ ty.View → SeesCharacters types f l st
   views_see l view t o points there =
       let of = pointer_of types ordered once texts fs f shaped st aims sorted l ty.View view refl in
       let seen : seen_type types (location_type types f l) ≡ Some (characters_type types) = ap (seen_type types) of.takes.0 ∙ ap (seen_in types) of.there in

@@ -16,7 +16,7 @@ use Rattle.life_cells.specs.Cells.{state_of}
 use Rattle.life_interp.specs.Cells.{world_of}
 use Rattle.life_interp.specs.Frames.{function_at, stack_seen}
 use Rattle.life_interp.specs.Walk.{Waiting, at_point, walk}
-use Rattle.life_interp.specs.Walking.{from, means, output_of, PointEnds, Takes, TakesPart, WalkEnds}
+use Rattle.life_interp.specs.Walking.{from, output_of, passes, PointEnds, Takes, TakesPart, WalkEnds}
 use Rattle.life_interp.specs.declared.ending.Halt.{Halt}
 use Rattle.life_interp.specs.declared.ending.Halt.TheVariants as halt
 use Rattle.life_interp.specs.declared.frames.Frames.{Frames}
@@ -59,17 +59,17 @@ at_a_step s p n ws f (Some q) st = refl
 
 module _ (s : Setting) (p : Program) (frames : Frames) (c : Content) (ins : List ℤ) where
   -- where a step is left, the walk does what stands at the point
-  pub a_step : (n : ℕ) (output : List ℕ) → 0 < n → from p.functions frames c ins (walk s p n) n output ≡ means s p frames c ins (walk s p (n - 1)) (n - 1) output
+  pub a_step : (n : ℕ) (output : List ℕ) → 0 < n → from p.functions frames c ins (walk s p n) n output ≡ passes s p frames c ins (walk s p (n - 1)) (n - 1) output
   a_step zero output lt = absurd (omega (arith, lt))
   a_step (suc n) output lt =
       let k : n ≡ suc n - 1 = omega arith in
       at_a_step s p n (stack_seen p.functions frames.waiting.items) (function_at p.functions frames.function) frames.point (state_of c frames.cells.items output ins)
-      ∙ ap (λ m. means s p frames c ins (walk s p m) m output) k
+      ∙ ap (λ m. passes s p frames c ins (walk s p m) m output) k
 
   -- the walk ends where a point ends it
   pub ends_there : (walked : Called) (n : ℕ) (h : Halt) (a b e : Option (List ℕ)) (m o q : ℕ) (text : List ℕ) → 0 < n
       → Takes (record { old = a; new = b; faults = m; later = o }) text → walked ≡ from p.functions frames c ins (walk s p n) n text
-      → PointEnds (means s p frames c ins) p.functions c ins (record { old = b; new = e; faults = o; later = q }) h
+      → PointEnds (passes s p frames c ins) p.functions c ins (record { old = b; new = e; faults = o; later = q }) h
       → WalkEnds walked (record { old = a; new = e; faults = m; later = q }) h
   ends_there walked n (halt.Returned z) a b e m o q text lt took is h =
       (n - 1, world_of c text ins, h.1.0, takes_still a b e m o q text took h.0, h.1.1, is ∙ a_step n text lt ∙ h.1.2 (walk s p (n - 1)) (n - 1) text)

@@ -1,5 +1,5 @@
 -- What the machine's frames hold, as the meaning has it.
-use Rattle.std.specs.Prelude.{ℕ, ℤ, List, [], ◌∷◌, Option, Some, None}
+use Rattle.std.specs.Prelude.{ℕ, ℤ, Bool, true, false, List, [], ◌∷◌, Option, Some, None}
 use Rattle.life_core.specs.Holdings.{Holding, Blank, AnObject, ANumber, APointer, AView}
 use Rattle.life_cells.specs.Cells.{cell_seen}
 use Rattle.life_cells.specs.declared.cell.Cell.{Cell}
@@ -22,3 +22,8 @@ one_seen (Some v) = cell_seen v ∷ []
 
 abbrev pub world_of : Content → List ℕ → List ℤ → state.World
 world_of content output input = record { content = content; output = output; input = input }
+
+-- the cell holds nothing
+abbrev pub is_vacant : state.Cell → Bool
+is_vacant state.Empty = true
+is_vacant _ = false

@@ -16,7 +16,6 @@ use Rattle.life_forest.specs.Frames.{named_in}
 use Rattle.life_forest.specs.Owned.{times}
 use Rattle.life_forest.proofs.HeldPoints.{IsSound}
 use Rattle.life_forest.proofs.Holding.{KeepsWaiting}
-use Rattle.life_interp.specs.StaticViews.{SeeStatic}
 use Rattle.life_interp.specs.Walk.{Waiting}
 
 -- what the frames that wait have in the hand: the objects that their cells name
@@ -28,8 +27,8 @@ in_waiting (v ∷ vs) k = times (named_in v.cells) k + in_waiting vs k
 abbrev pub ComesTo : Types → Function → ℕ → State → Type 0
 ComesTo types f q st = Reaches types f q (ready_of st)
 
--- a frame of the program waits for a call of a function, where others wait behind it: it stood at the call and was sound, and since then what it has
--- kept of its objects has its pointers still
+-- a frame of the program waits for a call of a function, where others wait behind it: it stood at the call and was sound, and since it lent what it
+-- handed over, what it has kept of its objects has its pointers still
 pub record WaitsFor (p : Program) (g : Function) (behind : List Waiting) (v : Waiting) (now : Content) : Type 0 where
   pub own : ℕ
   pub there : slice_get p.functions own ≡ Some v.function
@@ -40,9 +39,8 @@ pub record WaitsFor (p : Program) (g : Function) (behind : List Waiting) (v : Wa
   pub before : State
   pub sound : IsSound p.types v.function (in_waiting behind) before
   pub left : v.cells ≡ (lent p.types v.function v.arguments before).cells
-  pub keeps : KeepsWaiting p.types (λ k. times (named_in v.cells) k + in_waiting behind k) before.world.content now
+  pub keeps : KeepsWaiting p.types (λ k. times (named_in v.cells) k + in_waiting behind k) (lent p.types v.function v.arguments before).world.content now
   pub reached : ComesTo p.types v.function point before
-  pub views : SeeStatic p.types v.function before.cells
 
 -- .. each of them
 abbrev pub AreWaiting : Program → Function → List Waiting → Content → Type 0
@@ -56,7 +54,6 @@ pub record AreSound (p : Program) (ws : List Waiting) (f : Function) (to : Optio
   pub there : slice_get p.functions own ≡ Some f
   pub sound : IsSound p.types f (in_waiting ws) st
   pub reached : InvAt (ComesTo p.types f) to st
-  pub views : SeeStatic p.types f st.cells
   pub waiting : AreWaiting p f ws st.world.content
 
 -- .. at which an instruction stands

@@ -5,8 +5,8 @@ use Rattle.std.specs.declared.vec.Vec.{Vec}
 use Rattle.life_types.specs.Types.{Types}
 use Rattle.life_core.specs.Function.{Function}
 use Rattle.life_core.specs.Operands.{Operand}
-use Rattle.life_store.specs.Doing.{Setting, Effect, Next, Traps, Faults, Strays, cell, characters_in, input_taken, locate, on_found, on_got, on_number, operand_word, put_cell, saved, with_output}
-use Rattle.life_interp.specs.SoFar.{parameters_given, on_view}
+use Rattle.life_store.specs.Doing.{Setting, Effect, Next, Traps, Faults, Strays, cell, input_taken, locate, on_found, on_got, on_number, operand_word, put_cell, saved}
+use Rattle.life_store.specs.Calls.{parameters_given}
 use Rattle.life_store.specs.Content.{Content, live_words_of}
 use Rattle.life_store.specs.Meaning.{frame}
 use Rattle.life_store.specs.State as state
@@ -79,10 +79,6 @@ Reads effect c cells value = (r : ℕ) (output : List ℕ) (input : List ℤ) �
 -- a register's value is written to a place
 abbrev pub stored : Types → Function → Operand → ℕ → State → Effect
 stored types f o r st = on_number (cell st r) (λ z. on_found (locate types f o st) (λ n i object. Next (saved z n i (operand_word types f o st) object st)))
-
--- a view's characters are written out
-abbrev pub viewed_from : Setting → ℕ → State → Effect
-viewed_from s v st = on_view (cell st v) (λ c. Next (with_output (characters_in s.texts c) st))
 
 -- a number of the input is taken into a register
 abbrev pub taken_into : ℕ → State → Effect

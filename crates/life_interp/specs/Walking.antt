@@ -12,7 +12,7 @@ use Rattle.life_core.specs.Tree.{Node}
 use Rattle.life_types.specs.Types.{Types}
 use Rattle.life_types.specs.declared.place.Place.{Place}
 use Rattle.life_store.specs.Doing.{Setting, Effect, Next}
-use Rattle.life_interp.specs.SoFar.{results}
+use Rattle.life_store.specs.Calls.{results}
 use Rattle.life_store.specs.Content.{Content}
 use Rattle.life_store.specs.Meaning.{Trapped, Faulted, Stray, Exhausted, Verdict, Holds, Fails, Cut, Called, Back, Barred, Quit, test_at, value_in}
 use Rattle.life_store.specs.State as state
@@ -23,8 +23,7 @@ use Rattle.life_interp.specs.Frames.{function_at, point_at, stack_seen}
 use Rattle.life_interp.specs.Sound.{AreSound}
 use Rattle.life_interp.specs.Steps.{TellsEnd}
 use Rattle.life_interp.specs.Walk as walk
-use Rattle.life_interp.specs.PointsSoFar.{at_action, at_point, back, entered_in}
-use Rattle.life_interp.specs.Walk.{Go, chosen, first_way, second_way}
+use Rattle.life_interp.specs.Walk.{Go, at_action, at_point, back, chosen, entered_in, first_way, second_way}
 use Rattle.life_interp.specs.declared.ending.Ending.{Ending}
 use Rattle.life_interp.specs.declared.ending.Ending.TheVariants as ending
 use Rattle.life_interp.specs.declared.ending.Halt.{Halt}
@@ -151,9 +150,9 @@ Moves at fs c new d ins result = MatchResult result (λ _. (go : Go) (n : ℕ) (
 abbrev pub Enters : Setting → Program → ℕ → List state.Cell → Place → Content → Content → Result (Vec Cell Global) Halt → Type 0
 Enters s p g values place c d result =
     MatchResult result
-    (λ (cells : Vec Cell Global). (go : Go) (ws : List walk.Waiting) (output : List ℕ) (ins : List ℤ) → entered_in s p go ws place (world_of c output ins) (slice_get p.functions g) values
+    (λ (cells : Vec Cell Global). (go : Go) (ws : List walk.Waiting) (output : List ℕ) (ins : List ℤ) → entered_in s p go ws place (world_of c output ins) (world_of c output ins) (slice_get p.functions g) values
     ≡ go ws (function_at p.functions g) (enter (function_at p.functions g).body 1 no_exits) (state_of d cells.items output ins))
-    (λ h. (ws : List walk.Waiting) (ins : List ℤ) → Halts (λ go n output. entered_in s p go ws place (world_of c output ins) (slice_get p.functions g) values) c ins h)
+    (λ h. (ws : List walk.Waiting) (ins : List ℤ) → Halts (λ go n output. entered_in s p go ws place (world_of c output ins) (world_of c output ins) (slice_get p.functions g) values) c ins h)
 
 -- .. and any point
 abbrev pub PointEnds : Doing → List Function → Content → List ℤ → Sunk → Halt → Type 0
@@ -196,10 +195,6 @@ module _ (s : Setting) (p : Program) (frames : Frames) (c : Content) (ins : List
 
   abbrev pub passes : Doing
   passes go n output = at_point s p go stack function (point_at p.functions frames) n (here output)
-
-  -- .. as the meaning has it
-  abbrev pub means : Doing
-  means go n output = walk.at_point s p go stack function (point_at p.functions frames) n (here output)
 
   abbrev pub acts : Step → Place → Option ℕ → Doing
   acts i place to go n output = at_action s p go stack function i place to (here output)

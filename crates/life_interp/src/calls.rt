@@ -8,6 +8,7 @@ ghost use Rattle.life_core.specs.Tree.{Action, Return};
 ghost use Rattle.life_cells.specs.Cells.{cells_seen, state_of};
 ghost use Rattle.life_interp.specs.Cells.{one_seen, world_of};
 ghost use Rattle.life_cells.specs.Fits.{meant, CellFits, CellsFit, IsFit};
+ghost use Rattle.life_changes.specs.Bounded.{IsBounded};
 ghost use Rattle.life_interp.specs.Fits.{most_births, CanStep, Grows};
 ghost use Rattle.life_interp.specs.Frames.{all_cells, function_at, stack_seen, waiting_cells, AllBegin, AreFrames, AreThere};
 ghost use Rattle.life_interp.specs.Steps.{Begins, IsSet, LeavesBoth};
@@ -19,12 +20,13 @@ ghost use Rattle.life_seen.specs.Housed.{IsHoused, Later};
 ghost use Rattle.life_seen.specs.Kinds.{kinds_of};
 ghost use Rattle.life_store.specs.Doing.{Setting, Next};
 ghost use Rattle.life_store.specs.Meaning.{frame};
-ghost use Rattle.life_interp.specs.SoFar.{parameters_given, target_given};
+ghost use Rattle.life_interp.specs.Done.{HasNoSlots, HaveNoSlots, IsDoneTarget};
+ghost use Rattle.life_store.specs.Calls.{parameters_given, target_given};
 
 use crate::ending::{Ending, Halt, halt_at};
 use crate::frames::{Frames, Waiting};
 use crate::giving::{give, give_all};
-use crate::handing::{all_handed, result_of, told};
+use crate::handing::{all_handed, lend, result_of, told};
 use life_cells::Cell;
 use life_core::{Argument, CoreFn, CoreProgram, FnId, Location};
 use life_store::{Store, TrapKind};
@@ -50,6 +52,7 @@ pub(crate) fn call<'p, S: Store>(
     requires fits { IsFit (program_of program.now).types (S.content store.old) (S.rows store.old) (all_cells frames.old) }
     requires sound { IsSoundWalk (program_of program.now) frames.old (meant (program_of program.now).types (S.content store.old) (S.rows store.old)) }
     requires here { StandsHere (program_of program.now) frames.old place (Action (Call (option_map location_of target.now) function (map argument_of arguments.now))) (goes to) }
+    requires bounded { IsBounded (S.limit store.old) (meant (program_of program.now).types (S.content store.old) (S.rows store.old)) }
     requires countable { CanStep (S.content store.old) }
     requires room { S.limit store.old < most_births }
     ensures step { (s : Setting) (ins : List ℤ) → IsSet s (S.limit store.old) (program_of program.now).texts → s.given.depth ≡ depth
@@ -58,6 +61,7 @@ pub(crate) fn call<'p, S: Store>(
     ensures frames { OnOk result (AreFrames (program_of program.now).functions frames.new) }
     ensures fits { OnOk result (IsFit (program_of program.now).types (S.content store.new) (S.rows store.new) (all_cells frames.new)) }
     ensures sound { OnOk result (IsSoundWalk (program_of program.now) frames.new (meant (program_of program.now).types (S.content store.new) (S.rows store.new))) }
+    ensures bounded { OnOk result (IsBounded (S.limit store.old) (meant (program_of program.now).types (S.content store.new) (S.rows store.new))) }
     ensures grows { OnOk result (Grows most_births (S.content store.old) (S.content store.new)) }
     ensures limit { S.limit store.new ≡ S.limit store.old }
 {
@@ -69,7 +73,10 @@ pub(crate) fn call<'p, S: Store>(
             }
             match entered(alloc, program, place, function, &values, store) {
                 Err(halt) => Err(halt),
-                Ok(cells) => wait(frames, place, to, target, arguments, function, cells),
+                Ok(cells) => {
+                    lend(&mut frames.cells, arguments);
+                    wait(frames, place, to, target, arguments, function, cells)
+                }
             }
         }
     }
@@ -85,6 +92,7 @@ fn entered<S: Store>(
     store: &mut S,
 ) -> Result<Vec<Cell>, Halt>
     requires fits { IsFit (program_of program.now).types (S.content store.old) (S.rows store.old) values.now }
+    requires plain { HaveNoSlots (program_of program.now) }
     requires countable { CanStep (S.content store.old) }
     requires room { S.limit store.old < most_births }
     ensures step { (s : Setting) → s.given.cells ≡ S.limit store.old → Enters s (program_of program.now) function.0 (cells_seen values.now) place (meant (program_of program.now).types (S.content store.old) (S.rows store.old)) (meant (program_of program.now).types (S.content store.new) (S.rows store.new)) result }
@@ -118,6 +126,7 @@ pub(crate) fn given_cells<S: Store>(
     store: &mut S,
 ) -> Result<Vec<Cell>, Ending>
     requires fits { IsFit (program_of program.now).types (S.content store.old) (S.rows store.old) values.now }
+    requires plain { HasNoSlots (program_of program.now).types (function_of f.now) }
     requires countable { CanStep (S.content store.old) }
     requires room { S.limit store.old < most_births }
     ensures step { (s : Setting) → s.given.cells ≡ S.limit store.old → Begins s (program_of program.now).types (function_of f.now) (cells_seen values.now) (meant (program_of program.now).types (S.content store.old) (S.rows store.old)) (meant (program_of program.now).types (S.content store.new) (S.rows store.new)) result }
@@ -205,6 +214,7 @@ pub(crate) fn back<S: Store>(
     requires fits { IsFit (program_of program.now).types (S.content store.old) (S.rows store.old) (all_cells frames.old) }
     requires sound { IsSoundWalk (program_of program.now) frames.old (meant (program_of program.now).types (S.content store.old) (S.rows store.old)) }
     requires here { (place : AnyPlace) × StandsHere (program_of program.now) frames.old place Return [] }
+    requires bounded { IsBounded (S.limit store.old) (meant (program_of program.now).types (S.content store.old) (S.rows store.old)) }
     requires countable { CanStep (S.content store.old) }
     requires room { S.limit store.old < most_births }
     ensures step { (s : Setting) (ins : List ℤ) → IsSet s (S.limit store.old) (program_of program.now).texts
@@ -213,6 +223,7 @@ pub(crate) fn back<S: Store>(
     ensures frames { OnOk result (AreFrames (program_of program.now).functions frames.new) }
     ensures fits { OnOk result (IsFit (program_of program.now).types (S.content store.new) (S.rows store.new) (all_cells frames.new)) }
     ensures sound { OnOk result (IsSoundWalk (program_of program.now) frames.new (meant (program_of program.now).types (S.content store.new) (S.rows store.new))) }
+    ensures bounded { OnOk result (IsBounded (S.limit store.old) (meant (program_of program.now).types (S.content store.new) (S.rows store.new))) }
     ensures grows { OnOk result (Grows most_births (S.content store.old) (S.content store.new)) }
     ensures limit { S.limit store.new ≡ S.limit store.old }
 {
@@ -246,6 +257,8 @@ fn give_target<S: Store>(
 ) -> Result<(), Ending>
     requires fits { IsFit (program_of program.now).types (S.content store.old) (S.rows store.old) cells.old.items }
     requires value { IfSome given (CellFits (S.content store.old) (S.rows store.old)) }
+    requires plain { HasNoSlots (program_of program.now).types (function_of f.now) }
+    requires target { IsDoneTarget (option_map location_of target.now) }
     requires countable { CanStep (S.content store.old) }
     requires room { S.limit store.old < most_births }
     ensures step { (s : Setting) → s.given.cells ≡ S.limit store.old

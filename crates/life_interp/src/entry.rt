@@ -6,14 +6,13 @@ ghost use Rattle.life_core_served.specs.ProperPrograms.{IsProperProgram};
 ghost use Rattle.life_interp.specs.Layouts.{AreReady};
 ghost use Rattle.life_interp.specs.Runs.{links_seen, RunEnds};
 ghost use Rattle.life_store.specs.Meaning.{run_of, IsAdmitted};
-ghost use Rattle.life_store.specs.declared.run.Growth.{Growth as AnyGrowth};
 
 use crate::layouts::Layouts;
 use crate::outcome::Outcome;
 use crate::run::{MOST_STEPS, run_on};
 use life_base::Sink;
 use life_core::{CoreProgram, FnId, LinkRef, links};
-use life_store::{Limits, PlainStore, TrapKind};
+use life_store::{Growth, Limits, PlainStore, TrapKind};
 use life_types::NoMemory;
 use std::alloc::Global;
 
@@ -37,6 +36,7 @@ pub(crate) fn run_entry<'p, O: Sink>(
     layouts: &Layouts,
     entry: FnId,
     input: &[i64],
+    growth: Growth,
     limits: Limits,
     steps: u64,
     out: &mut O,
@@ -47,7 +47,7 @@ pub(crate) fn run_entry<'p, O: Sink>(
     requires entry { entry.0 < length (program_of program.now).functions }
     requires steps { steps ≤ MOST_STEPS }
     requires admitted { IfSome (slice_get (program_of program.now).functions entry.0) (λ f. IsAdmitted (program_of program.now) f input.now) }
-    ensures { (growth : AnyGrowth) → IfSome (slice_get (program_of program.now).functions entry.0) (λ f.
+    ensures { IfSome (slice_get (program_of program.now).functions entry.0) (λ f.
         RunEnds (run_of (record { growth = growth; cells = limits.cells; depth = limits.depth }) (program_of program.now) entry.0 f input.now steps)
         (record { old = O.taken out.old; new = O.taken out.new; faults = O.faults out.old; later = O.faults out.new }) result) }
 {
@@ -57,6 +57,6 @@ pub(crate) fn run_entry<'p, O: Sink>(
     }
     let mut store = PlainStore::new(alloc, limits.cells);
     run_on(
-        alloc, program, code, layouts, entry, input, limits, steps, &mut store, out,
+        alloc, program, code, layouts, entry, input, growth, limits, steps, &mut store, out,
     )
 }

@@ -1,6 +1,7 @@
 // What a cell holds.
 ghost use Rattle.std.specs.Prelude.{◌≡◌, slice_get, Some};
 ghost use Rattle.life_cells.specs.Cells.{cell_seen, cells_seen, number_in};
+ghost use Rattle.life_interp.specs.Cells.{is_vacant};
 ghost use Rattle.life_interp.specs.Steps.{is_free};
 
 use life_cells::{Cell, cell_at};
@@ -33,5 +34,20 @@ pub(crate) fn number_of(cell: Cell) -> Option<i64>
         Cell::Wild => None,
         Cell::To { .. } => None,
         Cell::Static(_) => None,
+    }
+}
+
+/// Whether the cell holds nothing.
+pub(crate) fn is_vacant(cell: Cell) -> bool
+    ensures { result ≡ is_vacant (cell_seen cell) }
+{
+    match cell {
+        Cell::Empty => true,
+        Cell::Object(_) => false,
+        Cell::Number(_) => false,
+        Cell::Null => false,
+        Cell::Wild => false,
+        Cell::To { .. } => false,
+        Cell::Static(_) => false,
     }
 }

@@ -7,13 +7,14 @@ ghost use Rattle.life_interp.specs.Fits.{most_births, CanBear, CanStep, Gives, G
 ghost use Rattle.life_interp.specs.Steps.{LeavesBoth};
 ghost use Rattle.life_seen.specs.Housed.{Later};
 ghost use Rattle.life_store.specs.Doing.{Setting};
-ghost use Rattle.life_interp.specs.SoFar.{born_with, given, parameters_given};
+ghost use Rattle.life_interp.specs.Done.{HasNoSlots};
+ghost use Rattle.life_store.specs.Calls.{born_with, given, parameters_given};
 
 use crate::ending::Ending;
-use crate::frame::number_of;
+use crate::frame::{is_vacant, number_of};
 use crate::locals::new_object;
 use crate::sort::{Sort, sort_of};
-use life_cells::{Cell, pointer_of, put_at};
+use life_cells::{Cell, put_at};
 use life_core::CoreFn;
 use life_store::Store;
 use life_types::{TyId, TypeTable};
@@ -28,6 +29,7 @@ pub(crate) fn give_all<S: Store>(
     values: &[Cell],
 ) -> Result<(), Ending>
     requires fits { IsFit types.now (S.content store.old) (S.rows store.old) cells.old.items }
+    requires plain { HasNoSlots types.now (function_of f.now) }
     requires values { CellsFit (S.content store.old) (S.rows store.old) values.now }
     requires countable { CanStep (S.content store.old) }
     requires room { S.limit store.old < most_births }
@@ -47,7 +49,7 @@ pub(crate) fn give_all<S: Store>(
     Ok(())
 }
 
-/// Gives a local a value or a pointer: an object comes to life with it.
+/// Gives a local a value, with which an object may come to life, or what is given as it is.
 pub(crate) fn give<S: Store>(
     types: &TypeTable,
     f: &CoreFn,
@@ -57,6 +59,7 @@ pub(crate) fn give<S: Store>(
     local: usize,
 ) -> Result<(), Ending>
     requires fits { IsFit types.now (S.content store.old) (S.rows store.old) cells.old.items }
+    requires plain { HasNoSlots types.now (function_of f.now) }
     requires value { CellFits (S.content store.old) (S.rows store.old) value }
     requires countable { CanBear (S.content store.old) }
     ensures step { (s : Setting) → s.given.cells ≡ S.limit store.old → LeavesBoth (given s types.now (function_of f.now) (cell_seen value) local)
@@ -79,13 +82,13 @@ pub(crate) fn give<S: Store>(
                 Sort::Pointer => Err(Ending::Stray),
                 Sort::View => Err(Ending::Stray),
             },
-            None => match pointer_of(value) {
-                None => Err(Ending::Stray),
-                Some(_) => {
-                    put_at(cells, local, value);
-                    Ok(())
+            None => {
+                if is_vacant(value) {
+                    return Err(Ending::Stray);
                 }
-            },
+                put_at(cells, local, value);
+                Ok(())
+            }
         }
     } else {
         Err(Ending::Stray)

@@ -1,13 +1,15 @@
 // What calls hand over and give back.
-ghost use Rattle.std.specs.Prelude.{◌≡◌, map, option_map, slice_get, IfOk, IfSome, List, ℕ, ℤ};
-ghost use Rattle.life_core.specs.Function.{function_of};
+ghost use Rattle.std.specs.Prelude.{◌≡◌, ◌∷◌, [], map, option_map, slice_get, IfOk, IfSome, List, ℕ, ℤ};
+ghost use Rattle.life_types.specs.Types.{Types};
+ghost use Rattle.life_core.specs.Function.{function_of, Function};
+ghost use Rattle.life_core.specs.Holdings.{result_sort};
 ghost use Rattle.life_core.specs.Operands.{argument_of};
 ghost use Rattle.life_cells.specs.Cells.{cell_seen, cells_seen, state_of};
 ghost use Rattle.life_interp.specs.Cells.{one_seen};
 ghost use Rattle.life_cells.specs.Fits.{CellFits, CellsFit};
 ghost use Rattle.life_interp.specs.Steps.{Hands};
-ghost use Rattle.life_store.specs.Calls.{number_handed, pointer_handed};
-ghost use Rattle.life_interp.specs.SoFar.{all_handed, handed, results};
+ghost use Rattle.life_interp.specs.Done.{left_by, AreDone, IsDoneArgument};
+ghost use Rattle.life_store.specs.Calls.{all_handed, cell_back, given_back, handed, number_handed, object_handed, other_back, pointer_handed};
 ghost use Rattle.life_store.specs.Content.{Content};
 ghost use Rattle.life_store.specs.Meaning.{value_in};
 ghost use Rattle.life_store.specs.References.{Rows};
@@ -15,9 +17,9 @@ ghost use Rattle.life_store.specs.References.{Rows};
 use crate::ending::Ending;
 use crate::frame::number_of;
 use crate::sort::{Sort, result_sort};
-use life_cells::{Cell, holding, number_at, own_pointer};
+use life_cells::{Cell, holding, number_at, object_at, own_pointer, put_cell};
 use life_core::{Argument, CoreFn};
-use life_types::TypeTable;
+use life_types::{Ty, TypeTable};
 use std::alloc::Global;
 
 /// The values of the arguments, from left to right.
@@ -26,7 +28,8 @@ pub(crate) fn all_handed(
     cells: &[Cell],
     arguments: &[Argument],
 ) -> Result<Vec<Cell>, Ending>
-    ensures step { (c : Content) (output : List ℕ) (input : List ℤ) → Hands (all_handed (state_of c cells.now output input) (map argument_of arguments.now)) result }
+    requires done { AreDone (map argument_of arguments.now) }
+    ensures step { (types : Types) (f : Function) (c : Content) (output : List ℕ) (input : List ℤ) → Hands (all_handed types f (state_of c cells.now output input) (map argument_of arguments.now)) result }
     ensures fits { (c : Content) (rows : Rows) → CellsFit c rows cells.now → IfOk result (λ values. CellsFit c rows values.items) }
 {
     let mut values = Vec::new(alloc);
@@ -44,15 +47,50 @@ pub(crate) fn all_handed(
 
 // The value of an argument, if it is there.
 fn handed(cells: &[Cell], argument: &Argument) -> Option<Cell>
-    ensures step { (c : Content) (output : List ℕ) (input : List ℤ) → option_map cell_seen result ≡ handed (state_of c cells.now output input) (argument_of argument.now) }
+    requires done { IsDoneArgument (argument_of argument.now) }
+    ensures step { (types : Types) (f : Function) (c : Content) (output : List ℕ) (input : List ℤ) → option_map cell_seen result ≡ handed types f (state_of c cells.now output input) (argument_of argument.now) }
     ensures fits { (c : Content) (rows : Rows) → CellsFit c rows cells.now → IfSome result (CellFits c rows) }
 {
     match argument {
         Argument::Value(register) => number_cell(cells, *register),
         Argument::Pointer(location) => pointer_cell(cells, location.local),
-        // No program that is built so far has another.
-        Argument::Given(_) => None,
-        Argument::Slot(_) => None,
+        Argument::Given(local) => object_cell(cells, *local),
+        // No program that is served so far has one.
+        Argument::Slot(_) => unreachable!(),
+    }
+}
+
+// The object that the local has, if it has one.
+fn object_cell(cells: &[Cell], local: u32) -> Option<Cell>
+    ensures seen { option_map cell_seen result ≡ object_handed (slice_get (cells_seen cells.now) local) }
+    ensures fits { (c : Content) (rows : Rows) → CellsFit c rows cells.now → IfSome result (CellFits c rows) }
+{
+    match object_at(cells, local) {
+        None => None,
+        Some(object) => Some(Cell::Object(object)),
+    }
+}
+
+/// Takes from the frame what it gave over.
+pub(crate) fn lend(cells: &mut Vec<Cell>, arguments: &[Argument])
+    ensures seen { cells_seen cells.new.items ≡ left_by (map argument_of arguments.now) (cells_seen cells.old.items) }
+    ensures fits { (c : Content) (rows : Rows) → CellsFit c rows cells.old.items → CellsFit c rows cells.new.items }
+{
+    for argument in arguments {
+        lend_one(cells, argument);
+    }
+}
+
+// .. by one argument.
+fn lend_one(cells: &mut Vec<Cell>, argument: &Argument)
+    ensures seen { cells_seen cells.new.items ≡ left_by (argument_of argument.now ∷ []) (cells_seen cells.old.items) }
+    ensures fits { (c : Content) (rows : Rows) → CellsFit c rows cells.old.items → CellsFit c rows cells.new.items }
+{
+    match argument {
+        Argument::Given(local) => put_cell(cells, *local, Cell::Empty),
+        Argument::Value(_) => {}
+        Argument::Pointer(_) => {}
+        Argument::Slot(_) => {}
     }
 }
 
@@ -78,9 +116,9 @@ fn pointer_cell(cells: &[Cell], local: u32) -> Option<Cell>
     }
 }
 
-/// What a function that returns gives back. A number that wasn't written is 0.
+/// What a function that returns gives back, but for slots. A number that wasn't written is 0.
 pub(crate) fn result_of(types: &TypeTable, f: &CoreFn, cells: &[Cell]) -> Option<Cell>
-    ensures step { (c : Content) (output : List ℕ) (input : List ℤ) → one_seen result ≡ results types.now (function_of f.now) (state_of c cells.now output input) }
+    ensures seen { one_seen result ≡ given_back (slice_get types.now.types f.now.result.0) (result_sort types.now (function_of f.now)) (slice_get (cells_seen cells.now) f.now.parameters) }
     ensures fits { (c : Content) (rows : Rows) → CellsFit c rows cells.now → IfSome result (CellFits c rows) }
 {
     match result_sort(types, f) {
@@ -90,8 +128,30 @@ pub(crate) fn result_of(types: &TypeTable, f: &CoreFn, cells: &[Cell]) -> Option
         },
         Sort::Pointer => pointer_cell(cells, f.parameters),
         Sort::View => pointer_cell(cells, f.parameters),
-        Sort::Blank => None,
+        Sort::Blank => other_back(types.get(f.result), cells, f.parameters),
         Sort::Object => None,
+    }
+}
+
+// What is given back of another type: an object, or a pointer.
+fn other_back(ty: Option<Ty>, cells: &[Cell], local: u32) -> Option<Cell>
+    ensures seen { one_seen result ≡ other_back ty (slice_get (cells_seen cells.now) local) }
+    ensures fits { (c : Content) (rows : Rows) → CellsFit c rows cells.now → IfSome result (CellFits c rows) }
+{
+    match ty {
+        Some(Ty::Void) => None,
+        _ => cell_back(cells, local),
+    }
+}
+
+// .. whatever the type is.
+fn cell_back(cells: &[Cell], local: u32) -> Option<Cell>
+    ensures seen { one_seen result ≡ cell_back (slice_get (cells_seen cells.now) local) }
+    ensures fits { (c : Content) (rows : Rows) → CellsFit c rows cells.now → IfSome result (CellFits c rows) }
+{
+    match object_cell(cells, local) {
+        None => pointer_cell(cells, local),
+        Some(object) => Some(object),
     }
 }
 

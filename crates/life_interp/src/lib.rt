@@ -5,6 +5,9 @@ mod arithmetic;
 mod ask;
 mod births;
 mod calls;
+mod carrying;
+mod changing;
+mod cursors;
 mod ending;
 mod entry;
 mod frame;
@@ -23,6 +26,7 @@ mod run;
 mod sort;
 mod steps;
 mod values;
+mod views;
 mod walk;
 
 pub use life_store::{FaultKind, Growth, Limits, TrapKind};

@@ -90,6 +90,7 @@ impl<'p> Machine<'p> {
             &self.layouts,
             entry,
             input,
+            policy,
             self.limits,
             steps,
             out,

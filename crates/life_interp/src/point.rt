@@ -6,6 +6,7 @@ ghost use Rattle.life_core.specs.Linked.{code_of, goes};
 ghost use Rattle.life_core.specs.Step.{asked_of, step_of};
 ghost use Rattle.life_core.specs.Tree.{Action, Question};
 ghost use Rattle.life_cells.specs.Fits.{meant, IsFit};
+ghost use Rattle.life_changes.specs.Bounded.{IsBounded};
 ghost use Rattle.life_interp.specs.Fits.{most_births, CanStep, Grows};
 ghost use Rattle.life_interp.specs.Frames.{all_cells, AllBegin, AreFrames};
 ghost use Rattle.life_interp.specs.Layouts.{AreReady};
@@ -26,7 +27,7 @@ use crate::steps::perform;
 use life_base::Sink;
 use life_cells::Scope;
 use life_core::{CoreProgram, Instr, Leads, LinkRef, NodeRef, Test};
-use life_store::{Store, TrapKind};
+use life_store::{Growth, Store, TrapKind};
 use life_types::Place;
 use std::alloc::Global;
 
@@ -36,6 +37,7 @@ pub(crate) fn pass<'p, S: Store, O: Sink>(
     program: &'p CoreProgram,
     code: &[Vec<LinkRef<'p>>],
     layouts: &Layouts,
+    growth: Growth,
     depth: u32,
     store: &mut S,
     frames: &mut Frames<'p>,
@@ -49,15 +51,17 @@ pub(crate) fn pass<'p, S: Store, O: Sink>(
     requires frames { AreFrames (program_of program.now).functions frames.old }
     requires fits { IsFit (program_of program.now).types (S.content store.old) (S.rows store.old) (all_cells frames.old) }
     requires sound { IsSoundWalk (program_of program.now) frames.old (meant (program_of program.now).types (S.content store.old) (S.rows store.old)) }
+    requires bounded { IsBounded (S.limit store.old) (meant (program_of program.now).types (S.content store.old) (S.rows store.old)) }
     requires countable { CanStep (S.content store.old) }
     requires room { S.limit store.old < most_births }
-    ensures step { (s : Setting) → IsSet s (S.limit store.old) (program_of program.now).texts → s.given.depth ≡ depth
+    ensures step { (s : Setting) → IsSet s (S.limit store.old) (program_of program.now).texts → s.given.growth ≡ growth → s.given.depth ≡ depth
         → PointLeads (passes s (program_of program.now) frames.old (meant (program_of program.now).types (S.content store.old) (S.rows store.old)) (drop taken.old input.now))
         (program_of program.now).functions (meant (program_of program.now).types (S.content store.old) (S.rows store.old)) (drop taken.old input.now) frames.new (meant (program_of program.now).types (S.content store.new) (S.rows store.new)) (drop taken.new input.now)
         (record { old = O.taken out.old; new = O.taken out.new; faults = O.faults out.old; later = O.faults out.new }) result }
     ensures frames { OnOk result (AreFrames (program_of program.now).functions frames.new) }
     ensures fits { OnOk result (IsFit (program_of program.now).types (S.content store.new) (S.rows store.new) (all_cells frames.new)) }
     ensures sound { OnOk result (IsSoundWalk (program_of program.now) frames.new (meant (program_of program.now).types (S.content store.new) (S.rows store.new))) }
+    ensures bounded { OnOk result (IsBounded (S.limit store.old) (meant (program_of program.now).types (S.content store.new) (S.rows store.new))) }
     ensures grows { OnOk result (Grows most_births (S.content store.old) (S.content store.new)) }
     ensures limit { S.limit store.new ≡ S.limit store.old }
 {
@@ -68,6 +72,7 @@ pub(crate) fn pass<'p, S: Store, O: Sink>(
                 alloc,
                 program,
                 layouts,
+                growth,
                 depth,
                 instr,
                 link.spot.place,
@@ -90,6 +95,7 @@ fn act<'p, S: Store, O: Sink>(
     alloc: Global,
     program: &CoreProgram,
     layouts: &Layouts,
+    growth: Growth,
     depth: u32,
     instr: &'p Instr,
     place: Place,
@@ -106,15 +112,17 @@ fn act<'p, S: Store, O: Sink>(
     requires fits { IsFit (program_of program.now).types (S.content store.old) (S.rows store.old) (all_cells frames.old) }
     requires sound { IsSoundWalk (program_of program.now) frames.old (meant (program_of program.now).types (S.content store.old) (S.rows store.old)) }
     requires here { StandsHere (program_of program.now) frames.old place (Action (step_of instr.now)) (goes to) }
+    requires bounded { IsBounded (S.limit store.old) (meant (program_of program.now).types (S.content store.old) (S.rows store.old)) }
     requires countable { CanStep (S.content store.old) }
     requires room { S.limit store.old < most_births }
-    ensures step { (s : Setting) → IsSet s (S.limit store.old) (program_of program.now).texts → s.given.depth ≡ depth
+    ensures step { (s : Setting) → IsSet s (S.limit store.old) (program_of program.now).texts → s.given.growth ≡ growth → s.given.depth ≡ depth
         → PointLeads (acts s (program_of program.now) frames.old (meant (program_of program.now).types (S.content store.old) (S.rows store.old)) (drop taken.old input.now) (step_of instr.now) place to)
         (program_of program.now).functions (meant (program_of program.now).types (S.content store.old) (S.rows store.old)) (drop taken.old input.now) frames.new (meant (program_of program.now).types (S.content store.new) (S.rows store.new)) (drop taken.new input.now)
         (record { old = O.taken out.old; new = O.taken out.new; faults = O.faults out.old; later = O.faults out.new }) result }
     ensures frames { OnOk result (AreFrames (program_of program.now).functions frames.new) }
     ensures fits { OnOk result (IsFit (program_of program.now).types (S.content store.new) (S.rows store.new) (all_cells frames.new)) }
     ensures sound { OnOk result (IsSoundWalk (program_of program.now) frames.new (meant (program_of program.now).types (S.content store.new) (S.rows store.new))) }
+    ensures bounded { OnOk result (IsBounded (S.limit store.old) (meant (program_of program.now).types (S.content store.new) (S.rows store.new))) }
     ensures grows { OnOk result (Grows most_births (S.content store.old) (S.content store.new)) }
     ensures limit { S.limit store.new ≡ S.limit store.old }
 {
@@ -132,6 +140,7 @@ fn act<'p, S: Store, O: Sink>(
                 alloc,
                 program,
                 layouts,
+                growth,
                 f,
                 instr,
                 store,

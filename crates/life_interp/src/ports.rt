@@ -1,40 +1,49 @@
 // What goes in or out of the program.
-ghost use Rattle.std.specs.Prelude.{◌≡◌, ◌%◌, ◌^◌, drop, map, take, List, OnOk, ℤ};
+ghost use Rattle.std.specs.Prelude.{◌≡◌, ◌%◌, ◌^◌, drop, List, OnOk, ℤ};
 ghost use Rattle.std.specs.Int.{cast_unsigned, w64};
-ghost use Rattle.life_core.specs.Function.{function_of, name_bytes, program_of};
+ghost use Rattle.life_core.specs.Function.{function_of, program_of};
 ghost use Rattle.life_core.specs.Step.{port_of};
-ghost use Rattle.life_pointers.specs.Pointers.{characters_seen};
-ghost use Rattle.life_cells.specs.Fits.{CellsFit};
-ghost use Rattle.life_interp.specs.Steps.{taken_into, viewed_from};
+ghost use Rattle.life_cells.specs.Cells.{state_in};
+ghost use Rattle.life_cells.specs.Fits.{meant, CellsFit, IsFit};
+ghost use Rattle.life_interp.specs.Accessed.{HasViewed};
+ghost use Rattle.life_interp.specs.Layouts.{AreReady};
+ghost use Rattle.life_interp.specs.Steps.{taken_into};
 ghost use Rattle.life_interp.specs.Walking.{LeavesInput, Performs, Writes};
 ghost use Rattle.life_store.specs.Content.{Content};
-ghost use Rattle.life_interp.specs.SoFar as so_far;
-ghost use Rattle.life_store.specs.Doing.{as_long, characters_in, number_text, Setting};
+ghost use Rattle.life_store.specs.Doing as doing;
+ghost use Rattle.life_store.specs.Doing.{as_long, number_text, Setting};
 ghost use Rattle.life_store.specs.References.{Rows};
 
 use crate::ending::Ending;
+use crate::layouts::Layouts;
 use crate::values::type_at;
+use crate::views::write_view;
 use life_base::{Sink, write_whole};
-use life_cells::{Cell, number_at, own_pointer, put_cell};
+use life_cells::{Cell, Scope, number_at, put_cell};
 use life_core::{CoreFn, CoreProgram, Port};
-use life_pointers::{Characters, Pointer};
-use life_store::TrapKind;
+use life_store::{Store, TrapKind};
 use life_types::Ty;
 use std::alloc::Global;
 
 /// Writes what is to be written, or takes what is to be taken.
-pub(crate) fn pass<O: Sink>(
+pub(crate) fn pass<S: Store, O: Sink>(
     alloc: Global,
     program: &CoreProgram,
+    layouts: &Layouts,
     f: &CoreFn,
     port: &Port,
+    store: &S,
     cells: &mut Vec<Cell>,
     input: &[i64],
     taken: &mut usize,
     out: &mut O,
 ) -> Result<(), Ending>
-    ensures step { (s : Setting) (c : Content) → s.texts ≡ (program_of program.now).texts
-        → Performs (so_far.port s (program_of program.now).types (function_of f.now) (port_of port.now)) c cells.old.items (drop taken.old input.now) c cells.new.items (drop taken.new input.now)
+    requires layouts { AreReady (program_of program.now).types layouts.now }
+    requires fits { IsFit (program_of program.now).types (S.content store.now) (S.rows store.now) cells.old.items }
+    requires viewed { HasViewed (program_of program.now).types (function_of f.now) (state_in (meant (program_of program.now).types (S.content store.now) (S.rows store.now)) cells.old.items) (port_of port.now) }
+    ensures step { (s : Setting) → s.texts ≡ (program_of program.now).texts
+        → Performs (doing.port s (program_of program.now).types (function_of f.now) (port_of port.now))
+        (meant (program_of program.now).types (S.content store.now) (S.rows store.now)) cells.old.items (drop taken.old input.now) (meant (program_of program.now).types (S.content store.now) (S.rows store.now)) cells.new.items (drop taken.new input.now)
         (record { old = O.taken out.old; new = O.taken out.new; faults = O.faults out.old; later = O.faults out.new }) result }
     ensures fits { (c : Content) (rows : Rows) → CellsFit c rows cells.old.items → OnOk result (CellsFit c rows cells.new.items) }
 {
@@ -43,7 +52,15 @@ pub(crate) fn pass<O: Sink>(
             None => Err(Ending::Stray),
             Some(value) => write_number(alloc, type_at(&program.types, f, *item), value, out),
         },
-        Port::View(location) => write_view(&program.texts, cells, location.local, out),
+        Port::View(location) => {
+            let scope = Scope {
+                types: &program.types,
+                layouts: &layouts.all,
+                texts: &program.texts,
+                function: f,
+            };
+            write_view(alloc, &scope, store, cells, location, out)
+        }
         Port::Take(register) => take(cells, *register, input, taken),
     }
 }
@@ -77,54 +94,14 @@ fn low_byte(value: i64) -> u8
     (value.cast_unsigned() % (1 << 8)) as u8
 }
 
-fn write_text<O: Sink>(text: &[u8], out: &mut O) -> Result<(), Ending>
+/// Writes a whole text.
+pub(crate) fn write_text<O: Sink>(text: &[u8], out: &mut O) -> Result<(), Ending>
     ensures { Writes text.now (record { old = O.taken out.old; new = O.taken out.new; faults = O.faults out.old; later = O.faults out.new }) result }
 {
     match write_whole(out, text) {
         Err(_) => Err(Ending::WriteFault),
         Ok(()) => Ok(()),
     }
-}
-
-// Writes the characters of a view.
-fn write_view<O: Sink>(
-    texts: &[Vec<u8>],
-    cells: &[Cell],
-    view: u32,
-    out: &mut O,
-) -> Result<(), Ending>
-    ensures { (s : Setting) (c : Content) (ins : List ℤ) → s.texts ≡ map name_bytes texts.now
-        → Performs (viewed_from s view) c cells.now ins c cells.now ins (record { old = O.taken out.old; new = O.taken out.new; faults = O.faults out.old; later = O.faults out.new }) result }
-{
-    match own_pointer(cells, view) {
-        Some(Pointer::Static(characters)) => write_text(characters_in(texts, characters), out),
-        Some(Pointer::Null) => Err(Ending::Stray),
-        Some(Pointer::Wild) => Err(Ending::Stray),
-        Some(Pointer::To { .. }) => Err(Ending::Stray),
-        None => Err(Ending::Stray),
-    }
-}
-
-// Characters of a text.
-fn characters_in(texts: &[Vec<u8>], characters: Characters) -> &[u8]
-    ensures { result.now ≡ characters_in (map name_bytes texts.now) (characters_seen characters) }
-{
-    match characters.text {
-        None => &[],
-        Some(number) => match texts.get(number as usize) {
-            None => &[],
-            Some(text) => part(text, characters.index as usize, characters.count as usize),
-        },
-    }
-}
-
-// So many bytes from the index on, or as many as there are.
-fn part(text: &[u8], index: usize, count: usize) -> &[u8]
-    ensures { result.now ≡ take count (drop index text.now) }
-{
-    let start = index.min(text.len());
-    let rest = &text[start..];
-    &rest[..count.min(rest.len())]
 }
 
 // Takes the next number of the input into a register.

@@ -6,9 +6,8 @@ ghost use Rattle.life_cells.specs.Fits.{meant, IsFit, Keeps};
 ghost use Rattle.life_cells.specs.Scopes.{function_in, texts_in, types_in};
 ghost use Rattle.life_cells.specs.Steps.{Comes};
 ghost use Rattle.life_interp.specs.Accessed.{HasPlaces, IsAccess};
-ghost use Rattle.life_interp.specs.SoFar.{does};
 ghost use Rattle.life_interp.specs.Steps.{settled_as};
-ghost use Rattle.life_store.specs.Doing.{Setting};
+ghost use Rattle.life_store.specs.Doing.{does, Setting};
 
 use crate::ending::Ending;
 use crate::values::{load, save};
@@ -62,7 +61,7 @@ pub(crate) fn reach<S: Store>(
             right,
             equal,
         } => same(scope, store, cells, *into, left, right, *equal),
-        // A later stage serves the others.
+        // No other step reaches into a store.
         _ => Err(Stop::Lost),
     }
 }

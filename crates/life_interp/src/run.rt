@@ -5,6 +5,7 @@ ghost use Rattle.life_core.specs.Linked.{code_of};
 ghost use Rattle.life_core_served.specs.ProperPrograms.{IsProperProgram};
 ghost use Rattle.life_cells.specs.Cells.{cell_seen, cells_seen};
 ghost use Rattle.life_cells.specs.Fits.{meant, CellFits, CellsFit, IsFit};
+ghost use Rattle.life_interp.specs.Done.{HasNoSlots};
 ghost use Rattle.life_interp.specs.Fits.{most_births, CanStep, Grows};
 ghost use Rattle.life_interp.specs.Layouts.{AreReady};
 ghost use Rattle.life_interp.specs.Runs.{barred_as, links_seen, IsBarred, RunEnds};
@@ -19,7 +20,6 @@ ghost use Rattle.life_store.specs.Doing.{Setting};
 ghost use Rattle.life_store.specs.Meaning.{run_of, IsAdmitted};
 ghost use Rattle.life_store.specs.References.{Rows};
 ghost use Rattle.life_store.specs.State as state;
-ghost use Rattle.life_store.specs.declared.run.Growth.{Growth as AnyGrowth};
 
 use crate::calls::given_cells;
 use crate::ending::{Ending, Halt};
@@ -32,7 +32,7 @@ use crate::walk::walk;
 use life_base::Sink;
 use life_cells::Cell;
 use life_core::{CoreFn, CoreProgram, FnId, LinkRef};
-use life_store::{Limits, Store};
+use life_store::{Growth, Limits, Store};
 use life_types::{NoMemory, Place, TypeTable};
 use std::alloc::Global;
 
@@ -47,6 +47,7 @@ pub(crate) fn run_on<'p, S: Store, O: Sink>(
     layouts: &Layouts,
     entry: FnId,
     input: &[i64],
+    growth: Growth,
     limits: Limits,
     steps: u64,
     store: &mut S,
@@ -62,7 +63,7 @@ pub(crate) fn run_on<'p, S: Store, O: Sink>(
     requires empty { S.content store.old ≡ empty_content }
     requires rows { S.rows store.old ≡ none }
     requires limit { S.limit store.old ≡ limits.cells }
-    ensures { (growth : AnyGrowth) → IfSome (slice_get (program_of program.now).functions entry.0) (λ f.
+    ensures { IfSome (slice_get (program_of program.now).functions entry.0) (λ f.
         RunEnds (run_of (record { growth = growth; cells = limits.cells; depth = limits.depth }) (program_of program.now) entry.0 f input.now steps)
         (record { old = O.taken out.old; new = O.taken out.new; faults = O.faults out.old; later = O.faults out.new }) result) }
 {
@@ -82,6 +83,7 @@ pub(crate) fn run_on<'p, S: Store, O: Sink>(
                 program,
                 code,
                 layouts,
+                growth,
                 limits.depth,
                 steps,
                 store,
@@ -125,6 +127,7 @@ fn first_cells<S: Store>(
     store: &mut S,
 ) -> Result<Vec<Cell>, Ending>
     requires fits { IsFit (program_of program.now).types (S.content store.old) (S.rows store.old) [] }
+    requires plain { HasNoSlots (program_of program.now).types (function_of f.now) }
     requires countable { CanStep (S.content store.old) }
     requires room { S.limit store.old < most_births }
     requires enough { f.now.parameters ≤ length input.now }

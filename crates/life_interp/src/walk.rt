@@ -3,6 +3,7 @@ ghost use Rattle.std.specs.Prelude.{◌≡◌, ◌<◌, [], drop, map};
 ghost use Rattle.life_core.specs.Function.{program_of};
 ghost use Rattle.life_core.specs.Linked.{code_of};
 ghost use Rattle.life_cells.specs.Fits.{meant, IsFit};
+ghost use Rattle.life_changes.specs.Bounded.{IsBounded};
 ghost use Rattle.life_interp.specs.Fits.{most_births, CanWalk};
 ghost use Rattle.life_interp.specs.Frames.{all_cells, AllBegin, AreFrames};
 ghost use Rattle.life_interp.specs.Layouts.{AreReady};
@@ -18,7 +19,7 @@ use crate::layouts::Layouts;
 use crate::point::pass;
 use life_base::Sink;
 use life_core::{CoreProgram, LinkRef};
-use life_store::Store;
+use life_store::{Growth, Store};
 use std::alloc::Global;
 
 /// Goes from point to point, each of which pays a step, until the entry returns or the run stops.
@@ -27,6 +28,7 @@ pub(crate) fn walk<'p, S: Store, O: Sink>(
     program: &'p CoreProgram,
     code: &[Vec<LinkRef<'p>>],
     layouts: &Layouts,
+    growth: Growth,
     depth: u32,
     steps: u64,
     store: &mut S,
@@ -41,16 +43,17 @@ pub(crate) fn walk<'p, S: Store, O: Sink>(
     requires frames { AreFrames (program_of program.now).functions frames.old }
     requires fits { IsFit (program_of program.now).types (S.content store.old) (S.rows store.old) (all_cells frames.old) }
     requires sound { IsSoundWalk (program_of program.now) frames.old (meant (program_of program.now).types (S.content store.old) (S.rows store.old)) }
+    requires bounded { IsBounded (S.limit store.old) (meant (program_of program.now).types (S.content store.old) (S.rows store.old)) }
     requires countable { CanWalk steps (S.content store.old) }
     requires room { S.limit store.old < most_births }
-    ensures { (s : Setting) → IsSet s (S.limit store.old) (program_of program.now).texts → s.given.depth ≡ depth
+    ensures { (s : Setting) → IsSet s (S.limit store.old) (program_of program.now).texts → s.given.growth ≡ growth → s.given.depth ≡ depth
         → WalkEnds (from (program_of program.now).functions frames.old (meant (program_of program.now).types (S.content store.old) (S.rows store.old)) (drop taken.old input.now) (walk s (program_of program.now) steps) steps [])
         (record { old = O.taken out.old; new = O.taken out.new; faults = O.faults out.old; later = O.faults out.new }) result }
 {
     let mut left = steps;
     while left > 0 {
         match pass(
-            alloc, program, code, layouts, depth, store, frames, input, taken, out,
+            alloc, program, code, layouts, growth, depth, store, frames, input, taken, out,
         ) {
             Ok(()) => {}
             Err(halt) => return halt,

@@ -2,16 +2,22 @@ use Rattle.std.proofs.Common.{ap, sym, subst, ◌∙◌, arith}
 use Rattle.std.proofs.lemmas.Option.{slice_get-map, slice_get_past, slice_get_read}
 use Rattle.std.specs.Prelude.{option_map, slice_get}
 use Rattle.life_core.specs.Function.{Function, function_of, program_of}
+use Rattle.life_store.specs.Calls.{parameters_given}
 use Rattle.life_store.specs.Meaning.{frame}
 use Rattle.life_cells.specs.Cells.{cells_seen}
 use Rattle.life_interp.specs.Cells.{world_of}
-use Rattle.life_interp.specs.SoFar.{parameters_given}
-use Rattle.life_interp.specs.PointsSoFar.{entered_in}
+use Rattle.life_interp.specs.Walk.{entered_in}
 use Rattle.life_interp.specs.Walking.{Halts}
 use Rattle.life_cells.specs.Fits.{meant}
 use Rattle.life_interp.proofs.CodeLists.{function_there}
 use Rattle.life_interp.proofs.FrameLemmas.{enter_goes, enter_halts}
 use Rattle.life_interp.proofs.calls.entered.Goals as goal
+
+pub given_cells-requires-clause-plain : goal.given_cells-requires-clause-plain
+given_cells-requires-clause-plain g c =
+    let fs = c.args.program.now.functions in
+    let there = slice_get_read fs.items fs.len c.args.function.0 c.index-g.result.now fs.ok.0 (omega (arith, c.if-number-len.true, c.len.ensures)) c.index-g.ensures in
+    c.requires.plain c.args.function.0 (function_of c.index-g.result.now) (slice_get-map function_of fs.items c.args.function.0 ∙ ap (option_map function_of) there)
 
 pub returns-in-Err-clause-step : goal.returns-in-Err-clause-step
 returns-in-Err-clause-step g c = λ s e ws ins.
@@ -21,7 +27,7 @@ returns-in-Err-clause-step g c = λ s e ws ins.
     let values = cells_seen c.args.values.now in
     let there = slice_get_read fs.items fs.len c.args.function.0 c.index-g.result.now fs.ok.0 (omega (arith, c.if-number-len.true, c.len.ensures)) c.index-g.ensures in
     let seen = slice_get-map function_of fs.items c.args.function.0 ∙ ap (option_map function_of) there in
-    subst (Halts (λ go n output. entered_in s p go ws c.args.place (world_of content output ins) (slice_get p.functions c.args.function.0) values) content ins) (sym c.let_in.ensures)
+    subst (Halts (λ go n output. entered_in s p go ws c.args.place (world_of content output ins) (world_of content output ins) (slice_get p.functions c.args.function.0) values) content ins) (sym c.let_in.ensures)
     (enter_halts s p c.args.function.0 (function_of c.index-g.result.now) values c.args.place content seen c.in-Err.ending (c.in-Err.ensures.step s e) ws ins)
 
 pub returns-in-Ok-clause-step : goal.returns-in-Ok-clause-step
@@ -37,7 +43,7 @@ returns-else-number-len-clause-step g c = λ s e ws ins go n output.
     let p = program_of c.args.program.now in
     let fs = c.args.program.now.functions in
     let past = slice_get_past fs.items c.args.function.0 (omega (arith, c.if-number-len.false, c.len.ensures, fs.ok.0)) in
-    ap (λ o. entered_in s p go ws c.args.place (world_of (meant (program_of c.args.program.now).types (g.S.Store.content c.args.store.now) (g.S.Store.rows c.args.store.now)) output ins) o (cells_seen c.args.values.now))
+    ap (λ o. entered_in s p go ws c.args.place (world_of (meant (program_of c.args.program.now).types (g.S.Store.content c.args.store.now) (g.S.Store.rows c.args.store.now)) output ins) (world_of (meant (program_of c.args.program.now).types (g.S.Store.content c.args.store.now) (g.S.Store.rows c.args.store.now)) output ins) o (cells_seen c.args.values.now))
     (slice_get-map function_of fs.items c.args.function.0 ∙ ap (option_map function_of) past)
 
 pub returns-in-Ok-clause-begins : goal.returns-in-Ok-clause-begins

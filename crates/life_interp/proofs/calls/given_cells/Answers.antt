@@ -1,6 +1,6 @@
 use Rattle.std.proofs.Common.{ap, subst, sym, ◌∙◌, arith}
 use Rattle.life_core.specs.Function.{function_of, program_of}
-use Rattle.life_interp.specs.SoFar.{parameters_given}
+use Rattle.life_store.specs.Calls.{parameters_given}
 use Rattle.life_store.specs.State.{State}
 use Rattle.life_cells.specs.Cells.{cells_seen}
 use Rattle.life_interp.specs.Steps.{TellsEnd}
@@ -12,6 +12,9 @@ use Rattle.life_interp.proofs.calls.given_cells.Goals as goal
 
 pub give_all-requires-clause-fits : goal.give_all-requires-clause-fits
 give_all-requires-clause-fits g c = rw c.in-Ok.ensures (other_cells _ _ _ c.args.values.now _ c.requires.fits (blank_fits _ _ _))
+
+pub give_all-requires-clause-plain : goal.give_all-requires-clause-plain
+give_all-requires-clause-plain g c = c.requires.plain
 
 pub give_all-requires-clause-values : goal.give_all-requires-clause-values
 give_all-requires-clause-values g c = c.requires.fits.held

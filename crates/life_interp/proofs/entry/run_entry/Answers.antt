@@ -14,7 +14,8 @@ use Rattle.life_interp.proofs.WalkLemmas.{untouched}
 use Rattle.life_interp.proofs.entry.run_entry.Goals as goal
 
 pub returns-then-limits-eq0 : goal.returns-then-limits-eq0
-returns-then-limits-eq0 g c = λ growth.
+returns-then-limits-eq0 g c =
+    let growth = c.args.growth in
     let p = program_of c.args.program.now in
     let all = c.args.program.now.functions in
     let entry = c.args.entry.0 in

@@ -5,19 +5,19 @@ use mir.Val.{SFits}
 use Rattle.std.specs.Int.{w64}
 use Rattle.std.specs.Prelude.{ℤ}
 use Rattle.life_core.specs.Function.{function_of}
-use Rattle.life_core.specs.Holdings.{AnObject, ANumber, Blank, APointer, AView, held_by}
+use Rattle.life_core.specs.Holdings.{AnObject, ANumber, Blank, APointer, AView}
 use Rattle.life_store.specs.Doing.{Next, put_cell}
-use Rattle.life_interp.specs.SoFar.{born_with, given, given_if, given_to}
+use Rattle.life_store.specs.Calls.{born_with, given, given_if}
 use Rattle.life_store.specs.State as state
 use Rattle.life_cells.specs.Cells.{cell_seen, state_of}
 use Rattle.life_interp.specs.Cells.{sort_seen}
 use Rattle.life_cells.specs.Fits.{meant}
 use Rattle.life_interp.specs.Steps.{LeavesBoth}
 use Rattle.life_cells.specs.declared.cell.Cell.TheVariants as held
-use Rattle.life_cells.proofs.CellLemmas.{counts, points}
+use Rattle.life_cells.proofs.CellLemmas.{counts}
 use Rattle.life_cells.proofs.FitLemmas.{other_cells, set_fits}
 use Rattle.life_cells.proofs.LocationLemmas.{put_now}
-use Rattle.life_interp.proofs.CellLemmas.{given_strays}
+use Rattle.life_interp.proofs.CellLemmas.{given_as, given_nothing}
 use Rattle.life_interp.proofs.GiveLemmas.{given_is}
 use Rattle.life_interp.proofs.LocalLemmas.{leaves_as}
 use Rattle.life_interp.proofs.Single.{object_is_number}
@@ -102,8 +102,8 @@ returns-in-View-clause-step g c = λ s e output input.
     ap (λ (v : state.Cell). given s c.args.types.now f v c.args.local st) value
     ∙ given_is s c.args.types.now f _ c.args.local local AView st there (sym (ap sort_seen c.in-View.is) ∙ c.sort_of.ensures)
 
-pub returns-in-None-pointer_of-clause-step : goal.returns-in-None-pointer_of-clause-step
-returns-in-None-pointer_of-clause-step g c = λ s e output input.
+pub returns-then-is_vacant-clause-step : goal.returns-then-is_vacant-clause-step
+returns-then-is_vacant-clause-step g c = λ s e output input.
     let locals = c.args.f.now.locals in
     let local = c.index-declared.result.now in
     let there = slice_get_read locals.items locals.len c.args.local local locals.ok.0 (omega (arith, c.if-local-len.true, c.len.ensures)) c.index-declared.ensures in
@@ -111,27 +111,25 @@ returns-in-None-pointer_of-clause-step g c = λ s e output input.
     let f = function_of c.args.f.now in
     let st = state_of content c.args.cells.now.items output input in
     given_is s c.args.types.now f (cell_seen c.args.value) c.args.local local _ st there refl
-    ∙ given_strays s _ local.ty (cell_seen c.args.value) c.args.local st c.in-None.ensures c.in-None-pointer_of.ensures.is
+    ∙ given_nothing s c.args.types.now _ local.ty (c.requires.plain c.args.local local there) c.args.local st (cell_seen c.args.value) (sym c.is_vacant.ensures ∙ c.if-is_vacant.true)
 
-pub returns-in-Some-pointer_of-clause-step : goal.returns-in-Some-pointer_of-clause-step
-returns-in-Some-pointer_of-clause-step g c = λ s e output input.
+pub returns-else-is_vacant-clause-step : goal.returns-else-is_vacant-clause-step
+returns-else-is_vacant-clause-step g c = λ s e output input.
     let locals = c.args.f.now.locals in
     let local = c.index-declared.result.now in
     let there = slice_get_read locals.items locals.len c.args.local local locals.ok.0 (omega (arith, c.if-local-len.true, c.len.ensures)) c.index-declared.ensures in
     let content = meant c.args.types.now (g.S.Store.content c.args.store.now) (g.S.Store.rows c.args.store.now) in
     let f = function_of c.args.f.now in
     let st = state_of content c.args.cells.now.items output input in
-    let value = same_Some (cell_seen c.args.value) _ (points (Some (cell_seen c.args.value)) _ c.in-Some-pointer_of.ensures.is) in
     given_is s c.args.types.now f (cell_seen c.args.value) c.args.local local _ st there refl
-    ∙ ap (λ (v : state.Cell). given_to s (held_by c.args.types.now (Some local)) local.ty v c.args.local st) value
-    ∙ ap (λ (v : state.Cell). Next (put_cell c.args.local v st)) (sym value)
-    ∙ ap Next (put_now content c.args.cells.now.items c.put_at-in-Some-pointer_of.new.cells.items c.args.local c.args.value output input c.put_at-in-Some-pointer_of.ensures)
+    ∙ given_as s c.args.types.now _ local.ty (c.requires.plain c.args.local local there) c.args.local st (cell_seen c.args.value) c.in-None.ensures (sym c.is_vacant.ensures ∙ c.if-is_vacant.false)
+    ∙ ap Next (put_now content c.args.cells.now.items c.put_at-in-None.new.cells.items c.args.local c.args.value output input c.put_at-in-None.ensures)
 
-pub returns-in-Some-pointer_of-clause-fits : goal.returns-in-Some-pointer_of-clause-fits
-returns-in-Some-pointer_of-clause-fits g c =
+pub returns-else-is_vacant-clause-fits : goal.returns-else-is_vacant-clause-fits
+returns-else-is_vacant-clause-fits g c =
     let content = g.S.Store.content c.args.store.now in
     let rows = g.S.Store.rows c.args.store.now in
-    rw c.put_at-in-Some-pointer_of.ensures
+    rw c.put_at-in-None.ensures
     (other_cells c.args.types.now content rows c.args.cells.now.items _ c.requires.fits (set_fits content rows c.args.cells.now.items c.args.local c.args.value c.requires.fits.held c.requires.value))
 
 pub returns-else-local-len-clause-step : goal.returns-else-local-len-clause-step

@@ -2,7 +2,7 @@ use Rattle.std.proofs.Common.{◌+◌, List, drop, ap, subst, sym, ◌∙◌, ar
 use Rattle.std.specs.Prelude.{slice_index_or}
 use Rattle.life_core.specs.Function.{function_of}
 use Rattle.life_store.specs.Doing.{on_next}
-use Rattle.life_interp.specs.SoFar.{given, parameters_given}
+use Rattle.life_store.specs.Calls.{given, parameters_given}
 use Rattle.life_store.specs.State as state
 use Rattle.life_cells.specs.Cells.{cell_seen, cells_seen, state_of}
 use Rattle.life_interp.specs.Steps.{TellsEnd}
@@ -14,6 +14,9 @@ use Rattle.life_interp.proofs.FrameLemmas.{index_fits, more_seen, none_seen}
 use Rattle.life_interp.proofs.GiveLemmas.{gives_on}
 use Rattle.life_interp.proofs.LocalLemmas.{on_next_ends}
 use Rattle.life_interp.proofs.giving.give_all.Goals as goal
+
+pub give-requires-clause-plain : goal.give-requires-clause-plain
+give-requires-clause-plain g c = c.requires.plain
 
 pub give-requires-clause-value : goal.give-requires-clause-value
 give-requires-clause-value g c =

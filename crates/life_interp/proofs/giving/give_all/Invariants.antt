@@ -2,7 +2,7 @@ use Rattle.std.proofs.Common.{◌≡◌, List, ℕ, drop}
 use Rattle.std.specs.Prelude.{ℤ}
 use Rattle.life_core.specs.Function.{function_of}
 use Rattle.life_store.specs.Doing.{Setting}
-use Rattle.life_interp.specs.SoFar.{parameters_given}
+use Rattle.life_store.specs.Calls.{parameters_given}
 use Rattle.life_cells.specs.Cells.{cells_seen, state_of}
 use Rattle.life_seen.specs.Housed.{Later}
 use Rattle.life_cells.specs.Fits.{meant, IsFit}

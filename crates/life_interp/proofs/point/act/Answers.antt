@@ -10,7 +10,6 @@ use Rattle.life_core.specs.Tree.{Action}
 use Rattle.life_core.specs.declared.instr.Instr.{Instr}
 use Rattle.life_core.specs.declared.operand.Argument.{Argument}
 use Rattle.life_store.specs.Doing.{Setting}
-use Rattle.life_store.specs.declared.run.Growth.TheVariants.{Always}
 use Rattle.life_interp.specs.Frames.{all_cells, waiting_cells}
 use Rattle.life_interp.specs.Walking.{acts, Moves, PointEnds, PointLeads, StandsHere, Sunk}
 use Rattle.life_cells.specs.Fits.{meant}
@@ -35,6 +34,7 @@ perform-requires g c =
       layouts = c.requires.layouts;
       fits = other_cells p.types (g.S.Store.content c.args.store.now) (g.S.Store.rows c.args.store.now) (all_cells frames) frames.cells.items c.requires.fits (fit_behind _ _ (waiting_cells frames.waiting.items) frames.cells.items c.requires.fits.held);
       at = own_at p frames content c.requires.sound c.args.place (step_of c.args.instr.now) c.args.to c.requires.here (function_of c.index-f.result.now) f_is;
+      bounded = c.requires.bounded;
       countable = c.requires.countable;
       room = c.requires.room;
     }
@@ -46,7 +46,7 @@ call-requires-clause-here g c =
     (subst (λ (i : Instr). StandsHere p c.args.frames.now c.args.place (Action (step_of i)) (goes c.args.to)) c.in-Call.is c.requires.here)
 
 pub returns-in-Call-clause-step : goal.returns-in-Call-clause-step
-returns-in-Call-clause-step g c = λ s set depth.
+returns-in-Call-clause-step g c = λ s set growing depth.
     let p = program_of c.args.program.now in
     let frames = c.args.frames.now in
     let content = meant (program_of c.args.program.now).types (g.S.Store.content c.args.store.now) (g.S.Store.rows c.args.store.now) in
@@ -60,7 +60,7 @@ returns-in-Call-clause-step g c = λ s set depth.
 
 pub returns-in-Err : goal.returns-in-Err
 returns-in-Err g c = record {
-  step = λ s set depth.
+  step = λ s set growing depth.
       let p = program_of c.args.program.now in
       let frames = c.args.frames.now in
       let content = meant (program_of c.args.program.now).types (g.S.Store.content c.args.store.now) (g.S.Store.rows c.args.store.now) in
@@ -71,17 +71,18 @@ returns-in-Err g c = record {
       let own = own_else c.args.instr.now (λ target f xs e. c.in_default.not-Call target f xs e) in
       let k : Sunk = record { old = g.O.Sink.taken c.args.out.now; new = g.O.Sink.taken c.perform.new.out; faults = g.O.Sink.faults c.args.out.now; later = g.O.Sink.faults c.perform.new.out } in
       subst (PointEnds (acts s p frames content ins (step_of c.args.instr.now) c.args.place c.args.to) p.functions content ins k) (sym c.halt_at.ensures)
-      (act_ends s p frames content ins c.args.place c.args.to (step_of c.args.instr.now) own (function_of c.index-f.result.now) f_is k c.in-Err.ending (c.in-Err.ensures.step s set));
+      (act_ends s p frames content ins c.args.place c.args.to (step_of c.args.instr.now) own (function_of c.index-f.result.now) f_is k c.in-Err.ending (c.in-Err.ensures.step s set growing));
   frames = tt;
   fits = tt;
   sound = tt;
+  bounded = tt;
   grows = tt;
   limit = c.perform.ensures.limit;
 }
 
 pub returns-in-Ok : goal.returns-in-Ok
 returns-in-Ok g c = record {
-  step = λ s set depth.
+  step = λ s set growing depth.
       let p = program_of c.args.program.now in
       let frames = c.args.frames.now in
       let content = meant (program_of c.args.program.now).types (g.S.Store.content c.args.store.now) (g.S.Store.rows c.args.store.now) in
@@ -90,7 +91,7 @@ returns-in-Ok g c = record {
       let at = slice_get_read all.items all.len frames.function c.index-f.result.now all.ok.0 (omega (arith, c.requires.frames.here, length-map all.items function_of, all.ok.0)) c.index-f.ensures in
       let f_is = function_there p.functions frames.function (function_of c.index-f.result.now) (slice_get-map function_of all.items frames.function ∙ ap (option_map function_of) at) in
       let own = own_else c.args.instr.now (λ target f xs e. c.in_default.not-Call target f xs e) in
-      let went = c.in-Ok.ensures.step s set in
+      let went = c.in-Ok.ensures.step s set growing in
       (went.0, went.1, act_goes s p frames content ins c.args.place c.args.to (step_of c.args.instr.now) own (function_of c.index-f.result.now) f_is (meant p.types (g.S.Store.content c.perform.new.store) (g.S.Store.rows c.perform.new.store)) c.perform.new.cells.items (drop c.perform.new.taken c.args.input.now) went.0 went.2);
   frames = record { here = c.requires.frames.here; there = c.requires.frames.there };
   fits =
@@ -108,10 +109,11 @@ returns-in-Ok g c = record {
       let at = slice_get_read all.items all.len frames.function c.index-f.result.now all.ok.0 (omega (arith, c.requires.frames.here, length-map all.items function_of, all.ok.0)) c.index-f.ensures in
       let f_is = function_there p.functions frames.function (function_of c.index-f.result.now) (slice_get-map function_of all.items frames.function ∙ ap (option_map function_of) at) in
       let own = own_else c.args.instr.now (λ target f xs e. c.in_default.not-Call target f xs e) in
-      let s : Setting = record { given = record { growth = Always; cells = g.S.Store.limit c.args.store.now; depth = c.args.depth }; texts = p.texts } in
-      let went = c.in-Ok.ensures.step s (record { cells = refl; texts = refl }) in
+      let s : Setting = record { given = record { growth = c.args.growth; cells = g.S.Store.limit c.args.store.now; depth = c.args.depth }; texts = p.texts } in
+      let went = c.in-Ok.ensures.step s (record { cells = refl; texts = refl }) refl in
       own_sound p frames content c.requires.sound c.args.place (step_of c.args.instr.now) c.args.to c.requires.here own (function_of c.index-f.result.now) f_is s ins (drop c.perform.new.taken c.args.input.now) went.0
       (meant p.types (g.S.Store.content c.perform.new.store) (g.S.Store.rows c.perform.new.store)) c.perform.new.cells.items (went.2 []);
+  bounded = c.in-Ok.ensures.bounded;
   grows = c.in-Ok.ensures.grows;
   limit = c.perform.ensures.limit;
 }

@@ -13,11 +13,12 @@ use Rattle.life_cells.specs.Fits.{meant}
 use Rattle.life_interp.proofs.CodeLists.{codes_length}
 use Rattle.life_interp.proofs.PointLemmas.{leads_as, leads_quiet, passes_at, passes_node, point_seen}
 use Rattle.life_interp.proofs.SoundFrames.{action_there, chosen_sound, return_there}
+use Rattle.life_interp.proofs.StepLemmas.{ok_holds}
 use Rattle.life_interp.proofs.WalkLemmas.{untouched}
 use Rattle.life_interp.proofs.point.pass.Goals as goal
 
 pub returns-in-None-clause-step : goal.returns-in-None-clause-step
-returns-in-None-clause-step g c = λ s set depth.
+returns-in-None-clause-step g c = λ s set growing depth.
     let p = program_of c.args.program.now in
     let functions = c.args.program.now.functions.items in
     let frames = c.args.frames.now in
@@ -33,7 +34,7 @@ returns-in-None-clause-step g c = λ s set depth.
     (alone, λ go n output. passes_at s p frames content ins _ (point ∙ ap (option_map link_seen) c.in-None.is) go n output)
 
 pub returns-in-Action-clause-step : goal.returns-in-Action-clause-step
-returns-in-Action-clause-step g c = λ s set depth.
+returns-in-Action-clause-step g c = λ s set growing depth.
     let p = program_of c.args.program.now in
     let functions = c.args.program.now.functions.items in
     let frames = c.args.frames.now in
@@ -51,10 +52,10 @@ returns-in-Action-clause-step g c = λ s set depth.
     (λ go n output.
     passes_node s p frames content ins l (Action (step_of c.in-Action.instr.now)) at (ap node_seen c.in-Action.is) go n output
     ∙ ap (λ to. acts s p frames content ins (step_of c.in-Action.instr.now) c.in-Some.link.spot.place to go n output) (sym c.first_way.ensures))
-    (c.act.ensures.step s set depth)
+    (c.act.ensures.step s set growing depth)
 
 pub returns-in-Question-clause-step : goal.returns-in-Question-clause-step
-returns-in-Question-clause-step g c = λ s set depth.
+returns-in-Question-clause-step g c = λ s set growing depth.
     let p = program_of c.args.program.now in
     let functions = c.args.program.now.functions.items in
     let frames = c.args.frames.now in
@@ -74,7 +75,7 @@ returns-in-Question-clause-step g c = λ s set depth.
     (leads_quiet _ p.functions content ins c.choose.new.frames content k c.choose.result alone (c.choose.ensures.step s ins))
 
 pub returns-in-Return-clause-step : goal.returns-in-Return-clause-step
-returns-in-Return-clause-step g c = λ s set depth.
+returns-in-Return-clause-step g c = λ s set growing depth.
     let p = program_of c.args.program.now in
     let functions = c.args.program.now.functions.items in
     let frames = c.args.frames.now in
@@ -94,7 +95,7 @@ returns-in-Return-clause-step g c = λ s set depth.
     (leads_quiet _ p.functions content ins c.back.new.frames (meant (program_of c.args.program.now).types (g.S.Store.content c.back.new.store) (g.S.Store.rows c.back.new.store)) k c.back.result alone (c.back.ensures.step s ins set))
 
 pub returns-in-Stop-clause-step : goal.returns-in-Stop-clause-step
-returns-in-Stop-clause-step g c = λ s set depth.
+returns-in-Stop-clause-step g c = λ s set growing depth.
     let p = program_of c.args.program.now in
     let functions = c.args.program.now.functions.items in
     let frames = c.args.frames.now in
@@ -170,3 +171,6 @@ back-requires-clause-here g c =
     let at = point ∙ ap (option_map link_seen) c.in-Some.is in
     let l = link_seen c.in-Some.link in
     (c.in-Some.link.spot.place, return_there p frames l at (ap node_seen c.in-Return.is))
+
+pub returns-in-Question-clause-bounded : goal.returns-in-Question-clause-bounded
+returns-in-Question-clause-bounded g c = ok_holds c.choose.result _ c.requires.bounded

@@ -8,8 +8,8 @@ use Rattle.life_cells.specs.Scopes.{function_in, types_in}
 use Rattle.life_cells.specs.Steps.{Comes}
 use Rattle.life_cells.specs.declared.cell.Cell.{Cell}
 use Rattle.life_cells.proofs.LocationLemmas.{keeps_itself}
+use Rattle.life_store.specs.Doing.{does}
 use Rattle.life_interp.specs.Accessed.{HasPlaces, IsNumberPlace}
-use Rattle.life_interp.specs.SoFar.{does}
 use Rattle.life_interp.specs.Steps.{stored}
 use Rattle.life_interp.proofs.Others.{others_stray}
 use Rattle.life_interp.proofs.reaching.reach.Goals as goal

@@ -7,6 +7,9 @@ use Rattle.life_cells.proofs.FitLemmas.{other_cells}
 use Rattle.life_interp.specs.Steps.{Begins}
 use Rattle.life_interp.proofs.run.first_cells.Goals as goal
 
+pub given_cells-requires-clause-plain : goal.given_cells-requires-clause-plain
+given_cells-requires-clause-plain g c = c.requires.plain
+
 pub given_cells-requires-clause-fits : goal.given_cells-requires-clause-fits
 given_cells-requires-clause-fits g c =
     let content = g.S.Store.content c.args.store.now in

@@ -6,11 +6,13 @@ use mir.Val.{SFits, of_z, to_z}
 use Rattle.std.specs.Int.{w64}
 use Rattle.std.specs.Prelude.{option_map}
 use Rattle.life_core.specs.Function.{function_of, program_of}
+use Rattle.life_store.specs.Calls.{entry_arguments}
 use Rattle.life_store.specs.Content.{CanCount, Content}
 use Rattle.life_store.specs.Doing.{Given}
 use Rattle.life_store.specs.Meaning.{first_world, run_of, setting_of, IsAdmitted}
 use Rattle.life_store.specs.declared.run.Growth.TheVariants.{Always}
 use Rattle.life_cells.specs.Fits.{meant, IsFit}
+use Rattle.life_changes.specs.Bounded.{IsBounded}
 use Rattle.life_interp.specs.Fits.{CanStep}
 use Rattle.life_interp.specs.Frames.{waiting_cells, AreThere}
 use Rattle.life_interp.specs.Runs.{RunEnds}
@@ -20,8 +22,9 @@ use Rattle.life_interp.specs.Walking.{from, Sunk}
 use Rattle.life_interp.specs.declared.frames.Frames.{Frames}
 use Rattle.life_interp.specs.declared.frames.Waiting.{Waiting}
 use Rattle.life_interp.specs.declared.outcome.Outcome.TheVariants as outcome
+use Rattle.life_interp.proofs.BoundedSteps.{empty_bounded, given_bounded}
 use Rattle.life_interp.proofs.EmptyStore.{housed_nothing, meant_empty, rowed_nothing}
-use Rattle.life_interp.proofs.SoundPrograms.{never_lost}
+use Rattle.life_interp.proofs.SoundPrograms.{have_no_slots, never_lost}
 use Rattle.life_interp.proofs.RunLemmas.{all_begin, barred_ends, begins_sound, can_be_barred, fault_ends, front_ends, if_there, not_lost, of_there, part_ends, run_from_frames, steps_end, trap_ends, value_ends}
 use Rattle.life_interp.proofs.WalkLemmas.{untouched}
 use Rattle.life_interp.proofs.run.run_on.Goals as goal
@@ -43,6 +46,7 @@ first_cells-requires g c =
         countable = subst CanCount (sym c.requires.empty) (record { births = omega arith; clock = omega arith });
         held = tt;
       };
+      plain = have_no_slots p c.requires.proper entry f there;
       countable = subst CanStep (sym c.requires.empty) (record { births = omega arith; clock = omega arith });
       room = omega (arith, c.requires.limit);
       enough = admitted.enough;
@@ -63,7 +67,8 @@ barred-requires g c =
     can_be_barred given p entry f input c.args.steps c.requires.proper there admitted c.requires.depth (meant p.types (g.S.Store.content c.args.store.now) (g.S.Store.rows c.args.store.now)) (meant_empty p.types (g.S.Store.content c.args.store.now) (g.S.Store.rows c.args.store.now) c.requires.empty c.requires.rows) c.in-Err.ending ends
 
 pub returns-in-Err : goal.returns-in-Err
-returns-in-Err g c = λ growth.
+returns-in-Err g c =
+    let growth = c.args.growth in
     let p = program_of c.args.program.now in
     let all = c.args.program.now.functions in
     let entry = c.args.entry.0 in
@@ -106,12 +111,23 @@ walk-requires g c =
           begins_sound given p entry f input c.args.steps c.requires.proper there admitted frames (meant p.types (g.S.Store.content c.args.store.now) (g.S.Store.rows c.args.store.now)) d refl refl c.new.ensures.items
           (meant_empty p.types (g.S.Store.content c.args.store.now) (g.S.Store.rows c.args.store.now) c.requires.empty c.requires.rows) (c.in-Ok.ensures.step (setting_of given p) (sym c.requires.limit));
       fits = subst (λ (ws : List Waiting). IsFit p.types (g.S.Store.content c.first_cells.new.store) (g.S.Store.rows c.first_cells.new.store) (waiting_cells ws ++ c.in-Ok.cells.items)) (sym c.new.ensures.items) c.in-Ok.ensures.fits;
+      bounded =
+          let f = function_of c.index-f.result.now in
+          let given : Given = record { growth = Always; cells = c.args.limits.cells; depth = c.args.limits.depth } in
+          let m = meant p.types (g.S.Store.content c.args.store.now) (g.S.Store.rows c.args.store.now) in
+          let d = meant p.types (g.S.Store.content c.first_cells.new.store) (g.S.Store.rows c.first_cells.new.store) in
+          let cells = c.args.limits.cells in
+          let nothing = meant_empty p.types (g.S.Store.content c.args.store.now) (g.S.Store.rows c.args.store.now) c.requires.empty c.requires.rows in
+          subst (λ n. IsBounded n d) (sym (c.first_cells.ensures.limit ∙ c.requires.limit))
+          (given_bounded cells (setting_of given p) refl p.types f (entry_arguments p.types f 0 f.parameters c.args.input.now) m d c.in-Ok.cells.items (subst (IsBounded cells) (sym nothing) (empty_bounded cells))
+          (c.in-Ok.ensures.step (setting_of given p) (sym c.requires.limit) [] []));
       countable = record { births = omega (arith, grows.births, births, c.requires.steps); clock = omega (arith, grows.clock, clock, c.requires.steps) };
       room = omega (arith, c.first_cells.ensures.limit, c.requires.limit);
     }
 
 pub returns-in-Returned : goal.returns-in-Returned
-returns-in-Returned g c = λ growth.
+returns-in-Returned g c =
+    let growth = c.args.growth in
     let p = program_of c.args.program.now in
     let all = c.args.program.now.functions in
     let entry = c.args.entry.0 in
@@ -132,10 +148,11 @@ returns-in-Returned g c = λ growth.
     let fits : SFits w64 c.in-Returned.value = search rules in
     if_there p.functions entry f (λ h. RunEnds (run_of given p entry h input n) k (outcome.Value (to_z w64 (of_z w64 c.in-Returned.value)))) there
     (subst (λ z. RunEnds run k (outcome.Value z)) (sym (to_z-of_z w64 c.in-Returned.value fits))
-    (value_ends run f.place (first_world f input) walked r k c.in-Returned.value (c.in-Returned.ensures (setting_of given p) set refl)))
+    (value_ends run f.place (first_world f input) walked r k c.in-Returned.value (c.in-Returned.ensures (setting_of given p) set refl refl)))
 
 pub returns-in-Trap : goal.returns-in-Trap
-returns-in-Trap g c = λ growth.
+returns-in-Trap g c =
+    let growth = c.args.growth in
     let p = program_of c.args.program.now in
     let all = c.args.program.now.functions in
     let entry = c.args.entry.0 in
@@ -154,10 +171,11 @@ returns-in-Trap g c = λ growth.
     let set : IsSet (setting_of given p) (g.S.Store.limit c.first_cells.new.store) p.texts = record { cells = sym (c.first_cells.ensures.limit ∙ c.requires.limit); texts = refl } in
     let run = run_of given p entry f input n in
     if_there p.functions entry f (λ h. RunEnds (run_of given p entry h input n) k (outcome.Trap c.in-Trap.kind c.in-Trap.place)) there
-    (trap_ends run f.place (first_world f input) walked r k c.in-Trap.kind c.in-Trap.place (c.in-Trap.ensures (setting_of given p) set refl))
+    (trap_ends run f.place (first_world f input) walked r k c.in-Trap.kind c.in-Trap.place (c.in-Trap.ensures (setting_of given p) set refl refl))
 
 pub returns-in-Fault : goal.returns-in-Fault
-returns-in-Fault g c = λ growth.
+returns-in-Fault g c =
+    let growth = c.args.growth in
     let p = program_of c.args.program.now in
     let all = c.args.program.now.functions in
     let entry = c.args.entry.0 in
@@ -176,10 +194,11 @@ returns-in-Fault g c = λ growth.
     let set : IsSet (setting_of given p) (g.S.Store.limit c.first_cells.new.store) p.texts = record { cells = sym (c.first_cells.ensures.limit ∙ c.requires.limit); texts = refl } in
     let run = run_of given p entry f input n in
     if_there p.functions entry f (λ h. RunEnds (run_of given p entry h input n) k (outcome.Fault c.in-Fault.kind c.in-Fault.place)) there
-    (fault_ends run f.place (first_world f input) walked r k c.in-Fault.kind c.in-Fault.place (c.in-Fault.ensures (setting_of given p) set refl))
+    (fault_ends run f.place (first_world f input) walked r k c.in-Fault.kind c.in-Fault.place (c.in-Fault.ensures (setting_of given p) set refl refl))
 
 pub returns-in-OutOfSteps : goal.returns-in-OutOfSteps
-returns-in-OutOfSteps g c = λ growth.
+returns-in-OutOfSteps g c =
+    let growth = c.args.growth in
     let p = program_of c.args.program.now in
     let all = c.args.program.now.functions in
     let entry = c.args.entry.0 in
@@ -198,10 +217,11 @@ returns-in-OutOfSteps g c = λ growth.
     let set : IsSet (setting_of given p) (g.S.Store.limit c.first_cells.new.store) p.texts = record { cells = sym (c.first_cells.ensures.limit ∙ c.requires.limit); texts = refl } in
     let run = run_of given p entry f input n in
     if_there p.functions entry f (λ h. RunEnds (run_of given p entry h input n) k (outcome.OutOfSteps)) there
-    (steps_end run f.place (first_world f input) walked r k (c.in-OutOfSteps.ensures (setting_of given p) set refl))
+    (steps_end run f.place (first_world f input) walked r k (c.in-OutOfSteps.ensures (setting_of given p) set refl refl))
 
 pub returns-in-WriteFault : goal.returns-in-WriteFault
-returns-in-WriteFault g c = λ growth.
+returns-in-WriteFault g c =
+    let growth = c.args.growth in
     let p = program_of c.args.program.now in
     let all = c.args.program.now.functions in
     let entry = c.args.entry.0 in
@@ -220,10 +240,11 @@ returns-in-WriteFault g c = λ growth.
     let set : IsSet (setting_of given p) (g.S.Store.limit c.first_cells.new.store) p.texts = record { cells = sym (c.first_cells.ensures.limit ∙ c.requires.limit); texts = refl } in
     let run = run_of given p entry f input n in
     if_there p.functions entry f (λ h. RunEnds (run_of given p entry h input n) k (outcome.WriteFault)) there
-    (part_ends run f.place (first_world f input) walked r k refl (c.in-WriteFault.ensures (setting_of given p) set refl))
+    (part_ends run f.place (first_world f input) walked r k refl (c.in-WriteFault.ensures (setting_of given p) set refl refl))
 
 pub returns : goal.returns
-returns g c = λ growth.
+returns g c =
+    let growth = c.args.growth in
     let p = program_of c.args.program.now in
     let all = c.args.program.now.functions in
     let entry = c.args.entry.0 in
@@ -242,11 +263,11 @@ returns g c = λ growth.
     let set : IsSet (setting_of given p) (g.S.Store.limit c.first_cells.new.store) p.texts = record { cells = sym (c.first_cells.ensures.limit ∙ c.requires.limit); texts = refl } in
     let run = run_of given p entry f input n in
     if_there p.functions entry f (λ h. RunEnds (run_of given p entry h input n) k (outcome.NoMemory)) there
-    (front_ends run f.place (first_world f input) walked r k refl (c.in-NoMemory.ensures (setting_of given p) set refl))
+    (front_ends run f.place (first_world f input) walked r k refl (c.in-NoMemory.ensures (setting_of given p) set refl refl))
 
 pub unreachable-requires : goal.unreachable-requires
 unreachable-requires g c =
-    let growth = Always in
+    let growth = c.args.growth in
     let p = program_of c.args.program.now in
     let all = c.args.program.now.functions in
     let entry = c.args.entry.0 in
@@ -264,4 +285,4 @@ unreachable-requires g c =
     let k : Sunk = record { old = g.O.Sink.taken c.args.out.now; new = g.O.Sink.taken c.walk.new.out; faults = g.O.Sink.faults c.args.out.now; later = g.O.Sink.faults c.walk.new.out } in
     let set : IsSet (setting_of given p) (g.S.Store.limit c.first_cells.new.store) p.texts = record { cells = sym (c.first_cells.ensures.limit ∙ c.requires.limit); texts = refl } in
     let run = run_of given p entry f input n in
-    not_lost run f.place (first_world f input) walked r k (c.in-Stray.ensures (setting_of given p) set refl) (never_lost p given entry f input n c.requires.proper there admitted)
+    not_lost run f.place (first_world f input) walked r k (c.in-Stray.ensures (setting_of given p) set refl refl) (never_lost p given entry f input n c.requires.proper there admitted)

@@ -8,7 +8,6 @@ use Rattle.life_store.specs.Content.{Content, Object, with_object, with_word}
 use Rattle.life_store.specs.Effects.{Next, cell, put_content}
 use Rattle.life_store.specs.Parts.{parts_at}
 use Rattle.life_store.specs.Places as spec
-use Rattle.life_store.specs.Places.{on_found}
 use Rattle.life_store.specs.References.{HasWord}
 use Rattle.life_seen.specs.Kinds.{kinds_of}
 use Rattle.life_seen.specs.Named.{names_of}

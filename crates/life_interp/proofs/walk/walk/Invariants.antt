@@ -2,6 +2,7 @@ use Rattle.std.proofs.Common.{◌≡◌, ℕ, List, [], drop}
 use Rattle.life_core.specs.Function.{program_of}
 use Rattle.life_store.specs.Doing.{Setting}
 use Rattle.life_cells.specs.Fits.{meant, IsFit}
+use Rattle.life_changes.specs.Bounded.{IsBounded}
 use Rattle.life_interp.specs.Fits.{CanWalk}
 use Rattle.life_interp.specs.Frames.{all_cells, AreFrames}
 use Rattle.life_interp.specs.Steps.{IsSet}
@@ -25,9 +26,10 @@ invariant-loop-left g l =
       there : AreFrames p.functions l.frames;
       fits : IsFit p.types (content l.store) (rows l.store) (all_cells l.frames);
       sound : IsSoundWalk p l.frames (meant p.types (content l.store) (rows l.store));
+      bounded : IsBounded (most l.store) (meant p.types (content l.store) (rows l.store));
       countable : CanWalk l.left (content l.store);
       limit : most l.store ≡ most l.initial.store;
-      walked : (s : Setting) → IsSet s (most l.initial.store) p.texts → s.given.depth ≡ l.depth → (text : List ℕ)
+      walked : (s : Setting) → IsSet s (most l.initial.store) p.texts → s.given.growth ≡ l.growth → s.given.depth ≡ l.depth → (text : List ℕ)
           × Takes (record { old = taken l.initial.out; new = taken l.out; faults = faults l.initial.out; later = faults l.out }) text
           × (from p.functions l.initial.frames (meant p.types (content l.initial.store) (rows l.initial.store)) (drop l.initial.taken l.input) (walk s p l.fn.steps) l.fn.steps []
           ≡ from p.functions l.frames (meant p.types (content l.store) (rows l.store)) (drop l.taken l.input) (walk s p l.left) l.left text);
