@@ -1,5 +1,3 @@
 pub mod PointsAsked
 pub mod ServedLocals
-pub mod Sorted
-pub mod SortedCalls
-pub mod SortedSteps
+pub mod ServedResults

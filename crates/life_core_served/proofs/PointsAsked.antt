@@ -1,5 +1,5 @@
 -- What is asked of a proper program, at each of its functions and at each of their points.
-use Rattle.std.proofs.Common.{◌≡◌, ℕ, zero, suc, true, List, [], ◌∷◌, Some, length, slice_get, ◌∙◌, subst}
+use Rattle.std.proofs.Common.{◌≡◌, ℕ, zero, suc, true, ◌&&◌, List, [], ◌∷◌, Some, length, slice_get, ◌∙◌, subst}
 use Rattle.std.proofs.lemmas.Bool.{and_parts}
 use Rattle.std.proofs.lemmas.Option.{none-some, same_Some}
 use Rattle.std.specs.List.{list_all}
@@ -7,7 +7,7 @@ use Rattle.life_types.specs.Types.{Types}
 use Rattle.life_core.specs.Function.{Function, Program}
 use Rattle.life_core.specs.Linked.{Linked, code_of, numbered}
 use Rattle.life_core.specs.Proper.{HasReadyWays, HaveReadyWays}
-use Rattle.life_core_served.specs.Served.{is_served, is_served_local, is_served_node, is_served_spot}
+use Rattle.life_core_served.specs.Served.{is_served, is_served_local, is_served_node, is_served_return, is_served_spot}
 use Rattle.life_core.specs.Tree.{spots}
 use Rattle.life_proper.specs.GivenOver.{all_keep_given}
 use Rattle.life_core_served.specs.ProperFunctions.{AreProperFunctions, IsProperFunction}
@@ -43,4 +43,5 @@ module _ (types : Types) (texts : ℕ) (fs : List Function) (f : Function) where
 
   pub point_served : IsProperFunction types texts fs f → (p : ℕ) (l : Linked) → numbered (code_of f) p ≡ Some l → is_served_node types f l.spot.node ≡ true
   point_served proper p l at =
-      point_tested (is_served_spot types f) f p l (and_parts (list_all (is_served_local types) f.locals) (list_all (is_served_spot types f) (spots f.body)) proper.served).1 at
+      let back = (and_parts (list_all (is_served_local types) f.locals) (list_all (is_served_spot types f) (spots f.body) && is_served_return (slice_get types.types f.result.0)) proper.served).1 in
+      point_tested (is_served_spot types f) f p l (and_parts (list_all (is_served_spot types f) (spots f.body)) (is_served_return (slice_get types.types f.result.0)) back).0 at

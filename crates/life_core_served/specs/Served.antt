@@ -1,17 +1,17 @@
--- What is served so far. A function has values, raw pointers, references and views, and none of the steps below: a feature that comes deletes lines here.
-use Rattle.std.specs.Prelude.{Bool, true, false, ◌&&◌, not, ℕ, List, [], ◌∷◌, Option, Some, None}
+-- What is served so far. No member is named, no parameter is a slot, nothing is given over to a call, no owner, iterator or span is given back, and there is
+-- none of the steps below: a feature that comes deletes lines here.
+use Rattle.std.specs.Prelude.{Bool, true, false, ◌&&◌, not, ℕ, List, [], ◌∷◌, Option, Some, None, slice_get}
 use Rattle.std.specs.List.{list_all}
 use Rattle.life_types.specs.Types.{Types, is_slot_at}
+use Rattle.life_types.specs.declared.ty.Ty.{Ty}
+use Rattle.life_types.specs.declared.ty.Ty.TheVariants as ty
 use Rattle.life_core.specs.declared.program.Local.{Local}
-use Rattle.life_core.specs.declared.program.LocalKind.{LocalKind}
-use Rattle.life_core.specs.declared.program.LocalKind.TheVariants.{Object}
 use Rattle.life_core.specs.declared.operand.Which.{Which}
 use Rattle.life_core.specs.declared.operand.Which.TheVariants as which
 use Rattle.life_core.specs.Function.{Function, Program}
-use Rattle.life_core.specs.Holdings.{Holding, AnObject, ANumber, APointer, AView, held_by}
-use Rattle.life_core.specs.Operands.{Argument, Base, GivenOver, PointerOf, Slot, Location, Operand, Name, Through, Source}
+use Rattle.life_core.specs.Operands.{Argument, Base, Characters, GivenOver, PointerOf, Single, Slot, View, Location, Operand, Name, Through, Source}
 use Rattle.life_core.specs.Operands as source
-use Rattle.life_core.specs.Step.{Step, Load, Save, Copy, Move, Aim, Repoint, Element, Cursor, Advance, Cut, Size, Same, Changes, Make, Call, Ports, Port, WritesView, Test, NotNull}
+use Rattle.life_core.specs.Step.{Step, Load, Save, Copy, Move, Aim, Repoint, Element, Cursor, Advance, Cut, Size, Same, Changes, Make, Call, Ports, Change, Erase, Set, Append, Port, WritesView, Test, NotNull}
 use Rattle.life_core.specs.Tree.{Node, Action, Question, Spot, spots}
 
 -- ---- no member is named
@@ -31,7 +31,7 @@ is_served_operand (Through p members) = is_empty members && is_served_location p
 
 abbrev pub is_served_source : Source → Bool
 is_served_source (source.Place o) = is_served_operand o
-is_served_source (source.Whole o) = false
+is_served_source (source.Whole o) = is_served_operand o
 is_served_source (source.Get l) = false
 is_served_source _ = true
 
@@ -45,6 +45,17 @@ abbrev pub is_served_element : Which → Bool
 is_served_element which.Target = false
 is_served_element _ = true
 
+abbrev pub are_served_characters : Characters → Bool
+are_served_characters (View l) = is_served_location l
+are_served_characters (Single r) = true
+
+abbrev pub is_served_change : Change → Bool
+is_served_change (Erase at into) = is_served_location at && is_served_location into
+is_served_change (Set c) = are_served_characters c
+is_served_change (Append c) = are_served_characters c
+is_served_change _ = true
+
+-- a call is handed values and pointers
 abbrev pub is_served_argument : Argument → Bool
 is_served_argument (PointerOf l) = is_served_location l
 is_served_argument (GivenOver x) = false
@@ -59,28 +70,24 @@ abbrev pub is_served_port : Port → Bool
 is_served_port (WritesView l) = is_served_location l
 is_served_port _ = true
 
--- whatever it holds, a local may come to life
-abbrev pub is_served_birth : Holding → Bool
-is_served_birth held = true
-
 -- ---- instructions and tests
 
 module _ (types : Types) (f : Function) where
   abbrev pub is_served_step : Step → Bool
   is_served_step (Load r o) = is_served_operand o
   is_served_step (Save o r) = is_served_operand o
-  is_served_step (Copy to from) = false
-  is_served_step (Move to y) = false
+  is_served_step (Copy to from) = is_served_operand to && is_served_operand from
+  is_served_step (Move to y) = is_served_operand to
   is_served_step (Aim p s) = is_served_location p && is_served_source s
   is_served_step (Repoint p q) = is_served_location p && is_served_location q
   is_served_step (Element p b which) = is_served_location p && (is_served_base b && is_served_element which)
-  is_served_step (Cursor p b end) = false
+  is_served_step (Cursor p b end) = is_served_location p && is_served_base b
   is_served_step (Advance p q r direction) = is_served_location p && is_served_location q
   is_served_step (Cut p q r count) = is_served_location p && is_served_location q
   is_served_step (Size r b) = is_served_base b
   is_served_step (Same r a b equal) = is_served_location a && is_served_location b
-  is_served_step (Changes o c) = false
-  is_served_step (Make u made) = false
+  is_served_step (Changes o c) = is_served_operand o && is_served_change c
+  is_served_step (Make u made) = is_served_location u
   is_served_step (Call target g xs) = is_served_target target && list_all is_served_argument xs
   is_served_step (Ports p) = is_served_port p
   is_served_step _ = true
@@ -97,25 +104,26 @@ module _ (types : Types) (f : Function) where
   abbrev pub is_served_spot : Spot → Bool
   is_served_spot s = is_served_node s.node
 
--- ---- locals
+-- ---- locals and results
 
--- what lies in memory is a value, and what doesn't is a number, a raw pointer, a reference or a view
-abbrev pub is_served_as : LocalKind → Holding → Bool
-is_served_as Object AnObject = true
-is_served_as Object _ = false
-is_served_as _ ANumber = true
-is_served_as _ APointer = true
-is_served_as _ AView = true
-is_served_as _ _ = false
-
--- .. and no parameter is a slot
+-- no parameter is a slot
 abbrev pub is_served_local : Types → Local → Bool
-is_served_local types l = is_served_as l.kind (held_by types (Some l)) && not (is_slot_at types l.ty)
+is_served_local types l = not (is_slot_at types l.ty)
+
+-- what is given back is a value, a raw pointer, a reference or a view, if anything is
+abbrev pub is_served_return : Option Ty → Bool
+is_served_return (Some ty.Text) = false
+is_served_return (Some (ty.Vector element)) = false
+is_served_return (Some (ty.Unique target)) = false
+is_served_return (Some (ty.Struct number)) = false
+is_served_return (Some (ty.Iterator target constant)) = false
+is_served_return (Some (ty.Span target constant)) = false
+is_served_return _ = true
 
 -- ---- the whole
 
 abbrev pub is_served : Types → Function → Bool
-is_served types f = list_all (is_served_local types) f.locals && list_all (is_served_spot types f) (spots f.body)
+is_served types f = list_all (is_served_local types) f.locals && (list_all (is_served_spot types f) (spots f.body) && is_served_return (slice_get types.types f.result.0))
 
 abbrev pub is_served_program : Program → Bool
 is_served_program p = list_all (is_served p.types) p.functions

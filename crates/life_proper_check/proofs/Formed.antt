@@ -1,12 +1,12 @@
 -- What passes the tests of the kinds that are served is well formed.
-use Rattle.std.proofs.Common.{◌≡◌, ℕ, ◌+◌, Bool, true, ◌&&◌, ◌||◌, not, List, [], ◌∷◌, length, Option, Some, None, slice_get, nat_lt, refl, sym, ◌∙◌, arith}
+use Rattle.std.proofs.Common.{◌≡◌, ap, ℕ, zero, suc, ◌+◌, Bool, true, ◌||◌, not, List, [], ◌∷◌, length, Option, Some, None, slice_get, nat_lt, refl, sym, ◌∙◌, arith}
 use Rattle.std.proofs.lemmas.Bool.{and_from, and_parts, false≢true}
 use Rattle.std.proofs.lemmas.Bool.Decides.{nat_tests}
 use Rattle.std.specs.List.{list_all}
 use Rattle.life_types.specs.Pointees.{ty_of}
-use Rattle.life_types.specs.Trees.{IsOrdered, TypeTree, is_plain, tree_at, tree_of}
+use Rattle.life_types.specs.Trees.{IsOrdered, TypeTree, is_plain, members_at, struct_of, tree_at, tree_of, tree_within}
 use Rattle.life_types.specs.TypeTests.{is_void}
-use Rattle.life_types.specs.Types.{HasEachOnce, Types, is_slot_at}
+use Rattle.life_types.specs.Types.{HasEachOnce, Types}
 use Rattle.life_types.specs.declared.ty.NameId.{NameId}
 use Rattle.life_types.specs.declared.ty.Ty.{Ty}
 use Rattle.life_types.specs.declared.ty.Ty.TheVariants as ty
@@ -14,37 +14,26 @@ use Rattle.life_types.specs.declared.ty.TyId.{TyId}
 use Rattle.life_types.proofs.TreeLemmas.{tree_made}
 use Rattle.life_core.specs.declared.program.Local.{Local}
 use Rattle.life_core.specs.Function.{Function, Program}
-use Rattle.life_core.specs.Holdings.{held_by}
-use Rattle.life_core.specs.Operands.{Argument, Value, GivenOver, PointerOf, Slot, Location, Source}
-use Rattle.life_core.specs.Operands as source
-use Rattle.life_core_served.specs.Served.{is_served, is_served_as, is_served_local, is_served_program, is_served_spot}
-use Rattle.life_core.specs.Step.{Step, Live, End, Eval, Load, Save, Aim, Repoint, Element, Cut, Size, Same, Call, Ports}
+use Rattle.life_core.specs.Operands.{Argument, Value, GivenOver, PointerOf, Slot, Location}
+use Rattle.life_core_served.specs.Served.{is_served, is_served_local, is_served_program}
+use Rattle.life_core.specs.Step.{Step, Call}
 use Rattle.life_core.specs.Tree.{Node, Action, Question, Spot, spots}
 use Rattle.life_proper.specs.OperandTypes.{is_composed}
-use Rattle.life_proper.specs.WellFormed.{are_arguments_for, goes_to, have_own_slots, is_argument_for, is_call, is_source_of, is_well_formed_node, is_well_formed_spot, is_well_formed_step, types_taken}
+use Rattle.life_proper.specs.WellFormed.{are_arguments_for, goes_to, have_own_slots, is_argument_for, is_call, is_well_formed_node, is_well_formed_spot, is_well_formed_step, types_taken}
 use Rattle.life_proper.specs.WellFormedPrograms.{IsWellFormedProgram, are_well_formed_locals, have_names, have_own_names, is_name, is_result_local, is_result_of, is_well_formed_function, is_well_formed_local, may_stand, names_parameters}
 use Rattle.life_core.specs.Kinds.{is_register}
-use Rattle.std.specs.Prelude.{is_none, nat_eq, nat_le}
-use Rattle.life_proper.proofs.HeldSorts.{not_false, shape_same}
+use Rattle.std.specs.Prelude.{is_none, nat_eq, nat_le, unwrap_or}
+use Rattle.life_core_served.proofs.ServedLocals.{not_slot, served_locals}
+use Rattle.life_proper.proofs.HeldSorts.{shape_same}
 use Rattle.life_proper.proofs.FormedSpots.{formed_spots}
-use Rattle.life_proper_check.specs.ServedForms.{are_formed_locals, are_served_for, has_no_structs, is_formed_function, is_formed_header, is_formed_local, is_formed_node, is_formed_program, is_formed_result, is_formed_spot, is_formed_step, is_register_of, is_served_call, is_served_for, is_served_source_of, is_simple, is_simple_or_pointer}
+use Rattle.life_proper_check.specs.ServedForms.{are_formed_locals, are_served_for, has_no_structs, is_formed_function, is_formed_header, is_formed_local, is_formed_node, is_formed_program, is_formed_result, is_formed_spot, is_formed_step, is_register_of, is_served_call, is_served_for, is_standing}
 
 -- ---- instructions
 
 module _ (types : Types) (texts : ℕ) (fs : List Function) (f : Function) where
-  source_formed : (t : Ty) (s : Source) → is_served_source_of types texts fs f t s ≡ true → is_source_of types texts fs f t s ≡ true
-  source_formed t source.Null e = e
-  source_formed t (source.Text n) e = e
-  source_formed t source.Empty e = e
-  source_formed t (source.Place o) e = e
-  source_formed t (source.Whole o) e = absurd (false≢true e)
-  source_formed t (source.Get l) e = absurd (false≢true e)
-
   argument_formed : (id : TyId) (x : Argument) → is_served_for types texts fs f id x ≡ true → is_argument_for types texts fs f id x ≡ true
-  argument_formed id (Value r) e = e
-  argument_formed id (GivenOver x) e = absurd (false≢true e)
-  argument_formed id (PointerOf l) e = e
   argument_formed id (Slot l) e = absurd (false≢true e)
+  argument_formed id _ e = e
 
   arguments_formed : (ids : List TyId) (xs : List Argument) → are_served_for types texts fs f ids xs ≡ true → are_arguments_for types texts fs f ids xs ≡ true
   arguments_formed [] [] e = refl
@@ -60,7 +49,7 @@ module _ (types : Types) (texts : ℕ) (fs : List Function) (f : Function) where
   no_slots [] (x ∷ xs) e = absurd (false≢true e)
   no_slots (id ∷ ids) [] e = absurd (false≢true e)
   no_slots (id ∷ ids) (Value r ∷ xs) e = no_slots ids xs (and_parts (is_served_for types texts fs f id (Value r)) (are_served_for types texts fs f ids xs) e).1
-  no_slots (id ∷ ids) (GivenOver x ∷ xs) e = absurd (false≢true e)
+  no_slots (id ∷ ids) (GivenOver x ∷ xs) e = no_slots ids xs (and_parts (is_served_for types texts fs f id (GivenOver x)) (are_served_for types texts fs f ids xs) e).1
   no_slots (id ∷ ids) (PointerOf l ∷ xs) e = no_slots ids xs (and_parts (is_served_for types texts fs f id (PointerOf l)) (are_served_for types texts fs f ids xs) e).1
   no_slots (id ∷ ids) (Slot l ∷ xs) e = absurd (false≢true e)
 
@@ -71,20 +60,8 @@ module _ (types : Types) (texts : ℕ) (fs : List Function) (f : Function) where
       and_from _ _ (arguments_formed (types_taken g) xs both.0) (and_from _ _ (no_slots (types_taken g) xs both.0) both.1)
 
   step_formed : (i : Step) → is_formed_step types texts fs f i ≡ true → is_well_formed_step types texts fs f i ≡ true
-  step_formed (Live x form) e = e
-  step_formed (End xs) e = e
-  step_formed (Eval r o) e = e
-  step_formed (Load r o) e = e
-  step_formed (Save o r) e = e
-  step_formed (Aim p s) e = source_formed _ s e
-  step_formed (Repoint p q) e = e
-  step_formed (Element p b which) e = e
-  step_formed (Cut p q r count) e = e
-  step_formed (Size r b) e = e
-  step_formed (Same r a b equal) e = e
   step_formed (Call target g xs) e = call_formed (slice_get fs g.0) target xs e
-  step_formed (Ports p) e = e
-  step_formed _ e = absurd (false≢true e)
+  step_formed _ e = e
 
   node_formed : (n : Node) → is_formed_node types texts fs f n ≡ true → is_well_formed_node types texts fs f n ≡ true
   node_formed (Action i) e = step_formed i e
@@ -99,47 +76,51 @@ module _ (types : Types) (texts : ℕ) (fs : List Function) (f : Function) where
 
 -- ---- locals
 
--- whatever the trees of parts are
-simple_stands : (types : Types) (part : TyId → TypeTree) (o : Option Ty) → is_simple o ≡ true → may_stand (tree_of types part o) ≡ true
-simple_stands types part None e = absurd (false≢true e)
-simple_stands types part (Some ty.Bool) e = refl
-simple_stands types part (Some ty.Char) e = refl
-simple_stands types part (Some ty.Int) e = refl
-simple_stands types part (Some ty.Long) e = refl
-simple_stands types part (Some ty.Size) e = refl
-simple_stands types part (Some ty.Text) e = refl
-simple_stands types part (Some _) e = absurd (false≢true e)
+-- where there are no structs, what is plain stands
+module _ (types : Types) (none : types.structs ≡ []) where
+  struct_stands : (part : TyId → TypeTree) (number : ℕ) → may_stand (struct_of part (members_at types number)) ≡ true
+  struct_stands part number = ap (λ (ss : List (List TyId)). may_stand (struct_of part (unwrap_or (slice_get ss number) []))) none
 
-simple_plain : (types : Types) (part : TyId → TypeTree) (o : Option Ty) → is_simple o ≡ true → (is_plain (tree_of types part o) && may_stand (tree_of types part o)) ≡ true
-simple_plain types part None e = absurd (false≢true e)
-simple_plain types part (Some ty.Bool) e = refl
-simple_plain types part (Some ty.Char) e = refl
-simple_plain types part (Some ty.Int) e = refl
-simple_plain types part (Some ty.Long) e = refl
-simple_plain types part (Some ty.Size) e = refl
-simple_plain types part (Some ty.Text) e = refl
-simple_plain types part (Some _) e = absurd (false≢true e)
+  plain_stands_so : (part : TyId → TypeTree) → ((id : TyId) → is_plain (part id) ≡ true → may_stand (part id) ≡ true) → (o : Option Ty) → is_plain (tree_of types part o) ≡ true → may_stand (tree_of types part o) ≡ true
+  plain_stands_so part parts None e = refl
+  plain_stands_so part parts (Some (ty.Vector element)) e = and_from _ _ e (parts element e)
+  plain_stands_so part parts (Some (ty.Unique target)) e = absurd (false≢true e)
+  plain_stands_so part parts (Some (ty.Raw target constant)) e = absurd (false≢true e)
+  plain_stands_so part parts (Some (ty.Reference target constant)) e = absurd (false≢true e)
+  plain_stands_so part parts (Some (ty.Iterator target constant)) e = absurd (false≢true e)
+  plain_stands_so part parts (Some (ty.Span target constant)) e = absurd (false≢true e)
+  plain_stands_so part parts (Some (ty.Struct number)) e = struct_stands part number
+  plain_stands_so part parts (Some _) e = refl
 
-module _ (types : Types) (ordered : IsOrdered types) where
-  target_stands : (id : TyId) → is_simple (slice_get types.types id.0) ≡ true → (is_plain (tree_at types id) && may_stand (tree_at types id)) ≡ true
-  target_stands id e = rw (tree_made types ordered id) (simple_plain types (tree_at types) (slice_get types.types id.0) e)
+  plain_within : (n : ℕ) (id : TyId) → is_plain (tree_within n types id) ≡ true → may_stand (tree_within n types id) ≡ true
+  plain_within zero id e = refl
+  plain_within (suc n) id e = plain_stands_so (tree_within n types) (plain_within n) (slice_get types.types id.0) e
 
-  stands : (o : Option Ty) → is_simple_or_pointer types o ≡ true → may_stand (tree_of types (tree_at types) o) ≡ true
-  stands None e = absurd (false≢true e)
-  stands (Some ty.View) e = refl
-  stands (Some (ty.Raw target constant)) e = target_stands target e
-  stands (Some (ty.Reference target constant)) e = target_stands target e
-  stands (Some t) e = simple_stands types (tree_at types) (Some t) e
+  plain_stands : (id : TyId) → is_plain (tree_at types id) ≡ true → may_stand (tree_at types id) ≡ true
+  unfolding tree_at
+  plain_stands id e = plain_within (suc id.0) id e
 
-  type_stands : (id : TyId) → is_simple_or_pointer types (slice_get types.types id.0) ≡ true → may_stand (tree_at types id) ≡ true
-  type_stands id e = rw (tree_made types ordered id) (stands (slice_get types.types id.0) e)
+  stands : (o : Option Ty) → is_standing types o ≡ true → may_stand (tree_of types (tree_at types) o) ≡ true
+  stands None e = refl
+  stands (Some (ty.Vector element)) e = and_from _ _ e (plain_stands element e)
+  stands (Some (ty.Unique target)) e = and_from _ _ e (plain_stands target e)
+  stands (Some (ty.Raw target constant)) e = and_from _ _ e (plain_stands target e)
+  stands (Some (ty.Reference target constant)) e = and_from _ _ e (plain_stands target e)
+  stands (Some (ty.Iterator target constant)) e = and_from _ _ e (plain_stands target e)
+  stands (Some (ty.Span target constant)) e = and_from _ _ e (plain_stands target e)
+  stands (Some (ty.Struct number)) e = absurd (false≢true e)
+  stands (Some _) e = refl
+
+module _ (types : Types) (ordered : IsOrdered types) (none : types.structs ≡ []) where
+  type_stands : (id : TyId) → is_standing types (slice_get types.types id.0) ≡ true → may_stand (tree_at types id) ≡ true
+  type_stands id e = rw (tree_made types ordered id) (stands types none (slice_get types.types id.0) e)
 
   -- a parameter that isn't a slot stands as what it is
   local_formed : (names n x : ℕ) (l : Local) → is_served_local types l ≡ true → is_formed_local types names n x l ≡ true → is_well_formed_local types names n x l ≡ true
   local_formed names n x l served e =
-      let own = shape_same types (nat_lt x n) l.ty (not_false (is_slot_at types l.ty) (and_parts (is_served_as l.kind (held_by types (Some l))) (not (is_slot_at types l.ty)) served).1) in
+      let own = shape_same types (nat_lt x n) l.ty (not_slot types l served) in
       let a = and_parts (not (is_void (ty_of types l.ty))) _ e in
-      let b = and_parts (is_simple_or_pointer types (slice_get types.types l.ty.0)) _ a.1 in
+      let b = and_parts (is_standing types (slice_get types.types l.ty.0)) _ a.1 in
       and_from _ _ a.0 (rw own (and_from _ _ (type_stands l.ty b.0) b.1))
 
   locals_formed : (names n x : ℕ) (ls : List Local) → list_all (is_served_local types) ls ≡ true → are_formed_locals types names n x ls ≡ true → are_well_formed_locals types names n x ls ≡ true
@@ -166,10 +147,9 @@ result_formed types result None l e = absurd (false≢true e)
 result_formed types result (Some ty.Void) l e = refl
 result_formed types result (Some _) l e = register_formed types result l e
 
-module _ (types : Types) (ordered : IsOrdered types) (names texts : ℕ) (fs : List Function) where
+module _ (types : Types) (ordered : IsOrdered types) (none : types.structs ≡ []) (names texts : ℕ) (fs : List Function) where
   function_formed : (f : Function) → is_served types f ≡ true → is_formed_function types names texts fs f ≡ true → is_well_formed_function types names texts fs f ≡ true
   function_formed f served e =
-      let s = and_parts (list_all (is_served_local types) f.locals) (list_all (is_served_spot types f) (spots f.body)) served in
       let both = and_parts (is_formed_header types names f) (list_all (is_formed_spot types texts fs f) (spots f.body)) e in
       let a = and_parts (is_name names f.name) _ both.0 in
       let b = and_parts (nat_le f.parameters (length f.locals)) _ a.1 in
@@ -177,7 +157,7 @@ module _ (types : Types) (ordered : IsOrdered types) (names texts : ℕ) (fs : L
       let d = and_parts (is_formed_result f.result (slice_get types.types f.result.0) (slice_get f.locals f.parameters)) (are_formed_locals types names f.parameters 0 f.locals) c.1 in
       and_from _ _ a.0 (and_from _ _ b.0 (and_from _ _ c.0 (and_from _ _
       (result_formed types f.result (slice_get types.types f.result.0) (slice_get f.locals f.parameters) d.0)
-      (and_from _ _ (locals_formed types ordered names f.parameters 0 f.locals s.0 d.1) (sym (formed_spots types texts fs f f.body) ∙ all_formed types texts fs f (spots f.body) both.1)))))
+      (and_from _ _ (locals_formed types ordered none names f.parameters 0 f.locals (served_locals types f served) d.1) (sym (formed_spots types texts fs f f.body) ∙ all_formed types texts fs f (spots f.body) both.1)))))
 
   functions_formed : (gs : List Function) → list_all (is_served types) gs ≡ true → list_all (is_formed_function types names texts fs) gs ≡ true → list_all (is_well_formed_function types names texts fs) gs ≡ true
   functions_formed [] served e = refl
@@ -204,5 +184,5 @@ program_formed p ordered once served plain e =
       once = once;
       members = none_named (length p.names) p.types.structs p.members none.0 none.1;
       own_names = b.0;
-      functions = functions_formed p.types ordered (length p.names) (length p.texts) p.functions p.functions served b.1;
+      functions = functions_formed p.types ordered (none_of p.types.structs none.0) (length p.names) (length p.texts) p.functions p.functions served b.1;
     }

@@ -1,9 +1,8 @@
-pub mod Births
 pub mod Changed
 pub mod Formed
 pub mod Functions
+pub mod Given
 pub mod Handed
-pub mod Kept
 pub mod Parts
 pub mod Points
 pub mod Tables

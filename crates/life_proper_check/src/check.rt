@@ -16,9 +16,10 @@ use crate::forms::is_formed;
 use crate::headers::{
     are_formed_locals, have_own_names, is_formed_result, is_name, names_parameters,
 };
+use crate::kept::keeps_all_given;
 use crate::results::{are_results_written, both};
 use crate::scope::Scope;
-use crate::served::{is_served_local, is_served_node};
+use crate::served::{is_served_local, is_served_node, is_served_return};
 use life_core::{CoreFn, CoreProgram, SpotRef, spots};
 use life_proper::is_proper;
 use life_pset::is_within_limits;
@@ -34,6 +35,8 @@ pub enum Part {
     Structs,
     /// A number names nothing, a type doesn't fit, or what is const is written.
     WellFormed,
+    /// Something else takes what is given over, or points into it.
+    Given,
     /// A break or a continue stands in no loop.
     Breaks,
     /// A limit is passed.
@@ -79,6 +82,7 @@ fn first_unmet(alloc: Global, p: &CoreProgram) -> Result<Option<Part>, NoMemory>
 {
     let served = is_served(alloc, p)?;
     let formed = is_formed_program(alloc, p)?;
+    let given = keeps_all_given(alloc, p)?;
     let limits = is_within(alloc, p)?;
     let ready = is_proper(alloc, p)?;
     let once = has_each_once(alloc, &p.types)?;
@@ -88,6 +92,7 @@ fn first_unmet(alloc: Global, p: &CoreProgram) -> Result<Option<Part>, NoMemory>
         typed: has_types(&p.types),
         once,
         formed,
+        given,
         breaks: have_own_breaks(&p.functions),
         limits,
         ready,
@@ -102,13 +107,14 @@ struct Met {
     typed: bool,
     once: bool,
     formed: bool,
+    given: bool,
     breaks: bool,
     limits: bool,
     ready: bool,
 }
 
 fn first_of(met: Met) -> Option<Part>
-    ensures { result ≡ None → (met.served ≡ true) × ((met.no_structs ≡ true) × ((met.typed ≡ true) × ((met.once ≡ true) × ((met.formed ≡ true) × ((met.breaks ≡ true) × ((met.limits ≡ true) × (met.ready ≡ true))))))) }
+    ensures { result ≡ None → (met.served ≡ true) × ((met.no_structs ≡ true) × ((met.typed ≡ true) × ((met.once ≡ true) × ((met.formed ≡ true) × ((met.given ≡ true) × ((met.breaks ≡ true) × ((met.limits ≡ true) × (met.ready ≡ true)))))))) }
 {
     if !met.served {
         Some(Part::Served)
@@ -116,6 +122,8 @@ fn first_of(met: Met) -> Option<Part>
         Some(Part::Structs)
     } else if !met.typed || !met.once || !met.formed {
         Some(Part::WellFormed)
+    } else if !met.given {
+        Some(Part::Given)
     } else if !met.breaks {
         Some(Part::Breaks)
     } else if !met.limits {
@@ -144,7 +152,11 @@ fn is_served_function(alloc: Global, types: &TypeTable, f: &CoreFn) -> Result<bo
     ensures { IfOk result (λ answer. answer ≡ is_served types.now (function_of f.now)) }
 {
     let points = spots(alloc, f)?;
-    Ok(both(are_served_locals(types, f), are_served(types, f, &points)))
+    let inside = both(
+        are_served(types, f, &points),
+        is_served_return(types.get(f.result)),
+    );
+    Ok(both(are_served_locals(types, f), inside))
 }
 
 fn are_served_locals(types: &TypeTable, f: &CoreFn) -> bool

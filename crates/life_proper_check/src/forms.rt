@@ -5,24 +5,28 @@ ghost use Rattle.life_core.specs.Function.{function_of};
 ghost use Rattle.life_core.specs.Node.{node_seen};
 ghost use Rattle.life_core.specs.Operands.{argument_of, location_of, source_of};
 ghost use Rattle.life_core.specs.Step.{asked_of, port_of, step_of};
-ghost use Rattle.life_proper.specs.WellFormed.{answer_of, can_end, can_live, goes_to, is_operation_of, is_port, is_well_formed_test, is_whole, local_type, types_taken};
-ghost use Rattle.life_proper_check.specs.ServedForms.{are_served_for, is_formed_node, is_formed_step, is_served_call, is_served_for, is_served_source_of};
+ghost use Rattle.life_proper.specs.WellFormed.{answer_of, can_end, can_live, goes_to, is_operation_of, is_port, is_source_of, is_well_formed_test, is_whole, local_type, types_taken};
+ghost use Rattle.life_proper_check.specs.ServedForms.{are_served_for, is_formed_node, is_formed_step, is_served_call, is_served_for};
 
+use crate::owners::{is_change_of, is_copy, is_made_for, is_move};
 use crate::placed::{
-    element_of, is_const_base, is_const_place, is_number, is_number_of, is_number_of_if,
+    element_of, is_const_base, is_const_place, is_given, is_number, is_number_of, is_number_of_if,
     is_object_at, is_register_at, is_result, is_slot_local, type_at, type_in, type_of,
     type_of_element,
 };
 use crate::scope::Scope;
 use crate::types::{
-    aims_at, are_compared, is_promoted, is_range, is_reference, keeps_const, same, takes,
+    aims_at, are_compared, gets, is_composed, is_promoted, is_range, is_reference, keeps_const,
+    owned_target, same, spans, takes, walks,
 };
 use life_core::{
     Argument, CoreFn, FnId, Instr, Local, Location, NodeRef, Operation, Operator, Port, Source,
     Test,
 };
 use life_pset::ty_at;
-use life_types::{Ty, TyId, is_constant, is_pointer, is_raw, is_slot, is_unique, is_view, is_void};
+use life_types::{
+    Ty, TyId, is_constant, is_iterator, is_pointer, is_raw, is_slot, is_unique, is_view, is_void,
+};
 
 // ---- births and ends
 
@@ -95,7 +99,7 @@ fn is_operation_of(at: &Scope, ty: Ty, operation: &Operation) -> bool
 
 // Whether a pointer of the type is aimed at this.
 fn is_source_of(at: &Scope, ty: Ty, source: &Source) -> bool
-    ensures { result ≡ is_served_source_of at.now.types.now at.now.texts (map function_of at.now.functions.now) (function_of at.now.function.now) ty (source_of source.now) }
+    ensures { result ≡ is_source_of at.now.types.now at.now.texts (map function_of at.now.functions.now) (function_of at.now.function.now) ty (source_of source.now) }
 {
     match source {
         Source::Null => is_raw(ty),
@@ -103,7 +107,12 @@ fn is_source_of(at: &Scope, ty: Ty, source: &Source) -> bool
         Source::Empty => is_range(ty),
         Source::Place(o) => aims_at(at.types, ty, type_of(at.types, at.function, o))
             && keeps_const(is_constant(ty), is_const_place(at.types, at.function, o)),
-        _ => false,
+        Source::Whole(o) => spans(at.types, ty, type_of(at.types, at.function, o))
+            && keeps_const(is_constant(ty), is_const_place(at.types, at.function, o)),
+        Source::Get(l) => {
+            let owned = owned_target(at.types, type_in(at.types, at.function, l));
+            gets(at.types, ty, owned)
+        }
     }
 }
 
@@ -125,13 +134,17 @@ fn is_argument_for(at: &Scope, id: TyId, argument: &Argument) -> bool
 {
     match argument {
         Argument::Value(r) => is_number_of(at.types, at.function, ty_at(at.types, id), *r),
+        Argument::Given(x) => {
+            let ty = ty_at(at.types, id);
+            is_composed(ty) && is_given(at.types, at.function, ty, *x)
+        }
         Argument::Pointer(l) => !is_slot(at.types, id)
             && takes(
                 at.types,
                 ty_at(at.types, id),
                 type_in(at.types, at.function, l),
             ),
-        _ => false,
+        Argument::Slot(_) => false,
     }
 }
 
@@ -154,7 +167,8 @@ fn are_arguments_for(at: &Scope, taken: &[Local], arguments: &[Argument]) -> boo
     next == taken.len()
 }
 
-fn is_whole(l: &Location) -> bool
+/// Whether it is a whole local.
+pub(crate) fn is_whole(l: &Location) -> bool
     ensures { result ≡ is_whole (location_of l.now) }
 {
     let none: &[u32] = &[];
@@ -219,6 +233,8 @@ fn is_formed_step(at: &Scope, instr: &Instr) -> bool
         Instr::Load { into, from } => is_number_of(types, f, type_of(types, f, from), *into),
         Instr::Save { to, from } => is_number_of(types, f, type_of(types, f, to), *from)
             && !is_const_place(types, f, to),
+        Instr::Copy { to, from } => is_copy(at, to, from),
+        Instr::Move { to, from } => is_move(at, to, *from),
         Instr::Aim { pointer, source } => is_source_of(at, type_in(types, f, pointer), source),
         Instr::Repoint { pointer, from } => takes(
             types,
@@ -233,6 +249,22 @@ fn is_formed_step(at: &Scope, instr: &Instr) -> bool
             let into = type_in(types, f, pointer);
             aims_at(types, into, type_of_element(types, f, base, *which))
                 && keeps_const(is_constant(into), is_const_base(types, f, base))
+        }
+        Instr::Cursor { pointer, base, .. } => {
+            let into = type_in(types, f, pointer);
+            walks(types, into, element_of(types, f, base))
+                && keeps_const(is_constant(into), is_const_base(types, f, base))
+        }
+        Instr::Advance {
+            pointer,
+            from,
+            count,
+            ..
+        } => {
+            let into = type_in(types, f, pointer);
+            is_iterator(into)
+                && takes(types, into, type_in(types, f, from))
+                && is_number(types, f, *count)
         }
         Instr::Cut {
             pointer,
@@ -258,13 +290,16 @@ fn is_formed_step(at: &Scope, instr: &Instr) -> bool
             is_number_of(types, f, Ty::Bool, *into)
                 && are_compared(types, type_in(types, f, left), type_in(types, f, right))
         }
+        Instr::Change { place, change } => {
+            is_change_of(at, type_of(types, f, place), change) && !is_const_place(types, f, place)
+        }
+        Instr::Make { owner, made } => is_made_for(at, type_in(types, f, owner), *made),
         Instr::Call {
             target,
             function,
             arguments,
         } => is_call(at, *function, target, arguments),
         Instr::Port(port) => is_port(at, port),
-        _ => false,
     }
 }
 

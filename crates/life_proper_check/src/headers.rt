@@ -4,12 +4,12 @@ ghost use Rattle.std.specs.Option.{option_copied};
 ghost use Rattle.std.specs.List.{list_all, list_any};
 ghost use Rattle.life_core.specs.Function.{function_of, promise_of};
 ghost use Rattle.life_proper.specs.WellFormedPrograms.{fits_kind, have_own_names, is_name, is_name_if, is_named_as, is_of_name, names_parameters};
-ghost use Rattle.life_proper_check.specs.ServedForms.{are_formed_locals, is_formed_local, is_formed_result, is_register_of, is_simple, is_simple_or_pointer};
+ghost use Rattle.life_proper_check.specs.ServedForms.{are_formed_locals, is_formed_local, is_formed_result, is_register_of, is_standing};
 
 use crate::placed::is_register;
 use life_core::{CoreFn, Local, LocalKind, Promise};
 use life_pset::ty_at;
-use life_types::{NameId, Ty, TyId, TypeTable, is_pointer, is_value, is_void};
+use life_types::{NameId, Ty, TyId, TypeTable, is_plain, is_pointer, is_value, is_void};
 
 // ---- names
 
@@ -54,28 +54,20 @@ pub(crate) fn have_own_names(functions: &[CoreFn]) -> bool
 
 // ---- types
 
-fn is_simple(ty: Option<Ty>) -> bool
-    ensures { result ≡ is_simple ty }
+// Whether the type stands by itself: what it is of, if of anything, is plain, and it is no struct.
+fn is_standing(types: &TypeTable, ty: Option<Ty>) -> bool
+    ensures { result ≡ is_standing types.now ty }
 {
     match ty {
-        Some(Ty::Bool) => true,
-        Some(Ty::Char) => true,
-        Some(Ty::Int) => true,
-        Some(Ty::Long) => true,
-        Some(Ty::Size) => true,
-        Some(Ty::Text) => true,
-        _ => false,
-    }
-}
-
-fn is_simple_or_pointer(types: &TypeTable, ty: Option<Ty>) -> bool
-    ensures { result ≡ is_simple_or_pointer types.now ty }
-{
-    match ty {
-        Some(Ty::View) => true,
-        Some(Ty::Raw { target, .. }) => is_simple(types.get(target)),
-        Some(Ty::Reference { target, .. }) => is_simple(types.get(target)),
-        _ => is_simple(ty),
+        None => false,
+        Some(Ty::Vector(element)) => is_plain(types, element),
+        Some(Ty::Unique(target)) => is_plain(types, target),
+        Some(Ty::Raw { target, .. }) => is_plain(types, target),
+        Some(Ty::Reference { target, .. }) => is_plain(types, target),
+        Some(Ty::Iterator { target, .. }) => is_plain(types, target),
+        Some(Ty::Span { target, .. }) => is_plain(types, target),
+        Some(Ty::Struct(_)) => false,
+        Some(_) => true,
     }
 }
 
@@ -105,7 +97,7 @@ fn is_formed_local(types: &TypeTable, names: usize, parameters: u32, x: usize, l
 {
     let ty = ty_at(types, l.ty);
     !is_void(ty)
-        && is_simple_or_pointer(types, types.get(l.ty))
+        && is_standing(types, types.get(l.ty))
         && fits_kind(l.kind, ty)
         && is_named_as(l.kind, ty, l.name)
         && is_name_if(names, l.name)

@@ -6,6 +6,8 @@ mod breaks;
 mod check;
 mod forms;
 mod headers;
+mod kept;
+mod owners;
 mod placed;
 mod results;
 mod scope;

@@ -3,7 +3,7 @@ ghost use Rattle.std.specs.Prelude.{◌≡◌};
 ghost use Rattle.life_core.specs.Function.{function_of};
 ghost use Rattle.life_core.specs.Kinds.{is_object, is_object_at, is_register, is_register_at};
 ghost use Rattle.life_core.specs.Operands.{base_of, location_of, operand_of};
-ghost use Rattle.life_proper.specs.Placed.{element_of, is_const_base, is_const_place, is_number, is_number_of, is_number_of_if, is_place, result_at, slot_at, target_of, type_at, type_in, type_of, type_of_element};
+ghost use Rattle.life_proper.specs.Placed.{element_of, is_const_base, is_const_place, is_consumed, is_given, is_number, is_number_of, is_number_of_if, is_place, result_at, slot_at, target_of, type_at, type_in, type_of, type_of_element};
 
 use crate::types::{owned_element, owned_target, pointee, same, seen_element};
 use life_core::{Base, CoreFn, LocalKind, Location, Operand, Which};
@@ -131,6 +131,29 @@ pub(crate) fn is_number_of_if(types: &TypeTable, f: &CoreFn, ty: Ty, count: Opti
     match count {
         None => true,
         Some(r) => is_number_of(types, f, ty, r),
+    }
+}
+
+// ---- what is consumed
+
+/// Whether it is a temporary of the type that may be given over: neither the result nor a slot.
+pub(crate) fn is_given(types: &TypeTable, f: &CoreFn, ty: Ty, x: u32) -> bool
+    ensures { result ≡ is_given types.now (function_of f.now) ty x }
+{
+    is_object_at(f, x)
+        && !is_result(types, f, x)
+        && !is_slot_local(types, f, x)
+        && same(ty, type_at(types, f, x))
+}
+
+/// Whether it is a value of the type, or a temporary of it that may be given over.
+pub(crate) fn is_consumed(types: &TypeTable, f: &CoreFn, ty: Ty, x: u32) -> bool
+    ensures { result ≡ is_consumed types.now (function_of f.now) ty x }
+{
+    if is_value(ty) {
+        is_number_of(types, f, ty, x)
+    } else {
+        is_given(types, f, ty, x)
     }
 }
 

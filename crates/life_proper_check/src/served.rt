@@ -1,25 +1,22 @@
 // What is served so far.
-ghost use Rattle.std.specs.Prelude.{◌≡◌, ◌&&◌, Option, map, option_map};
+ghost use Rattle.std.specs.Prelude.{◌≡◌, map, option_map};
 ghost use Rattle.std.specs.List.{list_all};
 ghost use Rattle.life_core.specs.Function.{function_of};
-ghost use Rattle.life_core.specs.Holdings.{held_by, held_if, pointer_held};
-ghost use Rattle.life_core.specs.declared.program.LocalKind.TheVariants.{Register};
-ghost use Rattle.life_types.specs.declared.ty.Class.TheVariants.{Value};
-ghost use Rattle.life_types.specs.declared.ty.Ty.{Ty as AnyTy};
 ghost use Rattle.life_core.specs.Node.{node_seen};
-ghost use Rattle.life_core.specs.Operands.{argument_of, base_of, location_of, operand_of, source_of};
-ghost use Rattle.life_core_served.specs.Served.{is_empty, is_served_argument, is_served_as, is_served_base, is_served_element, is_served_local, is_served_location, is_served_node, is_served_operand, is_served_port, is_served_source, is_served_step, is_served_target, is_served_test};
-ghost use Rattle.life_core.specs.Step.{asked_of, port_of, step_of};
+ghost use Rattle.life_core.specs.Operands.{argument_of, base_of, characters_of, location_of, operand_of, source_of};
+ghost use Rattle.life_core_served.specs.Served.{are_served_characters, is_empty, is_served_argument, is_served_base, is_served_change, is_served_element, is_served_local, is_served_location, is_served_node, is_served_operand, is_served_port, is_served_return, is_served_source, is_served_step, is_served_target, is_served_test};
+ghost use Rattle.life_core.specs.Step.{asked_of, change_of, port_of, step_of};
 
 use life_core::{
-    Argument, Base, CoreFn, Instr, Local, LocalKind, Location, NodeRef, Operand, Port, Source,
-    Test, Which,
+    Argument, Base, Change, Characters, CoreFn, Instr, Local, Location, NodeRef, Operand, Port,
+    Source, Test, Which,
 };
-use life_types::{Class, Ty, TypeTable, class_of, is_slot};
+use life_types::{Ty, TypeTable, is_slot};
 
 // ---- no member is named
 
-fn has_none(members: &[u32]) -> bool
+/// Whether it is a list of no members.
+pub(crate) fn has_none(members: &[u32]) -> bool
     ensures { result ≡ is_empty members.now }
 {
     members.is_empty()
@@ -47,7 +44,7 @@ fn is_source(source: &Source) -> bool
 {
     match source {
         Source::Place(o) => is_operand(o),
-        Source::Whole(_) => false,
+        Source::Whole(o) => is_operand(o),
         Source::Get(_) => false,
         _ => true,
     }
@@ -68,6 +65,26 @@ fn is_element(which: Which) -> bool
 {
     match which {
         Which::Target => false,
+        _ => true,
+    }
+}
+
+fn are_characters(characters: &Characters) -> bool
+    ensures { result ≡ are_served_characters (characters_of characters.now) }
+{
+    match characters {
+        Characters::View(l) => is_location(l),
+        Characters::Single(_) => true,
+    }
+}
+
+fn is_change(change: &Change) -> bool
+    ensures { result ≡ is_served_change (change_of change.now) }
+{
+    match change {
+        Change::Erase { at, into } => is_location(at) && is_location(into),
+        Change::Set(characters) => are_characters(characters),
+        Change::Append(characters) => are_characters(characters),
         _ => true,
     }
 }
@@ -120,8 +137,8 @@ fn is_step(types: &TypeTable, f: &CoreFn, instr: &Instr) -> bool
     match instr {
         Instr::Load { from, .. } => is_operand(from),
         Instr::Save { to, .. } => is_operand(to),
-        Instr::Copy { .. } => false,
-        Instr::Move { .. } => false,
+        Instr::Copy { to, from } => is_operand(to) && is_operand(from),
+        Instr::Move { to, .. } => is_operand(to),
         Instr::Aim { pointer, source } => is_location(pointer) && is_source(source),
         Instr::Repoint { pointer, from } => is_location(pointer) && is_location(from),
         Instr::Element {
@@ -129,13 +146,13 @@ fn is_step(types: &TypeTable, f: &CoreFn, instr: &Instr) -> bool
             base,
             which,
         } => is_location(pointer) && is_base(base) && is_element(*which),
-        Instr::Cursor { .. } => false,
+        Instr::Cursor { pointer, base, .. } => is_location(pointer) && is_base(base),
         Instr::Advance { pointer, from, .. } => is_location(pointer) && is_location(from),
         Instr::Cut { pointer, from, .. } => is_location(pointer) && is_location(from),
         Instr::Size { base, .. } => is_base(base),
         Instr::Same { left, right, .. } => is_location(left) && is_location(right),
-        Instr::Change { .. } => false,
-        Instr::Make { .. } => false,
+        Instr::Change { place, change } => is_operand(place) && is_change(change),
+        Instr::Make { owner, .. } => is_location(owner),
         Instr::Call {
             target,
             arguments,
@@ -167,57 +184,26 @@ pub(crate) fn is_served_node(types: &TypeTable, f: &CoreFn, node: NodeRef) -> bo
     }
 }
 
-// ---- locals
+// ---- locals and results
 
-// Whether a pointer may lie there: not in memory.
-#[tactic(auto, using(crate::proofs::Births::none_in_memory, crate::proofs::Births::range_points))]
-fn lies_apart(kind: LocalKind) -> bool
-    ensures { (ty : Option AnyTy) → is_served_as kind (pointer_held ty) ≡ (result && is_served_as Register (pointer_held ty)) }
-{
-    match kind {
-        LocalKind::Object => false,
-        LocalKind::Register => true,
-        LocalKind::Range => true,
-    }
-}
-
-// Whether a value may: an object and a register hold one.
-fn holds_value(kind: LocalKind) -> bool
-    ensures { (ty : Option AnyTy) → result ≡ is_served_as kind (held_if Value kind ty) }
-{
-    match kind {
-        LocalKind::Object => true,
-        LocalKind::Register => true,
-        LocalKind::Range => false,
-    }
-}
-
-fn points_simply(ty: Option<Ty>) -> bool
-    ensures { result ≡ is_served_as Register (pointer_held ty) }
-{
-    match ty {
-        Some(Ty::Raw { .. }) => true,
-        Some(Ty::Reference { .. }) => true,
-        Some(Ty::View) => true,
-        _ => false,
-    }
-}
-
-/// Whether the local is served.
+/// Whether the local is served: it is no slot.
 pub(crate) fn is_served_local(types: &TypeTable, local: &Local) -> bool
     ensures { result ≡ is_served_local types.now local.now }
 {
-    is_held(types, local) && !is_slot(types, local.ty)
+    !is_slot(types, local.ty)
 }
 
-#[tactic(auto, using(crate::proofs::Births::none_held))]
-fn is_held(types: &TypeTable, local: &Local) -> bool
-    ensures { result ≡ is_served_as local.now.kind (held_by types.now (Some local.now)) }
+/// Whether a result of the type is served.
+pub(crate) fn is_served_return(ty: Option<Ty>) -> bool
+    ensures { result ≡ is_served_return ty }
 {
-    match class_of(types, local.ty) {
-        Class::Pointer => lies_apart(local.kind) && points_simply(types.get(local.ty)),
-        Class::Value => holds_value(local.kind),
-        Class::Owner => false,
-        Class::Aggregate => false,
+    match ty {
+        Some(Ty::Text) => false,
+        Some(Ty::Vector(_)) => false,
+        Some(Ty::Unique(_)) => false,
+        Some(Ty::Struct(_)) => false,
+        Some(Ty::Iterator { .. }) => false,
+        Some(Ty::Span { .. }) => false,
+        _ => true,
     }
 }

@@ -2,10 +2,10 @@
 ghost use Rattle.std.specs.Prelude.{◌≡◌};
 ghost use Rattle.life_types.specs.Pointees.{pointee};
 ghost use Rattle.life_types.specs.TypeTests.{is_reference};
-ghost use Rattle.life_proper.specs.OperandTypes.{aims_at, are_alike, are_compared, is_promoted, is_range, keeps_const, owned_element, owned_target, same, seen_element, takes};
+ghost use Rattle.life_proper.specs.OperandTypes.{aims_at, are_alike, are_compared, gets, is_composed, is_owner, is_promoted, is_range, keeps_const, owned_element, owned_target, same, seen_element, spans, takes, walks};
 
 use life_pset::ty_at;
-use life_types::{Ty, TypeTable, is_constant, is_view};
+use life_types::{Ty, TypeTable, is_constant, is_pointer, is_value, is_view, is_void};
 
 /// Whether operators compute in it.
 pub(crate) fn is_promoted(ty: Ty) -> bool
@@ -17,6 +17,25 @@ pub(crate) fn is_promoted(ty: Ty) -> bool
         Ty::Size => true,
         _ => false,
     }
+}
+
+/// Whether it is a string, a vector or a unique_ptr.
+pub(crate) fn is_owner(ty: Ty) -> bool
+    ensures { result ≡ is_owner ty }
+{
+    match ty {
+        Ty::Text => true,
+        Ty::Vector(_) => true,
+        Ty::Unique(_) => true,
+        _ => false,
+    }
+}
+
+/// Whether it is an owner or a struct.
+pub(crate) fn is_composed(ty: Ty) -> bool
+    ensures { result ≡ is_composed ty }
+{
+    !(is_void(ty) || is_value(ty) || is_pointer(ty))
 }
 
 pub(crate) fn is_reference(ty: Ty) -> bool
@@ -148,6 +167,39 @@ pub(crate) fn aims_at(types: &TypeTable, ty: Ty, object: Ty) -> bool
     match ty {
         Ty::Raw { target, .. } => same(ty_at(types, target), object),
         Ty::Reference { target, .. } => same(ty_at(types, target), object),
+        _ => false,
+    }
+}
+
+/// Whether it is a raw pointer to what the second is.
+pub(crate) fn gets(types: &TypeTable, ty: Ty, target: Ty) -> bool
+    ensures { result ≡ gets types.now ty target }
+{
+    match ty {
+        Ty::Raw { target: own, .. } => same(ty_at(types, own), target),
+        _ => false,
+    }
+}
+
+/// Whether it is an iterator to elements that are what the second is.
+pub(crate) fn walks(types: &TypeTable, ty: Ty, element: Ty) -> bool
+    ensures { result ≡ walks types.now ty element }
+{
+    match ty {
+        Ty::Iterator { target, .. } => same(ty_at(types, target), element),
+        _ => false,
+    }
+}
+
+/// Whether the first sees the whole of the second: a span of a vector, or a view of a string.
+pub(crate) fn spans(types: &TypeTable, ty: Ty, owner: Ty) -> bool
+    ensures { result ≡ spans types.now ty owner }
+{
+    match (ty, owner) {
+        (Ty::Span { target, .. }, Ty::Vector(element)) => {
+            same(ty_at(types, target), ty_at(types, element))
+        }
+        (Ty::View, Ty::Text) => true,
         _ => false,
     }
 }
