@@ -59,7 +59,7 @@ module _ (f : Function) where
 
 -- ---- what it is given fits it
 
-module _ (types : Types) (texts : ℕ) (so_far : Bool) (fs : List Function) (f : Function) where
+module _ (types : Types) (texts : ℕ) (fs : List Function) (f : Function) where
   aims_further : (t u : Ty) (o : Operand) → is_location t ≡ true → takes types t u ≡ true → (aims_at types u (type_of types f o) && keeps_const (is_constant u) (is_const_place types f o)) ≡ true
       → (aims_at types t (type_of types f o) && keeps_const (is_constant t) (is_const_place types f o)) ≡ true
   aims_further (ty.Raw target c) (ty.Raw found d) o raw taken aimed =
@@ -78,8 +78,8 @@ module _ (types : Types) (texts : ℕ) (so_far : Bool) (fs : List Function) (f :
   aims_further _ u o raw taken aimed = absurd (false≢true raw)
 
   -- nullptr is taken by each raw pointer
-  pub null_given : IsGivenAs types texts so_far fs f NullPointer (aimed Null)
-  null_given = λ u l loc at taken. record { given = refl; formed = ap is_raw at.typed ∙ raw u taken; served = λ so. and_from (is_served_location l) true (at.served so) refl }
+  pub null_given : IsGivenAs types texts fs f NullPointer (aimed Null)
+  null_given = λ u l loc at taken. record { given = refl; formed = ap is_raw at.typed ∙ raw u taken; served = and_from (is_served_location l) true at.served refl }
     where
       clash : (u : Ty) → NullPointer ≡ Of u → ⊥
       clash u e = cc
@@ -89,11 +89,11 @@ module _ (types : Types) (texts : ℕ) (so_far : Bool) (fs : List Function) (f :
       raw u (inr e) = e
 
   -- a literal by each view
-  pub literal_given : (n : ℕ) → nat_lt n texts ≡ true → IsGivenAs types texts so_far fs f TextLiteral (aimed (Text n))
+  pub literal_given : (n : ℕ) → nat_lt n texts ≡ true → IsGivenAs types texts fs f TextLiteral (aimed (Text n))
   literal_given n few = λ u l loc at taken. record {
     given = refl;
     formed = and_from (is_view (type_in types f l)) (nat_lt n texts) (ap is_view at.typed ∙ view u taken) few;
-    served = λ so. and_from (is_served_location l) true (at.served so) refl;
+    served = and_from (is_served_location l) true at.served refl;
   }
     where
       clash : (u : Ty) → TextLiteral ≡ Of u → ⊥
@@ -104,11 +104,11 @@ module _ (types : Types) (texts : ℕ) (so_far : Bool) (fs : List Function) (f :
       view u (inr e) = e
 
   -- a place by each that takes its address
-  pub place_given : (t : Ty) (o : Operand) → (aims_at types t (type_of types f o) && keeps_const (is_constant t) (is_const_place types f o)) ≡ true → (so_far ≡ true → is_served_operand o ≡ true) → IsGivenAs types texts so_far fs f (Of t) (aimed (Aimed o))
+  pub place_given : (t : Ty) (o : Operand) → (aims_at types t (type_of types f o) && keeps_const (is_constant t) (is_const_place types f o)) ≡ true → (is_served_operand o ≡ true) → IsGivenAs types texts fs f (Of t) (aimed (Aimed o))
   place_given t o fits served = λ u l raw at taken. record {
     given = refl;
     formed = ap (λ (w : Ty). is_source_of types texts fs f w (Aimed o)) at.typed ∙ go u raw taken;
-    served = λ so. and_from (is_served_location l) (is_served_operand o) (at.served so) (served so);
+    served = and_from (is_served_location l) (is_served_operand o) at.served served;
   }
     where
       same_of : (u : Ty) → Of t ≡ Of u → t ≡ u
@@ -118,12 +118,12 @@ module _ (types : Types) (texts : ℕ) (so_far : Bool) (fs : List Function) (f :
       go u raw (inl e) = subst (λ (w : Ty). (aims_at types w (type_of types f o) && keeps_const (is_constant w) (is_const_place types f o)) ≡ true) (same_of u e) fits
       go u raw (inr taken) = aims_further u t o raw taken fits
 
-  pub pointed_fine : (l : Location) (u : Ty) (t : ExprType) (p : Pointing) → is_location u ≡ true → IsAt types texts so_far fs f u l → takes_from types u t ≡ true → IsGivenAs types texts so_far fs f t p → IsFineStep types texts so_far fs f (pointed p l)
+  pub pointed_fine : (l : Location) (u : Ty) (t : ExprType) (p : Pointing) → is_location u ≡ true → IsAt types texts fs f u l → takes_from types u t ≡ true → IsGivenAs types texts fs f t p → IsFineStep types texts fs f (pointed p l)
   pointed_fine l u t (By step) raw at taken given = given u l raw at (inr taken)
   pointed_fine l u (Of v) (As q) raw at taken given = record {
     given = refl;
     formed = ap (λ (w : Ty). takes types w (type_in types f q)) at.typed ∙ ap (takes types u) given.typed ∙ taken;
-    served = λ so. and_from (is_served_location l) (is_served_location q) (at.served so) (given.served so);
+    served = and_from (is_served_location l) (is_served_location q) at.served given.served;
   }
   pointed_fine l u NullPointer (As q) raw at taken given = absurd given
   pointed_fine l u TextLiteral (As q) raw at taken given = absurd given

@@ -2,7 +2,7 @@
 use Rattle.std.proofs.Common.{◌≡◌, ◌<◌, ◌≤◌, ℕ, Bool, true, List, [], ◌∷◌, ◌++◌, None, not, length, if◌then◌else◌, refl, sym, ap, ◌∙◌, arith, Option}
 use Rattle.std.proofs.lemmas.Bool.{and_from}
 use Rattle.life_types.specs.Pointees.{ty_of}
-use Rattle.life_types.specs.TypeTests.{is_constant, is_value, is_void}
+use Rattle.life_types.specs.TypeTests.{is_constant, is_void}
 use Rattle.life_types.specs.Types.{Types}
 use Rattle.life_types.specs.declared.place.Place.{Place}
 use Rattle.life_types.specs.declared.ty.Ty.{Ty}
@@ -30,7 +30,7 @@ use Rattle.life_writer.specs.Bases.{element}
 use Rattle.life_writer.specs.Registers.{computed, eval, new_register}
 use Rattle.life_writer.specs.Writing.{Gives, State}
 use Rattle.life_elab_laws.proofs.Emitting.{new_targeted}
-use Rattle.life_elab_laws.proofs.FormedVariables.{behind_place, reference_there, type_later, value_no_void}
+use Rattle.life_elab_laws.proofs.FormedVariables.{behind_place, reference_there}
 use Rattle.life_elab_laws.proofs.Fronts.{IsFront, front_length, last_there}
 use Rattle.life_elab_laws.proofs.Gifts.{Gift, a_number, a_place, both, held_stays}
 use Rattle.life_elab_laws.proofs.Growing.{Begins, added}
@@ -41,6 +41,10 @@ use Rattle.life_elab_laws.proofs.OperandsThere.{number_any, register_there, type
 use Rattle.life_elab_laws.proofs.Parts.{Part}
 use Rattle.life_elab_laws.proofs.Types.{type_added}
 use Rattle.life_elab_laws.proofs.WrittenLocals.{fits_below, fits_register}
+use Rattle.life_elab_laws.proofs.Targets.{target_no_void, target_same}
+use Rattle.life_served.specs.Served.{is_element, is_target}
+use Rattle.life_elab_laws.proofs.Elements.{element_target, element_there}
+use Rattle.life_elab_laws.proofs.Shaped.{element_further}
 
 -- what has elements names a local that is there
 pub record IsBase (b : Base) (n : ℕ) (k : List Known) : Type 0 where
@@ -65,17 +69,17 @@ which_there which.First n k h = refl
 which_there which.Last n k h = refl
 which_there which.Target n k h = refl
 
-module _ (types : Types) (texts : ℕ) (so_far : Bool) (fs : List Function) (f : Function) where
+module _ (types : Types) (texts : ℕ) (fs : List Function) (f : Function) where
   -- elements of a type, which are const only where this is
   pub record IsBaseOf (t : Ty) (constant : Bool) (b : Base) : Type 0 where
     pub element : element_of types f b ≡ t
     pub held : keeps_const constant (is_const_base types f b) ≡ true
-    pub served : so_far ≡ true → is_served_base b ≡ true
+    pub served : is_served_base b ≡ true
 
   pub base_stays : (b : Base) (n m : ℕ) (k j : List Known) → n ≤ m → IsBase b n k → Keeps f n None k j → IsBase b m j
   base_stays b n m k j h p keeps = record { local = p.local; uses = p.uses; below = omega (arith, p.below, h); held = keeps.below p.local p.below tt ∙ p.held }
 
-  abbrev pub a_base : Ty → Bool → Gift types texts so_far fs f Base
+  abbrev pub a_base : Ty → Bool → Gift types texts fs f Base
   a_base t constant = record { typed = IsBaseOf t constant; ready = IsBase; stays = base_stays }
 
   abbrev pub IsWhichOf : Which → Type 0
@@ -85,34 +89,34 @@ module _ (types : Types) (texts : ℕ) (so_far : Bool) (fs : List Function) (f :
   IsWhichOf which.Target = ⊥
 
   pub which_stays : (w : Which) (n m : ℕ) (k j : List Known) → n ≤ m → IsWhich w n k → Keeps f n None k j → IsWhich w m j
-  which_stays (which.Index r) n m k j h p keeps = held_stays types texts so_far fs f r n m k j h p keeps
+  which_stays (which.Index r) n m k j h p keeps = held_stays types texts fs f r n m k j h p keeps
   which_stays which.First n m k j h p keeps = tt
   which_stays which.Last n m k j h p keeps = tt
   which_stays which.Target n m k j h p keeps = absurd p
 
-  abbrev pub a_which : Gift types texts so_far fs f Which
+  abbrev pub a_which : Gift types texts fs f Which
   a_which = record { typed = IsWhichOf; ready = IsWhich; stays = which_stays }
 
   -- how many elements there are
-  pub size_part : (into : Option ℕ) (t : Ty) (constant : Bool) (place : Place) (b : Base) (s : State) → is_value t ≡ true → IsIntoOf ty.Size s into
-      → Part types texts so_far fs f (a_base t constant) b into s (computed into ty.Size place (λ r. Size r b) s) (a_number types texts so_far fs f ty.Size)
+  pub size_part : (into : Option ℕ) (t : Ty) (constant : Bool) (place : Place) (b : Base) (s : State) → not (is_void t) ≡ true → IsIntoOf ty.Size s into
+      → Part types texts fs f (a_base t constant) b into s (computed into ty.Size place (λ r. Size r b) s) (a_number types texts fs f ty.Size)
   size_part into t constant place b s v wanted =
-      computed_part types texts so_far fs f (a_base t constant) b into ty.Size place (λ r. Size r b) s refl wanted
+      computed_part types texts fs f (a_base t constant) b into ty.Size place (λ r. Size r b) s refl wanted
       (record {
         fills = λ r n k e p. record { ready = uses_ready k (base_uses b) (r ∷ []) (base_there b n k p); after = refl };
         fine = λ r e h. record {
           given = refl;
-          formed = and_from (is_number_of types f ty.Size r) (not (is_void (element_of types f b))) e (ap (λ (u : Ty). not (is_void u)) h.element ∙ value_no_void t v);
+          formed = and_from (is_number_of types f ty.Size r) (not (is_void (element_of types f b))) e (ap (λ (u : Ty). not (is_void u)) h.element ∙ v);
           served = h.served;
         };
       })
 
   -- whether a number is 0
   pub zero_part : (into : Option ℕ) (u : Ty) (place : Place) (n : ℕ) (s : State) → IsIntoOf ty.Bool s into
-      → Part types texts so_far fs f (a_number types texts so_far fs f u) n into s (computed into ty.Bool place (eval (operation.IsZero n)) s) (a_number types texts so_far fs f ty.Bool)
+      → Part types texts fs f (a_number types texts fs f u) n into s (computed into ty.Bool place (eval (operation.IsZero n)) s) (a_number types texts fs f ty.Bool)
   zero_part into u place n s wanted =
-      computed_part types texts so_far fs f (a_number types texts so_far fs f u) n into ty.Bool place (eval (operation.IsZero n)) s refl wanted
-      (evaluates types texts so_far fs f (a_number types texts so_far fs f u) n ty.Bool (operation.IsZero n) (λ m k h. one_there k n h.1)
+      computed_part types texts fs f (a_number types texts fs f u) n into ty.Bool place (eval (operation.IsZero n)) s refl wanted
+      (evaluates types texts fs f (a_number types texts fs f u) n ty.Bool (operation.IsZero n) (λ m k h. one_there k n h.1)
       (λ h. and_from (same ty.Bool ty.Bool) (is_number types f n) (value_same ty.Bool refl) (number_any types f u n h)))
 
   element_is : (t : Ty) (constant : Bool) (b : Base) (w : Which) → IsBaseOf t constant b → IsWhichOf w → type_of_element types f b w ≡ t
@@ -128,22 +132,22 @@ module _ (types : Types) (texts : ℕ) (so_far : Bool) (fs : List Function) (f :
   which_served which.Target h = absurd h
 
   -- an element, which is reached through a register
-  pub element_part : (few : Types) (place : Place) (id : TyId) (constant : Bool) (t : Ty) (x : Base × Which) (s : State) → IsFront few.types types.types → IsFront few.types s.types.types → type_at few id ≡ t → is_value t ≡ true
-      → Part types texts so_far fs f (both types texts so_far fs f (a_base t constant) a_which) x None s (element place (category.Place id constant) x.0 x.1 s) (a_place types texts so_far fs f t constant)
+  pub element_part : (few : Types) (place : Place) (id : TyId) (constant : Bool) (t : Ty) (x : Base × Which) (s : State) → IsFront few.types types.types → IsFront few.types s.types.types → type_at few id ≡ t → is_element few t ≡ true
+      → Part types texts fs f (both types texts fs f (a_base t constant) a_which) x None s (element place (category.Place id constant) x.0 x.1 s) (a_place types texts fs f t constant)
   element_part few place id constant t x s front table here v =
-      emit_part types texts so_far fs f (both types texts so_far fs f (a_base t constant) a_which) x None s w place (λ r. Element (whole r) x.0 x.1) (behind w.given)
-      (a_place types texts so_far fs f t constant)
-      (new_targeted so_far types f place reference s fits (fits_below so_far few s.types (front_length few.types s.types.types table) reference (ap is_value here ∙ v)))
+      emit_part types texts fs f (both types texts fs f (a_base t constant) a_which) x None s w place (λ r. Element (whole r) x.0 x.1) (behind w.given)
+      (a_place types texts fs f t constant)
+      (new_targeted types f place reference s fits (fits_below few s.types (front_length few.types s.types.types table) reference (ap (is_target few) here ∙ element_target few t v)))
       (λ b h. let at = at_reference b in (
         record {
           given = refl;
           formed =
               and_from (aims_at types (type_in types f (whole w.given)) (type_of_element types f x.0 x.1)) _
-              (ap (λ (u : Ty). aims_at types u (type_of_element types f x.0 x.1)) at ∙ ap (same (ty_of types id)) (element_is t constant x.0 x.1 h.0 h.1) ∙ ap (λ (u : Ty). same u t) later ∙ value_same t v)
+              (ap (λ (u : Ty). aims_at types u (type_of_element types f x.0 x.1)) at ∙ ap (same (ty_of types id)) (element_is t constant x.0 x.1 h.0 h.1) ∙ ap (λ (u : Ty). same u t) later ∙ target_same few t (element_target few t v))
               (ap (λ (u : Ty). keeps_const (is_constant u) (is_const_base types f x.0)) at ∙ h.0.held);
-          served = λ so. and_from (is_served_base x.0) (is_served_element x.1) (h.0.served so) (which_served x.1 h.1);
+          served = and_from (is_served_base x.0) (is_served_element x.1) h.0.served (which_served x.1 h.1);
         },
-        behind_place types texts so_far fs f (whole w.given) reference id constant t (record { typed = at; kept = kept_reference b; served = λ so. refl }) refl refl refl later v,
+        behind_place types texts fs f (whole w.given) reference id constant t (record { typed = at; kept = kept_reference b; served = refl }) refl refl refl later (target_no_void few t (element_target few t v)),
       ))
       (λ r n k e p. record { ready = uses_ready k (base_uses x.0 ++ (which_uses x.1 ++ [])) (r ∷ []) (both_known known.Ready k (base_uses x.0) (which_uses x.1 ++ []) (base_there x.0 n k p.0) (which_there x.1 n k p.1)); after = refl })
       (λ k lt e. record { local = w.given; uses = refl; below = lt; held = e })
@@ -155,15 +159,19 @@ module _ (types : Types) (texts : ℕ) (so_far : Bool) (fs : List Function) (f :
       w = new_register place (ty.Reference id constant) s
 
       later : ty_of types id ≡ t
-      later = type_later few types front id (ap is_value here ∙ v) ∙ here
+      later = element_there few types front id (ap (is_element few) here ∙ v) ∙ here
 
-      fits : fits_register so_far types (ty.Reference id constant) ≡ true
-      fits = ap is_value (sym (type_either types id) ∙ later) ∙ v
+      -- in the finished table it may be pointed to too
+      wide : is_target types t ≡ true
+      wide = element_target types t (element_further few types front t v)
+
+      fits : fits_register types (ty.Reference id constant) ≡ true
+      fits = ap (is_target types) (sym (type_either types id) ∙ later) ∙ wide
 
       at_reference : Begins types f (new_register place (ty.Reference id constant) s).state → type_in types f (whole (length s.locals)) ≡ ty.Reference id constant
       at_reference b =
           let l = added place (ty.Reference id constant) s in
-          reference_there types f (length s.locals) l id constant (b.locals (length s.locals) l (last_there s.locals l)) (b.table l.ty.0 (ty.Reference id constant) (type_added s.types.types (ty.Reference id constant))) (ap is_value later ∙ v)
+          reference_there types f (length s.locals) l id constant (b.locals (length s.locals) l (last_there s.locals l)) (b.table l.ty.0 (ty.Reference id constant) (type_added s.types.types (ty.Reference id constant))) (ap (is_target types) later ∙ wide)
 
       kept_reference : Begins types f (new_register place (ty.Reference id constant) s).state → is_register_at f (length s.locals) ≡ true
       kept_reference b = let l = added place (ty.Reference id constant) s in register_there types f (length s.locals) l (b.locals (length s.locals) l (last_there s.locals l)) refl

@@ -6,8 +6,7 @@ use Rattle.life_types.specs.TypeTests.{is_value, is_void}
 use Rattle.life_types.specs.Types.{Types}
 use Rattle.life_types.specs.declared.ty.Ty.{Ty}
 use Rattle.life_types.specs.declared.ty.Ty.TheVariants as ty
-use Rattle.life_served.specs.Served.{is_pointing, is_served_result}
-use Rattle.life_elab_laws.specs.Reached.{are_reached_variables}
+use Rattle.life_served.specs.Served.{are_served_variables, is_pointing, is_served_result}
 use Rattle.life_typed.specs.BaseTypes.{type_at}
 use Rattle.life_typed.specs.declared.typed_program.ParameterPromise.{ParameterPromise}
 use Rattle.life_typed.specs.declared.typed_program.TypedLocal.{TypedLocal}
@@ -34,7 +33,8 @@ use Rattle.life_elab_laws.proofs.Growing.{Grows, grows_none}
 use Rattle.life_elab_laws.proofs.OrderedTypes.{order_none}
 use Rattle.life_elab_laws.proofs.WrittenLocals.{AddsRegisters, AreWrittenLocals, IsIntermediate, fits_register, locals_added, own_added, register_pushed, pointing_fits, registers_none}
 use Rattle.life_elab_laws.proofs.PendingTemporaries.{none_pending, pending_later}
-use Rattle.life_elab_laws.proofs.ResultTypes.{IsResultType, gives_nothing, gives_raw, gives_reference, gives_value, gives_view, result_is}
+use Rattle.life_elab_laws.proofs.ResultTypes.{IsResultType, gives_alias, gives_nothing, gives_raw, gives_reference, gives_value, gives_view, result_is}
+use Rattle.life_elab_laws.proofs.Targets.{owner_target, value_target}
 use Rattle.life_elab_laws.proofs.Values.{by_values}
 
 -- ---- what is there at the entry
@@ -110,13 +110,13 @@ module _ (a : Around) where
   code_same (p ∷ ps) [] s = refl
   code_same (p ∷ ps) (u ∷ us) s = code_same ps us (with_new (parameter_local a p u) s)
 
-  own_parameters : (so_far : Bool) (types : Types) (ps : List ParameterPromise) (done us : List TypedLocal) (s : State) → done ++ us ≡ a.function.locals → AreWrittenLocals so_far types a s → AreWrittenLocals so_far types a (elab.with_parameters a ps us s)
-  own_parameters so_far types [] done us s e h = h
-  own_parameters so_far types (p ∷ ps) done [] s e h = h
-  own_parameters so_far types (p ∷ ps) done (u ∷ us) s e h =
+  own_parameters : (types : Types) (ps : List ParameterPromise) (done us : List TypedLocal) (s : State) → done ++ us ≡ a.function.locals → AreWrittenLocals types a s → AreWrittenLocals types a (elab.with_parameters a ps us s)
+  own_parameters types [] done us s e h = h
+  own_parameters types (p ∷ ps) done [] s e h = h
+  own_parameters types (p ∷ ps) done (u ∷ us) s e h =
       let at : slice_get a.function.locals (length done) ≡ Some u = subst (λ (xs : List TypedLocal). slice_get xs (length done) ≡ Some u) e (middle_there done u us) in
-      own_parameters so_far types ps (done ++ u ∷ []) us (with_new (parameter_local a p u) s) (append_assoc done (u ∷ []) us ∙ e)
-      (own_added so_far types a s (parameter_local a p u) (record { number = length done; variable = u; there = at; of = record { named = refl; typed = refl; kind = refl } }) h)
+      own_parameters types ps (done ++ u ∷ []) us (with_new (parameter_local a p u) s) (append_assoc done (u ∷ []) us ∙ e)
+      (own_added types a s (parameter_local a p u) (record { number = length done; variable = u; there = at; of = record { named = refl; typed = refl; kind = refl } }) h)
 
   -- all of them live
   abbrev AllLive : State → Type 0
@@ -135,10 +135,10 @@ module _ (a : Around) where
 
   -- ---- the result behind them
 
-  one_register : (so_far : Bool) (t : Ty) (s : State) → fits_register so_far a.program.types t ≡ true → slice_get s.types.types a.function.result.0 ≡ Some t
-      → (y : ℕ) (l : Local) → slice_get (s.locals ++ nameless a.function.place a.function.result ∷ []) y ≡ Some l → (slice_get s.locals y ≡ Some l) ⊎ IsIntermediate so_far a.program.types s.types l
-  one_register so_far t s fits at =
-      register_pushed so_far a.program.types s.types s.locals (nameless a.function.place a.function.result) (record { nameless = refl; ty = t; typed = at; fits = inl (refl, fits) })
+  one_register : (t : Ty) (s : State) → fits_register a.program.types t ≡ true → slice_get s.types.types a.function.result.0 ≡ Some t
+      → (y : ℕ) (l : Local) → slice_get (s.locals ++ nameless a.function.place a.function.result ∷ []) y ≡ Some l → (slice_get s.locals y ≡ Some l) ⊎ IsIntermediate a.program.types s.types l
+  one_register t s fits at =
+      register_pushed a.program.types s.types s.locals (nameless a.function.place a.function.result) (record { nameless = refl; ty = t; typed = at; fits = inl (refl, fits) })
 
   one_register_grows : (s : State) → Grows s (record s { locals = s.locals ++ nameless a.function.place a.function.result ∷ [] })
   one_register_grows s = record {
@@ -159,15 +159,16 @@ module _ (a : Around) where
   by_result s P none one t (gives_value v) = by_values (λ u. P u (with_result a u s)) (one ty.Bool refl) (one ty.Char refl) (one ty.Int refl) (one ty.Long refl) (one ty.Size refl) t v
   by_result s P none one t (gives_raw target constant raw w) = subst (λ (u : Ty). P u (with_result a u s)) (sym raw) (one (ty.Raw target constant) w)
   by_result s P none one t (gives_view view) = subst (λ (u : Ty). P u (with_result a u s)) (sym view) (one ty.View refl)
-  by_result s P none one t (gives_reference target constant refers w) = subst (λ (u : Ty). P u (with_result a u s)) (sym refers) (one (ty.Reference target constant) w)
+  by_result s P none one t (gives_reference target constant refers w) = subst (λ (u : Ty). P u (with_result a u s)) (sym refers) (one (ty.Reference target constant) (value_target a.program.types (type_at a.program.types target) w))
+  by_result s P none one t (gives_alias target constant refers o) = subst (λ (u : Ty). P u (with_result a u s)) (sym refers) (one (ty.Reference target constant) (owner_target a.program.types (type_at a.program.types target) o))
 
   pub result_grows : (t : Ty) (s : State) → IsResultType a.program.types t → Grows s (with_result a t s)
   result_grows t s kind = by_result s (λ t r. Grows s r) (grows_none s) (λ t fits. one_register_grows s) t kind
 
   -- .. a register
-  result_registers : (so_far : Bool) (t : Ty) (s : State) → IsResultType a.program.types t → slice_get s.types.types a.function.result.0 ≡ Some t → AddsRegisters so_far a.program.types s (with_result a t s)
-  result_registers so_far t s kind at =
-      by_result s (λ t r. slice_get s.types.types a.function.result.0 ≡ Some t → AddsRegisters so_far a.program.types s r) (λ at. registers_none so_far a.program.types s) (λ t fits at. (one_register so_far t s (pointing_fits so_far a.program.types t fits) at, order_none s.types)) t kind at
+  result_registers : (t : Ty) (s : State) → IsResultType a.program.types t → slice_get s.types.types a.function.result.0 ≡ Some t → AddsRegisters a.program.types s (with_result a t s)
+  result_registers t s kind at =
+      by_result s (λ t r. slice_get s.types.types a.function.result.0 ≡ Some t → AddsRegisters a.program.types s r) (λ at. registers_none a.program.types s) (λ t fits at. (one_register t s (pointing_fits a.program.types t fits) at, order_none s.types)) t kind at
 
   result_there : (t : Ty) (s : State) → IsResultType a.program.types t → is_void t ≡ false → slice_get (with_result a t s).locals (length s.locals) ≡ Some (nameless a.function.place a.function.result)
   result_there t s kind some =
@@ -204,14 +205,14 @@ module _ (a : Around) where
     kind_of b = result_is a.program.types (type_at a.program.types a.function.result) b
 
     -- the parameters, and the register of the result
-    pub first_locals : (so_far : Bool) (t : Ty) → slice_get a.program.types.types a.function.result.0 ≡ Some t → is_served_result a.program.types a.function.result ≡ true → AreWrittenLocals so_far a.program.types a (first_state a T)
-    first_locals so_far t at b =
+    pub first_locals : (t : Ty) → slice_get a.program.types.types a.function.result.0 ≡ Some t → is_served_result a.program.types a.function.result ≡ true → AreWrittenLocals a.program.types a (first_state a T)
+    first_locals t at b =
         let found : type_at a.program.types a.function.result ≡ t = ap (λ (o : Option Ty). unwrap_or o ty.Void) at in
         let there : slice_get given.types.types a.function.result.0 ≡ Some t =
         ap (λ (x : Types). slice_get x.types a.function.result.0) (types_same a.function.parameters a.function.locals (nothing_written T)) ∙ table a.function.result.0 t at in
-        locals_added so_far a.program.types a given (first_state a T) (result_grows (type_at a.program.types a.function.result) given (kind_of b)).types
-        (result_registers so_far (type_at a.program.types a.function.result) given (kind_of b) (there ∙ ap Some (sym found)))
-        (own_parameters so_far a.program.types a.function.parameters [] a.function.locals (nothing_written T) refl (λ y l none. absurd (none-some l none)))
+        locals_added a.program.types a given (first_state a T) (result_grows (type_at a.program.types a.function.result) given (kind_of b)).types
+        (result_registers (type_at a.program.types a.function.result) given (kind_of b) (there ∙ ap Some (sym found)))
+        (own_parameters a.program.types a.function.parameters [] a.function.locals (nothing_written T) refl (λ y l none. absurd (none-some l none)))
 
     pub result_first : is_served_result a.program.types a.function.result ≡ true → is_void (type_at a.program.types a.function.result) ≡ false
         → slice_get (first_state a T).locals (length a.function.parameters) ≡ Some (nameless a.function.place a.function.result)
@@ -233,7 +234,7 @@ module _ (a : Around) where
           ∙ ap Some (sym (ap (λ (o : Option Ty). unwrap_or o ty.Void) at));
     }
 
-    module _ (types : Types) (f : Function) (front : IsFront a.program.types.types types.types) (variables : are_reached_variables false a.program.types a.function.locals ≡ true) where
+    module _ (types : Types) (f : Function) (front : IsFront a.program.types.types types.types) (variables : are_served_variables a.program.types a.function.locals ≡ true) where
       nothing_follows : Follows types f a (with_parameters 0) (nothing_written T)
       nothing_follows = record {
         count = refl;
@@ -253,7 +254,7 @@ module _ (a : Around) where
       each_follows (p ∷ ps) done (u ∷ us) v s e n few h =
           let at : slice_get a.function.locals v.declared ≡ Some u = subst (λ (k : ℕ). slice_get a.function.locals k ≡ Some u) n (subst (λ (xs : List TypedLocal). slice_get xs (length done) ≡ Some u) e (middle_there done u us)) in
           each_follows ps (done ++ u ∷ []) us (with_next v) (with_new (parameter_local a p u) s) (append_assoc done (u ∷ []) us ∙ e) (omega (arith, n, length-append done (u ∷ []))) (omega (arith, few))
-          (follows_new types f a front v u (parameter_local a p u) (record { named = refl; typed = refl; kind = refl }) s h at (variable_built false a.program.types a.function.locals v.declared u variables at))
+          (follows_new types f a front v u (parameter_local a p u) (record { named = refl; typed = refl; kind = refl }) s h at (variable_built a.program.types a.function.locals v.declared u variables at))
 
       given_follows : Follows types f a (with_parameters (length a.function.parameters)) given
       given_follows =

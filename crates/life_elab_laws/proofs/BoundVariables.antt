@@ -1,11 +1,12 @@
 -- A reference that is declared with a temporary, which comes to life right before it and lives as long as it does.
-use Rattle.std.proofs.Common.{◌≡◌, ◌<◌, ◌⊎◌, inl, inr, ℕ, Bool, true, false, List, [], ◌∷◌, ◌++◌, Contains, length, slice_get, slice_set, take, Option, Some, None, refl, sym, ap, ◌∙◌, subst, arith, append_assoc, length-append}
+use Rattle.std.proofs.Common.{◌≡◌, ◌<◌, ◌⊎◌, inl, inr, ℕ, Bool, true, false, List, [], ◌∷◌, ◌++◌, Contains, length, slice_get, slice_set, take, Some, None, refl, sym, ap, ◌∙◌, subst, arith, append_assoc, length-append}
 use Rattle.std.proofs.lemmas.Bool.{or_left}
 use Rattle.std.proofs.lemmas.List.Elements.{Contains-append_left, Contains-push_cases}
 use Rattle.std.proofs.lemmas.Option.{slice_get_within}
+use Rattle.life_served.specs.Served.{is_served_variable, is_target}
 use Rattle.life_types.specs.Trees.{HasPartsBelow}
 use Rattle.life_types.specs.TypeTests.{is_value}
-use Rattle.life_types.specs.Types.{Types, class}
+use Rattle.life_types.specs.Types.{Types}
 use Rattle.life_types.specs.declared.place.Place.{Place}
 use Rattle.life_types.specs.declared.ty.Ty.{Ty}
 use Rattle.life_types.specs.declared.ty.Ty.TheVariants as ty
@@ -13,12 +14,10 @@ use Rattle.life_types.specs.declared.ty.TyId.{TyId}
 use Rattle.life_typed.specs.BaseTypes.{type_at}
 use Rattle.life_typed.specs.declared.typed_program.TypedLocal.{TypedLocal}
 use Rattle.life_core.specs.Function.{Function}
-use Rattle.life_core.specs.Holdings.{held_by, held_if}
+use Rattle.life_core.specs.declared.instr.Form.{Form}
 use Rattle.life_core.specs.Operands.{Place as Aimed, object_named, whole}
-use Rattle.life_core_served.specs.Served.{is_served_birth}
 use Rattle.life_core.specs.Step.{Aim, Live}
 use Rattle.life_core.specs.Tree.{Acts as Act, Tree, trees}
-use Rattle.life_core.specs.declared.instr.Form.TheVariants.{Plain}
 use Rattle.life_core.specs.declared.program.Local.{Local}
 use Rattle.life_core.specs.declared.program.LocalKind.TheVariants.{Object}
 use Rattle.life_proper.specs.Checking.{flow}
@@ -35,10 +34,9 @@ use Rattle.life_writer.specs.Registers.{type_number, typed_with}
 use Rattle.life_writer.specs.Temporaries.{nameless_of, scoped}
 use Rattle.life_writer.specs.Variables.{end_pending, variable, variable_local}
 use Rattle.life_writer.specs.Writing.{Gives, State, with_code}
-use Rattle.life_elab_laws.specs.Reached.{is_reached_variable}
-use Rattle.life_elab_laws.proofs.Among.{Among, all_among, among_either, among_left, among_right, ascend_more}
+use Rattle.life_elab_laws.proofs.Among.{Among, all_among, among_either, among_left, among_right, among_take, ascend_more}
 use Rattle.life_elab_laws.proofs.CallParts.{goes_object}
-use Rattle.life_elab_laws.proofs.Declaring.{adds_new, begins_old, follows_new, its_local, knows_new, new_below, with_new}
+use Rattle.life_elab_laws.proofs.Declaring.{adds_new, begins_old, follows_new, its_local, knows_new, new_below, new_then, with_new}
 use Rattle.life_elab_laws.proofs.Doing.{Acting, Does}
 use Rattle.life_elab_laws.proofs.EndSteps.{IsEnded, ended}
 use Rattle.life_elab_laws.proofs.EndedTemporaries.{ending, ends_alive, ends_apart, ends_below, ends_pending, ends_temporary}
@@ -51,24 +49,32 @@ use Rattle.life_elab_laws.proofs.FormedVariables.{keeps_all, object_place}
 use Rattle.life_elab_laws.proofs.Fronts.{front_append, front_then, last_there}
 use Rattle.life_elab_laws.proofs.Gifts.{Gift, IsPlaceOf, nothing}
 use Rattle.life_elab_laws.proofs.GivingBack.{fine_known}
-use Rattle.life_elab_laws.proofs.Growing.{Begins}
+use Rattle.life_elab_laws.proofs.GivenApart.{Apart, AreApart, IsBelow, codes_apart, none_apart, one_more, then_opens}
+use Rattle.life_elab_laws.proofs.Growing.{Begins, begins_before}
 use Rattle.life_elab_laws.proofs.Knowledge.{at_set, beside_set, ready_set, set_length}
+use Rattle.life_elab_laws.proofs.Making.{Alive}
 use Rattle.life_elab_laws.proofs.NewVariables.{bound_given, reference_declared, reference_kept}
-use Rattle.life_elab_laws.proofs.OperandsThere.{object_there, type_there, value_no_reference}
+use Rattle.life_elab_laws.proofs.OperandsThere.{object_there, type_there}
 use Rattle.life_elab_laws.proofs.OrderedTypes.{order_then, type_ordered}
 use Rattle.life_elab_laws.proofs.Parts.{Makes, Runs}
 use Rattle.life_elab_laws.proofs.PendingTemporaries.{none_pending}
 use Rattle.life_elab_laws.proofs.Setting.{Setting}
 use Rattle.life_elab_laws.proofs.Shaping.{IsFine, IsFineStep, fine_acts, fine_append}
+use Rattle.life_elab_laws.proofs.SomeKnown.{some_known, some_knows}
 use Rattle.life_elab_laws.proofs.TemporaryEnds.{TemporariesEnd, temporary_ends}
 use Rattle.life_elab_laws.proofs.Types.{type_added, types_before}
-use Rattle.life_elab_laws.proofs.Values.{by_values}
 use Rattle.life_elab_laws.proofs.VariablePlaces.{IsVariableAt}
-use Rattle.life_elab_laws.proofs.WrittenLocals.{AreWrittenLocals, fits_below, locals_added, own_added, register_pushed, value_fits}
+use Rattle.life_elab_laws.proofs.WrittenLocals.{AreWrittenLocals, fits_below, locals_added, own_added, register_pushed, value_fits, FitsTemporary}
+use Rattle.life_elab_laws.proofs.Targets.{value_target}
+use Rattle.life_elab_laws.proofs.TemporaryBirths.{no_reference}
+
+-- what a value is of is in the table
+pub value_below : (table : Types) (t : Ty) → is_value t ≡ true → HasPartsBelow table (length table.types) t
+value_below table t worth = fits_below table table (omega arith) t (value_fits table t worth)
 
 -- ---- the temporary lives, and nothing more is visible
 
-module _ (a : Around) (types : Types) (texts : ℕ) (so_far : Bool) (fs : List Function) (f : Function) (place : Place) (t : Ty) (worth : is_value t ≡ true) (s : State) where
+module _ (a : Around) (types : Types) (texts : ℕ) (fs : List Function) (f : Function) (place : Place) (t : Ty) (fits : FitsTemporary types t) (s : State) (within : HasPartsBelow s.types (length s.types.types) t) where
   abbrev pub temporary_local : Local
   temporary_local = nameless_of Object place (type_number t (typed_with t s))
 
@@ -76,8 +82,17 @@ module _ (a : Around) (types : Types) (texts : ℕ) (so_far : Bool) (fs : List F
   abbrev pub with_temporary : State
   with_temporary = ((scoped place t).begins s).state
 
-  within : HasPartsBelow s.types (length s.types.types) t
-  within = fits_below so_far s.types s.types (omega arith) t (value_fits so_far s.types t worth)
+  -- it stands from here on
+
+  kept_count : length s.locals < length with_temporary.locals
+  kept_count = omega (arith, length-append s.locals (temporary_local ∷ []))
+
+  pub kept_none : IsBelow s → AreApart f s with_temporary [] []
+  kept_none = none_apart f s with_temporary (omega (arith, kept_count)) (λ x o. one_more (length s.locals) (length with_temporary.locals) s.living s.pending x kept_count o)
+
+  pub kept_then : (looked given : List ℕ) → (IsBelow s → AreApart f s s looked given) → IsBelow s → AreApart f s with_temporary looked given
+  kept_then looked given h below =
+      then_opens f s s with_temporary looked given (omega (arith, kept_count)) (λ x o. one_more (length s.locals) (length with_temporary.locals) s.living s.pending x kept_count o) below (h below)
 
   pub begins_before_it : Begins types f with_temporary → Begins types f s
   begins_before_it b = record {
@@ -93,30 +108,29 @@ module _ (a : Around) (types : Types) (texts : ℕ) (so_far : Bool) (fs : List F
     kept_object = object_there types f (length s.locals) temporary_local there refl
 
     kept_typed : placed.type_at types f (length s.locals) ≡ t
-    kept_typed = type_there types f (length s.locals) temporary_local t there (b.table temporary_local.ty.0 t (type_added s.types.types t)) (value_no_reference t worth)
+    kept_typed = type_there types f (length s.locals) temporary_local t there (b.table temporary_local.ty.0 t (type_added s.types.types t)) (no_reference types t fits)
 
-    pub kept_place : IsPlaceOf types texts so_far fs f t false (object_named (length s.locals))
-    kept_place = object_place types texts so_far fs f (length s.locals) t false kept_object kept_typed
+    pub kept_place : IsPlaceOf types texts fs f t false (object_named (length s.locals))
+    kept_place = object_place types texts fs f (length s.locals) t false kept_object kept_typed
 
     pub temporary_below : length s.locals < length f.locals
     temporary_below = slice_get_within f.locals (length s.locals) temporary_local there
 
     -- it can live, and a call can give it its result
-    pub temporary_lives : IsFineStep types texts so_far fs f (Live (length s.locals) Plain)
-    temporary_lives = record {
+    pub temporary_lives : (form : Form) → IsFineStep types texts fs f (Live (length s.locals) form)
+    temporary_lives form = record {
       given = refl;
       formed = or_left (object_at types f (length s.locals)) _ kept_object;
-      served = λ so. ap is_served_birth (ap (held_by types) there ∙ ap (λ (o : Option Ty). held_if (class o) Object o) (b.table temporary_local.ty.0 t (type_added s.types.types t)))
-          ∙ by_values (λ u. is_served_birth (held_if (class (Some u)) Object (Some u)) ≡ true) refl refl refl refl refl t worth;
+      served = refl;
     }
 
-    pub temporary_goes : goes_to types texts fs f t (Some (whole (length s.locals))) ≡ true
-    temporary_goes = goes_object types texts so_far fs f t (length s.locals) worth kept_typed kept_object
+    pub temporary_goes : is_value t ≡ true → goes_to types texts fs f t (Some (whole (length s.locals))) ≡ true
+    temporary_goes worth = goes_object types texts fs f t (length s.locals) worth kept_typed kept_object
 
-  pub temporary_written : AreWrittenLocals so_far types a s → AreWrittenLocals so_far types a with_temporary
+  pub temporary_written : AreWrittenLocals types a s → AreWrittenLocals types a with_temporary
   temporary_written are =
-      locals_added so_far types a s with_temporary (types_before s.types.types t)
-      (register_pushed so_far types with_temporary.types s.locals temporary_local (record { nameless = refl; ty = t; typed = type_added s.types.types t; fits = inr (refl, inl worth) }), type_ordered s.types t within) are
+      locals_added types a s with_temporary (types_before s.types.types t)
+      (register_pushed types with_temporary.types s.locals temporary_local (record { nameless = refl; ty = t; typed = type_added s.types.types t; fits = inr (refl, fits) }), type_ordered s.types t within) are
 
   module _ (v : Visible) (h : Follows types f a v s) where
     opened : (y : ℕ) → Contains (s.living ++ length s.locals ∷ []) y → y < length (s.locals ++ temporary_local ∷ [])
@@ -200,26 +214,30 @@ module _ (a : Around) (types : Types) (texts : ℕ) (so_far : Bool) (fs : List F
 
 -- ---- the whole: what is written first, the temporary, and the reference that is aimed at it
 
-module _ (a : Around) (types : Types) (texts : ℕ) (so_far : Bool) (fs : List Function) (f : Function) (setting : Setting so_far a types fs f) (v : Visible) (in_loop : Bool) (last : Place)
-    (u : TypedLocal) (s : State) (h : Follows types f a v s) (at : slice_get a.function.locals v.declared ≡ Some u) (built : is_reached_variable false a.program.types u.ty ≡ true)
+module _ (a : Around) (types : Types) (texts : ℕ) (fs : List Function) (f : Function) (setting : Setting a types fs f) (v : Visible) (in_loop : Bool) (last : Place)
+    (u : TypedLocal) (s : State) (h : Follows types f a v s) (at : slice_get a.function.locals v.declared ≡ Some u) (built : is_served_variable a.program.types u.ty ≡ true)
     (target : TyId) (constant : Bool) (found : slice_get a.program.types.types u.ty.0 ≡ Some (ty.Reference target constant)) (worth : is_value (type_at a.program.types target) ≡ true) (place : Place) where
   abbrev t : Ty
   t = type_at a.program.types target
 
-  module _ {A : Type 0} (w : Gives A) (Q : Gift types texts so_far fs f A) (made : Makes types texts so_far fs f None s w Q) where
+  wide : is_target a.program.types (type_at a.program.types target) ≡ true
+  wide = value_target a.program.types (type_at a.program.types target) worth
+
+  module _ {A : Type 0} (w : Gives A) (Q : Gift types texts fs f A) (made : Makes types texts fs f None s w Q) where
     -- the temporary, and the reference
     abbrev x : ℕ
     x = length w.state.locals
 
     abbrev kept : State
-    kept = with_temporary a types texts so_far fs f place t worth w.state
+    kept = with_temporary a types texts fs f place t (inl worth) w.state (value_below w.state.types t worth)
 
     abbrev y : ℕ
     y = length kept.locals
 
     -- what brings the temporary to life
-    module _ (brings : List Tree) (fine : Begins types f kept → Q.typed w.given → IsFine types texts so_far fs f brings)
-        (falls : Begins types f kept → (k : List Known) → length k ≡ length f.locals → Q.ready w.given x k → known_at k x ≡ known.Blank → Falls types f brings k (slice_set k x known.Ready)) where
+    module _ (brings : List Tree) (fine : Begins types f kept → Q.typed w.given → IsFine types texts fs f brings)
+        (falls : Begins types f kept → (k : List Known) → length k ≡ length f.locals → Q.ready w.given x k → known_at k x ≡ known.Blank → Falls types f brings k (slice_set k x known.Ready))
+        (apart : Begins types f kept → Q.typed w.given → (k : List Known) → Alive f w.state k → Q.ready w.given x k → known_at k x ≡ known.Blank → Apart f w.state kept (trees brings)) where
       abbrev aims : List Tree
       aims = Act place (Aim (whole y) (Aimed (object_named x))) ∷ []
 
@@ -234,10 +252,10 @@ module _ (a : Around) (types : Types) (texts : ℕ) (so_far : Bool) (fs : List F
       first = follows_settled types f a v s w.state made.grown h
 
       abbrev there_kept : State
-      there_kept = with_temporary a types texts so_far fs f place t worth there_first
+      there_kept = with_temporary a types texts fs f place t (inl worth) there_first (value_below there_first.types t worth)
 
       second : Follows types f a v there_kept
-      second = follows_temporary a types texts so_far fs f place t worth there_first v first
+      second = follows_temporary a types texts fs f place t (inl worth) there_first (value_below there_first.types t worth) v first
 
       abbrev l : Local
       l = variable_local a u
@@ -245,7 +263,7 @@ module _ (a : Around) (types : Types) (texts : ℕ) (so_far : Bool) (fs : List F
       adds : Adds types f s (with_new l there_kept)
       adds =
           adds_then types f s there_first (with_new l there_kept) (adds_settled types f s w.state made.grown)
-          (adds_then types f there_first there_kept (with_new l there_kept) (adds_temporary a types texts so_far fs f place t worth there_first v first) (adds_new types f a setting.front v u l (its_local a u) there_kept second at built))
+          (adds_then types f there_first there_kept (with_new l there_kept) (adds_temporary a types texts fs f place t (inl worth) there_first (value_below there_first.types t worth) v first) (adds_new types f a setting.front v u l (its_local a u) there_kept second at built))
 
       abbrev done : State
       done = with_code (w.state.code ++ code) (with_new l kept)
@@ -254,10 +272,10 @@ module _ (a : Around) (types : Types) (texts : ℕ) (so_far : Bool) (fs : List F
       can = temporary_ends types texts fs f setting.registers
 
       abbrev over : List ℕ
-      over = ending types texts so_far fs f s w.state made.grown h.stands.pends last
+      over = ending types texts fs f s w.state made.grown h.stands.pends last
 
-      e : IsEnded types texts so_far fs f over last done
-      e = ended types texts so_far fs f over last done
+      e : IsEnded types texts fs f over last done
+      e = ended types texts fs f over last done
 
       abbrev finished : State
       finished = record done { code = done.code ++ e.code; pending = take (length s.pending) w.state.pending }
@@ -270,50 +288,50 @@ module _ (a : Around) (types : Types) (texts : ℕ) (so_far : Bool) (fs : List F
 
       -- neither is one of those that end
       x_beside : Among x over → ⊥
-      x_beside m = let lt = ends_below types texts so_far fs f s w.state made.grown h.stands.pends last x m in omega (arith, lt)
+      x_beside m = let lt = ends_below types texts fs f s w.state made.grown h.stands.pends last x m in omega (arith, lt)
 
       y_beside : Among y over → ⊥
-      y_beside m = let lt = ends_below types texts so_far fs f s w.state made.grown h.stands.pends last y m in omega (arith, lt, length-append w.state.locals (temporary_local a types texts so_far fs f place t worth w.state ∷ []))
+      y_beside m = let lt = ends_below types texts fs f s w.state made.grown h.stands.pends last y m in omega (arith, lt, length-append w.state.locals (temporary_local a types texts fs f place t (inl worth) w.state (value_below w.state.types t worth) ∷ []))
 
       module _ (b : Begins types f (with_new l kept)) where
         begun : Begins types f kept
         begun = begins_old types f a setting.front v u l (its_local a u) there_kept second at built b
 
         before : Begins types f w.state
-        before = begins_before_it a types texts so_far fs f place t worth w.state begun
+        before = begins_before_it a types texts fs f place t (inl worth) w.state (value_below w.state.types t worth) begun
 
-        part : Runs types texts so_far fs f (nothing types texts so_far fs f) tt None s w Q made.code
+        part : Runs types texts fs f (nothing types texts fs f) tt None s w Q made.code
         part = made.runs before tt
 
-        aims_fine : IsFine types texts so_far fs f aims
+        aims_fine : IsFine types texts fs f aims
         aims_fine =
-            let at_it = kept_place a types texts so_far fs f place t worth w.state begun in
-            fine_acts types texts so_far fs f place (Aim (whole y) (Aimed (object_named x)))
+            let at_it = kept_place a types texts fs f place t (inl worth) w.state (value_below w.state.types t worth) begun in
+            fine_acts types texts fs f place (Aim (whole y) (Aimed (object_named x)))
             (record {
               given = refl;
               formed =
-                  ap (λ (r : Ty). is_source_of types texts fs f r (Aimed (object_named x))) (reference_declared a types texts so_far fs f setting.front u kept b target constant found worth)
-                  ∙ bound_given a types texts so_far fs f setting.front target constant false (object_named x) worth (keeps_all constant) at_it;
-              served = λ so. refl;
+                  ap (λ (r : Ty). is_source_of types texts fs f r (Aimed (object_named x))) (reference_declared a types texts fs f setting.front u kept b target constant found wide)
+                  ∙ bound_given a types texts fs f setting.front target constant false (object_named x) wide (keeps_all constant) at_it;
+              served = refl;
             })
 
-        ends_fine_here : IsFine types texts so_far fs f e.code
-        ends_fine_here = e.fine (all_among (can_end types texts fs f) over (λ z m. can z (ends_temporary types texts so_far fs f s w.state made.grown h.stands.pends last before z m)))
+        ends_fine_here : IsFine types texts fs f e.code
+        ends_fine_here = e.fine (all_among (can_end types texts fs f) over (λ z m. can z (ends_temporary types texts fs f s w.state made.grown h.stands.pends last before z m)))
 
-        all_fine : IsFine types texts so_far fs f all_code
+        all_fine : IsFine types texts fs f all_code
         all_fine =
-            fine_append types texts so_far fs f made.code (code ++ e.code) part.fine
-            (fine_append types texts so_far fs f code e.code (fine_append types texts so_far fs f brings aims (fine begun part.typed) aims_fine) ends_fine_here)
+            fine_append types texts fs f made.code (code ++ e.code) part.fine
+            (fine_append types texts fs f code e.code (fine_append types texts fs f brings aims (fine begun part.typed) aims_fine) ends_fine_here)
 
         -- ---- on a way
 
         went : (k : List Known) → Knows f s.living k → Leaves f in_loop (kept.living ++ y ∷ []) (take s.outside s.living) (flow types f (trees all_code) (Some k))
         went k knows =
             let g = part.goes k (knows_alive types f a v s h k knows) tt in
-            let mid : Knows f w.state.living (set_blank over g.after) = alive_knows types f there_first (set_blank over g.after) first.pending (ends_alive types texts so_far fs f s w.state made.grown h.stands.pends last g.after g.alive) in
-            let blank : known_at g.after x ≡ known.Blank = sym (blank_beside over g.after x x_beside) ∙ blank_temporary a types texts so_far fs f place t worth there_first v first begun (set_blank over g.after) mid in
+            let mid : Knows f w.state.living (set_blank over g.after) = alive_knows types f there_first (set_blank over g.after) first.pending (ends_alive types texts fs f s w.state made.grown h.stands.pends last g.after g.alive) in
+            let blank : known_at g.after x ≡ known.Blank = sym (blank_beside over g.after x x_beside) ∙ blank_temporary a types texts fs f place t (inl worth) there_first (value_below there_first.types t worth) v first begun (set_blank over g.after) mid in
             let y_there : y < length g.after = omega (arith, g.alive.sized, new_below types f a setting.front v u l (its_local a u) there_kept second at built b) in
-            let x_lower : x < y = omega (arith, length-append w.state.locals (temporary_local a types texts so_far fs f place t worth w.state ∷ [])) in
+            let x_lower : x < y = omega (arith, length-append w.state.locals (temporary_local a types texts fs f place t (inl worth) w.state (value_below w.state.types t worth) ∷ [])) in
             let x_there : x < length g.after = omega (arith, y_there, x_lower) in
             let i : List Known = slice_set g.after x known.Ready in
             let y_within : y < length i = omega (arith, y_there, set_length g.after x known.Ready) in
@@ -322,17 +340,17 @@ module _ (a : Around) (types : Types) (texts : ℕ) (so_far : Bool) (fs : List F
             blank_length over i ∙ set_length g.after x known.Ready ∙ sym (blank_length over g.after) ∙ sym (set_length (set_blank over g.after) x known.Ready) in
             let with_it : Knows f (w.state.living ++ x ∷ []) (set_blank over i) =
             knows_same f (w.state.living ++ x ∷ []) (slice_set (set_blank over g.after) x known.Ready) (set_blank over i) sized_i (λ z. blank_set over g.after x z x_there x_beside)
-            (knows_temporary a types texts so_far fs f place t worth there_first v first begun (set_blank over g.after) mid) in
+            (knows_temporary a types texts fs f place t (inl worth) there_first (value_below there_first.types t worth) v first begun (set_blank over g.after) mid) in
             let sized_j : length (set_blank over j) ≡ length (slice_set (set_blank over i) y known.Ready) =
             blank_length over j ∙ set_length i y known.Ready ∙ sym (blank_length over i) ∙ sym (set_length (set_blank over i) y known.Ready) in
             let with_both : Knows f (kept.living ++ y ∷ []) (set_blank over j) =
             knows_same f (kept.living ++ y ∷ []) (slice_set (set_blank over i) y known.Ready) (set_blank over j) sized_j (λ z. blank_set over i y z y_within y_beside)
             (knows_new types f a setting.front v u l (its_local a u) there_kept second at built b (set_blank over i) with_it) in
             let fills = filling_fills f (λ p. Aim p (Aimed (object_named x))) y i (aimed_filling f (object_named x) y i (record { local = x; uses = refl; below = x_lower; held = at_set g.after x known.Ready x_there })) y
-            (reference_kept a types texts so_far fs f setting.front u kept b target constant found worth) in
+            (reference_kept a types texts fs f setting.front u kept b target constant found wide) in
             let ready : can_leave j over ≡ true =
-            ends_there over j (ends_apart types texts so_far fs f s w.state made.grown h.stands.pends last)
-            (λ z m. ready_set i y z y_within (ready_set g.after x z x_there (g.alive.pending z (ends_pending types texts so_far fs f s w.state made.grown h.stands.pends last z m)))) in
+            ends_there over j (ends_apart types texts fs f s w.state made.grown h.stands.pends last)
+            (λ z m. ready_set i y z y_within (ready_set g.after x z x_there (g.alive.pending z (ends_pending types texts fs f s w.state made.grown h.stands.pends last z m)))) in
             subst (Leaves f in_loop (kept.living ++ y ∷ []) (take s.outside s.living))
             (sym (falls_append types f made.code (code ++ e.code) k g.after (set_blank over j) g.falls
             (falls_append types f code e.code g.after j (set_blank over j)
@@ -340,25 +358,51 @@ module _ (a : Around) (types : Types) (texts : ℕ) (so_far : Bool) (fs : List F
             (e.falls j ready))))
             (leaves_falling f in_loop (kept.living ++ y ∷ []) (take s.outside s.living) (set_blank over j) with_both)
 
-        acting : Acting types texts so_far fs f in_loop s finished all_code
+        -- the reference is aimed at the temporary, which stands
+        aims_apart : Apart f kept (with_new l kept) (trees aims)
+        aims_apart =
+            new_then f l kept (x ∷ []) [] (λ under. record {
+              count = omega arith;
+              below = under;
+              opens = λ z o. inl o;
+              gives = λ z object m. absurd m;
+              looks = λ z object m. elim m [ inl e ↦ inl (inl (among_right w.state.living (x ∷ []) z (inl e))) | inr none ↦ absurd none ];
+              apart = λ z object m g. g;
+            })
+
+        known_apart : (k : List Known) → Knows f s.living k → Apart f s finished (trees all_code)
+        known_apart k knows =
+            let g = part.goes k (knows_alive types f a v s h k knows) tt in
+            let mid : Knows f w.state.living (set_blank over g.after) = alive_knows types f there_first (set_blank over g.after) first.pending (ends_alive types texts fs f s w.state made.grown h.stands.pends last g.after g.alive) in
+            let blank : known_at g.after x ≡ known.Blank = sym (blank_beside over g.after x x_beside) ∙ blank_temporary a types texts fs f place t (inl worth) there_first (value_below there_first.types t worth) v first begun (set_blank over g.after) mid in
+            codes_apart f s w.state finished made.code (code ++ e.code) g.apart
+            (codes_apart f w.state (with_new l kept) finished code e.code
+            (codes_apart f w.state kept (with_new l kept) brings aims (apart begun part.typed g.after g.alive g.gives blank) aims_apart)
+            (e.apart (with_new l kept) finished (omega arith) (λ z o. elim o [ inl m ↦ inl (inl m) | inr m ↦ inl (inr (among_take (length s.pending) w.state.pending z m)) ])))
+
+        first_begins : Begins types f s
+        first_begins = begins_before types f s w.state made.grown before
+
+        acting : Acting types texts fs f in_loop s finished all_code
         acting = record {
           stated = all_fine.stated in_loop;
           ways = leaves_may types f in_loop s.living (kept.living ++ y ∷ []) (take s.outside s.living) (trees all_code) went;
+          apart = known_apart (some_known types f a v s h first_begins) (some_knows types f a v s h first_begins);
         }
 
-      finished_does : Does types texts so_far fs f a (with_next v) in_loop s finished
+      finished_does : Does types texts fs f a (with_next v) in_loop s finished
       finished_does = record {
         adds = adds;
         locals = λ are.
-            own_added so_far types a kept l (record { number = v.declared; variable = u; there = at; of = its_local a u })
-            (temporary_written a types texts so_far fs f place t worth w.state (locals_added so_far types a s w.state made.grown.types made.registers are));
-        order = order_then s.types w.state.types kept.types made.registers.1 (type_ordered w.state.types t (within a types texts so_far fs f place t worth w.state));
+            own_added types a kept l (record { number = v.declared; variable = u; there = at; of = its_local a u })
+            (temporary_written a types texts fs f place t (inl worth) w.state (value_below w.state.types t worth) (locals_added types a s w.state made.grown.types made.registers are));
+        order = order_then s.types w.state.types kept.types made.registers.1 (type_ordered w.state.types t (value_below w.state.types t worth));
         follows = follows_new types f a setting.front v u l (its_local a u) there_kept second at built;
         code = all_code;
         written = ap (λ (c : List Tree). (c ++ code) ++ e.code) made.written ∙ ap (λ (c : List Tree). c ++ e.code) (append_assoc s.code made.code code) ∙ append_assoc s.code (made.code ++ code) e.code ∙ ap (λ (c : List Tree). s.code ++ c) (append_assoc made.code code e.code);
         acts = acting;
-        returns = λ b gives o k. fine_known types f (result_local a) texts so_far fs all_code (all_fine b) o;
+        returns = λ b gives o k. fine_known types f (result_local a) texts fs all_code (all_fine b) o;
       }
 
-      pub bound_does : Does types texts so_far fs f a (with_next v) in_loop s (end_pending (length s.pending) last done)
-      bound_does = subst (Does types texts so_far fs f a (with_next v) in_loop s) (sym finished_is) finished_does
+      pub bound_does : Does types texts fs f a (with_next v) in_loop s (end_pending (length s.pending) last done)
+      bound_does = subst (Does types texts fs f a (with_next v) in_loop s) (sym finished_is) finished_does

@@ -16,17 +16,19 @@ use Rattle.life_elab_laws.proofs.Doing.{Acting, DoesLevel}
 use Rattle.life_elab_laws.proofs.Exits.{Knows, Leaves, MayKnow, leaves_falling, leaves_joined, leaves_may, leaves_same}
 use Rattle.life_elab_laws.proofs.Following.{alive_knows, Adds, Follows, adds_then, begins_added, follows_grown, grows_adds, knows_alive}
 use Rattle.life_elab_laws.proofs.GivingBack.{GivesResult, asks_known, known_may}
-use Rattle.life_elab_laws.proofs.Growing.{Begins}
+use Rattle.life_elab_laws.proofs.GivenApart.{alone_apart, same_apart, three_apart}
+use Rattle.life_elab_laws.proofs.Growing.{Begins, begins_before}
+use Rattle.life_elab_laws.proofs.SomeKnown.{some_known, some_knows}
 use Rattle.life_elab_laws.proofs.OrderedTypes.{order_then}
 use Rattle.life_elab_laws.proofs.Conditions.{Asked, AsksAll, Tests}
 use Rattle.life_elab_laws.proofs.Shaping.{stated_alone, stated_choice, stated_none}
 use Rattle.life_elab_laws.proofs.WrittenLocals.{locals_added}
 use Rattle.life_elab_laws.proofs.Making.{Alive}
 
-module _ (types : Types) (texts : ℕ) (so_far : Bool) (fs : List Function) (f : Function) where
+module _ (types : Types) (texts : ℕ) (fs : List Function) (f : Function) where
   -- ---- behind a condition
 
-  module _ {ends : Place} (a : Around) (v : Visible) (in_loop : Bool) (s : State) (w : Gives Tree) (h : Follows types f a v s) (test : Tests types texts so_far fs f (Some ends) s w) where
+  module _ {ends : Place} (a : Around) (v : Visible) (in_loop : Bool) (s : State) (w : Gives Tree) (h : Follows types f a v s) (test : Tests types texts fs f (Some ends) s w) where
     pub tested_follows : Follows types f a v (with_code [] w.state)
     tested_follows = follows_grown types f a v s w.state (test.level tt) test.grown h
 
@@ -34,7 +36,7 @@ module _ (types : Types) (texts : ℕ) (so_far : Bool) (fs : List Function) (f :
     same_outside = ap (λ (n : ℕ). take n w.state.living) test.grown.outside ∙ ap (take s.outside) test.grown.living
 
     -- what is known on both ways
-    pub known_behind : (k : List Known) (asked : Asked types texts so_far fs f s w.state w.given k) → Knows f s.living asked.on × Knows f s.living asked.off
+    pub known_behind : (k : List Known) (asked : Asked types texts fs f s w.state w.given k) → Knows f s.living asked.on × Knows f s.living asked.off
     known_behind k asked =
         (there asked.on asked.alive_on, there asked.off asked.alive_off)
       where
@@ -42,7 +44,7 @@ module _ (types : Types) (texts : ℕ) (so_far : Bool) (fs : List Function) (f :
         there j alive = subst (λ (ys : List ℕ). Knows f ys j) test.grown.living (alive_knows types f w.state j (test.level tt ∙ h.pending) alive)
 
     -- both branches, the second of which is written behind the first
-    module _ (u x : Visible) (t r : State) (first : DoesLevel types texts so_far fs f a u in_loop (with_code [] w.state) t) (second : DoesLevel types texts so_far fs f a x in_loop (with_code [] t) r) where
+    module _ (u x : Visible) (t r : State) (first : DoesLevel types texts fs f a u in_loop (with_code [] w.state) t) (second : DoesLevel types texts fs f a x in_loop (with_code [] t) r) where
       abbrev both : State
       both = write (Choice w.given (trees t.code) (trees r.code)) (with_code w.state.code r)
 
@@ -65,13 +67,19 @@ module _ (types : Types) (texts : ℕ) (so_far : Bool) (fs : List Function) (f :
         tested : Begins types f w.state
         tested = begins_added types f w.state t first.does.adds begun
 
-        asks : AsksAll types texts so_far fs f s w.state w.given
+        before : Begins types f s
+        before = begins_before types f s w.state test.grown tested
+
+        abbrev known_first : List Known
+        known_first = some_known types f a v s h before
+
+        asks : AsksAll types texts fs f s w.state w.given
         asks = test.runs tested
 
-        one : Acting types texts so_far fs f in_loop (with_code [] w.state) t first.does.code
+        one : Acting types texts fs f in_loop (with_code [] w.state) t first.does.code
         one = first.does.acts begun
 
-        other : Acting types texts so_far fs f in_loop (with_code [] t) r second.does.code
+        other : Acting types texts fs f in_loop (with_code [] t) r second.does.code
         other = second.does.acts b
 
         outside_second : take t.outside t.living ≡ take s.outside s.living
@@ -79,7 +87,7 @@ module _ (types : Types) (texts : ℕ) (so_far : Bool) (fs : List Function) (f :
 
         -- .. on each of both ways
         module _ (k : List Known) (knows : Knows f s.living k) where
-          abbrev g : Asked types texts so_far fs f s w.state w.given k
+          abbrev g : Asked types texts fs f s w.state w.given k
           g = asks.goes k (knows_alive types f a v s h k knows)
 
           known_on : Knows f w.state.living g.on
@@ -104,23 +112,27 @@ module _ (types : Types) (texts : ℕ) (so_far : Bool) (fs : List Function) (f :
           returned gives =
               let behind = subst (λ (q : Flow). ReturnsKnown types f (result_local a) (trees first.does.code) q.on_true × ReturnsKnown types f (result_local a) (trees second.does.code) q.on_false) (sym g.decides)
               (first.does.returns begun gives (Some g.on) known_on, second.does.returns b gives (Some g.off) known_off) in
-              ((asks_known types f (result_local a) texts so_far fs w.given asks.fine (Some k), behind), tt)
+              ((asks_known types f (result_local a) texts fs w.given asks.fine (Some k), behind), tt)
 
-        branched_acts : Acting types texts so_far fs f in_loop s both (chosen ∷ [])
+        branched_acts : Acting types texts fs f in_loop s both (chosen ∷ [])
         branched_acts = record {
           stated =
-              stated_alone types texts so_far fs f in_loop chosen (stated_choice types texts so_far fs f in_loop w.given (trees first.does.code) (trees second.does.code) asks.fine one.stated other.stated);
+              stated_alone types texts fs f in_loop chosen (stated_choice types texts fs f in_loop w.given (trees first.does.code) (trees second.does.code) asks.fine one.stated other.stated);
           ways = leaves_may types f in_loop s.living r.living (take s.outside s.living) (trees (chosen ∷ [])) went;
+          apart =
+              alone_apart f s both chosen
+              (three_apart f s w.state t r w.given (trees first.does.code) (trees second.does.code)
+              (asks.goes known_first (knows_alive types f a v s h known_first (some_knows types f a v s h before))).apart one.apart other.apart);
         }
 
         branched_returns : GivesResult a → (o : Knowing) → MayKnow f s.living o → ReturnsKnown types f (result_local a) (trees (chosen ∷ [])) o
         branched_returns gives = known_may types f (result_local a) s.living (trees (chosen ∷ [])) (λ k knows. returned k knows gives)
 
-      pub branched_does : DoesLevel types texts so_far fs f a x in_loop s both
+      pub branched_does : DoesLevel types texts fs f a x in_loop s both
       branched_does = record {
         does = record {
           adds = branched_adds;
-          locals = λ are. second.does.locals (first.does.locals (locals_added so_far types a s w.state test.grown.types test.registers are));
+          locals = λ are. second.does.locals (first.does.locals (locals_added types a s w.state test.grown.types test.registers are));
           order = order_then s.types w.state.types r.types test.registers.1 (order_then w.state.types t.types r.types first.does.order second.does.order);
           follows = second.does.follows;
           code = chosen ∷ [];
@@ -136,16 +148,26 @@ module _ (types : Types) (texts : ℕ) (so_far : Bool) (fs : List Function) (f :
 
     -- ---- an assertion
 
-    asserted_acts : (keyword : Place) → Begins types f w.state → Acting types texts so_far fs f in_loop s (write (Choice w.given Skip (Stops keyword)) w.state) (Choice w.given Skip (Stops keyword) ∷ [])
+    asserted_acts : (keyword : Place) → Begins types f w.state → Acting types texts fs f in_loop s (write (Choice w.given Skip (Stops keyword)) w.state) (Choice w.given Skip (Stops keyword) ∷ [])
     asserted_acts keyword b = record {
       stated =
-          stated_alone types texts so_far fs f in_loop (Choice w.given Skip (Stops keyword))
-          (stated_choice types texts so_far fs f in_loop w.given Skip (Stops keyword) asks.fine (stated_none types texts so_far fs f in_loop)
-          (record { statement = refl; tests = refl; breaks = refl; given = refl; formed = refl; served = λ so. refl }));
+          stated_alone types texts fs f in_loop (Choice w.given Skip (Stops keyword))
+          (stated_choice types texts fs f in_loop w.given Skip (Stops keyword) asks.fine (stated_none types texts fs f in_loop)
+          (record { statement = refl; tests = refl; breaks = refl; given = refl; formed = refl; served = refl }));
       ways = leaves_may types f in_loop s.living w.state.living (take s.outside s.living) (trees (Choice w.given Skip (Stops keyword) ∷ [])) went;
+      apart =
+          alone_apart f s w.state (Choice w.given Skip (Stops keyword))
+          (three_apart f s w.state w.state w.state w.given Skip (Stops keyword) (asks.goes known_first (knows_alive types f a v s h known_first (some_knows types f a v s h before))).apart
+          (same_apart f w.state w.state refl refl refl) (same_apart f w.state w.state refl refl refl));
     }
       where
-        asks : AsksAll types texts so_far fs f s w.state w.given
+        before : Begins types f s
+        before = begins_before types f s w.state test.grown b
+
+        known_first : List Known
+        known_first = some_known types f a v s h before
+
+        asks : AsksAll types texts fs f s w.state w.given
         asks = test.runs b
 
         went : (k : List Known) → Knows f s.living k → Leaves f in_loop w.state.living (take s.outside s.living) (flow types f (trees (Choice w.given Skip (Stops keyword) ∷ [])) (Some k))
@@ -156,17 +178,17 @@ module _ (types : Types) (texts : ℕ) (so_far : Bool) (fs : List Function) (f :
             ∙ ap (λ (q : Flow). joined (before_both q) (joined (flow types f Skip q.on_true) (flow types f (Stops keyword) q.on_false))) g.decides))
             (leaves_falling f in_loop w.state.living (take s.outside s.living) g.on (subst (λ (xs : List ℕ). Knows f xs g.on) (sym test.grown.living) (known_behind k g).0))
 
-    pub asserted_does : (keyword : Place) → DoesLevel types texts so_far fs f a v in_loop s (write (Choice w.given Skip (Stops keyword)) w.state)
+    pub asserted_does : (keyword : Place) → DoesLevel types texts fs f a v in_loop s (write (Choice w.given Skip (Stops keyword)) w.state)
     asserted_does keyword = record {
       does = record {
         adds = grows_adds types f s w.state (test.level tt) test.grown;
-        locals = locals_added so_far types a s w.state test.grown.types test.registers;
+        locals = locals_added types a s w.state test.grown.types test.registers;
         order = test.registers.1;
         follows = follows_grown types f a v s w.state (test.level tt) test.grown h;
         code = Choice w.given Skip (Stops keyword) ∷ [];
         written = ap (λ (c : List Tree). c ++ Choice w.given Skip (Stops keyword) ∷ []) test.unwritten;
         acts = asserted_acts keyword;
-        returns = λ b gives o k. ((asks_known types f (result_local a) texts so_far fs w.given (test.runs b).fine o, (tt, tt)), tt);
+        returns = λ b gives o k. ((asks_known types f (result_local a) texts fs w.given (test.runs b).fine o, (tt, tt)), tt);
       };
       level = test.grown.living;
     }

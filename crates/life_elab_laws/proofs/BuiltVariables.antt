@@ -1,8 +1,8 @@
 -- A variable that comes to life, and is then built by as many instructions as that takes, behind what they use.
 use Rattle.std.proofs.Common.{◌≡◌, ◌<◌, ◌⊎◌, inl, inr, ℕ, Bool, true, false, List, [], ◌∷◌, ◌++◌, Contains, drop, length, reverse, slice_get, slice_set, take, Some, None, refl, sym, ap, ◌∙◌, subst, arith, append_assoc, length-append}
-use Rattle.std.proofs.lemmas.Bool.{false≢true}
 use Rattle.std.proofs.lemmas.List.Elements.{Contains-append_left, Contains-push_cases}
 use Rattle.std.proofs.lemmas.Option.{slice_get_within}
+use Rattle.life_served.specs.Served.{is_served_variable}
 use Rattle.life_types.specs.Types.{Types}
 use Rattle.life_types.specs.declared.place.Place.{Place}
 use Rattle.life_types.specs.declared.ty.Ty.{Ty}
@@ -24,9 +24,8 @@ use Rattle.life_well_typed.specs.Visible.{Visible, with_next}
 use Rattle.life_writer.specs.Around.{Around, result_local}
 use Rattle.life_writer.specs.Variables.{end_pending, variable_local}
 use Rattle.life_writer.specs.Writing.{Gives, State, emit, gives}
-use Rattle.life_elab_laws.specs.Reached.{is_reached_variable}
-use Rattle.life_elab_laws.proofs.Among.{Among, all_among, among_contains, among_drop, among_left, among_or, among_reverse, among_right, apart_reverse, ascend_apart, ascend_drop, reverse_among}
-use Rattle.life_elab_laws.proofs.Declaring.{adds_new, follows_new, its_local, with_new}
+use Rattle.life_elab_laws.proofs.Among.{Among, all_among, among_contains, among_drop, among_left, among_or, among_reverse, among_right, among_take, apart_reverse, ascend_apart, ascend_drop, reverse_among}
+use Rattle.life_elab_laws.proofs.Declaring.{adds_new, follows_new, its_local, new_none, with_new}
 use Rattle.life_elab_laws.proofs.Doing.{Acting, Does}
 use Rattle.life_elab_laws.proofs.Emitting.{keeps_set}
 use Rattle.life_elab_laws.proofs.EndSteps.{IsEnded, ended}
@@ -37,6 +36,7 @@ use Rattle.life_elab_laws.proofs.Following.{Adds, Follows, adds_settled, adds_th
 use Rattle.life_elab_laws.proofs.Fronts.{IsFront, front_append, front_itself, front_then, last_there}
 use Rattle.life_elab_laws.proofs.Gifts.{Gift, IsPlaceOf, a_place, both, nothing}
 use Rattle.life_elab_laws.proofs.GivingBack.{fine_known}
+use Rattle.life_elab_laws.proofs.GivenApart.{Apart, codes_apart}
 use Rattle.life_elab_laws.proofs.Growing.{Begins, begins_before}
 use Rattle.life_elab_laws.proofs.Held.{blank_there}
 use Rattle.life_elab_laws.proofs.Knowledge.{at_set, beside_set, set_length}
@@ -47,13 +47,14 @@ use Rattle.life_elab_laws.proofs.PendingTemporaries.{ArePending, temporary_later
 use Rattle.life_elab_laws.proofs.Setting.{Setting}
 use Rattle.life_elab_laws.proofs.Shaped.{is_passing, named_lasts}
 use Rattle.life_elab_laws.proofs.Shaping.{IsFine, fine_acts, fine_append}
+use Rattle.life_elab_laws.proofs.SomeKnown.{some_known, some_knows}
 use Rattle.life_elab_laws.proofs.TemporaryEnds.{temporary_ends}
 use Rattle.life_elab_laws.proofs.VariablePlaces.{Stands}
 use Rattle.life_elab_laws.proofs.WrittenLocals.{locals_added, own_added}
 
-module _ (a : Around) (types : Types) (texts : ℕ) (so_far : Bool) (fs : List Function) (f : Function) (setting : Setting so_far a types fs f) (v : Visible) (in_loop : Bool) (last : Place)
-    (u : TypedLocal) (s : State) (h : Follows types f a v s) (at : slice_get a.function.locals v.declared ≡ Some u) (built : is_reached_variable false a.program.types u.ty ≡ true) where
-  module _ {A : Type 0} (w : Gives A) (Q : Gift types texts so_far fs f A) (made : Makes types texts so_far fs f None s w Q) (wide : so_far ≡ false) (form : Form) where
+module _ (a : Around) (types : Types) (texts : ℕ) (fs : List Function) (f : Function) (setting : Setting a types fs f) (v : Visible) (in_loop : Bool) (last : Place)
+    (u : TypedLocal) (s : State) (h : Follows types f a v s) (at : slice_get a.function.locals v.declared ≡ Some u) (built : is_served_variable a.program.types u.ty ≡ true) where
+  module _ {A : Type 0} (w : Gives A) (Q : Gift types texts fs f A) (made : Makes types texts fs f None s w Q) (form : Form) where
     -- its number, its local, and where it has come to life
     abbrev x : ℕ
     x = length w.state.locals
@@ -65,8 +66,8 @@ module _ (a : Around) (types : Types) (texts : ℕ) (so_far : Bool) (fs : List F
     begun = emit u.place (Live x form) (with_new l w.state)
 
     -- what stands there, and what makes that of it
-    module _ (t : Ty) (act : State → State) (lives : Begins types f begun → can_live types texts fs f x ≡ true) (is_place : Begins types f begun → IsPlaceOf types texts so_far fs f t false (object_named x))
-        (builds : Stands a v.visible begun → Part types texts so_far fs f (both types texts so_far fs f Q (a_place types texts so_far fs f t false)) (w.given, object_named x) None begun (gives tt (act begun)) (nothing types texts so_far fs f)) where
+    module _ (t : Ty) (act : State → State) (lives : Begins types f begun → can_live types texts fs f x ≡ true) (is_place : Begins types f begun → IsPlaceOf types texts fs f t false (object_named x))
+        (builds : Stands a v.visible begun → Part types texts fs f (both types texts fs f Q (a_place types texts fs f t false)) (w.given, object_named x) None begun (gives tt (act begun)) (nothing types texts fs f)) where
       -- without its temporaries
       abbrev there : State
       there = settled types f s w.state
@@ -89,7 +90,7 @@ module _ (a : Around) (types : Types) (texts : ℕ) (so_far : Bool) (fs : List F
         beside = λ y m c. elim (Contains-push_cases w.state.living x y c) [ inl old ↦ before.beside y m old | inr e ↦ let lt = below y m in omega (arith, e, lt) ];
       }
 
-      part : Part types texts so_far fs f (both types texts so_far fs f Q (a_place types texts so_far fs f t false)) (w.given, object_named x) None begun (gives tt (act begun)) (nothing types texts so_far fs f)
+      part : Part types texts fs f (both types texts fs f Q (a_place types texts fs f t false)) (w.given, object_named x) None begun (gives tt (act begun)) (nothing types texts fs f)
       part = builds (record {
         table = new.stands.table;
         opened = new.stands.opened;
@@ -126,8 +127,8 @@ module _ (a : Around) (types : Types) (texts : ℕ) (so_far : Bool) (fs : List F
 
       -- ---- where they have ended
 
-      e : IsEnded types texts so_far fs f over last done
-      e = ended types texts so_far fs f over last done
+      e : IsEnded types texts fs f over last done
+      e = ended types texts fs f over last done
 
       abbrev finished : State
       finished = record done { code = done.code ++ e.code; pending = take n done.pending }
@@ -174,27 +175,30 @@ module _ (a : Around) (types : Types) (texts : ℕ) (so_far : Bool) (fs : List F
         it : slice_get f.locals x ≡ Some l
         it = begins.locals x l (last_there w.state.locals l)
 
-        first : Runs types texts so_far fs f (nothing types texts so_far fs f) tt None s w Q made.code
-        first = made.runs (record { locals = front_then w.state.locals begun.locals f.locals (front_append w.state.locals (l ∷ [])) begins.locals; table = begins.table }) tt
+        before_begun : Begins types f w.state
+        before_begun = record { locals = front_then w.state.locals begun.locals f.locals (front_append w.state.locals (l ∷ [])) begins.locals; table = begins.table }
 
-        second : Runs types texts so_far fs f (both types texts so_far fs f Q (a_place types texts so_far fs f t false)) (w.given, object_named x) None begun (gives tt done) (nothing types texts so_far fs f) part.code
+        first : Runs types texts fs f (nothing types texts fs f) tt None s w Q made.code
+        first = made.runs before_begun tt
+
+        second : Runs types texts fs f (both types texts fs f Q (a_place types texts fs f t false)) (w.given, object_named x) None begun (gives tt done) (nothing types texts fs f) part.code
         second = part.runs b (first.typed, is_place begins)
 
-        ends_fine : IsFine types texts so_far fs f e.code
+        ends_fine : IsFine types texts fs f e.code
         ends_fine =
             e.fine (all_among (can_end types texts fs f) over (λ y m. temporary_ends types texts fs f setting.registers y (temporary_later done.locals f.locals done.types.types types.types y b.locals b.table (pends.each y (over_pending y m)))))
 
-        all_fine : IsFine types texts so_far fs f whole
+        all_fine : IsFine types texts fs f whole
         all_fine =
-            fine_append types texts so_far fs f made.code (comes ++ (part.code ++ e.code)) first.fine
-            (fine_append types texts so_far fs f comes (part.code ++ e.code)
-            (fine_acts types texts so_far fs f u.place (Live x form) (record { given = refl; formed = lives begins; served = λ so. absurd (false≢true (sym wide ∙ so)) }))
-            (fine_append types texts so_far fs f part.code e.code second.fine ends_fine))
+            fine_append types texts fs f made.code (comes ++ (part.code ++ e.code)) first.fine
+            (fine_append types texts fs f comes (part.code ++ e.code)
+            (fine_acts types texts fs f u.place (Live x form) (record { given = refl; formed = lives begins; served = refl }))
+            (fine_append types texts fs f part.code e.code second.fine ends_fine))
 
         -- ---- on a way
 
         module _ (k : List Known) (knows : Knows f s.living k) where
-          g : Goes types texts so_far fs f None s w Q made.code k
+          g : Goes types texts fs f None s w Q made.code k
           g = first.goes k (knows_alive types f a v s h k knows) tt
 
           lt : x < length g.after
@@ -226,7 +230,7 @@ module _ (a : Around) (types : Types) (texts : ℕ) (so_far : Bool) (fs : List F
               lived y (inl old) = beside_set g.after x y known.Ready (λ e. let far = opened y old in omega (arith, e, far)) ∙ g.alive.living y old
               lived y (inr e) = subst (λ (z : ℕ). known_at j z ≡ known.Ready) e (at_set g.after x known.Ready lt)
 
-          r : Goes types texts so_far fs f None begun (gives tt done) (nothing types texts so_far fs f) part.code j
+          r : Goes types texts fs f None begun (gives tt done) (nothing types texts fs f) part.code j
           r =
               second.goes j alive (
                 Q.stays w.given x (length begun.locals) g.after j (omega (arith, length-append w.state.locals (l ∷ []))) g.gives (keeps_set f x None x known.Ready g.after (λ y small b e. omega (arith, small, e))),
@@ -261,10 +265,21 @@ module _ (a : Around) (types : Types) (texts : ℕ) (so_far : Bool) (fs : List F
                 | inr none ↦ blank_beside over r.after y none ∙ r.alive.blank y z there lasts out (λ m. none (pending_over y m))
               ]
 
-        acting : Acting types texts so_far fs f in_loop s finished whole
+          all_apart : Apart f s finished (trees whole)
+          all_apart =
+              codes_apart f s w.state finished made.code (comes ++ (part.code ++ e.code)) g.apart
+              (codes_apart f w.state begun finished comes (part.code ++ e.code) (new_none f l w.state)
+              (codes_apart f begun done finished part.code e.code r.apart
+              (e.apart done finished (omega arith) (λ y o. elim o [ inl m ↦ inl (inl m) | inr m ↦ inl (inr (among_take n done.pending y m)) ]))))
+
+        first_begins : Begins types f s
+        first_begins = begins_before types f s w.state made.grown before_begun
+
+        acting : Acting types texts fs f in_loop s finished whole
         acting = record {
           stated = all_fine.stated in_loop;
           ways = leaves_may types f in_loop s.living done.living (take s.outside s.living) (trees whole) went;
+          apart = all_apart (some_known types f a v s h first_begins) (some_knows types f a v s h first_begins);
         }
           where
             went : (k : List Known) → Knows f s.living k → Leaves f in_loop done.living (take s.outside s.living) (flow types f (trees whole) (Some k))
@@ -272,13 +287,13 @@ module _ (a : Around) (types : Types) (texts : ℕ) (so_far : Bool) (fs : List F
                 subst (Leaves f in_loop done.living (take s.outside s.living)) (sym (falls k knows))
                 (leaves_falling f in_loop done.living (take s.outside s.living) (final k knows) (known_there k knows))
 
-      finished_does : Does types texts so_far fs f a (with_next v) in_loop s finished
+      finished_does : Does types texts fs f a (with_next v) in_loop s finished
       finished_does = record {
         adds = adds;
         locals = λ are.
-            locals_added so_far types a begun done part.grown.types part.registers
-            (own_added so_far types a w.state l (record { number = v.declared; variable = u; there = at; of = its_local a u })
-            (locals_added so_far types a s w.state made.grown.types made.registers are));
+            locals_added types a begun done part.grown.types part.registers
+            (own_added types a w.state l (record { number = v.declared; variable = u; there = at; of = its_local a u })
+            (locals_added types a s w.state made.grown.types made.registers are));
         order = order_then s.types w.state.types done.types made.registers.1 part.registers.1;
         follows = follows;
         code = whole;
@@ -288,8 +303,8 @@ module _ (a : Around) (types : Types) (texts : ℕ) (so_far : Bool) (fs : List F
             ∙ append_assoc (s.code ++ made.code) comes (part.code ++ e.code)
             ∙ append_assoc s.code made.code (comes ++ (part.code ++ e.code));
         acts = acting;
-        returns = λ b gives o k. fine_known types f (result_local a) texts so_far fs whole (all_fine b) o;
+        returns = λ b gives o k. fine_known types f (result_local a) texts fs whole (all_fine b) o;
       }
 
-      pub built_does : Does types texts so_far fs f a (with_next v) in_loop s (end_pending n last (act begun))
-      built_does = subst (Does types texts so_far fs f a (with_next v) in_loop s) (sym finished_is) finished_does
+      pub built_does : Does types texts fs f a (with_next v) in_loop s (end_pending n last (act begun))
+      built_does = subst (Does types texts fs f a (with_next v) in_loop s) (sym finished_is) finished_does

@@ -37,22 +37,22 @@ use Rattle.life_elab_laws.proofs.Values.{by_values}
 value_no_pointer : (t : Ty) → is_value t ≡ true → is_pointer t ≡ false
 value_no_pointer = by_values (λ t. is_pointer t ≡ false) refl refl refl refl refl
 
-module _ (types : Types) (texts : ℕ) (so_far : Bool) (fs : List Function) (f : Function) where
+module _ (types : Types) (texts : ℕ) (fs : List Function) (f : Function) where
   -- ---- arguments
 
-  pub none_handed : (s : State) → Makes types texts so_far fs f None s (gives [] s) (arguments types texts so_far fs f [])
-  none_handed s = leaf_part types texts so_far fs f [] s (arguments types texts so_far fs f []) (λ b. record { fit = refl; own = refl; given = refl; served = λ so. refl }) (λ b k alive. tt)
+  pub none_handed : (s : State) → Makes types texts fs f None s (gives [] s) (arguments types texts fs f [])
+  none_handed s = leaf_part types texts fs f [] s (arguments types texts fs f []) (λ b. record { fit = refl; own = refl; given = refl; served = refl }) (λ b k alive. tt)
 
   -- one before the others
   pub handed_part : (id : TyId) (t : Ty) (ids : List TyId) (first : State → Gives ℕ) (others : State → Gives (List Argument)) (s : State) → ty_of types id ≡ t → IsOpen s
-      → Makes types texts so_far fs f None s (first s) (a_number types texts so_far fs f t) → Makes types texts so_far fs f None (first s).state (others (first s).state) (arguments types texts so_far fs f ids)
-      → Makes types texts so_far fs f None s (handed first others s) (arguments types texts so_far fs f (id ∷ ids))
+      → Makes types texts fs f None s (first s) (a_number types texts fs f t) → Makes types texts fs f None (first s).state (others (first s).state) (arguments types texts fs f ids)
+      → Makes types texts fs f None s (handed first others s) (arguments types texts fs f (id ∷ ids))
   handed_part id t ids first others s at opened one more =
       let r = first s in
       let xs = others r.state in
-      seen_part types texts so_far fs f (nothing types texts so_far fs f) tt None s (gives (r.given, xs.given) xs.state) (both types texts so_far fs f (a_number types texts so_far fs f t) (arguments types texts so_far fs f ids)) (λ x. Value x.0 ∷ x.1)
-      (arguments types texts so_far fs f (id ∷ ids))
-      (and_part types texts so_far fs f (nothing types texts so_far fs f) tt s r xs (a_number types texts so_far fs f t) (arguments types texts so_far fs f ids) opened one more)
+      seen_part types texts fs f (nothing types texts fs f) tt None s (gives (r.given, xs.given) xs.state) (both types texts fs f (a_number types texts fs f t) (arguments types texts fs f ids)) (λ x. Value x.0 ∷ x.1)
+      (arguments types texts fs f (id ∷ ids))
+      (and_part types texts fs f (nothing types texts fs f) tt s r xs (a_number types texts fs f t) (arguments types texts fs f ids) opened one more)
       (λ b h. record {
         fit = and_from (is_argument_for types texts fs f id (Value r.given)) (are_arguments_for types texts fs f ids xs.given) (ap (λ (u : Ty). is_number_of types f u r.given) at ∙ h.0) h.1.fit;
         own = h.1.own;
@@ -76,7 +76,7 @@ module _ (types : Types) (texts : ℕ) (so_far : Bool) (fs : List Function) (f :
       ap (λ (b : Bool). if b then operands.takes types (type_in types f (whole x)) t else (same t (type_in types f (whole x)) && (object_at types f x || is_number types f x))) (value_no_pointer t v)
       ∙ and_from (same t (placed.type_at types f x)) (object_at types f x || is_number types f x) (ap (same t) typed ∙ value_same t v) (or_left (object_at types f x) (is_number types f x) there)
 
-  pub called_formed : (g : ℕ) (xs : List Argument) (of : FunctionForm) (target : Option Location) → IsCallee types fs g of → AreHanded types texts so_far fs f (parameter_types (Some of)) xs
+  pub called_formed : (g : ℕ) (xs : List Argument) (of : FunctionForm) (target : Option Location) → IsCallee types fs g of → AreHanded types texts fs f (parameter_types (Some of)) xs
       → goes_to types texts fs f (ty_of types of.result) target ≡ true → is_call types texts fs f (slice_get fs g) target xs ≡ true
   called_formed g xs of target callee given goes =
       ap (λ (o : Option Function). is_call types texts fs f o target xs) callee.there
@@ -94,8 +94,8 @@ module _ (types : Types) (texts : ℕ) (so_far : Bool) (fs : List Function) (f :
   keeps_values target g xs none =
       ap (λ (ys : List ℕ). list_all (is_no_object types f) ys && not (list_any (λ (x : ℕ). list_any (nat_eq x) ys) (target_uses target))) none ∙ ap not (none_in (target_uses target))
 
-  pub alone_fine : (g : ℕ) (xs : List Argument) (of : FunctionForm) → IsCallee types fs g of → AreHanded types texts so_far fs f (parameter_types (Some of)) xs → ty_of types of.result ≡ ty.Void
-      → IsFineStep types texts so_far fs f (called_alone g xs)
+  pub alone_fine : (g : ℕ) (xs : List Argument) (of : FunctionForm) → IsCallee types fs g of → AreHanded types texts fs f (parameter_types (Some of)) xs → ty_of types of.result ≡ ty.Void
+      → IsFineStep types texts fs f (called_alone g xs)
   alone_fine g xs of callee h void = record {
     given = keeps_values None g xs h.given;
     formed = called_formed g xs of None callee h (ap (λ (u : Ty). goes_to types texts fs f u None) void);
@@ -103,32 +103,32 @@ module _ (types : Types) (texts : ℕ) (so_far : Bool) (fs : List Function) (f :
   }
 
   -- a call that gives something
-  pub called_at_fine : (g : ℕ) (xs : List Argument) (of : FunctionForm) (l : Location) → IsCallee types fs g of → AreHanded types texts so_far fs f (parameter_types (Some of)) xs
-      → goes_to types texts fs f (ty_of types of.result) (Some l) ≡ true → (so_far ≡ true → is_served_location l ≡ true) → IsFineStep types texts so_far fs f (called g xs l)
+  pub called_at_fine : (g : ℕ) (xs : List Argument) (of : FunctionForm) (l : Location) → IsCallee types fs g of → AreHanded types texts fs f (parameter_types (Some of)) xs
+      → goes_to types texts fs f (ty_of types of.result) (Some l) ≡ true → (is_served_location l ≡ true) → IsFineStep types texts fs f (called g xs l)
   called_at_fine g xs of l callee h goes served = record {
     given = keeps_values (Some l) g xs h.given;
     formed = called_formed g xs of (Some l) callee h goes;
-    served = λ so. and_from (is_served_location l) (list_all is_served_argument xs) (served so) (h.served so);
+    served = and_from (is_served_location l) (list_all is_served_argument xs) served h.served;
   }
 
   -- .. to a local
-  pub called_fine : (g : ℕ) (xs : List Argument) (of : FunctionForm) (x : ℕ) → IsCallee types fs g of → AreHanded types texts so_far fs f (parameter_types (Some of)) xs
-      → goes_to types texts fs f (ty_of types of.result) (Some (whole x)) ≡ true → IsFineStep types texts so_far fs f (called g xs (whole x))
-  called_fine g xs of x callee h goes = called_at_fine g xs of (whole x) callee h goes (λ so. refl)
+  pub called_fine : (g : ℕ) (xs : List Argument) (of : FunctionForm) (x : ℕ) → IsCallee types fs g of → AreHanded types texts fs f (parameter_types (Some of)) xs
+      → goes_to types texts fs f (ty_of types of.result) (Some (whole x)) ≡ true → IsFineStep types texts fs f (called g xs (whole x))
+  called_fine g xs of x callee h goes = called_at_fine g xs of (whole x) callee h goes (refl)
 
   -- ---- a call that gives a number
 
   pub call_computes : (g : ℕ) (xs : List Argument) (of : FunctionForm) (t : Ty) → IsCallee types fs g of → ty_of types of.result ≡ t → is_value t ≡ true
-      → Computes types texts so_far fs f (arguments types texts so_far fs f (parameter_types (Some of))) xs t (λ r. called g xs (whole r))
+      → Computes types texts fs f (arguments types texts fs f (parameter_types (Some of))) xs t (λ r. called g xs (whole r))
   call_computes g xs of t callee own v = record {
     fills = λ r n k e p. written_fills f g (parameter_types (Some of)) xs n k p r e;
     fine = λ r e h. called_fine g xs of r callee h (ap (λ (u : Ty). goes_to types texts fs f u (Some (whole r))) own ∙ goes_value t r v e);
   }
 
   pub call_part : (g : ℕ) (of : FunctionForm) (into : Option ℕ) (t : Ty) (place : Place) (s : State) (w : Gives (List Argument)) → IsCallee types fs g of → ty_of types of.result ≡ t
-      → is_value t ≡ true → IsIntoOf t s into → IsOpen s → Makes types texts so_far fs f None s w (arguments types texts so_far fs f (parameter_types (Some of)))
-      → Makes types texts so_far fs f into s (computed into t place (λ r. called g w.given (whole r)) w.state) (a_number types texts so_far fs f t)
+      → is_value t ≡ true → IsIntoOf t s into → IsOpen s → Makes types texts fs f None s w (arguments types texts fs f (parameter_types (Some of)))
+      → Makes types texts fs f into s (computed into t place (λ r. called g w.given (whole r)) w.state) (a_number types texts fs f t)
   call_part g of into t place s w callee own v wanted opened first =
-      let P = arguments types texts so_far fs f (parameter_types (Some of)) in
-      then_part types texts so_far fs f (nothing types texts so_far fs f) tt into s w _ P (a_number types texts so_far fs f t) opened first
-      (computed_part types texts so_far fs f P w.given into t place (λ r. called g w.given (whole r)) w.state v (into_of_later t s w.state into first.grown wanted) (call_computes g w.given of t callee own v))
+      let P = arguments types texts fs f (parameter_types (Some of)) in
+      then_part types texts fs f (nothing types texts fs f) tt into s w _ P (a_number types texts fs f t) opened first
+      (computed_part types texts fs f P w.given into t place (λ r. called g w.given (whole r)) w.state v (into_of_later t s w.state into first.grown wanted) (call_computes g w.given of t callee own v))

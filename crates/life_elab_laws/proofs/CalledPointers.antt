@@ -2,7 +2,6 @@
 use Rattle.std.proofs.Common.{◌≡◌, inl, inr, ℕ, Bool, true, List, length, Some, None, refl, ap, ◌∙◌, subst}
 use Rattle.std.proofs.lemmas.Bool.{and_from}
 use Rattle.life_types.specs.Pointees.{ty_of}
-use Rattle.life_types.specs.TypeTests.{is_value}
 use Rattle.life_types.specs.Types.{Types}
 use Rattle.life_types.specs.declared.place.Place.{Place}
 use Rattle.life_types.specs.declared.ty.Ty.{Ty}
@@ -26,20 +25,23 @@ use Rattle.life_writer.specs.Writing.{Gives, State, mapped}
 use Rattle.life_elab_laws.proofs.CallParts.{called_at_fine, called_fine}
 use Rattle.life_elab_laws.proofs.Calls.{IsCallee, called_filling, written_fills}
 use Rattle.life_elab_laws.proofs.Emitting.{new_targeted}
-use Rattle.life_elab_laws.proofs.FormedVariables.{behind_place, reference_there, type_later}
+use Rattle.life_elab_laws.proofs.FormedVariables.{behind_place, reference_there}
 use Rattle.life_elab_laws.proofs.Fronts.{IsFront, front_length, last_there}
 use Rattle.life_elab_laws.proofs.Gifts.{IsTakenBy, a_place, a_pointing, arguments, nothing}
 use Rattle.life_elab_laws.proofs.Growing.{Begins, added}
 use Rattle.life_elab_laws.proofs.Instructions.{emit_part}
 use Rattle.life_elab_laws.proofs.Making.{IsOpen}
-use Rattle.life_elab_laws.proofs.OperandsThere.{register_there, value_same}
+use Rattle.life_elab_laws.proofs.OperandsThere.{register_there}
 use Rattle.life_elab_laws.proofs.Parts.{Makes, seen_part, then_part}
 use Rattle.life_elab_laws.proofs.Types.{type_added}
 use Rattle.life_elab_laws.proofs.WalkerSteps.{keeps_itself}
 use Rattle.life_elab_laws.proofs.WrittenLocals.{fits_below, fits_later, fits_register}
+use Rattle.life_served.specs.Served.{is_target}
+use Rattle.life_elab_laws.proofs.Targets.{one_target, target_no_void, target_type}
+use Rattle.life_elab_laws.proofs.Shaped.{target_there}
 
-module _ (types : Types) (texts : ℕ) (so_far : Bool) (fs : List Function) (f : Function) (g : ℕ) (of : FunctionForm) (callee : IsCallee types fs g of)
-    (s : State) (w : Gives (List Argument)) (first : Makes types texts so_far fs f None s w (arguments types texts so_far fs f (parameter_types (Some of)))) where
+module _ (types : Types) (texts : ℕ) (fs : List Function) (f : Function) (g : ℕ) (of : FunctionForm) (callee : IsCallee types fs g of)
+    (s : State) (w : Gives (List Argument)) (first : Makes types texts fs f None s w (arguments types texts fs f (parameter_types (Some of)))) where
   -- ---- a pointer of a type that takes its own, which is taken
 
   module _ (pointer : Ty) (own : ty_of types of.result ≡ pointer) (itself : takes types pointer pointer ≡ true) (comes : (l : Location) → takes types (type_in types f l) pointer ≡ true → goes_to types texts fs f pointer (Some l) ≡ true) where
@@ -53,30 +55,26 @@ module _ (types : Types) (texts : ℕ) (so_far : Bool) (fs : List Function) (f :
     goes : (u : Ty) (l : Location) → type_in types f l ≡ u → IsTakenBy types u (Of pointer) → goes_to types texts fs f (ty_of types of.result) (Some l) ≡ true
     goes u l at by = ap (λ (t : Ty). goes_to types texts fs f t (Some l)) own ∙ comes l (ap (λ (t : Ty). takes types t pointer) at ∙ taken u by)
 
-    taken_call : Makes types texts so_far fs f None s (mapped (λ (xs : List Argument). By (called g xs)) w) (a_pointing types texts so_far fs f (Of pointer))
+    taken_call : Makes types texts fs f None s (mapped (λ (xs : List Argument). By (called g xs)) w) (a_pointing types texts fs f (Of pointer))
     taken_call =
-        seen_part types texts so_far fs f (nothing types texts so_far fs f) tt None s w (arguments types texts so_far fs f (parameter_types (Some of))) (λ xs. By (called g xs)) (a_pointing types texts so_far fs f (Of pointer)) first
-        (λ b h. λ u l loc at by. called_at_fine types texts so_far fs f g w.given of l callee h (goes u l at.typed by) at.served)
+        seen_part types texts fs f (nothing types texts fs f) tt None s w (arguments types texts fs f (parameter_types (Some of))) (λ xs. By (called g xs)) (a_pointing types texts fs f (Of pointer)) first
+        (λ b h. λ u l loc at by. called_at_fine types texts fs f g w.given of l callee h (goes u l at.typed by) at.served)
         (λ n k h. called_filling f g (parameter_types (Some of)) w.given n k h)
 
   -- a view
-  pub viewed_call : ty_of types of.result ≡ ty.View → Makes types texts so_far fs f None s (mapped (λ (xs : List Argument). By (called g xs)) w) (a_pointing types texts so_far fs f (Of ty.View))
+  pub viewed_call : ty_of types of.result ≡ ty.View → Makes types texts fs f None s (mapped (λ (xs : List Argument). By (called g xs)) w) (a_pointing types texts fs f (Of ty.View))
   viewed_call own = taken_call ty.View own refl (λ l h. h)
 
-  -- ---- a pointer or a reference to a value
+  -- ---- a pointer or a reference to a value or an owner
 
-  module _ (few : Types) (front : IsFront few.types types.types) (target : TyId) (constant : Bool) (worth : is_value (type_at few target) ≡ true) where
-    later : is_value (ty_of types target) ≡ true
-    later = ap is_value (type_later few types front target worth) ∙ worth
-
-    -- two pointers of one target
-    one_target : (same (ty_of types target) (ty_of types target)) ≡ true
-    one_target = value_same (ty_of types target) later
+  module _ (few : Types) (front : IsFront few.types types.types) (target : TyId) (constant : Bool) (worth : is_target few (type_at few target) ≡ true) where
+    alike : same (ty_of types target) (ty_of types target) ≡ true
+    alike = one_target few types front target worth
 
     -- a raw pointer
-    pub pointed_call : ty_of types of.result ≡ ty.Raw target constant → Makes types texts so_far fs f None s (mapped (λ (xs : List Argument). By (called g xs)) w) (a_pointing types texts so_far fs f (Of (ty.Raw target constant)))
+    pub pointed_call : ty_of types of.result ≡ ty.Raw target constant → Makes types texts fs f None s (mapped (λ (xs : List Argument). By (called g xs)) w) (a_pointing types texts fs f (Of (ty.Raw target constant)))
     pointed_call own =
-        taken_call (ty.Raw target constant) own (and_from (same (ty_of types target) (ty_of types target)) (keeps_const constant constant) one_target (keeps_itself constant)) (λ l h. h)
+        taken_call (ty.Raw target constant) own (and_from (same (ty_of types target) (ty_of types target)) (keeps_const constant constant) alike (keeps_itself constant)) (λ l h. h)
 
     -- a reference
 
@@ -90,7 +88,7 @@ module _ (types : Types) (texts : ℕ) (so_far : Bool) (fs : List Function) (f :
       referred : Begins types f register.state → type_in types f (whole register.given) ≡ reference
       referred b =
           let l = added place reference w.state in
-          reference_there types f (length w.state.locals) l target constant (b.locals (length w.state.locals) l (last_there w.state.locals l)) (b.table l.ty.0 reference (type_added w.state.types.types reference)) later
+          reference_there types f (length w.state.locals) l target constant (b.locals (length w.state.locals) l (last_there w.state.locals l)) (b.table l.ty.0 reference (type_added w.state.types.types reference)) (target_there few types front target worth)
 
       kept : Begins types f register.state → is_register_at f register.given ≡ true
       kept b = let l = added place reference w.state in register_there types f (length w.state.locals) l (b.locals (length w.state.locals) l (last_there w.state.locals l)) refl
@@ -98,19 +96,19 @@ module _ (types : Types) (texts : ℕ) (so_far : Bool) (fs : List Function) (f :
       comes : Begins types f register.state → goes_to types texts fs f (ty_of types of.result) (Some (whole register.given)) ≡ true
       comes b =
           ap (λ (t : Ty). goes_to types texts fs f t (Some (whole register.given))) own ∙ ap (λ (t : Ty). takes types t reference) (referred b)
-          ∙ and_from (same (ty_of types target) (ty_of types target)) (keeps_const constant constant) one_target (keeps_itself constant)
+          ∙ and_from (same (ty_of types target) (ty_of types target)) (keeps_const constant constant) alike (keeps_itself constant)
 
-      fits : fits_register so_far few reference ≡ true
+      fits : fits_register few reference ≡ true
       fits = worth
 
-      pub referred_call : Makes types texts so_far fs f None s (mapped through (built (Fill place (called g w.given)) (wanted place None reference) w.state)) (a_place types texts so_far fs f (type_at few target) constant)
+      pub referred_call : Makes types texts fs f None s (mapped through (built (Fill place (called g w.given)) (wanted place None reference) w.state)) (a_place types texts fs f (type_at few target) constant)
       referred_call =
-          then_part types texts so_far fs f (nothing types texts so_far fs f) tt None s w (mapped through (built (Fill place (called g w.given)) (wanted place None reference) w.state)) (arguments types texts so_far fs f (parameter_types (Some of))) (a_place types texts so_far fs f (type_at few target) constant) opened first
-          (emit_part types texts so_far fs f (arguments types texts so_far fs f (parameter_types (Some of))) w.given None w.state register place (λ r. called g w.given (whole r)) (through register.given) (a_place types texts so_far fs f (type_at few target) constant)
-          (new_targeted so_far types f place reference w.state (fits_later so_far few types front reference fits) (fits_below so_far few w.state.types (front_length few.types w.state.types.types table) reference fits))
+          then_part types texts fs f (nothing types texts fs f) tt None s w (mapped through (built (Fill place (called g w.given)) (wanted place None reference) w.state)) (arguments types texts fs f (parameter_types (Some of))) (a_place types texts fs f (type_at few target) constant) opened first
+          (emit_part types texts fs f (arguments types texts fs f (parameter_types (Some of))) w.given None w.state register place (λ r. called g w.given (whole r)) (through register.given) (a_place types texts fs f (type_at few target) constant)
+          (new_targeted types f place reference w.state (fits_later few types front reference fits) (fits_below few w.state.types (front_length few.types w.state.types.types table) reference fits))
           (λ b h. (
-            called_fine types texts so_far fs f g w.given of register.given callee h (comes b),
-            behind_place types texts so_far fs f (whole register.given) reference target constant (type_at few target) (record { typed = referred b; kept = kept b; served = λ so. refl }) refl refl refl (type_later few types front target worth) worth,
+            called_fine types texts fs f g w.given of register.given callee h (comes b),
+            behind_place types texts fs f (whole register.given) reference target constant (type_at few target) (record { typed = referred b; kept = kept b; served = refl }) refl refl refl (target_type few types front target worth) (target_no_void few (type_at few target) worth),
           ))
           (λ r n k e h. written_fills f g (parameter_types (Some of)) w.given n k h r e)
           (λ k lt e. record { local = register.given; uses = refl; below = lt; held = e }))

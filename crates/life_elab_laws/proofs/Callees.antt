@@ -1,5 +1,5 @@
--- What the core functions of a program that is reached take and give.
-use Rattle.std.proofs.Common.{◌≡◌, ◌<◌, ◌≤◌, ℕ, zero, suc, Bool, true, false, List, [], ◌∷◌, ◌++◌, length, map, slice_get, take, Option, Some, None, refl, sym, ap, ◌∙◌, subst, unwrap_or, arith}
+-- What the core functions of a program that is served take and give.
+use Rattle.std.proofs.Common.{◌≡◌, ◌<◌, ◌≤◌, ℕ, zero, suc, true, false, List, [], ◌∷◌, ◌++◌, length, map, slice_get, take, Option, Some, None, refl, sym, ap, ◌∙◌, subst, unwrap_or, arith}
 use Rattle.std.proofs.lemmas.Bool.{and_parts}
 use Rattle.std.proofs.lemmas.Option.{none-some, same_Some}
 use Rattle.life_types.specs.Pointees.{or_void, ty_of}
@@ -8,8 +8,7 @@ use Rattle.life_types.specs.Types.{Types, class, class_at}
 use Rattle.life_types.specs.declared.ty.Ty.{Ty}
 use Rattle.life_types.specs.declared.ty.Ty.TheVariants as ty
 use Rattle.life_types.specs.declared.ty.TyId.{TyId}
-use Rattle.life_served.specs.Served.{are_served_variables, is_served_result, is_served_variable}
-use Rattle.life_elab_laws.specs.Reached.{are_reached_variables, is_reached_function, is_reached_statement}
+use Rattle.life_served.specs.Served.{are_served_variables, is_served_function, is_served_result, is_served_statement, are_served_parameters, is_served_parameter}
 use Rattle.life_typed.specs.BaseTypes.{type_at}
 use Rattle.life_typed.specs.Ends.{ends}
 use Rattle.life_typed.specs.Programs.{FunctionForm, ProgramForm, is_main}
@@ -28,8 +27,7 @@ use Rattle.life_elab_laws.proofs.Beginning.{parameter_locals, parameters_front, 
 use Rattle.life_elab_laws.proofs.Calls.{IsCallee}
 use Rattle.life_elab_laws.proofs.Fronts.{IsFront, front_cut, front_then}
 use Rattle.life_elab_laws.proofs.HandedTypes.{IsHandedType, handed_later, handed_type}
-use Rattle.life_elab_laws.proofs.Reaching.{variables_any}
-use Rattle.life_elab_laws.proofs.ResultTypes.{IsResultType, gives_nothing, gives_raw, gives_reference, gives_value, gives_view, past_end, result_is}
+use Rattle.life_elab_laws.proofs.ResultTypes.{IsResultType, gives_alias, gives_nothing, gives_raw, gives_reference, gives_value, gives_view, past_end, result_is}
 use Rattle.life_elab_laws.proofs.Setting.{GivesBack, asked, unasked}
 use Rattle.life_elab_laws.proofs.Types.{value_class}
 use Rattle.life_core.specs.declared.program.LocalKind.TheVariants.{Register}
@@ -38,27 +36,25 @@ use Rattle.life_core.specs.declared.program.LocalKind.TheVariants.{Register}
 pub type_found : (types : Types) (id : TyId) (t : Ty) → slice_get types.types id.0 ≡ Some t → type_at types id ≡ t
 type_found types id t at = ap (λ (o : Option Ty). unwrap_or o ty.Void) at
 
--- ---- what is reached
+-- ---- what is served
 
-pub record IsReachedFunction (texts : ℕ) (so_far : Bool) (types : Types) (f : FunctionForm) : Type 0 where
+pub record IsServedFunction (texts : ℕ) (types : Types) (f : FunctionForm) : Type 0 where
   pub result : is_served_result types f.result ≡ true
-  pub parameters : are_served_variables types (take (length f.parameters) f.locals) ≡ true
-  pub variables : are_reached_variables so_far types f.locals ≡ true
-  pub body : is_reached_statement texts so_far types f.locals f.body ≡ true
-  -- whatever is served so far
-  pub any : are_reached_variables false types f.locals ≡ true
+  pub parameters : are_served_parameters types (take (length f.parameters) f.locals) ≡ true
+  pub variables : are_served_variables types f.locals ≡ true
+  pub body : is_served_statement texts types f.locals f.body ≡ true
 
-pub reached_parts : (texts : ℕ) (so_far : Bool) (types : Types) (f : FunctionForm) → is_reached_function texts so_far types f ≡ true → IsReachedFunction texts so_far types f
-reached_parts texts so_far types f b =
+pub served_parts : (texts : ℕ) (types : Types) (f : FunctionForm) → is_served_function texts types f ≡ true → IsServedFunction texts types f
+served_parts texts types f b =
     let one = and_parts (is_served_result types f.result) _ b in
-    let two = and_parts (are_served_variables types (take (length f.parameters) f.locals)) _ one.1 in
-    let three = and_parts (are_reached_variables so_far types f.locals) (is_reached_statement texts so_far types f.locals f.body) two.1 in
-    record { result = one.0; parameters = two.0; variables = three.0; body = three.1; any = variables_any so_far types f.locals three.0 }
+    let two = and_parts (are_served_parameters types (take (length f.parameters) f.locals)) _ one.1 in
+    let three = and_parts (are_served_variables types f.locals) (is_served_statement texts types f.locals f.body) two.1 in
+    record { result = one.0; parameters = two.0; variables = three.0; body = three.1 }
 
-pub handed_at : (types : Types) (us : List TypedLocal) → are_served_variables types us ≡ true → (n : ℕ) (id : TyId) → slice_get (map type_of us) n ≡ Some id → IsHandedType types id
+pub handed_at : (types : Types) (us : List TypedLocal) → are_served_parameters types us ≡ true → (n : ℕ) (id : TyId) → slice_get (map type_of us) n ≡ Some id → IsHandedType types id
 handed_at types [] b n id at = absurd (none-some id at)
-handed_at types (u ∷ us) b zero id at = subst (IsHandedType types) (same_Some u.ty id at) (handed_type types u.ty (and_parts (is_served_variable types u.ty) (are_served_variables types us) b).0)
-handed_at types (u ∷ us) b (suc n) id at = handed_at types us (and_parts (is_served_variable types u.ty) (are_served_variables types us) b).1 n id at
+handed_at types (u ∷ us) b zero id at = subst (IsHandedType types) (same_Some u.ty id at) (handed_type types u.ty (and_parts (is_served_parameter types u.ty) (are_served_parameters types us) b).0)
+handed_at types (u ∷ us) b (suc n) id at = handed_at types us (and_parts (is_served_parameter types u.ty) (are_served_parameters types us) b).1 n id at
 
 -- ---- what a function takes
 
@@ -69,23 +65,23 @@ types_cut a [] us rest few = refl
 types_cut a (p ∷ ps) [] rest few = absurd (omega (arith, few))
 types_cut a (p ∷ ps) (u ∷ us) rest few = ap (λ (ids : List TyId). u.ty ∷ ids) (types_cut a ps us rest (omega (arith, few)))
 
-parameter_taken : (a : Around) (ps : List ParameterPromise) (us : List TypedLocal) (y : ℕ) → length ps ≤ length us → are_served_variables a.program.types (take (length ps) us) ≡ true → y < length ps
+parameter_taken : (a : Around) (ps : List ParameterPromise) (us : List TypedLocal) (y : ℕ) → length ps ≤ length us → are_served_parameters a.program.types (take (length ps) us) ≡ true → y < length ps
     → (l : Local) × (slice_get (parameter_locals a ps us) y ≡ Some l) × IsHandedType a.program.types l.ty
 parameter_taken a [] us y few b lt = absurd (omega (arith, lt))
 parameter_taken a (p ∷ ps) [] y few b lt = absurd (omega (arith, few))
 parameter_taken a (p ∷ ps) (u ∷ us) zero few b lt =
-    let parts = and_parts (is_served_variable a.program.types u.ty) (are_served_variables a.program.types (take (length ps) us)) b in
+    let parts = and_parts (is_served_parameter a.program.types u.ty) (are_served_parameters a.program.types (take (length ps) us)) b in
     (parameter_local a p u, refl, handed_type a.program.types u.ty parts.0)
 parameter_taken a (p ∷ ps) (u ∷ us) (suc y) few b lt =
-    let parts = and_parts (is_served_variable a.program.types u.ty) (are_served_variables a.program.types (take (length ps) us)) b in
+    let parts = and_parts (is_served_parameter a.program.types u.ty) (are_served_parameters a.program.types (take (length ps) us)) b in
     parameter_taken a ps us y (omega (arith, few)) parts.1 (omega (arith, lt))
 
 -- ---- what its core function takes and gives, where it begins as it is written
 
--- a function of a well typed program that is reached
-pub record IsFunctionOf (so_far : Bool) (p : ProgramForm) (f : FunctionForm) : Type 0 where
+-- a function of a well typed program that is served
+pub record IsFunctionOf (p : ProgramForm) (f : FunctionForm) : Type 0 where
   pub typed : IsWellTypedFunction p f
-  pub built : IsReachedFunction (length (texts_of p)) so_far p.types f
+  pub built : IsServedFunction (length (texts_of p)) p.types f
   pub ty : Ty
   pub result : slice_get p.types.types f.result.0 ≡ Some ty
 
@@ -97,7 +93,7 @@ pub record IsBegun (p : ProgramForm) (f : FunctionForm) (T types : Types) (core 
   pub same : core.result ≡ f.result
   pub locals : IsFront (first_state (around p f) T).locals core.locals
 
-module _ (so_far : Bool) (p : ProgramForm) (of : FunctionForm) (T types : Types) (core : Function) (is : IsFunctionOf so_far p of) (begun : IsBegun p of T types core) where
+module _ (p : ProgramForm) (of : FunctionForm) (T types : Types) (core : Function) (is : IsFunctionOf p of) (begun : IsBegun p of T types core) where
   front : IsFront p.types.types types.types
   front = front_then p.types.types T.types types.types begun.table begun.later
 
@@ -147,6 +143,10 @@ module _ (so_far : Bool) (p : ProgramForm) (of : FunctionForm) (T types : Types)
           clash : ty.Int ≡ ty.View → ⊥
           clash e = cc
       go (gives_reference target constant refers w) = pointing (ap is_void refers) (λ int. clash (sym int ∙ refers))
+        where
+          clash : ty.Int ≡ ty.Reference target constant → ⊥
+          clash e = cc
+      go (gives_alias target constant refers o) = pointing (ap is_void refers) (λ int. clash (sym int ∙ refers))
         where
           clash : ty.Int ≡ ty.Reference target constant → ⊥
           clash e = cc

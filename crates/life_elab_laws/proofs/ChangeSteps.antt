@@ -1,6 +1,6 @@
 -- Instructions that change an owner at a place, and take what is in registers.
-use Rattle.std.proofs.Common.{◌≡◌, ℕ, Bool, true, false, cond, not, List, [], ◌∷◌, ◌++◌, None, slice_get, refl, sym, ap, ◌∙◌}
-use Rattle.std.proofs.lemmas.Bool.{and_from, and_parts, false≢true}
+use Rattle.std.proofs.Common.{◌≡◌, ℕ, Bool, true, false, cond, not, List, [], ◌∷◌, ◌++◌, None, slice_get, refl, ap, ◌∙◌}
+use Rattle.std.proofs.lemmas.Bool.{and_from, and_parts}
 use Rattle.std.specs.List.{list_all}
 use Rattle.life_types.specs.Types.{Types}
 use Rattle.life_types.specs.declared.place.Place.{Place}
@@ -26,6 +26,7 @@ use Rattle.life_elab_laws.proofs.Instructions.{acted_typed_part}
 use Rattle.life_elab_laws.proofs.Making.{AreHeld, IsPlace}
 use Rattle.life_elab_laws.proofs.Parts.{Part}
 use Rattle.life_elab_laws.proofs.Shaping.{is_no_object}
+use Rattle.life_core_served.specs.Served.{is_served_change, is_served_operand}
 
 -- what a change takes: locals that stay, and none of them an object that is given over
 pub record Takes (types : Types) (f : Function) (c : Change) (taken : List ℕ) : Type 0 where
@@ -33,6 +34,7 @@ pub record Takes (types : Types) (f : Function) (c : Change) (taken : List ℕ) 
   pub leaves : change_leaves f c ≡ []
   pub writes : change_writes c ≡ []
   pub given : list_all (is_no_object types f) (given_change c) ≡ true
+  pub served : is_served_change c ≡ true
 
 -- a register is no object
 pub register_no_object : (f : Function) (r : ℕ) → is_register_at f r ≡ true → is_object_at f r ≡ false
@@ -45,23 +47,24 @@ push_takes types f t r number = record {
   leaves = ap (λ (b : Bool). cond b (r ∷ []) []) plain;
   writes = refl;
   given = and_from (not (is_object_at f r)) true (ap not plain) refl;
+  served = refl;
 }
   where
     plain : is_object_at f r ≡ false
     plain = register_no_object f r (and_parts (register_at types f r) _ number).0
 
-module _ (types : Types) (texts : ℕ) (so_far : Bool) (fs : List Function) (f : Function) where
-  pub changes_part : {A : Type 0} (P : Gift types texts so_far fs f A) (x : A) (t : Ty) (o : Operand) (c : Change) (taken : List ℕ) (place : Place) (s : State) → so_far ≡ false
-      → (P.typed x → IsPlaceOf types texts so_far fs f t false o × (is_change_of types texts fs f t c ≡ true) × Takes types f c taken)
+module _ (types : Types) (texts : ℕ) (fs : List Function) (f : Function) where
+  pub changes_part : {A : Type 0} (P : Gift types texts fs f A) (x : A) (t : Ty) (o : Operand) (c : Change) (taken : List ℕ) (place : Place) (s : State)
+      → (P.typed x → IsPlaceOf types texts fs f t false o × (is_change_of types texts fs f t c ≡ true) × Takes types f c taken)
       → ((n : ℕ) (k : List Known) → P.ready x n k → IsPlace o n k × AreHeld taken n k)
-      → Part types texts so_far fs f P x None s (gives tt (emit place (Changes o c) s)) (nothing types texts so_far fs f)
-  changes_part P x t o c taken place s wide typed ready =
-      acted_typed_part types texts so_far fs f P x place (Changes o c) s
+      → Part types texts fs f P x None s (gives tt (emit place (Changes o c) s)) (nothing types texts fs f)
+  changes_part P x t o c taken place s typed ready =
+      acted_typed_part types texts fs f P x place (Changes o c) s
       (λ p. let is = typed p in (
         record {
           given = and_from (list_all (is_no_object types f) (given_change c)) true is.2.given refl;
           formed = and_from (is_change_of types texts fs f (type_of types f o) c) (not (is_const_place types f o)) (ap (λ (u : Ty). is_change_of types texts fs f u c) is.0.typed ∙ is.1) is.0.held;
-          served = λ so. absurd (false≢true (sym wide ∙ so));
+          served = and_from (is_served_operand o) (is_served_change c) is.0.served is.2.served;
         },
         λ n k q. let there = ready n k q in (
           ap (are_ready k) (touches is.2)

@@ -1,6 +1,7 @@
 -- Texts that are compared, where one of them is a string.
-use Rattle.std.proofs.Common.{◌≡◌, ◌⊎◌, inl, inr, ℕ, Bool, true, false, List, None, Option, refl, sym, ap, ◌∙◌, Some}
+use Rattle.std.proofs.Common.{◌≡◌, ◌⊎◌, inl, inr, ℕ, true, false, List, None, Option, refl, sym, ap, ◌∙◌, Some}
 use Rattle.std.proofs.lemmas.Bool.{false≢true}
+use Rattle.life_served.specs.Served.{is_owner_of_values}
 use Rattle.life_types.specs.TypeTests.{is_iterator, is_value}
 use Rattle.life_types.specs.Types.{Types}
 use Rattle.life_types.specs.declared.place.Place.{Place}
@@ -21,7 +22,6 @@ use Rattle.life_writer.specs.Writing.{State}
 use Rattle.life_writer.specs.declared.behind.Behind.{Behind}
 use Rattle.life_writer.specs.declared.rows.Row.{Row}
 use Rattle.life_writer.specs.declared.rows.Row.TheVariants.{Compared}
-use Rattle.life_elab_laws.specs.Reached.{compares, is_owner_of_values}
 use Rattle.life_elab_laws.proofs.ExpressionForms.{IsForm, IsWhole, Standing, Valued, value_form}
 use Rattle.life_elab_laws.proofs.ExpressionTypes.{own_no_iterator, seen_kind}
 use Rattle.life_elab_laws.proofs.Instructions.{IsIntoOf}
@@ -30,14 +30,15 @@ use Rattle.life_elab_laws.proofs.RowTypes.{AreIterators, Fits, IsCompared, row_f
 use Rattle.life_elab_laws.proofs.SeenForms.{Shows, compared_part, string_shows, whole_shows}
 use Rattle.life_elab_laws.proofs.Setting.{Setting}
 use Rattle.life_elab_laws.proofs.TypedKinds.{IsCombined}
+use Rattle.life_elab_laws.proofs.EqualityRows.{compares}
 
-module _ (a : Around) (visible : List ℕ) (types : Types) (texts : ℕ) (so_far : Bool) (fs : List Function) (f : Function) (setting : Setting so_far a types fs f) where
+module _ (a : Around) (visible : List ℕ) (types : Types) (texts : ℕ) (fs : List Function) (f : Function) (setting : Setting a types fs f) where
   -- an expression with a value, or an owner
   abbrev pub IsEither : Form → Type 0
-  IsEither form = IsWhole a visible types texts so_far fs f setting form ⊎ IsOwner a visible types texts so_far fs f setting form
+  IsEither form = IsWhole a visible types texts fs f setting form ⊎ IsOwner a visible types texts fs f setting form
 
   -- an owner whose characters are seen is a string
-  pub owner_text : (form : Form) → (is : IsOwner a visible types texts so_far fs f setting form) → sees (typed_in form).ty ≡ true → is.ty ≡ ty.Text
+  pub owner_text : (form : Form) → (is : IsOwner a visible types texts fs f setting form) → sees (typed_in form).ty ≡ true → is.ty ≡ ty.Text
   owner_text form is s = go is.ty is.owner (sym (ap sees is.is) ∙ s)
     where
       go : (t : Ty) → is_owner_of_values a.program.types t ≡ true → sees (Of t) ≡ true → t ≡ ty.Text
@@ -45,13 +46,13 @@ module _ (a : Around) (visible : List ℕ) (types : Types) (texts : ℕ) (so_far
       go (ty.Vector item) o s = absurd (false≢true s)
       go _ o s = absurd (false≢true o)
 
-  pub either_shows : (form : Form) → IsEither form → sees (typed_in form).ty ≡ true → Shows a visible types texts so_far fs f setting form
-  either_shows form (inl is) s = whole_shows a visible types texts so_far fs f setting form is (seen_kind so_far a.program.types (typed_in form) is.kind.kind s)
-  either_shows form (inr is) s = string_shows a visible types texts so_far fs f setting form is (owner_text form is s)
+  pub either_shows : (form : Form) → IsEither form → sees (typed_in form).ty ≡ true → Shows a visible types texts fs f setting form
+  either_shows form (inl is) s = whole_shows a visible types texts fs f setting form is (seen_kind a.program.types (typed_in form) is.kind.kind s)
+  either_shows form (inr is) s = string_shows a visible types texts fs f setting form is (owner_text form is s)
 
   -- it is no iterator
   either_no_iterator : (form : Form) → IsEither form → is_iterator (own_type (typed_in form).ty) ≡ false
-  either_no_iterator form (inl is) = own_no_iterator so_far a.program.types (typed_in form) is.kind.kind
+  either_no_iterator form (inl is) = own_no_iterator a.program.types (typed_in form) is.kind.kind
   either_no_iterator form (inr is) = ap (λ (x : ExprType). is_iterator (own_type x)) is.is ∙ go is.ty is.owner
     where
       go : (t : Ty) → is_owner_of_values a.program.types t ≡ true → is_iterator t ≡ false
@@ -79,20 +80,20 @@ module _ (a : Around) (visible : List ℕ) (types : Types) (texts : ℕ) (so_far
     plain (Compared equal) c place b = refl
     plain _ c place b = absurd (false≢true c)
 
-    made : (w : Row) → compares w ≡ true → Fits w (typed_in left).ty (typed_in right).ty t → (place behind : Place) (into : Option ℕ) (s : State) → IsIntoOf t s into → Standing a visible types texts so_far fs f setting s
-        → Valued a visible types texts so_far fs f setting t into s ((binary_uses w (uses a left) (uses a right) place (Of t) category.Value).made behind into s)
+    made : (w : Row) → compares w ≡ true → Fits w (typed_in left).ty (typed_in right).ty t → (place behind : Place) (into : Option ℕ) (s : State) → IsIntoOf t s into → Standing a visible types texts fs f setting s
+        → Valued a visible types texts fs f setting t into s ((binary_uses w (uses a left) (uses a right) place (Of t) category.Value).made behind into s)
     made (Compared equal) c fit place behind into s wanted stands =
         let both = both_see fit in
-        compared_part a visible types texts so_far fs f setting left right (either_shows left l both.0) (either_shows right r both.1) equal place into t s fit.answers (ap is_value fit.answers) wanted stands
+        compared_part a visible types texts fs f setting left right (either_shows left l both.0) (either_shows right r both.1) equal place into t s fit.answers (ap is_value fit.answers) wanted stands
     made _ c fit place behind into s wanted stands = absurd (false≢true c)
 
     lands : (w : Row) → compares w ≡ true → (place behind : Place) (r : ℕ) (s : State) → ((binary_uses w (uses a left) (uses a right) place (Of t) category.Value).made behind (Some r) s).given ≡ r
     lands (Compared equal) c place behind r s = refl
     lands _ c place behind r s = absurd (false≢true c)
 
-  pub compared_form : (o : BinaryOperator) (left right : Form) (e : Typed) → IsCombined o (typed_in left) (typed_in right) e → compares (row_between o left right) ≡ true → IsEither left → IsEither right → IsForm a visible types texts so_far fs f setting (binary o left right) e
+  pub compared_form : (o : BinaryOperator) (left right : Form) (e : Typed) → IsCombined o (typed_in left) (typed_in right) e → compares (row_between o left right) ≡ true → IsEither left → IsEither right → IsForm a visible types texts fs f setting (binary o left right) e
   compared_form o left right e c compare l r =
       let w = row_between o left right in
       let fit : Fits w (typed_in left).ty (typed_in right).ty c.ty = row_fits_between o left right c.ty c.answer in
-      value_form a visible types texts so_far fs f setting (binary o left right) e c.ty c.is.0 c.is.1 (worth left right c.ty l r w compare fit) refl (plain left right c.ty l r w compare)
+      value_form a visible types texts fs f setting (binary o left right) e c.ty c.is.0 c.is.1 (worth left right c.ty l r w compare fit) refl (plain left right c.ty l r w compare)
       (made left right c.ty l r w compare fit) (lands left right c.ty l r w compare)

@@ -1,5 +1,5 @@
 -- Conditions, and values that are decided by them.
-use Rattle.std.proofs.Common.{◌≡◌, ◌<◌, ℕ, Bool, true, false, ◌||◌, cond, List, [], ◌∷◌, ◌++◌, length, slice_set, Option, Some, None, refl, sym, ap, ◌∙◌, subst, arith}
+use Rattle.std.proofs.Common.{◌≡◌, ◌<◌, inl, inr, ℕ, Bool, true, false, ◌||◌, cond, List, [], ◌∷◌, ◌++◌, length, slice_set, Option, Some, None, refl, sym, ap, ◌∙◌, subst, arith}
 use Rattle.std.proofs.lemmas.Bool.{or_left, and_parts, false≢true}
 use Rattle.std.proofs.lemmas.Option.{slice_get_within}
 use Rattle.std.specs.Prelude.{pos, ℤ}
@@ -25,9 +25,11 @@ use Rattle.life_writer.specs.Using.{condition_by}
 use Rattle.life_writer.specs.Writing.{Gives, State, taken, with_code}
 use Rattle.life_writer.specs.declared.rows.Join.{Join}
 use Rattle.life_writer.specs.declared.rows.Join.TheVariants as join
+use Rattle.life_elab_laws.proofs.Among.{Among, among_take}
 use Rattle.life_elab_laws.proofs.Emitting.{IsNameless, Targets, keeps_set, targeted}
 use Rattle.life_elab_laws.proofs.Falling.{Decides, Falls, decides_asks, decides_behind, decides_both, decides_either, decides_negated, falls_acts, falls_choice, falls_append}
 use Rattle.life_elab_laws.proofs.Gifts.{Gift, a_number, a_pointer, nothing}
+use Rattle.life_elab_laws.proofs.GivenApart.{Apart, alone_apart, codes_apart, none_apart, same_apart, three_apart, trees_apart}
 use Rattle.life_elab_laws.proofs.Growing.{Begins, Grows, bare, begins_before, grows_then}
 use Rattle.life_elab_laws.proofs.Held.{one_there}
 use Rattle.life_elab_laws.proofs.Instructions.{IsIntoOf, into_of_later, is_constant, is_into, target_number}
@@ -50,7 +52,7 @@ abbrev pub Ends : Option Place → Type 0
 Ends None = ⊥
 Ends (Some place) = Unit {0}
 
-module _ (types : Types) (texts : ℕ) (so_far : Bool) (fs : List Function) (f : Function) where
+module _ (types : Types) (texts : ℕ) (fs : List Function) (f : Function) where
   -- ---- what a condition writes
 
   pub record AskedBare (s s' : State) (t : Tree) (k : List Known) : Type 0 where
@@ -61,12 +63,14 @@ module _ (types : Types) (texts : ℕ) (so_far : Bool) (fs : List Function) (f :
     pub keeps_off : Keeps f (length s.locals) None k off
     pub alive_on : Alive f s' on
     pub alive_off : Alive f s' off
+    -- what it gives over is new, and nothing looks at it
+    pub apart : Apart f s s' t
 
   abbrev pub Asked : State → State → Tree → List Known → Type 0
   Asked s s' t k = AskedBare (bare s) (bare s') t k
 
   pub record AsksBare (s s' : State) (t : Tree) : Type 0 where
-    pub fine : IsFineTest types texts so_far fs f t
+    pub fine : IsFineTest types texts fs f t
     pub goes : (k : List Known) → Alive f s k → Asked s s' t k
 
   abbrev pub AsksAll : State → State → Tree → Type 0
@@ -76,7 +80,7 @@ module _ (types : Types) (texts : ℕ) (so_far : Bool) (fs : List Function) (f :
   pub record Tests (ends : Option Place) (s : State) (w : Gives Tree) : Type 0 where
     pub grown : Grows s w.state
     pub level : Ends ends → w.state.pending ≡ s.pending
-    pub registers : AddsRegisters so_far types s w.state
+    pub registers : AddsRegisters types s w.state
     pub unwritten : w.state.code ≡ s.code
     pub runs : Begins types f w.state → AsksAll s w.state w.given
 
@@ -102,9 +106,9 @@ module _ (types : Types) (texts : ℕ) (so_far : Bool) (fs : List Function) (f :
   Spares k j = (y : ℕ) → (IsTemporary f.locals types.types y → ⊥) → known_at j y ≡ known_at k y
 
   -- of what a part gives
-  module _ {A : Type 0} (place : Place) (test : A → Test) (s : State) (w : Gives A) (Q : Gift types texts so_far fs f A)
+  module _ {A : Type 0} (place : Place) (test : A → Test) (s : State) (w : Gives A) (Q : Gift types texts fs f A)
       (ready : (x : A) (n : ℕ) (k j : List Known) → Q.typed x → Q.ready x n k → Spares k j → is_node_ready types f j (Question (test x)) ≡ true)
-      (formed : (x : A) → Q.typed x → (is_well_formed_test types texts fs f (test x) ≡ true) × (so_far ≡ true → is_served_test types f (test x) ≡ true)) (made : Makes types texts so_far fs f None (with_code [] s) w Q) where
+      (formed : (x : A) → Q.typed x → (is_well_formed_test types texts fs f (test x) ≡ true) × (is_served_test types f (test x) ≡ true)) (made : Makes types texts fs f None (with_code [] s) w Q) where
     -- where nothing ends
     lasting_tests : Tests None s (behind_code place (test w.given) (taken s w.state))
     lasting_tests = record {
@@ -115,9 +119,9 @@ module _ (types : Types) (texts : ℕ) (so_far : Bool) (fs : List Function) (f :
       runs = λ b. subst (λ (c : List Tree). AsksAll s w.state (Then (trees c) (Asks place (test w.given)))) (sym made.written) (all (made.runs b tt));
     }
       where
-        all : Runs types texts so_far fs f (nothing types texts so_far fs f) tt None (with_code [] s) w Q made.code → AsksAll s w.state (Then (trees made.code) (Asks place (test w.given)))
+        all : Runs types texts fs f (nothing types texts fs f) tt None (with_code [] s) w Q made.code → AsksAll s w.state (Then (trees made.code) (Asks place (test w.given)))
         all r = record {
-          fine = fine_behind types texts so_far fs f made.code (Asks place (test w.given)) r.fine (let is = formed w.given r.typed in fine_asks types texts so_far fs f place (test w.given) is.0 is.1);
+          fine = fine_behind types texts fs f made.code (Asks place (test w.given)) r.fine (let is = formed w.given r.typed in fine_asks types texts fs f place (test w.given) is.0 is.1);
           goes = λ k alive. let g = r.goes k alive tt in record {
             on = g.after;
             off = g.after;
@@ -127,55 +131,61 @@ module _ (types : Types) (texts : ℕ) (so_far : Bool) (fs : List Function) (f :
             keeps_off = g.keeps;
             alive_on = g.alive;
             alive_off = g.alive;
+            apart = trees_apart f s w.state w.state (trees made.code) (Asks place (test w.given)) g.apart (same_apart f w.state w.state refl refl refl);
           };
         }
 
     -- where what was made for it ends
     module _ (before : ArePending s) (can : TemporariesEnd types texts fs f) (token : Place) where
       abbrev after : State
-      after = behind types texts so_far fs f s w.state made.grown before token
+      after = behind types texts fs f s w.state made.grown before token
 
       abbrev end_code : List Tree
-      end_code = (ending_is types texts so_far fs f s w.state made.grown before token).code
+      end_code = (ending_is types texts fs f s w.state made.grown before token).code
 
       ending_tests : Tests (Some token) s (behind_code place (test w.given) (taken s after))
       ending_tests = record {
-        grown = behind_grows types texts so_far fs f s w.state made.grown before token;
-        level = λ so. ends_level types texts so_far fs f s w.state made.grown before token;
+        grown = behind_grows types texts fs f s w.state made.grown before token;
+        level = λ told. ends_level types texts fs f s w.state made.grown before token;
         registers = made.registers;
         unwritten = refl;
         runs = λ b. subst (λ (c : List Tree). AsksAll s after (Then (trees (c ++ end_code)) (Asks place (test w.given)))) (sym made.written) (all b (made.runs b tt));
       }
         where
-          all : Begins types f w.state → Runs types texts so_far fs f (nothing types texts so_far fs f) tt None (with_code [] s) w Q made.code → AsksAll s after (Then (trees (made.code ++ end_code)) (Asks place (test w.given)))
+          all : Begins types f w.state → Runs types texts fs f (nothing types texts fs f) tt None (with_code [] s) w Q made.code → AsksAll s after (Then (trees (made.code ++ end_code)) (Asks place (test w.given)))
           all b r = record {
-            fine = fine_behind types texts so_far fs f (made.code ++ end_code) (Asks place (test w.given))
-                (fine_append types texts so_far fs f made.code end_code r.fine (ends_fine types texts so_far fs f s w.state made.grown before token b can))
-                (let is = formed w.given r.typed in fine_asks types texts so_far fs f place (test w.given) is.0 is.1);
+            fine = fine_behind types texts fs f (made.code ++ end_code) (Asks place (test w.given))
+                (fine_append types texts fs f made.code end_code r.fine (ends_fine types texts fs f s w.state made.grown before token b can))
+                (let is = formed w.given r.typed in fine_asks types texts fs f place (test w.given) is.0 is.1);
             goes = λ k alive. went k (r.goes k alive tt);
           }
             where
-              went : (k : List Known) → (g : Goes types texts so_far fs f None (with_code [] s) w Q made.code k) → Asked s after (Then (trees (made.code ++ end_code)) (Asks place (test w.given))) k
+              went : (k : List Known) → (g : Goes types texts fs f None (with_code [] s) w Q made.code k) → Asked s after (Then (trees (made.code ++ end_code)) (Asks place (test w.given))) k
               went k g =
-                  let j : List Known = set_blank (ending types texts so_far fs f s w.state made.grown before token) g.after in
-                  let keeps = keeps_then f (length s.locals) (length s.locals) None k g.after j (omega arith) g.keeps (ends_keep types texts so_far fs f s w.state made.grown before token g.after) in
-                  let there = ends_alive types texts so_far fs f s w.state made.grown before token g.after g.alive in
+                  let j : List Known = set_blank (ending types texts fs f s w.state made.grown before token) g.after in
+                  let keeps = keeps_then f (length s.locals) (length s.locals) None k g.after j (omega arith) g.keeps (ends_keep types texts fs f s w.state made.grown before token g.after) in
+                  let there = ends_alive types texts fs f s w.state made.grown before token g.after g.alive in
                   record {
                     on = j;
                     off = j;
                     decides = decides_behind types f (made.code ++ end_code) (Asks place (test w.given)) k j j j
-                        (falls_append types f made.code end_code k g.after j g.falls (ends_fall types texts so_far fs f s w.state made.grown before token g.after g.alive))
-                        (decides_asks types f place (test w.given) j (ready w.given (length w.state.locals) g.after j r.typed g.gives (ends_spare types texts so_far fs f s w.state made.grown before token b g.after)));
+                        (falls_append types f made.code end_code k g.after j g.falls (ends_fall types texts fs f s w.state made.grown before token g.after g.alive))
+                        (decides_asks types f place (test w.given) j (ready w.given (length w.state.locals) g.after j r.typed g.gives (ends_spare types texts fs f s w.state made.grown before token b g.after)));
                     keeps_on = keeps;
                     keeps_off = keeps;
                     alive_on = there;
                     alive_off = there;
+                    apart =
+                        trees_apart f s after after (trees (made.code ++ end_code)) (Asks place (test w.given))
+                        (codes_apart f s w.state after made.code end_code g.apart
+                        ((ending_is types texts fs f s w.state made.grown before token).apart w.state after (omega arith) (λ x o. elim o [ inl m ↦ inl (inl m) | inr m ↦ inl (inr (among_take (length s.pending) w.state.pending x m)) ])))
+                        (same_apart f after after refl refl refl);
                   }
 
     pub tested_part : (ends : Option Place) → ArePending s → TemporariesEnd types texts fs f → Tests ends s (behind_code place (test w.given) (taken s (end_tested (length s.pending) ends w.state)))
     tested_part None before can = lasting_tests
     tested_part (Some token) before can =
-        subst (λ (r : State). Tests (Some token) s (behind_code place (test w.given) (taken s r))) (sym (behind_is types texts so_far fs f s w.state made.grown before token)) (ending_tests before can token)
+        subst (λ (r : State). Tests (Some token) s (behind_code place (test w.given) (taken s r))) (sym (behind_is types texts fs f s w.state made.grown before token)) (ending_tests before can token)
 
   -- a number is in a register, and no temporary is a pointer
   number_spared : (t : Ty) (r : ℕ) (k j : List Known) → is_number_of types f t r ≡ true → Spares k j → known_at k r ≡ known.Ready → known_at j r ≡ known.Ready
@@ -198,15 +208,15 @@ module _ (types : Types) (texts : ℕ) (so_far : Bool) (fs : List Function) (f :
           false≢true (sym no.1 ∙ ap is_raw (sym (type_there types f h.local is.local is.ty is.there is.typed no.0)) ∙ ap (λ (q : Location). is_raw (type_in types f q)) (sym h.is) ∙ ap is_raw typed ∙ raw)
 
   pub non_zero_part : (place : Place) (ends : Option Place) (t : Ty) (value : State → Gives ℕ) (s : State) → ArePending s → TemporariesEnd types texts fs f
-      → Makes types texts so_far fs f None (with_code [] s) (value (with_code [] s)) (a_number types texts so_far fs f t) → Tests ends s (non_zero place ends value s)
+      → Makes types texts fs f None (with_code [] s) (value (with_code [] s)) (a_number types texts fs f t) → Tests ends s (non_zero place ends value s)
   non_zero_part place ends t value s before can made =
-      tested_part place NonZero s (value (with_code [] s)) (a_number types texts so_far fs f t)
-      (λ r n k j number h spares. uses_ready j (r ∷ []) [] (one_there j r (number_spared t r k j number spares h.1))) (λ r h. (number_any types f t r h, λ so. refl)) made ends before can
+      tested_part place NonZero s (value (with_code [] s)) (a_number types texts fs f t)
+      (λ r n k j number h spares. uses_ready j (r ∷ []) [] (one_there j r (number_spared t r k j number spares h.1))) (λ r h. (number_any types f t r h, refl)) made ends before can
 
   pub not_null_part : (place : Place) (ends : Option Place) (t : Ty) (pointer : State → Gives Location) (s : State) → is_raw t ≡ true → ArePending s → TemporariesEnd types texts fs f
-      → Makes types texts so_far fs f None (with_code [] s) (pointer (with_code [] s)) (a_pointer types texts so_far fs f t) → Tests ends s (not_null place ends pointer s)
+      → Makes types texts fs f None (with_code [] s) (pointer (with_code [] s)) (a_pointer types texts fs f t) → Tests ends s (not_null place ends pointer s)
   not_null_part place ends t pointer s raw before can made =
-      tested_part place NotNull s (pointer (with_code [] s)) (a_pointer types texts so_far fs f t)
+      tested_part place NotNull s (pointer (with_code [] s)) (a_pointer types texts fs f t)
       (λ l n k j at h spares. uses_ready j (l.local ∷ []) [] (one_there j l.local (pointer_spared l t n k j raw at.typed h spares)))
       (λ l h. (or_left (is_raw (type_in types f l)) (is_unique (type_in types f l)) (ap is_raw h.typed ∙ raw), h.served)) made ends before can
 
@@ -219,7 +229,7 @@ module _ (types : Types) (texts : ℕ) (so_far : Bool) (fs : List Function) (f :
     registers = t.registers;
     unwritten = t.unwritten;
     runs = λ b. let r = t.runs b in record {
-      fine = fine_negated types texts so_far fs f (w s).given r.fine;
+      fine = fine_negated types texts fs f (w s).given r.fine;
       goes = λ k alive. let g = r.goes k alive in record {
         on = g.off;
         off = g.on;
@@ -228,6 +238,7 @@ module _ (types : Types) (texts : ℕ) (so_far : Bool) (fs : List Function) (f :
         keeps_off = g.keeps_on;
         alive_on = g.alive_off;
         alive_off = g.alive_on;
+        apart = g.apart;
       };
     };
   }
@@ -239,8 +250,8 @@ module _ (types : Types) (texts : ℕ) (so_far : Bool) (fs : List Function) (f :
     grown : Grows s (right (left s).state).state
     grown = grows_then s (left s).state (right (left s).state).state first.grown second.grown
 
-    registers : AddsRegisters so_far types s (right (left s).state).state
-    registers = registers_then so_far types s (left s).state (right (left s).state).state second.grown.types first.registers second.registers
+    registers : AddsRegisters types s (right (left s).state).state
+    registers = registers_then types s (left s).state (right (left s).state).state second.grown.types first.registers second.registers
 
     before : Begins types f (right (left s).state).state → Begins types f (left s).state
     before b = begins_before types f (left s).state (right (left s).state).state second.grown b
@@ -260,6 +271,7 @@ module _ (types : Types) (texts : ℕ) (so_far : Bool) (fs : List Function) (f :
           keeps_off = keeps_agreed (length s.locals) None k g.off h.off g.keeps_off (then_keeps k g.on h.off g.keeps_on h.keeps_off);
           alive_on = h.alive_on;
           alive_off = alive_agreed f (right (left s).state).state g.off h.off (alive_grown f (left s).state (right (left s).state).state g.off level_right second.grown g.alive_off) h.alive_off;
+          apart = trees_apart f s (left s).state (right (left s).state).state (left s).given (right (left s).state).given g.apart h.apart;
         }
 
     either_asked : (k : List Known) → Asked s (left s).state (left s).given k → AsksAll (left s).state (right (left s).state).state (right (left s).state).given → Asked s (right (left s).state).state (Either (left s).given (right (left s).state).given) k
@@ -273,12 +285,13 @@ module _ (types : Types) (texts : ℕ) (so_far : Bool) (fs : List Function) (f :
           keeps_off = then_keeps k g.off h.off g.keeps_off h.keeps_off;
           alive_on = alive_agreed f (right (left s).state).state g.on h.on (alive_grown f (left s).state (right (left s).state).state g.on level_right second.grown g.alive_on) h.alive_on;
           alive_off = h.alive_off;
+          apart = trees_apart f s (left s).state (right (left s).state).state (left s).given (right (left s).state).given g.apart h.apart;
         }
 
     pub both_part : (ends : Option Place) → Tests ends s (joined Both left right s)
     both_part ends = record {
       grown = grown;
-      level = λ so. level_right ∙ first.level tt;
+      level = λ told. level_right ∙ first.level tt;
       registers = registers;
       unwritten = second.unwritten ∙ first.unwritten;
       runs = λ b. both (first.runs (before b)) (second.runs b);
@@ -286,14 +299,14 @@ module _ (types : Types) (texts : ℕ) (so_far : Bool) (fs : List Function) (f :
       where
         both : AsksAll s (left s).state (left s).given → AsksAll (left s).state (right (left s).state).state (right (left s).state).given → AsksAll s (right (left s).state).state (Both (left s).given (right (left s).state).given)
         both r q = record {
-          fine = fine_both types texts so_far fs f (left s).given (right (left s).state).given r.fine q.fine;
+          fine = fine_both types texts fs f (left s).given (right (left s).state).given r.fine q.fine;
           goes = λ k alive. both_asked k (r.goes k alive) q;
         }
 
     pub either_part : (ends : Option Place) → Tests ends s (joined Either left right s)
     either_part ends = record {
       grown = grown;
-      level = λ so. level_right ∙ first.level tt;
+      level = λ told. level_right ∙ first.level tt;
       registers = registers;
       unwritten = second.unwritten ∙ first.unwritten;
       runs = λ b. either (first.runs (before b)) (second.runs b);
@@ -301,7 +314,7 @@ module _ (types : Types) (texts : ℕ) (so_far : Bool) (fs : List Function) (f :
       where
         either : AsksAll s (left s).state (left s).given → AsksAll (left s).state (right (left s).state).state (right (left s).state).given → AsksAll s (right (left s).state).state (Either (left s).given (right (left s).state).given)
         either r q = record {
-          fine = fine_either types texts so_far fs f (left s).given (right (left s).state).given r.fine q.fine;
+          fine = fine_either types texts fs f (left s).given (right (left s).state).given r.fine q.fine;
           goes = λ k alive. either_asked k (r.goes k alive) q;
         }
 
@@ -314,13 +327,13 @@ module _ (types : Types) (texts : ℕ) (so_far : Bool) (fs : List Function) (f :
   answered : (place : Place) (n : ℤ) (r : ℕ) (k : List Known) → Falls types f (Acts place (constant n r) ∷ []) k (slice_set k r known.Ready)
   answered place n r k = falls_acts types f place (constant n r) k refl
 
-  answer_fine : (n : ℤ) (t : Ty) (r : ℕ) → is_number_of types f t r ≡ true → IsFineStep types texts so_far fs f (constant n r)
-  answer_fine n t r e = (is_constant types texts so_far fs f (nothing types texts so_far fs f) tt t n).fine r e tt
+  answer_fine : (n : ℤ) (t : Ty) (r : ℕ) → is_number_of types f t r ≡ true → IsFineStep types texts fs f (constant n r)
+  answer_fine n t r e = (is_constant types texts fs f (nothing types texts fs f) tt t n).fine r e tt
 
   pub by_branch_part : (ends : Option Place) (into : Option ℕ) (t : Ty) (place : Place) (condition : State → Gives Tree) (s : State) → is_value t ≡ true → IsIntoOf t s into
-      → Tests ends s (condition s) → Makes types texts so_far fs f into s (by_branch into t place condition s) (a_number types texts so_far fs f t)
+      → Tests ends s (condition s) → Makes types texts fs f into s (by_branch into t place condition s) (a_number types texts fs f t)
   by_branch_part ends into t place condition s v wanted test =
-      made (target place into t (condition s).state) (targeted so_far types f place t (condition s).state into v (is_into t (condition s).state into later)) (target_number types texts so_far fs f place into t (condition s).state v later)
+      made (target place into t (condition s).state) (targeted types f place t (condition s).state into v (is_into t (condition s).state into later)) (target_number types texts fs f place into t (condition s).state v later)
     where
       later : IsIntoOf t (condition s).state into
       later = into_of_later t s (condition s).state into test.grown wanted
@@ -328,12 +341,12 @@ module _ (types : Types) (texts : ℕ) (so_far : Bool) (fs : List Function) (f :
       chosen : ℕ → Tree
       chosen r = Choice (condition s).given (answer place (pos 1) r) (answer place (pos 0) r)
 
-      run : (w : Gives ℕ) → Targets so_far types f into (condition s).state w → IsNameless f w.given → is_number_of types f t w.given ≡ true → AsksAll s (condition s).state (condition s).given
-          → Runs types texts so_far fs f (nothing types texts so_far fs f) tt into s (branched place (condition s).given w.given w.state) (a_number types texts so_far fs f t) (chosen w.given ∷ [])
+      run : (w : Gives ℕ) → Targets types f into (condition s).state w → IsNameless f w.given → is_number_of types f t w.given ≡ true → AsksAll s (condition s).state (condition s).given
+          → Runs types texts fs f (nothing types texts fs f) tt into s (branched place (condition s).given w.given w.state) (a_number types texts fs f t) (chosen w.given ∷ [])
       run w target is number asks = record {
-        fine = fine_choice types texts so_far fs f (condition s).given (Acts place (constant (pos 1) w.given) ∷ []) (Acts place (constant (pos 0) w.given) ∷ []) asks.fine
-            (fine_acts types texts so_far fs f place (constant (pos 1) w.given) (answer_fine (pos 1) t w.given number))
-            (fine_acts types texts so_far fs f place (constant (pos 0) w.given) (answer_fine (pos 0) t w.given number));
+        fine = fine_choice types texts fs f (condition s).given (Acts place (constant (pos 1) w.given) ∷ []) (Acts place (constant (pos 0) w.given) ∷ []) asks.fine
+            (fine_acts types texts fs f place (constant (pos 1) w.given) (answer_fine (pos 1) t w.given number))
+            (fine_acts types texts fs f place (constant (pos 0) w.given) (answer_fine (pos 0) t w.given number));
         typed = number;
         goes = λ k alive p. went k alive (asks.goes k alive);
       }
@@ -352,7 +365,7 @@ module _ (types : Types) (texts : ℕ) (so_far : Bool) (fs : List Function) (f :
           there : (j : List Known) → Alive f (condition s).state j → Alive f w.state (slice_set j w.given known.Ready)
           there j alive = alive_set f w.state j w.given is (alive_grown f (condition s).state w.state j target.level target.grown alive)
 
-          went : (k : List Known) → Alive f s k → Asked s (condition s).state (condition s).given k → Goes types texts so_far fs f into s (branched place (condition s).given w.given w.state) (a_number types texts so_far fs f t) (chosen w.given ∷ []) k
+          went : (k : List Known) → Alive f s k → Asked s (condition s).state (condition s).given k → Goes types texts fs f into s (branched place (condition s).given w.given w.state) (a_number types texts fs f t) (chosen w.given ∷ []) k
           went k alive g = record {
             after = agreed_all (slice_set g.on w.given known.Ready) (slice_set g.off w.given known.Ready);
             falls = falls_choice types f (condition s).given (Acts place (constant (pos 1) w.given) ∷ []) (Acts place (constant (pos 0) w.given) ∷ []) k g.on g.off
@@ -366,12 +379,17 @@ module _ (types : Types) (texts : ℕ) (so_far : Bool) (fs : List Function) (f :
                   ∙ at_set g.on w.given known.Ready (size k g.on alive g.keeps_on),
             );
             alive = alive_agreed f w.state (slice_set g.on w.given known.Ready) (slice_set g.off w.given known.Ready) (there g.on g.alive_on) (there g.off g.alive_off);
+            apart =
+                alone_apart f s w.state (chosen w.given)
+                (three_apart f s (condition s).state w.state w.state (condition s).given (answer place (pos 1) w.given) (answer place (pos 0) w.given) g.apart
+                (none_apart f (condition s).state w.state target.grown.count (λ x o. elim o [ inl m ↦ inl (inl (subst (Among x) target.grown.living m)) | inr m ↦ inl (inr (subst (Among x) target.level m)) ]))
+                (same_apart f w.state w.state refl refl refl));
           }
 
-      made : (w : Gives ℕ) → Targets so_far types f into (condition s).state w → (Begins types f w.state → is_number_of types f t w.given ≡ true) → Makes types texts so_far fs f into s (branched place (condition s).given w.given w.state) (a_number types texts so_far fs f t)
+      made : (w : Gives ℕ) → Targets types f into (condition s).state w → (Begins types f w.state → is_number_of types f t w.given ≡ true) → Makes types texts fs f into s (branched place (condition s).given w.given w.state) (a_number types texts fs f t)
       made w target number = record {
         grown = grows_then s (condition s).state w.state test.grown target.grown;
-        registers = registers_then so_far types s (condition s).state w.state target.grown.types test.registers target.registers;
+        registers = registers_then types s (condition s).state w.state target.grown.types test.registers target.registers;
         code = chosen w.given ∷ [];
         written = ap (λ (c : List Tree). c ++ chosen w.given ∷ []) (target.unwritten ∙ test.unwritten);
         runs = λ b p. run w target (target.there b) (number b) (test.runs (begins_before types f (condition s).state w.state target.grown b));
@@ -381,8 +399,8 @@ module _ (types : Types) (texts : ℕ) (so_far : Bool) (fs : List Function) (f :
 
   pub condition_part : (decision : Option (State → Gives Tree)) (t : Ty) (place : Place) (ends : Option Place) (pointer : State → Gives Location) (value : State → Gives ℕ) (s : State) → is_unique t ≡ false → ArePending s → TemporariesEnd types texts fs f
       → ((w : State → Gives Tree) → decision ≡ Some w → Tests ends s (w s))
-      → (decision ≡ None → is_raw t ≡ true → Makes types texts so_far fs f None (with_code [] s) (pointer (with_code [] s)) (a_pointer types texts so_far fs f t))
-      → (decision ≡ None → is_raw t ≡ false → Makes types texts so_far fs f None (with_code [] s) (value (with_code [] s)) (a_number types texts so_far fs f t))
+      → (decision ≡ None → is_raw t ≡ true → Makes types texts fs f None (with_code [] s) (pointer (with_code [] s)) (a_pointer types texts fs f t))
+      → (decision ≡ None → is_raw t ≡ false → Makes types texts fs f None (with_code [] s) (value (with_code [] s)) (a_number types texts fs f t))
       → Tests ends s (condition_by decision t place ends pointer value s)
   condition_part (Some w) t place ends pointer value s plain before can decided pointed valued = decided w refl
   condition_part None t place ends pointer value s plain before can decided pointed valued =

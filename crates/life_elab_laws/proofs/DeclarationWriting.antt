@@ -1,6 +1,8 @@
 -- What is written for a declaration is ready and well formed: the variable lives, and is given what typing lets it be given.
 use Rattle.std.proofs.Common.{◌≡◌, ◌<◌, ℕ, Bool, true, false, ◌&&◌, ◌||◌, cond, not, List, [], ◌∷◌, ◌++◌, length, slice_get, Option, Some, None, refl, sym, ap, ◌∙◌, subst, unwrap_or, arith, append_assoc, inl, inr, nat_lt}
 use Rattle.std.proofs.lemmas.Bool.{and_parts, false≢true, or_cases, and_from}
+use Rattle.std.specs.List.{list_all}
+use Rattle.life_served.specs.Served.{is_owner_of_values, is_owner_type, is_served_declaration, is_served_declared, is_served_expression, is_served_initial, is_served_owned, is_served_owner, is_served_variable, is_served_walker, is_text_there, is_vector, is_walker, is_walker_of_values, owns_elements, is_served_owning, are_served_elements, is_element, is_target, takes_owner}
 use Rattle.life_types.specs.Pointees.{ty_of}
 use Rattle.life_types.specs.TypeTests.{is_value, is_view}
 use Rattle.life_types.specs.Types.{Types}
@@ -9,9 +11,8 @@ use Rattle.life_types.specs.declared.place.Place.{Place}
 use Rattle.life_types.specs.declared.ty.Ty.{Ty}
 use Rattle.life_types.specs.declared.ty.Ty.TheVariants as ty
 use Rattle.life_types.specs.declared.ty.TyId.{TyId}
-use Rattle.life_elab_laws.specs.Reached.{is_owner_of_values, is_reached_declaration, is_reached_declared, is_reached_expression, is_reached_initial, is_reached_variable, is_given_owner, is_reached_owner, is_reached_owned, is_text_there, is_owner_type, is_walker, is_reached_walker, is_span, is_walker_of_values, is_vector, is_reached_list, is_reached_form}
 use Rattle.life_typed.specs.BaseTypes.{type_at}
-use Rattle.life_typed.specs.Conversions.{is_place, fits}
+use Rattle.life_typed.specs.Conversions.{is_place, fits, is_place_of}
 use Rattle.life_typed.specs.Programs.{FunctionForm}
 use Rattle.life_typed.specs.TypedForm.{Typed, whole as whole_form, Form, forms, text, typed}
 use Rattle.life_typed.specs.TypedStatement.{DeclarationForm, InitialForm, one, several, ListForm}
@@ -20,15 +21,14 @@ use Rattle.life_typed.specs.declared.typed_program.TypedLocal.{TypedLocal}
 use Rattle.life_type_stmt.specs.Declarations.{default_fault}
 use Rattle.life_core.specs.Function.{Function}
 use Rattle.life_core.specs.Operands.{Argument, Empty, Location, Place as Aimed, object_named, whole, Text, View}
-use Rattle.life_core.specs.Holdings.{AnObject, sort_of}
-use Rattle.life_core_served.specs.Served.{is_served_birth}
 use Rattle.life_core.specs.Step.{Aim, Live, Save, Step, Copy, Changes, Set}
-use Rattle.life_core.specs.Tree.{Tree, Acts}
+use Rattle.life_core.specs.Tree.{Tree, Acts, trees}
 use Rattle.life_core.specs.declared.instr.Form.TheVariants.{Plain}
 use Rattle.life_proper.specs.declared.known.Known.{Known}
 use Rattle.life_proper.specs.declared.known.Known.TheVariants as known
+use Rattle.life_proper.specs.GivenOver.{given_step}
 use Rattle.life_proper.specs.Knowing.{known_at}
-use Rattle.life_proper.specs.OperandTypes.{is_owner, is_range, keeps_const, same, takes}
+use Rattle.life_proper.specs.OperandTypes.{is_range, keeps_const, same, takes}
 use Rattle.life_proper.specs.WellFormed.{can_live, goes_to, is_source_of, is_change_of}
 use Rattle.life_well_typed.specs.Expressions.{IsExpression, parameter_types, IsMadeOf}
 use Rattle.life_well_typed.specs.Given.{is_given, is_number}
@@ -53,12 +53,12 @@ use Rattle.life_writer.proofs.Called.{call_for_seen, calling}
 use Rattle.life_elab_laws.proofs.Aiming.{pointed_fills, pointed_fine, literal_given}
 use Rattle.life_elab_laws.proofs.CallParts.{called_fine}
 use Rattle.life_elab_laws.proofs.Calls.{born_fills}
-use Rattle.life_elab_laws.proofs.Declaring.{declared_does, its_local, new_below, new_sort, with_new}
+use Rattle.life_elab_laws.proofs.Declaring.{declared_does, its_local, new_below, new_none, new_then, with_new}
 use Rattle.life_elab_laws.proofs.Doing.{Does}
 use Rattle.life_elab_laws.proofs.ExpressionKinds.{variable_built}
 use Rattle.life_elab_laws.proofs.ExpressionForms.{IsWhole}
 use Rattle.life_elab_laws.proofs.ExpressionTypes.{answer_own, seen_kind}
-use Rattle.life_elab_laws.proofs.Expressions.{owner_expression, walker_expression, whole_expression, wholes}
+use Rattle.life_elab_laws.proofs.Expressions.{owner_expression, walker_expression, whole_expression, givings}
 use Rattle.life_elab_laws.proofs.PointerForms.{points_whole, result_later}
 use Rattle.life_elab_laws.proofs.GivenKinds.{given_number, given_pointer, given_view}
 use Rattle.life_elab_laws.proofs.Falling.{Fills, falls_filling}
@@ -66,20 +66,20 @@ use Rattle.life_elab_laws.proofs.Following.{Follows, follows_settled, settled}
 use Rattle.life_elab_laws.proofs.Filling.{aimed_filling, filling_fills, text_filling}
 use Rattle.life_elab_laws.proofs.FormedFits.{IsBound, IsBoundTo, at_place, by_temporary, given_bound, given_raw, given_seen, given_owner, given_string, given_vector, given_walker}
 use Rattle.life_elab_laws.proofs.Gifts.{Gift, a_number, a_place, a_pointing, arguments, nothing, takes_from, a_pointer}
-use Rattle.life_elab_laws.proofs.Growing.{Begins, Grows, grows_none}
+use Rattle.life_elab_laws.proofs.GivenApart.{given_of, looked_of, step_apart}
+use Rattle.life_elab_laws.proofs.Growing.{Begins, Grows}
 use Rattle.life_elab_laws.proofs.KeptTemporaries.{temporary_does}
 use Rattle.life_elab_laws.proofs.Locations.{is_location, is_pointed, seen_pointed}
 use Rattle.life_elab_laws.proofs.NewVariables.{bound_given, location_declared, owner_lives, raw_lives, reference_declared, reference_kept, value_goes, value_lives, value_saved, owner_declared, location_lives}
 use Rattle.life_elab_laws.proofs.Parts.{Makes, leaf_part, then_part}
-use Rattle.life_elab_laws.proofs.Reaching.{variable_any}
 use Rattle.life_elab_laws.proofs.Saving.{live_fills, saved_falls}
 use Rattle.life_elab_laws.proofs.Setting.{Setting}
-use Rattle.life_elab_laws.proofs.Shaping.{IsFineStep, fine_acts, fine_append}
+use Rattle.life_elab_laws.proofs.Shaping.{IsFineStep, fine_acts, fine_append, is_no_object, keeps_its_target}
 use Rattle.life_elab_laws.proofs.TypedKinds.{none_some}
-use Rattle.life_elab_laws.proofs.Types.{same_types, value_held}
+use Rattle.life_elab_laws.proofs.Types.{same_types}
 use Rattle.life_elab_laws.proofs.Values.{by_values}
-use Rattle.life_elab_laws.proofs.VariablePlaces.{IsVariableType, a_raw, a_reference, a_value, a_view, an_owner, owner_is, variable_type, a_walker, walker_is}
-use Rattle.life_elab_laws.proofs.MadeForms.{Builds, IsMade, IsOwning, gift_of, is_made, owning_owner, stands_there}
+use Rattle.life_elab_laws.proofs.VariablePlaces.{IsVariableType, a_raw, an_alias, a_reference, a_value, a_view, an_owner, owner_is, variable_type, a_walker, walker_is}
+use Rattle.life_elab_laws.proofs.MadeForms.{Builds, BuildsIn, IsMade, IsOwning, gift_of, is_made, owning_owner, stands_there}
 use Rattle.life_elab_laws.proofs.ObjectForms.{IsObject, IsOwner}
 use Rattle.life_elab_laws.proofs.OwnerBirths.{lives_then}
 use Rattle.life_elab_laws.proofs.OwnerSteps.{copy_fine, place_held}
@@ -95,24 +95,23 @@ use Rattle.life_typed.specs.declared.typed_expr.ExprType.{ExprType}
 use Rattle.life_type_expr.specs.Lists.{fits_at_all}
 use Rattle.life_elab_laws.proofs.WalkerForms.{IsWalker, vector_points, walker_points}
 use Rattle.life_elab_laws.proofs.WalkerSteps.{keeps_itself}
-use Rattle.life_elab_laws.proofs.FormedVariables.{type_later}
-use Rattle.life_elab_laws.proofs.OperandsThere.{value_same}
 use Rattle.life_elab_laws.proofs.ListForms.{list_builds}
 use Rattle.life_well_typed.specs.Members.{is_listed}
 use Rattle.life_writer.specs.Initialising.{initialised}
 use Rattle.life_writer.specs.Lists.{built_type, list_object, listed}
-use Rattle.life_elab_laws.proofs.ViewForms.{AreWhole}
 use Rattle.life_elab_laws.proofs.TemporaryEnds.{TemporariesEnd, temporary_ends}
+use Rattle.life_core_served.specs.Served.{is_served_change, is_served_operand}
+use Rattle.life_elab_laws.proofs.Elements.{one_element}
+use Rattle.life_elab_laws.proofs.PushedElements.{AreGiving}
+use Rattle.life_elab_laws.proofs.AliasForms.{IsAliased, owning_aliased, value_reference_refused, whole_aliased, to_built, to_place}
+use Rattle.life_elab_laws.proofs.BoundOwners.{bound_owner_does}
+use Rattle.life_elab_laws.proofs.Targets.{owner_target, value_target}
 
-module _ (a : Around) (types : Types) (texts : ℕ) (so_far : Bool) (fs : List Function) (f : Function) (setting : Setting so_far a types fs f) (v : Visible) (in_loop : Bool) where
-  module _ (u : TypedLocal) (s : State) (h : Follows types f a v s) (at : slice_get a.function.locals v.declared ≡ Some u) (built : is_reached_variable so_far a.program.types u.ty ≡ true) (last : Place) where
-    -- whatever is served so far
-    any : is_reached_variable false a.program.types u.ty ≡ true
-    any = variable_any so_far a.program.types u.ty built
-
+module _ (a : Around) (types : Types) (texts : ℕ) (fs : List Function) (f : Function) (setting : Setting a types fs f) (v : Visible) (in_loop : Bool) where
+  module _ (u : TypedLocal) (s : State) (h : Follows types f a v s) (at : slice_get a.function.locals v.declared ≡ Some u) (built : is_served_variable a.program.types u.ty ≡ true) (last : Place) where
     -- its temporaries end behind it
     abbrev Born : State → Type 0
-    Born s' = Does types texts so_far fs f a (with_next v) in_loop s (end_pending (length s.pending) last s')
+    Born s' = Does types texts fs f a (with_next v) in_loop s (end_pending (length s.pending) last s')
 
     can : TemporariesEnd types texts fs f
     can = temporary_ends types texts fs f setting.registers
@@ -129,87 +128,127 @@ module _ (a : Around) (types : Types) (texts : ℕ) (so_far : Bool) (fs : List F
 
     -- ---- what the variable holds
 
-    object_sort : (t : Ty) → slice_get a.program.types.types u.ty.0 ≡ Some t → is_value t ≡ true → (s' : State) → Grows s s' → New s' → sort_of types f (length s'.locals) ≡ AnObject
-    object_sort t is w s' g b = new_sort types f a setting.front v u (variable_local a u) (its_local a u) (settled types f s s') (follows_settled types f a v s s' g h) at any b t is ∙ value_held t w
-
     below : (s' : State) → Grows s s' → New s' → length s'.locals < length f.locals
-    below s' g b = new_below types f a setting.front v u (variable_local a u) (its_local a u) (settled types f s s') (follows_settled types f a v s s' g h) at any b
+    below s' g b = new_below types f a setting.front v u (variable_local a u) (its_local a u) (settled types f s s') (follows_settled types f a v s s' g h) at built b
 
     -- ---- it comes to life
 
-    live_fine : (s' : State) → can_live types texts fs f (length s'.locals) ≡ true → (so_far ≡ true → is_served_birth (sort_of types f (length s'.locals)) ≡ true) → IsFineStep types texts so_far fs f (Live (length s'.locals) Plain)
-    live_fine s' lives born = record { given = refl; formed = lives; served = born }
+    live_fine : (s' : State) → can_live types texts fs f (length s'.locals) ≡ true → IsFineStep types texts fs f (Live (length s'.locals) Plain)
+    live_fine s' lives = record { given = refl; formed = lives; served = refl }
 
-    value_born : (t : Ty) → slice_get a.program.types.types u.ty.0 ≡ Some t → is_value t ≡ true → (s' : State) → Grows s s' → New s' → is_served_birth (sort_of types f (length s'.locals)) ≡ true
-    value_born t is w s' g b = ap is_served_birth (object_sort t is w s' g b)
-
-    live_does : (New s → can_live types texts fs f (length s.locals) ≡ true) → (New s → so_far ≡ true → is_served_birth (sort_of types f (length s.locals)) ≡ true) → Born (live (home a u) s).state
-    live_does lives born =
-        declared_does types texts so_far fs f a setting.front v in_loop can last u s (gives tt s) (nothing types texts so_far fs f) (Acts u.place (Live (length s.locals) Plain) ∷ []) h at any
-        (leaf_part types texts so_far fs f tt s (nothing types texts so_far fs f) (λ b. tt) (λ b k alive. tt))
-        (λ b q. fine_acts types texts so_far fs f u.place (Live (length s.locals) Plain) (live_fine s (lives b) (born b)))
+    live_does : (New s → can_live types texts fs f (length s.locals) ≡ true) → Born (live (home a u) s).state
+    live_does lives =
+        declared_does types texts fs f a setting.front v in_loop can last u s (gives tt s) (nothing types texts fs f) (Acts u.place (Live (length s.locals) Plain) ∷ []) h at built
+        (leaf_part types texts fs f tt s (nothing types texts fs f) (λ b. tt) (λ b k alive. tt))
+        (λ b q. fine_acts types texts fs f u.place (Live (length s.locals) Plain) (live_fine s (lives b)))
         (λ b k size q blank. falls_filling types f u.place (Live (length s.locals) Plain) (length s.locals) k (live_fills types f (length s.locals) Plain k blank))
+        (λ b q k alive r blank. new_none f (variable_local a u) s)
 
     -- an owner, by whatever builds it
-    builds_does : (t : Ty) → slice_get a.program.types.types u.ty.0 ≡ Some t → is_owner_of_values a.program.types t ≡ true → (w : Gives Remaining) → so_far ≡ false → Builds a v.visible types texts so_far fs f setting t s w → Born (w.given (home a u) w.state).state
-    builds_does t is o w wide made =
+    builds_does : {plain : Bool} (t : Ty) → slice_get a.program.types.types u.ty.0 ≡ Some t → is_owner_of_values a.program.types t ≡ true → (w : Gives Remaining) → BuildsIn a v.visible types texts fs f setting plain t s w → Born (w.given (home a u) w.state).state
+    builds_does t is o w made =
         subst (λ (r : Remaining). Born (r (home a u) w.state).state) (sym made.lives)
-        (built_does a types texts so_far fs f setting v in_loop last u s h at any (gives made.found w.state) (gift_of a v.visible types texts so_far fs f setting made.making) made.part wide made.form t
+        (built_does a types texts fs f setting v in_loop last u s h at built (gives made.found w.state) (gift_of a v.visible types texts fs f setting made.making) made.part made.form t
         (made.act u.place (object_named (length w.state.locals)))
-        (λ b. owner_lives a types texts so_far fs f setting.front u w.state b t is o)
-        (λ b. owner_declared a types texts so_far fs f setting.front u w.state b t is o)
+        (λ b. owner_lives a types texts fs f setting.front u w.state b t is o)
+        (λ b. owner_declared a types texts fs f setting.front u w.state b t is o)
         (made.acts u.place (object_named (length w.state.locals)) (emit u.place (Live (length w.state.locals) made.form) (with_new (variable_local a u) w.state))))
 
     -- ---- an object
 
     -- a value is computed before it lives
-    valued_does : (t : Ty) → slice_get a.program.types.types u.ty.0 ≡ Some t → is_value t ≡ true → (w : Gives ℕ) → Makes types texts so_far fs f None s w (a_number types texts so_far fs f t)
+    valued_does : (t : Ty) → slice_get a.program.types.types u.ty.0 ≡ Some t → is_value t ≡ true → (w : Gives ℕ) → Makes types texts fs f None s w (a_number types texts fs f t)
         → Born (emit u.place (Save (object_named (length w.state.locals)) w.given) (emit u.place (Live (length w.state.locals) Plain) (with_new (variable_local a u) w.state)))
     valued_does t is worth w made =
         let x = length w.state.locals in
         let lives = Acts u.place (Live x Plain) ∷ [] in
         let saves = Acts u.place (Save (object_named x) w.given) ∷ [] in
         let value = ap is_value (type_is t is) ∙ worth in
-        let typed : Makes types texts so_far fs f None s w (a_number types texts so_far fs f (type_of a u.ty)) = subst (λ (x : Ty). Makes types texts so_far fs f None s w (a_number types texts so_far fs f x)) (sym (type_is t is)) made in
+        let typed : Makes types texts fs f None s w (a_number types texts fs f (type_of a u.ty)) = subst (λ (x : Ty). Makes types texts fs f None s w (a_number types texts fs f x)) (sym (type_is t is)) made in
         subst (λ (c : List Tree). Born (with_code c (with_new (variable_local a u) w.state)))
         (sym (append_assoc w.state.code lives saves))
-        (declared_does types texts so_far fs f a setting.front v in_loop can last u s w (a_number types texts so_far fs f (type_of a u.ty)) (lives ++ saves) h at any typed
+        (declared_does types texts fs f a setting.front v in_loop can last u s w (a_number types texts fs f (type_of a u.ty)) (lives ++ saves) h at built typed
         (λ b q.
-        fine_append types texts so_far fs f lives saves
-        (fine_acts types texts so_far fs f u.place (Live x Plain) (live_fine w.state (value_lives a types texts so_far fs f setting.front u w.state b value) (λ so. value_born t is worth w.state made.grown b)))
-        (fine_acts types texts so_far fs f u.place (Save (object_named x) w.given) (value_saved a types texts so_far fs f setting.front u w.state b value w.given q)))
-        (λ b k size q blank. saved_falls types f u.place x w.given k (omega (arith, size, below w.state made.grown b)) blank q.0 q.1))
+        fine_append types texts fs f lives saves
+        (fine_acts types texts fs f u.place (Live x Plain) (live_fine w.state (value_lives a types texts fs f setting.front u w.state b value)))
+        (fine_acts types texts fs f u.place (Save (object_named x) w.given) (value_saved a types texts fs f setting.front u w.state b value w.given q)))
+        (λ b k size q blank. saved_falls types f u.place x w.given k (omega (arith, size, below w.state made.grown b)) blank q.0 q.1)
+        (λ b q k alive r blank. new_none f (variable_local a u) w.state))
 
     -- ---- what one instruction brings to life: a call, a pointer, a reference
 
-    filled_does : {A : Type 0} (place : Place) (w : Gives A) (Q : Gift types texts so_far fs f A) (step : A → Location → Step) → Makes types texts so_far fs f None s w Q
-        → (New w.state → Q.typed w.given → IsFineStep types texts so_far fs f (step w.given (whole (length w.state.locals))))
+    filled_does : {A : Type 0} (place : Place) (w : Gives A) (Q : Gift types texts fs f A) (step : A → Location → Step) → Makes types texts fs f None s w Q
+        → (New w.state → Q.typed w.given → IsFineStep types texts fs f (step w.given (whole (length w.state.locals))))
         → (New w.state → (k : List Known) → Q.ready w.given (length w.state.locals) k → known_at k (length w.state.locals) ≡ known.Blank → Fills f k (step w.given (whole (length w.state.locals))) (length w.state.locals))
         → Born (emit place (step w.given (whole (length w.state.locals))) (with_new (variable_local a u) w.state))
     filled_does place w Q step made fits fills =
         let x = length w.state.locals in
-        declared_does types texts so_far fs f a setting.front v in_loop can last u s w Q (Acts place (step w.given (whole x)) ∷ []) h at any made
-        (λ b q. fine_acts types texts so_far fs f place (step w.given (whole x)) (fits b q))
+        declared_does types texts fs f a setting.front v in_loop can last u s w Q (Acts place (step w.given (whole x)) ∷ []) h at built made
+        (λ b q. fine_acts types texts fs f place (step w.given (whole x)) (fits b q))
         (λ b k size q blank. falls_filling types f place (step w.given (whole x)) x k (fills b k q blank))
+        (λ b q k alive r blank.
+        new_then f (variable_local a u) w.state (looked_of (trees (Acts place (step w.given (whole x)) ∷ []))) (given_of (trees (Acts place (step w.given (whole x)) ∷ [])))
+        (step_apart f types (step w.given (whole x)) place w.state k alive (fills b k r blank).ready
+        (and_parts (list_all (is_no_object types f) (given_step (step w.given (whole x)))) (keeps_its_target (step w.given (whole x))) (fits b q).given).0))
 
     -- a call, where it gives the variable's type
     called_does : (t : Ty) → slice_get a.program.types.types u.ty.0 ≡ Some t → is_value t ≡ true → (g : ℕ) (of : FunctionForm) (place : Place) → slice_get a.program.functions g ≡ Some of
-        → ty_of types of.result ≡ type_of a u.ty → (w : Gives (List Argument)) → Makes types texts so_far fs f None s w (arguments types texts so_far fs f (parameter_types (Some of)))
+        → ty_of types of.result ≡ type_of a u.ty → (w : Gives (List Argument)) → Makes types texts fs f None s w (arguments types texts fs f (parameter_types (Some of)))
         → Born (emit place (called g w.given (whole (length w.state.locals))) (with_new (variable_local a u) w.state))
     called_does t is worth g of place there same w made =
         let x = length w.state.locals in
         let callee = setting.callees g of there in
-        filled_does place w (arguments types texts so_far fs f (parameter_types (Some of))) (called g) made
+        filled_does place w (arguments types texts fs f (parameter_types (Some of))) (called g) made
         (λ b q.
-        called_fine types texts so_far fs f g w.given of x callee q
-        (ap (λ (r : Ty). goes_to types texts fs f r (Some (whole x))) same ∙ value_goes a types texts so_far fs f setting.front u w.state b (ap is_value (type_is t is) ∙ worth)))
+        called_fine types texts fs f g w.given of x callee q
+        (ap (λ (r : Ty). goes_to types texts fs f r (Some (whole x))) same ∙ value_goes a types texts fs f setting.front u w.state b (ap is_value (type_is t is) ∙ worth)))
         (λ b k q blank. born_fills f g (parameter_types (Some of)) w.given x k q x blank)
 
-    -- ---- any variable that is given one expression
+    -- ---- a reference
 
-    module _ (e : Typed) (b : is_reached_expression texts so_far e ≡ true) (he : Whole e) (behind : Place) where
-      whole_is : IsWhole a v.visible types texts so_far fs f setting (whole_form e)
-      whole_is = whole_expression a v.visible types texts so_far fs f setting (whole_form e) b he
+    -- what would be built where it isn't a place of the type
+    abbrev kept_object : Typed → Place → TyId → Gives Remaining
+    kept_object e behind target =
+        giving.given (uses a (whole_form e)) (type_of a target) behind s >> λ rest s. rest (scoped e.place (type_of a target)) s >> λ x s. gives (aimed_at e.place (object_named x)) s
+
+    abbrev Bound : Typed → Place → TyId → Bool → State
+    Bound e behind target constant = (initial a scoped (uses a (whole_form e)) (ty.Reference target constant) behind s >> λ rest s. rest (home a u) s).state
+
+    abbrev bound_by : Typed → Place → TyId → Bool → State
+    bound_by e behind target c = (cond c (mapped (aimed_at e.place) ((uses a (whole_form e)).at s)) (kept_object e behind target) >> λ rest s. rest (home a u) s).state
+
+    -- at a place that is written first
+    aimed_does : (e : Typed) (behind : Place) (target : TyId) (constant held : Bool) → slice_get a.program.types.types u.ty.0 ≡ Some (ty.Reference target constant) → is_target a.program.types (type_at a.program.types target) ≡ true
+        → is_place_of e.category target ≡ true → keeps_const constant held ≡ true → Makes types texts fs f None s ((uses a (whole_form e)).at s) (a_place types texts fs f (type_at a.program.types target) held) → Born (Bound e behind target constant)
+    aimed_does e behind target constant held is wide here kept made =
+        let w = (uses a (whole_form e)).at s in
+        subst (λ (c : Bool). Born (bound_by e behind target c)) (sym here)
+        (filled_does e.place w (a_place types texts fs f (type_at a.program.types target) held) (λ o l. pointed (aimed (Aimed o)) l) made
+        (λ b q. record {
+          given = refl;
+          formed =
+              ap (λ (t : Ty). is_source_of types texts fs f t (Aimed w.given)) (reference_declared a types texts fs f setting.front u w.state b target constant is wide)
+              ∙ bound_given a types texts fs f setting.front target constant held w.given wide kept q;
+          served = q.served;
+        })
+        (λ b k q blank. filling_fills f (λ p. Aim p (Aimed w.given)) (length w.state.locals) k (aimed_filling f w.given (length w.state.locals) k q) (length w.state.locals) (reference_kept a types texts fs f setting.front u w.state b target constant is wide)))
+
+    -- .. to an owner, which may be built for it
+    alias_does : (e : Typed) (behind : Place) (target : TyId) (constant : Bool) → slice_get a.program.types.types u.ty.0 ≡ Some (ty.Reference target constant) → is_owner_of_values a.program.types (type_at a.program.types target) ≡ true
+        → IsAliased a v.visible types texts fs f setting (uses a (whole_form e)) target constant → Born (Bound e behind target constant)
+    alias_does e behind target constant is o (to_place held here kept names) = aimed_does e behind target constant held is (owner_target a.program.types (type_at a.program.types target) o) here kept (names s h.stands)
+    alias_does e behind target constant is o (to_built none made) =
+        let w = giving.given (uses a (whole_form e)) (type_of a target) behind s in
+        let built_here = made behind s h.stands in
+        subst (λ (c : Bool). Born (bound_by e behind target c)) (sym none)
+        (subst (λ (r : Remaining). Born (r (scoped e.place (type_of a target)) w.state >> λ x s. gives (aimed_at e.place (object_named x)) s >> λ rest s. rest (home a u) s).state) (sym built_here.lives)
+        (bound_owner_does a types texts fs f setting v in_loop last u s h at built target constant is o e.place w built_here))
+
+    -- ---- built variable that is given one expression
+
+    module _ (e : Typed) (b : is_served_expression texts e ≡ true) (he : Whole e) (behind : Place) where
+      whole_is : IsWhole a v.visible types texts fs f setting (whole_form e)
+      whole_is = whole_expression a v.visible types texts fs f setting (whole_form e) b he
 
       abbrev GivenOne : Ty → State
       GivenOne t = (initial a scoped (uses a (whole_form e)) t behind s >> λ rest s. rest (home a u) s).state
@@ -226,7 +265,7 @@ module _ (a : Around) (types : Types) (texts : ℕ) (so_far : Bool) (fs : List F
         by_call_does c found same plain =
             let k = whole_is.calls c found in
             called_does t is worth c.function k.of e.place k.there
-            (result_later a v.visible types texts so_far fs f setting c.function k.of k.there ∙ answer_own a.program.types (type_at a.program.types k.of.result) e.ty e.category k.answers plain ∙ same_types (own_type e.ty) t same ∙ sym (type_is t is))
+            (result_later a v.visible types texts fs f setting c.function k.of k.there ∙ answer_own a.program.types (type_at a.program.types k.of.result) e.ty e.category k.answers plain ∙ same_types (own_type e.ty) t same ∙ sym (type_is t is))
             (giving.arguments a (all_uses a c.arguments) c.delimiters (around.parameter_types a c.function) s) (k.hands s h.stands)
 
         -- a call is one where it needs no conversion and gives no reference
@@ -251,42 +290,27 @@ module _ (a : Around) (types : Types) (texts : ℕ) (so_far : Bool) (fs : List F
           → Born (emit e.place (pointed (pointing (uses a (whole_form e)) s).given (whole (length (pointing (uses a (whole_form e)) s).state.locals))) (with_new (variable_local a u) (pointing (uses a (whole_form e)) s).state))
       pointer_does t loc is pointed_one taken =
           let w = pointing (uses a (whole_form e)) s in
-          filled_does e.place w (a_pointing types texts so_far fs f e.ty) (λ p l. pointed p l) (points_whole a v.visible types texts so_far fs f setting (whole_form e) whole_is pointed_one s h.stands)
-          (λ b q. pointed_fine types texts so_far fs f (whole (length w.state.locals)) t e.ty w.given loc (location_declared a types texts so_far fs f setting.front u w.state b t loc is) taken q)
-          (λ b k q blank. pointed_fills f (length w.state.locals) (length w.state.locals) w.given k q (location_declared a types texts so_far fs f setting.front u w.state b t loc is).kept)
+          filled_does e.place w (a_pointing types texts fs f e.ty) (λ p l. pointed p l) (points_whole a v.visible types texts fs f setting (whole_form e) whole_is pointed_one s h.stands)
+          (λ b q. pointed_fine types texts fs f (whole (length w.state.locals)) t e.ty w.given loc (location_declared a types texts fs f setting.front u w.state b t loc is) taken q)
+          (λ b k q blank. pointed_fills f (length w.state.locals) (length w.state.locals) w.given k q (location_declared a types texts fs f setting.front u w.state b t loc is).kept)
 
-      raw_does : (target : TyId) (constant : Bool) → slice_get a.program.types.types u.ty.0 ≡ Some (ty.Raw target constant) → is_value (type_at a.program.types target) ≡ true → is_given a.program.types (ty.Raw target constant) e ≡ true
+      raw_does : (target : TyId) (constant : Bool) → slice_get a.program.types.types u.ty.0 ≡ Some (ty.Raw target constant) → is_target a.program.types (type_at a.program.types target) ≡ true → is_given a.program.types (ty.Raw target constant) e ≡ true
           → Born (GivenOne (ty.Raw target constant))
       raw_does target constant is worth given =
           pointer_does (ty.Raw target constant) refl is (given_pointer a.program.types (ty.Raw target constant) e refl given) (given_raw a.program.types types setting.front target constant worth e given)
 
       view_does : slice_get a.program.types.types u.ty.0 ≡ Some ty.View → is_given a.program.types ty.View e ≡ true → Born (GivenOne ty.View)
       view_does is given =
-          let seen = seen_kind so_far a.program.types e whole_is.kind.kind (given_view a.program.types e given) in
+          let seen = seen_kind a.program.types e whole_is.kind.kind (given_view a.program.types e given) in
           pointer_does ty.View refl is (seen_pointed e.ty seen) (given_seen types e.ty seen)
-
-      -- what would be built where it isn't a place of the type
-      abbrev kept_object : TyId → Gives Remaining
-      kept_object target =
-          giving.given (uses a (whole_form e)) (type_of a target) behind s >> λ rest s. rest (scoped e.place (type_of a target)) s >> λ x s. gives (aimed_at e.place (object_named x)) s
 
       reference_does : (target : TyId) (constant : Bool) → slice_get a.program.types.types u.ty.0 ≡ Some (ty.Reference target constant) → is_value (type_at a.program.types target) ≡ true → IsBoundTo target constant e.category
           → Born (GivenOne (ty.Reference target constant))
       reference_does target constant is worth bound =
-          let w = (uses a (whole_form e)).at s in
-          subst (λ (c : Bool). Born ((cond c (mapped (aimed_at e.place) w) (kept_object target) >> λ rest s. rest (home a u) s).state)) (sym bound.here)
-          (filled_does e.place w (a_place types texts so_far fs f (type_at a.program.types target) bound.held) (λ o l. pointed (aimed (Aimed o)) l) (whole_is.names target bound.held bound.place worth s h.stands)
-          (λ b q. record {
-            given = refl;
-            formed =
-                ap (λ (t : Ty). is_source_of types texts fs f t (Aimed w.given)) (reference_declared a types texts so_far fs f setting.front u w.state b target constant is worth)
-                ∙ bound_given a types texts so_far fs f setting.front target constant bound.held w.given worth bound.kept q;
-            served = q.served;
-          })
-          (λ b k q blank. filling_fills f (λ p. Aim p (Aimed w.given)) (length w.state.locals) k (aimed_filling f w.given (length w.state.locals) k q) (length w.state.locals) (reference_kept a types texts so_far fs f setting.front u w.state b target constant is worth)))
+          aimed_does e behind target constant bound.held is (value_target a.program.types (type_at a.program.types target) worth) bound.here bound.kept (whole_is.names target bound.held bound.place worth s h.stands)
 
-      one_does : (so_far || not (is_owner (type_of a u.ty) || is_walker (type_of a u.ty))) ≡ true → is_given a.program.types (type_of a u.ty) e ≡ true → Born (GivenOne (type_of a u.ty))
-      one_does plain given = go (variable_type so_far a.program.types u.ty built)
+      one_does : not (owns_elements (type_of a u.ty) || is_walker (type_of a u.ty)) ≡ true → is_given a.program.types (type_of a u.ty) e ≡ true → Born (GivenOne (type_of a u.ty))
+      one_does plain given = go (variable_type a.program.types u.ty built)
         where
           as_given : (t : Ty) → slice_get a.program.types.types u.ty.0 ≡ Some t → is_given a.program.types t e ≡ true
           as_given t is = subst (λ (x : Ty). is_given a.program.types x e ≡ true) (type_is t is) given
@@ -294,18 +318,23 @@ module _ (a : Around) (types : Types) (texts : ℕ) (so_far : Bool) (fs : List F
           as_type : (t : Ty) → slice_get a.program.types.types u.ty.0 ≡ Some t → Born (GivenOne t) → Born (GivenOne (type_of a u.ty))
           as_type t is born = subst (λ (x : Ty). Born (GivenOne x)) (sym (type_is t is)) born
 
-          go : IsVariableType so_far a.program.types u.ty → Born (GivenOne (type_of a u.ty))
+          go : IsVariableType a.program.types u.ty → Born (GivenOne (type_of a u.ty))
           go (a_value t is w) = as_type t is (object_does t is w (given_number a.program.types t e w (as_given t is)))
           go (a_raw target constant is w) = as_type (ty.Raw target constant) is (raw_does target constant is w (as_given (ty.Raw target constant) is))
           go (a_view is) = as_type ty.View is (view_does is (as_given ty.View is))
-          go (a_walker so t is w) = absurd (false≢true (sym (ap (λ (x : Ty). so_far || not (is_owner x || is_walker x)) (type_is t is) ∙ ap (λ (b : Bool). b || not (is_owner t || is_walker t)) so ∙ ap (λ (b : Bool). not (b || is_walker t)) (walker_is a.program.types t w).owner ∙ ap not (walker_is a.program.types t w).walker) ∙ plain))
-          go (an_owner so t is o) = absurd (false≢true (sym (ap (λ (x : Ty). so_far || not (is_owner x || is_walker x)) (type_is t is) ∙ ap (λ (b : Bool). b || not (is_owner t || is_walker t)) so ∙ ap (λ (b : Bool). not (b || is_walker t)) (owner_is a.program.types t o)) ∙ plain))
-          go (a_reference target constant is w) = as_type (ty.Reference target constant) is (bound (given_bound a.program.types target constant e w (as_given (ty.Reference target constant) is)))
+          go (a_walker t is w) =
+              let seen = walker_is a.program.types t w in
+              absurd (false≢true (sym (ap (λ (x : Ty). not (owns_elements x || is_walker x)) (type_is t is) ∙ ap (λ (b : Bool). not (b || is_walker t)) seen.owner ∙ ap not seen.walker) ∙ plain))
+          go (an_owner t is o) = absurd (false≢true (sym (ap (λ (x : Ty). not (owns_elements x || is_walker x)) (type_is t is) ∙ ap (λ (b : Bool). not (b || is_walker t)) (owner_is a.program.types t o)) ∙ plain))
+          go (an_alias target constant is o) =
+              as_type (ty.Reference target constant) is
+              (alias_does e behind target constant is o (whole_aliased a v.visible types texts fs f setting (whole_form e) target constant o (as_given (ty.Reference target constant) is) whole_is))
+          go (a_reference target constant is w) = as_type (ty.Reference target constant) is (bound (given_bound a.program.types target constant e (value_target a.program.types (type_at a.program.types target) w) (as_given (ty.Reference target constant) is)))
             where
               bound : IsBound a.program.types target constant e → Born (GivenOne (ty.Reference target constant))
               bound (at_place there) = reference_does target constant is w there
               bound (by_temporary none initial) =
-                  temporary_does a types texts so_far fs f setting v in_loop last u s h at any target constant is w e whole_is (given_number a.program.types (type_at a.program.types target) e w initial) behind none
+                  temporary_does a types texts fs f setting v in_loop last u s h at built target constant is w e whole_is (given_number a.program.types (type_at a.program.types target) e w initial) behind none
 
     -- ---- an owner, or a view of one
 
@@ -319,53 +348,53 @@ module _ (a : Around) (types : Types) (texts : ℕ) (so_far : Bool) (fs : List F
       by_owner _ o = absurd (false≢true o)
 
       -- a pointer, as what gives it something of a type
-      shown_does : (t : Ty) → is_location t ≡ true → slice_get a.program.types.types u.ty.0 ≡ Some t → (source : ExprType) → Makes types texts so_far fs f None s (pointing (uses a (whole_form e)) s) (a_pointing types texts so_far fs f source) → takes_from types t source ≡ true
+      shown_does : (t : Ty) → is_location t ≡ true → slice_get a.program.types.types u.ty.0 ≡ Some t → (source : ExprType) → Makes types texts fs f None s (pointing (uses a (whole_form e)) s) (a_pointing types texts fs f source) → takes_from types t source ≡ true
           → Born (emit e.place (pointed (pointing (uses a (whole_form e)) s).given (whole (length (pointing (uses a (whole_form e)) s).state.locals))) (with_new (variable_local a u) (pointing (uses a (whole_form e)) s).state))
       shown_does t loc is source made taken =
           let w = pointing (uses a (whole_form e)) s in
-          filled_does e.place w (a_pointing types texts so_far fs f source) (λ p l. pointed p l) made
-          (λ b q. pointed_fine types texts so_far fs f (whole (length w.state.locals)) t source w.given loc (location_declared a types texts so_far fs f setting.front u w.state b t loc is) taken q)
-          (λ b k q blank. pointed_fills f (length w.state.locals) (length w.state.locals) w.given k q (location_declared a types texts so_far fs f setting.front u w.state b t loc is).kept)
+          filled_does e.place w (a_pointing types texts fs f source) (λ p l. pointed p l) made
+          (λ b q. pointed_fine types texts fs f (whole (length w.state.locals)) t source w.given loc (location_declared a types texts fs f setting.front u w.state b t loc is) taken q)
+          (λ b k q blank. pointed_fills f (length w.state.locals) (length w.state.locals) w.given k q (location_declared a types texts fs f setting.front u w.state b t loc is).kept)
 
       -- a copy
-      module _ (from : IsObject a v.visible types texts so_far fs f setting (whole_form e)) where
+      module _ (from : IsObject a v.visible types texts fs f setting (whole_form e)) where
         copied_does : (t : Ty) → slice_get a.program.types.types u.ty.0 ≡ Some t → is_owner_of_values a.program.types t ≡ true → is_given a.program.types t e ≡ true → Born (GivenThis t)
         copied_does t is o given =
             let w = (uses a (whole_form e)).at s in
             let one : from.ty ≡ t = given_owner a.program.types t from.ty e o from.owner from.is given in
-            let made = subst (λ (x : Ty). Makes types texts so_far fs f None s w (a_place types texts so_far fs f x from.constant)) one (from.names s h.stands) in
+            let made = subst (λ (x : Ty). Makes types texts fs f None s w (a_place types texts fs f x from.constant)) one (from.names s h.stands) in
             subst Born (sym (by_owner t o ∙ ap (λ (c : Category). (object_by c (uses a (whole_form e)).at (uses a (whole_form e)).object s >> λ rest s. rest (home a u) s).state) from.place))
-            (lives_then a types texts so_far fs f setting v in_loop last u s h at any u.place w (a_place types texts so_far fs f t from.constant) made (λ x. Copy (object_named x) w.given) (place_uses w.given) (λ x. refl)
-            (λ n k q. place_held w.given n k q) from.wide
-            (λ b. owner_lives a types texts so_far fs f setting.front u w.state b t is o)
-            (λ b q. let at = owner_declared a types texts so_far fs f setting.front u w.state b t is o in copy_fine types texts so_far fs f a.program.types t (object_named (length w.state.locals)) w.given from.wide o at.typed at.held q.typed))
+            (lives_then a types texts fs f setting v in_loop last u s h at built u.place w (a_place types texts fs f t from.constant) made (λ x. Copy (object_named x) w.given) (place_uses w.given) (λ x. refl)
+            (λ n k q. place_held w.given n k q) (λ x. refl)
+            (λ b. owner_lives a types texts fs f setting.front u w.state b t is o)
+            (λ b q. let at = owner_declared a types texts fs f setting.front u w.state b t is o in copy_fine types texts fs f a.program.types t (object_named (length w.state.locals)) w.given o at.typed at.held q.typed at.served q.served))
 
       -- one that is made, where the variable has come to life
-      made_does : (t : Ty) → slice_get a.program.types.types u.ty.0 ≡ Some t → is_owner_of_values a.program.types t ≡ true → is_given a.program.types t e ≡ true → IsMade a v.visible types texts so_far fs f setting (whole_form e) → Born (GivenThis t)
+      made_does : (t : Ty) → slice_get a.program.types.types u.ty.0 ≡ Some t → is_owner_of_values a.program.types t ≡ true → is_given a.program.types t e ≡ true → IsMade a v.visible types texts fs f setting (whole_form e) → Born (GivenThis t)
       made_does t is o given from =
           let w = (uses a (whole_form e)).object s in
           let one : from.ty ≡ t = given_owner a.program.types t from.ty e o from.owner from.is given in
           subst Born (sym (by_owner t o ∙ ap (λ (c : Category). (object_by c (uses a (whole_form e)).at (uses a (whole_form e)).object s >> λ rest s. rest (home a u) s).state) from.value))
-          (builds_does t is o w from.wide (subst (λ (x : Ty). Builds a v.visible types texts so_far fs f setting x s w) one (from.builds s h.stands)))
+          (builds_does t is o w (subst (λ (x : Ty). Builds a v.visible types texts fs f setting x s w) one (from.builds s h.stands)))
 
-      module _ (from : IsOwner a v.visible types texts so_far fs f setting (whole_form e)) where
+      module _ (from : IsOwner a v.visible types texts fs f setting (whole_form e)) where
         -- a view of the whole
         string_view_does : slice_get a.program.types.types u.ty.0 ≡ Some ty.View → is_given a.program.types ty.View e ≡ true → Born (GivenThis ty.View)
-        string_view_does is given = shown_does ty.View refl is (Of ty.View) (string_points a v.visible types texts so_far fs f setting (whole_form e) from (given_string a.program.types from.ty e from.owner from.is given) s h.stands) refl
+        string_view_does is given = shown_does ty.View refl is (Of ty.View) (string_points a v.visible types texts fs f setting (whole_form e) from (given_string a.program.types from.ty e from.owner from.is given) s h.stands) refl
 
         -- a span of the whole
-        span_does : (item : TyId) (constant : Bool) → is_value (type_at a.program.types item) ≡ true → slice_get a.program.types.types u.ty.0 ≡ Some (ty.Span item constant) → is_given a.program.types (ty.Span item constant) e ≡ true → Born (GivenThis (ty.Span item constant))
+        span_does : (item : TyId) (constant : Bool) → is_element a.program.types (type_at a.program.types item) ≡ true → slice_get a.program.types.types u.ty.0 ≡ Some (ty.Span item constant) → is_given a.program.types (ty.Span item constant) e ≡ true → Born (GivenThis (ty.Span item constant))
         span_does item constant worth is given =
             let to = given_vector a.program.types item constant from.constant from.ty e from.owner from.is from.told given in
-            shown_does (ty.Span item constant) refl is (Of (ty.Span item constant)) (vector_points a v.visible types texts so_far fs f setting (whole_form e) from item constant to.is to.kept s h.stands)
-            (and_from (same (ty_of types item) (ty_of types item)) (keeps_const constant constant) (value_same (ty_of types item) (ap is_value (type_later a.program.types types setting.front item worth) ∙ worth)) (keeps_itself constant))
+            shown_does (ty.Span item constant) refl is (Of (ty.Span item constant)) (vector_points a v.visible types texts fs f setting (whole_form e) from item constant to.is to.kept s h.stands)
+            (and_from (same (ty_of types item) (ty_of types item)) (keeps_const constant constant) (one_element a.program.types types setting.front item worth) (keeps_itself constant))
 
       -- another iterator or span
-      walker_does : IsWalker a v.visible types texts so_far fs f setting (whole_form e) → (t : Ty) → slice_get a.program.types.types u.ty.0 ≡ Some t → is_walker_of_values a.program.types t ≡ true → is_given a.program.types t e ≡ true → Born (GivenThis t)
+      walker_does : IsWalker a v.visible types texts fs f setting (whole_form e) → (t : Ty) → slice_get a.program.types.types u.ty.0 ≡ Some t → is_walker_of_values a.program.types t ≡ true → is_given a.program.types t e ≡ true → Born (GivenThis t)
       walker_does from t is w given = go t is w (given_walker a.program.types types setting.front t from.ty e w from.walker from.is given)
         where
-          made : Makes types texts so_far fs f None s (pointing (uses a (whole_form e)) s) (a_pointing types texts so_far fs f (Of from.ty))
-          made = walker_points a v.visible types texts so_far fs f setting (whole_form e) from s h.stands
+          made : Makes types texts fs f None s (pointing (uses a (whole_form e)) s) (a_pointing types texts fs f (Of from.ty))
+          made = walker_points a v.visible types texts fs f setting (whole_form e) from s h.stands
 
           go : (t : Ty) → slice_get a.program.types.types u.ty.0 ≡ Some t → is_walker_of_values a.program.types t ≡ true → takes types t from.ty ≡ true → Born (GivenThis t)
           go (ty.Iterator item constant) is w taken = shown_does (ty.Iterator item constant) refl is (Of from.ty) made taken
@@ -373,48 +402,43 @@ module _ (a : Around) (types : Types) (texts : ℕ) (so_far : Bool) (fs : List F
           go _ is w taken = absurd (false≢true w)
 
       -- a literal
-      literal_does : (n : ℕ) → e.form ≡ text n → nat_lt n texts ≡ true → so_far ≡ false → slice_get a.program.types.types u.ty.0 ≡ Some ty.Text → e.category ≡ category.Value → Born (GivenThis ty.Text)
-      literal_does n same few wide is held =
+      literal_does : (n : ℕ) → e.form ≡ text n → nat_lt n texts ≡ true → slice_get a.program.types.types u.ty.0 ≡ Some ty.Text → e.category ≡ category.Value → Born (GivenThis ty.Text)
+      literal_does n same few is held =
           let w = located e.place ty.View (aimed (Text n)) s in
           let made =
-          then_part types texts so_far fs f (nothing types texts so_far fs f) tt None s (gives (aimed (Text n)) s) w (a_pointing types texts so_far fs f TextLiteral) (a_pointer types texts so_far fs f ty.View) h.stands.opened
-          (leaf_part types texts so_far fs f (aimed (Text n)) s (a_pointing types texts so_far fs f TextLiteral) (λ b. literal_given types texts so_far fs f n few) (λ b k alive. text_filling f n (length s.locals) k))
-          (literal_located_part types texts so_far fs f (aimed (Text n)) e.place s) in
+          then_part types texts fs f (nothing types texts fs f) tt None s (gives (aimed (Text n)) s) w (a_pointing types texts fs f TextLiteral) (a_pointer types texts fs f ty.View) h.stands.opened
+          (leaf_part types texts fs f (aimed (Text n)) s (a_pointing types texts fs f TextLiteral) (λ b. literal_given types texts fs f n few) (λ b k alive. text_filling f n (length s.locals) k))
+          (literal_located_part types texts fs f (aimed (Text n)) e.place s) in
           subst Born (sym (by_owner ty.Text refl
           ∙ ap (λ (c : Category). (object_by c (uses a (whole_form e)).at (uses a (whole_form e)).object s >> λ rest s. rest (home a u) s).state) held
           ∙ ap (λ (g : Form). ((uses a (typed e.place e.ty e.category g)).object s >> λ rest s. rest (home a u) s).state) same))
-          (lives_then a types texts so_far fs f setting v in_loop last u s h at any u.place w (a_pointer types texts so_far fs f ty.View) made (λ x. Changes (object_named x) (Set (View w.given))) (w.given.local ∷ []) (λ x. refl)
-          (λ n k q. (pointer_is_held w.given n k q, tt)) wide
-          (λ b. owner_lives a types texts so_far fs f setting.front u w.state b ty.Text is refl)
-          (λ b q. let at = owner_declared a types texts so_far fs f setting.front u w.state b ty.Text is refl in record {
+          (lives_then a types texts fs f setting v in_loop last u s h at built u.place w (a_pointer types texts fs f ty.View) made (λ x. Changes (object_named x) (Set (View w.given))) (w.given.local ∷ []) (λ x. refl)
+          (λ n k q. (pointer_is_held w.given n k q, tt)) (λ x. refl)
+          (λ b. owner_lives a types texts fs f setting.front u w.state b ty.Text is refl)
+          (λ b q. let at = owner_declared a types texts fs f setting.front u w.state b ty.Text is refl in record {
             given = refl;
             formed =
                 and_from (is_change_of types texts fs f (type_of_place types f (object_named (length w.state.locals))) (Set (View w.given))) (not (is_const_place types f (object_named (length w.state.locals))))
                 (ap (λ (t : Ty). is_change_of types texts fs f t (Set (View w.given))) at.typed ∙ ap is_view q.typed) at.held;
-            served = λ so. absurd (false≢true (sym wide ∙ so));
+            served = and_from (is_served_operand (object_named (length w.state.locals))) (is_served_change (Set (View w.given))) at.served q.served;
           }))
 
-    owned_does : (e : Typed) → (he : Whole e) → (behind : Place) → is_reached_owned texts so_far (type_of a u.ty) e ≡ true → is_given a.program.types (type_of a u.ty) e ≡ true → Born (GivenThis e he behind (type_of a u.ty))
-    owned_does e he behind b given = elim (or_cases (is_given_owner texts so_far (type_of a u.ty) e) _ b) [
+    owned_does : (e : Typed) → (he : Whole e) → (behind : Place) → is_served_owned texts (type_of a u.ty) e ≡ true → is_given a.program.types (type_of a u.ty) e ≡ true → Born (GivenThis e he behind (type_of a u.ty))
+    owned_does e he behind b given = elim (or_cases (takes_owner (type_of a u.ty) && is_served_owning texts e) _ b) [
       | inl owner ↦
-          let one = and_parts (is_owner (type_of a u.ty) || (is_view (type_of a u.ty) || is_span texts so_far (type_of a u.ty))) (is_owner_type so_far e.ty && is_reached_owner texts so_far (whole_form e)) owner in
-          let two = and_parts (is_owner_type so_far e.ty) (is_reached_owner texts so_far (whole_form e)) one.1 in
-          given_owner_does one.0 (owner_expression a v.visible types texts so_far fs f setting (whole_form e) two.1 two.0 he) (variable_type so_far a.program.types u.ty built)
-      | inr other ↦ elim (or_cases (is_owner (type_of a u.ty) && (not so_far && is_text_there texts so_far e.form)) (is_walker (type_of a u.ty) && is_reached_walker texts so_far (whole_form e)) other) [
+          let one = and_parts (takes_owner (type_of a u.ty)) (is_owner_type e.ty && is_served_owner texts (whole_form e)) owner in
+          let two = and_parts (is_owner_type e.ty) (is_served_owner texts (whole_form e)) one.1 in
+          given_owner_does one.0 (owner_expression a v.visible types texts fs f setting (whole_form e) two.1 two.0 he) (variable_type a.program.types u.ty built)
+      | inr other ↦ elim (or_cases (owns_elements (type_of a u.ty) && is_text_there texts e.form) (is_walker (type_of a u.ty) && is_served_walker texts (whole_form e)) other) [
         | inl literal ↦
-            let one = and_parts (is_owner (type_of a u.ty)) (not so_far && is_text_there texts so_far e.form) literal in
-            let two = and_parts (not so_far) (is_text_there texts so_far e.form) one.1 in
-            given_literal_does one.0 (not_true so_far two.0) e.form refl two.1 he (variable_type so_far a.program.types u.ty built)
+            let one = and_parts (owns_elements (type_of a u.ty)) (is_text_there texts e.form) literal in
+            given_literal_does one.0 e.form refl one.1 he (variable_type a.program.types u.ty built)
         | inr walks ↦
-            let one = and_parts (is_walker (type_of a u.ty)) (is_reached_walker texts so_far (whole_form e)) walks in
-            given_walker_does one.0 (walker_expression a v.visible types texts so_far fs f setting (whole_form e) one.1 he) (variable_type so_far a.program.types u.ty built)
+            let one = and_parts (is_walker (type_of a u.ty)) (is_served_walker texts (whole_form e)) walks in
+            given_walker_does one.0 (walker_expression a v.visible types texts fs f setting (whole_form e) one.1 he) (variable_type a.program.types u.ty built)
       ]
     ]
       where
-        not_true : (b : Bool) → not b ≡ true → b ≡ false
-        not_true false e = refl
-        not_true true e = absurd (false≢true e)
-
         as_type : (t : Ty) → slice_get a.program.types.types u.ty.0 ≡ Some t → Born (GivenThis e he behind t) → Born (GivenThis e he behind (type_of a u.ty))
         as_type t is born = subst (λ (x : Ty). Born (GivenThis e he behind x)) (sym (type_is t is)) born
 
@@ -422,67 +446,72 @@ module _ (a : Around) (types : Types) (texts : ℕ) (so_far : Bool) (fs : List F
         as_given t is = subst (λ (x : Ty). is_given a.program.types x e ≡ true) (type_is t is) given
 
         -- it is an owner or a view
-        refused : (t : Ty) → slice_get a.program.types.types u.ty.0 ≡ Some t → (is_owner t || (is_view t || is_span texts so_far t)) ≡ false → (is_owner (type_of a u.ty) || (is_view (type_of a u.ty) || is_span texts so_far (type_of a u.ty))) ≡ true → Born (GivenThis e he behind (type_of a u.ty))
-        refused t is none p = absurd (false≢true (sym (ap (λ (x : Ty). is_owner x || (is_view x || is_span texts so_far x)) (type_is t is) ∙ none) ∙ p))
+        refused : (t : Ty) → slice_get a.program.types.types u.ty.0 ≡ Some t → takes_owner t ≡ false → takes_owner (type_of a u.ty) ≡ true → Born (GivenThis e he behind (type_of a u.ty))
+        refused t is none p = absurd (false≢true (sym (ap takes_owner (type_is t is) ∙ none) ∙ p))
 
-        given_owner_does : (is_owner (type_of a u.ty) || (is_view (type_of a u.ty) || is_span texts so_far (type_of a u.ty))) ≡ true → IsOwning a v.visible types texts so_far fs f setting (whole_form e) → IsVariableType so_far a.program.types u.ty → Born (GivenThis e he behind (type_of a u.ty))
-        given_owner_does p from (a_value t is w) = refused t is (by_values (λ t. (is_owner t || (is_view t || is_span texts so_far t)) ≡ false) refl refl refl refl refl t w) p
+        given_owner_does : takes_owner (type_of a u.ty) ≡ true → IsOwning a v.visible types texts fs f setting (whole_form e) → IsVariableType a.program.types u.ty → Born (GivenThis e he behind (type_of a u.ty))
+        given_owner_does p from (a_value t is w) = refused t is (by_values (λ t. takes_owner t ≡ false) refl refl refl refl refl t w) p
         given_owner_does p from (a_raw target constant is w) = refused (ty.Raw target constant) is refl p
-        given_owner_does p from (a_reference target constant is w) = refused (ty.Reference target constant) is refl p
-        given_owner_does p from (a_view is) = as_type ty.View is (string_view_does e he behind (owning_owner a v.visible types texts so_far fs f setting (whole_form e) from) is (as_given ty.View is))
-        given_owner_does p from (a_walker so (ty.Iterator item constant) is w) = refused (ty.Iterator item constant) is refl p
-        given_owner_does p from (a_walker so (ty.Span item constant) is w) = as_type (ty.Span item constant) is (span_does e he behind (owning_owner a v.visible types texts so_far fs f setting (whole_form e) from) item constant w is (as_given (ty.Span item constant) is))
-        given_owner_does p from (a_walker so _ is w) = absurd (false≢true w)
-        given_owner_does p (stands_there from) (an_owner so t is o) = as_type t is (copied_does e he behind from t is o (as_given t is))
-        given_owner_does p (is_made from) (an_owner so t is o) = as_type t is (made_does e he behind t is o (as_given t is) from)
+        given_owner_does p from (a_reference target constant is w) = absurd (value_reference_refused a v.visible types texts fs f setting (whole_form e) target constant w (as_given (ty.Reference target constant) is) from)
+        given_owner_does p from (an_alias target constant is o) =
+            as_type (ty.Reference target constant) is
+            (alias_does e behind target constant is o (owning_aliased a v.visible types texts fs f setting (whole_form e) target constant o (as_given (ty.Reference target constant) is) from))
+        given_owner_does p from (a_view is) = as_type ty.View is (string_view_does e he behind (owning_owner a v.visible types texts fs f setting (whole_form e) from) is (as_given ty.View is))
+        given_owner_does p from (a_walker (ty.Iterator item constant) is w) = refused (ty.Iterator item constant) is refl p
+        given_owner_does p from (a_walker (ty.Span item constant) is w) = as_type (ty.Span item constant) is (span_does e he behind (owning_owner a v.visible types texts fs f setting (whole_form e) from) item constant w is (as_given (ty.Span item constant) is))
+        given_owner_does p from (a_walker _ is w) = absurd (false≢true w)
+        given_owner_does p (stands_there from) (an_owner t is o) = as_type t is (copied_does e he behind from t is o (as_given t is))
+        given_owner_does p (is_made from) (an_owner t is o) = as_type t is (made_does e he behind t is o (as_given t is) from)
 
         no_walker : (t : Ty) → slice_get a.program.types.types u.ty.0 ≡ Some t → is_walker t ≡ false → is_walker (type_of a u.ty) ≡ true → Born (GivenThis e he behind (type_of a u.ty))
         no_walker t is none p = absurd (false≢true (sym (ap is_walker (type_is t is) ∙ none) ∙ p))
 
-        given_walker_does : is_walker (type_of a u.ty) ≡ true → IsWalker a v.visible types texts so_far fs f setting (whole_form e) → IsVariableType so_far a.program.types u.ty → Born (GivenThis e he behind (type_of a u.ty))
+        given_walker_does : is_walker (type_of a u.ty) ≡ true → IsWalker a v.visible types texts fs f setting (whole_form e) → IsVariableType a.program.types u.ty → Born (GivenThis e he behind (type_of a u.ty))
         given_walker_does p from (a_value t is w) = no_walker t is (by_values (λ t. is_walker t ≡ false) refl refl refl refl refl t w) p
         given_walker_does p from (a_raw target constant is w) = no_walker (ty.Raw target constant) is refl p
         given_walker_does p from (a_reference target constant is w) = no_walker (ty.Reference target constant) is refl p
+        given_walker_does p from (an_alias target constant is o) = no_walker (ty.Reference target constant) is refl p
         given_walker_does p from (a_view is) = no_walker ty.View is refl p
-        given_walker_does p from (an_owner so ty.Text is o) = no_walker ty.Text is refl p
-        given_walker_does p from (an_owner so (ty.Vector item) is o) = no_walker (ty.Vector item) is refl p
-        given_walker_does p from (an_owner so _ is o) = absurd (false≢true o)
-        given_walker_does p from (a_walker so t is w) = as_type t is (walker_does e he behind from t is w (as_given t is))
+        given_walker_does p from (an_owner ty.Text is o) = no_walker ty.Text is refl p
+        given_walker_does p from (an_owner (ty.Vector item) is o) = no_walker (ty.Vector item) is refl p
+        given_walker_does p from (an_owner _ is o) = absurd (false≢true o)
+        given_walker_does p from (a_walker t is w) = as_type t is (walker_does e he behind from t is w (as_given t is))
 
-        no_literal : (t : Ty) → slice_get a.program.types.types u.ty.0 ≡ Some t → is_owner t ≡ false → is_owner (type_of a u.ty) ≡ true → Born (GivenThis e he behind (type_of a u.ty))
-        no_literal t is none p = absurd (false≢true (sym (ap is_owner (type_is t is) ∙ none) ∙ p))
+        no_literal : (t : Ty) → slice_get a.program.types.types u.ty.0 ≡ Some t → owns_elements t ≡ false → owns_elements (type_of a u.ty) ≡ true → Born (GivenThis e he behind (type_of a u.ty))
+        no_literal t is none p = absurd (false≢true (sym (ap owns_elements (type_is t is) ∙ none) ∙ p))
 
-        given_literal_does : is_owner (type_of a u.ty) ≡ true → so_far ≡ false → (form : Form) → e.form ≡ form → is_text_there texts so_far form ≡ true → Whole e → IsVariableType so_far a.program.types u.ty → Born (GivenThis e he behind (type_of a u.ty))
-        given_literal_does p wide (text n) same few made (a_value t is w) = no_literal t is (by_values (λ t. is_owner t ≡ false) refl refl refl refl refl t w) p
-        given_literal_does p wide (text n) same few made (a_raw target constant is w) = no_literal (ty.Raw target constant) is refl p
-        given_literal_does p wide (text n) same few made (a_reference target constant is w) = no_literal (ty.Reference target constant) is refl p
-        given_literal_does p wide (text n) same few made (a_view is) = no_literal ty.View is refl p
-        given_literal_does p wide (text n) same few made (a_walker so t is w) = no_literal t is (walker_is a.program.types t w).owner p
-        given_literal_does p wide (text n) same few made (an_owner so t is o) =
+        given_literal_does : owns_elements (type_of a u.ty) ≡ true → (form : Form) → e.form ≡ form → is_text_there texts form ≡ true → Whole e → IsVariableType a.program.types u.ty → Born (GivenThis e he behind (type_of a u.ty))
+        given_literal_does p (text n) same few made (a_value t is w) = no_literal t is (by_values (λ t. owns_elements t ≡ false) refl refl refl refl refl t w) p
+        given_literal_does p (text n) same few made (a_raw target constant is w) = no_literal (ty.Raw target constant) is refl p
+        given_literal_does p (text n) same few made (a_reference target constant is w) = no_literal (ty.Reference target constant) is refl p
+        given_literal_does p (text n) same few made (an_alias target constant is o) = no_literal (ty.Reference target constant) is refl p
+        given_literal_does p (text n) same few made (a_view is) = no_literal ty.View is refl p
+        given_literal_does p (text n) same few made (a_walker t is w) = no_literal t is (walker_is a.program.types t w).owner p
+        given_literal_does p (text n) same few made (an_owner t is o) =
             let told : IsMadeOf a.program a.function.locals v.visible e (text n) = subst (IsMadeOf a.program a.function.locals v.visible e) same made in
             string_only t is o (subst (λ (x : ExprType). fits_at_all (fits a.program.types t x e.category) ≡ true) told.0 (as_given t is)) told.1
           where
             string_only : (t : Ty) → slice_get a.program.types.types u.ty.0 ≡ Some t → is_owner_of_values a.program.types t ≡ true → fits_at_all (fits a.program.types t TextLiteral e.category) ≡ true → e.category ≡ category.Value → Born (GivenThis e he behind (type_of a u.ty))
-            string_only ty.Text is o fits held = as_type ty.Text is (literal_does e he behind n same few wide is held)
+            string_only ty.Text is o fits held = as_type ty.Text is (literal_does e he behind n same few is held)
             string_only (ty.Vector item) is o fits held = absurd (false≢true fits)
             string_only _ is o fits held = absurd (false≢true o)
-        given_literal_does p wide _ same few made kind = absurd (false≢true few)
+        given_literal_does p _ same few made kind = absurd (false≢true few)
 
-    -- ---- any variable
+    -- ---- built variable
 
     -- a view or a span sees nothing
     empty_does : (t : Ty) → is_range t ≡ true → is_location t ≡ true → slice_get a.program.types.types u.ty.0 ≡ Some t → Born (empty (home a u) s).state
     empty_does t range loc is =
-        filled_does u.place (gives tt s) (nothing types texts so_far fs f) (λ x l. Aim l Empty) (leaf_part types texts so_far fs f tt s (nothing types texts so_far fs f) (λ b. tt) (λ b k alive. tt))
+        filled_does u.place (gives tt s) (nothing types texts fs f) (λ x l. Aim l Empty) (leaf_part types texts fs f tt s (nothing types texts fs f) (λ b. tt) (λ b k alive. tt))
         (λ b q. record {
           given = refl;
-          formed = ap is_range (location_declared a types texts so_far fs f setting.front u s b t loc is).typed ∙ range;
-          served = λ so. refl;
+          formed = ap is_range (location_declared a types texts fs f setting.front u s b t loc is).typed ∙ range;
+          served = refl;
         })
         (λ b k q blank. record { ready = refl; after = refl })
 
     default_does : default_fault (type_of a u.ty) ≡ None → Born (default_to (type_of a u.ty) (home a u) s).state
-    default_does none = go (variable_type so_far a.program.types u.ty built)
+    default_does none = go (variable_type a.program.types u.ty built)
       where
         as_type : (t : Ty) → slice_get a.program.types.types u.ty.0 ≡ Some t → Born (default_to t (home a u) s).state → Born (default_to (type_of a u.ty) (home a u) s).state
         as_type t is born = subst (λ (x : Ty). Born (default_to x (home a u) s).state) (sym (type_is t is)) born
@@ -492,71 +521,71 @@ module _ (a : Around) (types : Types) (texts : ℕ) (so_far : Bool) (fs : List F
         owner_default (ty.Vector element) o = refl
         owner_default _ o = absurd (false≢true o)
 
-        go : IsVariableType so_far a.program.types u.ty → Born (default_to (type_of a u.ty) (home a u) s).state
+        go : IsVariableType a.program.types u.ty → Born (default_to (type_of a u.ty) (home a u) s).state
         go (a_value t is w) =
             as_type t is
             (subst (λ (g : Gives ℕ). Born g.state) (sym (by_values (λ x. default_to x (home a u) s ≡ live (home a u) s) refl refl refl refl refl t w))
-            (live_does (λ b. value_lives a types texts so_far fs f setting.front u s b (ap is_value (type_is t is) ∙ w)) (λ b so. value_born t is w s (grows_none s) b)))
+            (live_does (λ b. value_lives a types texts fs f setting.front u s b (ap is_value (type_is t is) ∙ w))))
         go (a_raw target constant is w) =
             as_type (ty.Raw target constant) is
-            (live_does (λ b. raw_lives a types texts so_far fs f setting.front u s b target constant is)
-            (λ b so. ap is_served_birth (new_sort types f a setting.front v u (variable_local a u) (its_local a u) s h at any b (ty.Raw target constant) is)))
+            (live_does (λ b. raw_lives a types texts fs f setting.front u s b target constant is))
         go (a_view is) = as_type ty.View is (empty_does ty.View refl refl is)
-        go (a_walker wide (ty.Iterator target constant) is w) =
+        go (a_walker (ty.Iterator target constant) is w) =
             as_type (ty.Iterator target constant) is
-            (live_does (λ b. location_lives a types texts so_far fs f setting.front u s b (ty.Iterator target constant) refl refl refl is) (λ b so. absurd (false≢true (sym wide ∙ so))))
-        go (a_walker wide (ty.Span target constant) is w) = as_type (ty.Span target constant) is (empty_does (ty.Span target constant) refl refl is)
-        go (a_walker wide _ is w) = absurd (false≢true w)
-        go (an_owner wide t is o) =
+            (live_does (λ b. location_lives a types texts fs f setting.front u s b (ty.Iterator target constant) refl refl refl is))
+        go (a_walker (ty.Span target constant) is w) = as_type (ty.Span target constant) is (empty_does (ty.Span target constant) refl refl is)
+        go (a_walker _ is w) = absurd (false≢true w)
+        go (an_owner t is o) =
             as_type t is
             (subst (λ (g : Gives ℕ). Born g.state) (sym (owner_default t o))
-            (live_does (λ b. owner_lives a types texts so_far fs f setting.front u s b t is o) (λ b so. absurd (false≢true (sym wide ∙ so)))))
+            (live_does (λ b. owner_lives a types texts fs f setting.front u s b t is o)))
         go (a_reference target constant is w) = absurd (none_some (sym (subst (λ (t : Ty). default_fault t ≡ None) (type_is (ty.Reference target constant) is) none)))
+        go (an_alias target constant is o) = absurd (none_some (sym (subst (λ (t : Ty). default_fault t ≡ None) (type_is (ty.Reference target constant) is) none)))
 
     -- ---- a list of elements
 
     abbrev ListGiven : ListForm → Place → Form → Ty → State
     ListGiven list behind es t = (initialised a (listed a (built_type a t) list.opening (all_uses a es) list.delimiters) t behind (home a u) s).state
 
-    listed_does : (list : ListForm) (behind : Place) → is_reached_list texts so_far (type_of a u.ty) list ≡ true → IsInitialised a.program a.function.locals a.function.result v.visible (Some u) (Some (several list)) → Born (given_initial a u (Some (several list)) behind s)
+    listed_does : (list : ListForm) (behind : Place) → (is_vector (type_of a u.ty) && are_served_elements texts (forms list.elements)) ≡ true → IsInitialised a.program a.function.locals a.function.result v.visible (Some u) (Some (several list)) → Born (given_initial a u (Some (several list)) behind s)
     listed_does list behind b i =
-        let one = and_parts (is_vector texts so_far (type_of a u.ty)) (not so_far && is_reached_form texts so_far (forms list.elements)) b in
-        let two = and_parts (not so_far) (is_reached_form texts so_far (forms list.elements)) one.1 in
-        go (wholes a v.visible types texts so_far fs f setting (forms list.elements) two.1 i.1) one.0 (variable_type so_far a.program.types u.ty built)
+        let one = and_parts (is_vector (type_of a u.ty)) (are_served_elements texts (forms list.elements)) b in
+        go (givings a v.visible types texts fs f setting (forms list.elements) one.1 i.1) one.0 (variable_type a.program.types u.ty built)
       where
-        no_vector : (t : Ty) → slice_get a.program.types.types u.ty.0 ≡ Some t → is_vector texts so_far t ≡ false → is_vector texts so_far (type_of a u.ty) ≡ true → Born (ListGiven list behind (forms list.elements) (type_of a u.ty))
-        no_vector t is none p = absurd (false≢true (sym (ap (is_vector texts so_far) (type_is t is) ∙ none) ∙ p))
+        no_vector : (t : Ty) → slice_get a.program.types.types u.ty.0 ≡ Some t → is_vector t ≡ false → is_vector (type_of a u.ty) ≡ true → Born (ListGiven list behind (forms list.elements) (type_of a u.ty))
+        no_vector t is none p = absurd (false≢true (sym (ap is_vector (type_is t is) ∙ none) ∙ p))
 
-        go : AreWhole a v.visible types texts so_far fs f setting (forms list.elements) → is_vector texts so_far (type_of a u.ty) ≡ true → IsVariableType so_far a.program.types u.ty → Born (ListGiven list behind (forms list.elements) (type_of a u.ty))
-        go whole p (a_value t is w) = no_vector t is (by_values (λ t. is_vector texts so_far t ≡ false) refl refl refl refl refl t w) p
-        go whole p (a_raw target constant is w) = no_vector (ty.Raw target constant) is refl p
-        go whole p (a_reference target constant is w) = no_vector (ty.Reference target constant) is refl p
-        go whole p (a_view is) = no_vector ty.View is refl p
-        go whole p (a_walker so (ty.Iterator item constant) is w) = no_vector (ty.Iterator item constant) is refl p
-        go whole p (a_walker so (ty.Span item constant) is w) = no_vector (ty.Span item constant) is refl p
-        go whole p (a_walker so _ is w) = absurd (false≢true w)
-        go whole p (an_owner so ty.Text is o) = no_vector ty.Text is refl p
-        go whole p (an_owner so (ty.Vector item) is o) =
+        go : AreGiving a v.visible types texts fs f setting (forms list.elements) → is_vector (type_of a u.ty) ≡ true → IsVariableType a.program.types u.ty → Born (ListGiven list behind (forms list.elements) (type_of a u.ty))
+        go given p (a_value t is w) = no_vector t is (by_values (λ t. is_vector t ≡ false) refl refl refl refl refl t w) p
+        go given p (a_raw target constant is w) = no_vector (ty.Raw target constant) is refl p
+        go given p (a_reference target constant is w) = no_vector (ty.Reference target constant) is refl p
+        go given p (an_alias target constant is o) = no_vector (ty.Reference target constant) is refl p
+        go given p (a_view is) = no_vector ty.View is refl p
+        go given p (a_walker (ty.Iterator item constant) is w) = no_vector (ty.Iterator item constant) is refl p
+        go given p (a_walker (ty.Span item constant) is w) = no_vector (ty.Span item constant) is refl p
+        go given p (a_walker _ is w) = absurd (false≢true w)
+        go given p (an_owner ty.Text is o) = no_vector ty.Text is refl p
+        go given p (an_owner (ty.Vector item) is o) =
             subst (λ (t : Ty). Born (ListGiven list behind (forms list.elements) t)) (sym (type_is (ty.Vector item) is))
-            (builds_does (ty.Vector item) is o (gives (list_object a (ty.Vector item) list.opening (all_uses a (forms list.elements)) list.delimiters) s) so
-            (list_builds a v.visible types texts so_far fs f setting item o so list.opening (forms list.elements) list.delimiters s whole (subst (λ (t : Ty). is_listed a.program.types t (forms list.elements) ≡ true) (type_is (ty.Vector item) is) i.0)))
-        go whole p (an_owner so _ is o) = absurd (false≢true o)
+            (builds_does (ty.Vector item) is o (gives (list_object a (ty.Vector item) list.opening (all_uses a (forms list.elements)) list.delimiters) s)
+            (list_builds a v.visible types texts fs f setting item o list.opening (forms list.elements) list.delimiters s given (subst (λ (t : Ty). is_listed a.program.types t (forms list.elements) ≡ true) (type_is (ty.Vector item) is) i.0)))
+        go given p (an_owner _ is o) = absurd (false≢true o)
 
-    initial_does : (initial : Option InitialForm) (behind : Place) → is_reached_initial texts so_far (type_of a u.ty) initial ≡ true → IsInitialised a.program a.function.locals a.function.result v.visible (Some u) initial → Born (given_initial a u initial behind s)
+    initial_does : (initial : Option InitialForm) (behind : Place) → is_served_initial texts (type_of a u.ty) initial ≡ true → IsInitialised a.program a.function.locals a.function.result v.visible (Some u) initial → Born (given_initial a u initial behind s)
     initial_does None behind b i = default_does i
     initial_does (Some (one e)) behind b i =
-        elim (or_cases ((so_far || not (is_owner (type_of a u.ty) || is_walker (type_of a u.ty))) && is_reached_expression texts so_far e) (is_reached_owned texts so_far (type_of a u.ty) e) b) [
-          | inl value ↦ let parts = and_parts (so_far || not (is_owner (type_of a u.ty) || is_walker (type_of a u.ty))) (is_reached_expression texts so_far e) value in one_does e parts.1 i.1 behind parts.0 i.0
+        elim (or_cases (not (owns_elements (type_of a u.ty) || is_walker (type_of a u.ty)) && is_served_expression texts e) (is_served_owned texts (type_of a u.ty) e) b) [
+          | inl value ↦ let parts = and_parts (not (owns_elements (type_of a u.ty) || is_walker (type_of a u.ty))) (is_served_expression texts e) value in one_does e parts.1 i.1 behind parts.0 i.0
           | inr owned ↦ owned_does e i.1 behind owned i.0
         ]
     initial_does (Some (several list)) behind b i = listed_does list behind b i
 
-  pub declaration_does : (d : DeclarationForm) (behind : Place) (s : State) → Follows types f a v s → is_reached_declaration texts so_far a.program.types a.function.locals d ≡ true → IsDeclaration a.program a.function.locals a.function.result d v
-      → Does types texts so_far fs f a (with_next v) in_loop s (declared a d behind s)
+  pub declaration_does : (d : DeclarationForm) (behind : Place) (s : State) → Follows types f a v s → is_served_declaration texts a.program.types a.function.locals d ≡ true → IsDeclaration a.program a.function.locals a.function.result d v
+      → Does types texts fs f a (with_next v) in_loop s (declared a d behind s)
   declaration_does d behind s h b here = go (slice_get a.function.locals d.local) refl b here.1
     where
-      go : (o : Option TypedLocal) → slice_get a.function.locals d.local ≡ o → is_reached_declared texts so_far a.program.types o d.value ≡ true → IsInitialised a.program a.function.locals a.function.result v.visible o d.value
-          → Does types texts so_far fs f a (with_next v) in_loop s (end_pending (length s.pending) behind (declared_as a o d.value behind s))
+      go : (o : Option TypedLocal) → slice_get a.function.locals d.local ≡ o → is_served_declared texts a.program.types o d.value ≡ true → IsInitialised a.program a.function.locals a.function.result v.visible o d.value
+          → Does types texts fs f a (with_next v) in_loop s (end_pending (length s.pending) behind (declared_as a o d.value behind s))
       go None at b i = absurd i
       go (Some u) at b i =
-          initial_does u s h (sym (ap (slice_get a.function.locals) here.0) ∙ at) (variable_built so_far a.program.types a.function.locals d.local u setting.variables at) behind d.value behind b i
+          initial_does u s h (sym (ap (slice_get a.function.locals) here.0) ∙ at) (variable_built a.program.types a.function.locals d.local u setting.variables at) behind d.value behind b i

@@ -1,20 +1,18 @@
 -- What a declaration adds: the next variable, which is visible and lives from here on.
-use Rattle.std.proofs.Common.{◌≡◌, ◌<◌, ◌⊎◌, inl, inr, ℕ, Bool, true, false, List, [], ◌∷◌, ◌++◌, Contains, length, slice_get, slice_set, take, Option, Some, None, refl, sym, ap, ◌∙◌, subst, unwrap_or, arith, length-append, append_assoc}
+use Rattle.std.proofs.Common.{◌≡◌, ◌<◌, ◌⊎◌, inl, inr, ℕ, Bool, true, List, [], ◌∷◌, ◌++◌, Contains, length, slice_get, slice_set, take, Option, Some, None, refl, sym, ap, ◌∙◌, subst, unwrap_or, arith, length-append, append_assoc}
 use Rattle.std.proofs.lemmas.Bool.{or_left, or_right}
 use Rattle.std.proofs.lemmas.List.Elements.{Contains-append_left, Contains-push, Contains-push_cases}
 use Rattle.std.proofs.lemmas.Option.{same_Some, slice_get_within}
-use Rattle.life_types.specs.TypeTests.{is_pointer, is_value}
+use Rattle.life_served.specs.Served.{is_served_variable, is_target}
+use Rattle.life_types.specs.TypeTests.{is_pointer}
 use Rattle.life_types.specs.Types.{Types, class, class_at}
 use Rattle.life_types.specs.declared.ty.Ty.{Ty}
 use Rattle.life_types.specs.declared.ty.Ty.TheVariants as ty
 use Rattle.life_types.specs.declared.ty.TyId.{TyId}
-use Rattle.life_elab_laws.specs.Reached.{is_reached_variable}
 use Rattle.life_typed.specs.declared.typed_program.TypedLocal.{TypedLocal}
 use Rattle.life_core.specs.Function.{Function}
-use Rattle.life_core.specs.Holdings.{held_by, held_if, sort_of}
 use Rattle.life_core.specs.Tree.{Tree, trees}
 use Rattle.life_core.specs.declared.program.Local.{Local}
-use Rattle.life_core.specs.declared.program.LocalKind.{LocalKind}
 use Rattle.life_core.specs.declared.program.LocalKind.TheVariants.{Object}
 use Rattle.life_proper.specs.Placed.{object_at}
 use Rattle.life_proper.specs.Placed as placed
@@ -26,23 +24,26 @@ use Rattle.life_well_typed.specs.Visible.{Visible, with_next}
 use Rattle.life_writer.specs.Around.{Around, result_local}
 use Rattle.life_writer.specs.Variables.{kind, variable, variable_local, with_variable, end_pending}
 use Rattle.life_writer.specs.Writing.{State, Gives, with_code}
-use Rattle.life_elab_laws.proofs.Among.{Among, among_either, among_left, among_right, ascend_more, all_among}
+use Rattle.life_elab_laws.proofs.Among.{Among, among_either, among_left, among_right, among_take, ascend_more, all_among}
 use Rattle.life_elab_laws.proofs.Doing.{Acting, Does}
 use Rattle.life_elab_laws.proofs.Exits.{Knows, Leaves, leaves_falling, leaves_may, knows_same}
 use Rattle.life_elab_laws.proofs.Falling.{Falls, falls_append}
 use Rattle.life_elab_laws.proofs.Following.{Adds, Follows, IsLiving, may_end, adds_then, follows_below, knows_alive, same_variable, alive_knows, settled, follows_settled, adds_settled}
-use Rattle.life_elab_laws.proofs.FormedVariables.{reference_there, type_later}
+use Rattle.life_elab_laws.proofs.FormedVariables.{reference_there}
 use Rattle.life_elab_laws.proofs.Fronts.{IsFront, front_append, front_itself, front_then, last_there}
 use Rattle.life_elab_laws.proofs.GivingBack.{fine_known}
-use Rattle.life_elab_laws.proofs.Growing.{Begins}
+use Rattle.life_elab_laws.proofs.GivenApart.{Apart, AreApart, IsBelow, codes_apart, none_apart, one_more, then_opens}
+use Rattle.life_elab_laws.proofs.Growing.{Begins, begins_before}
+use Rattle.life_elab_laws.proofs.Making.{Alive}
+use Rattle.life_elab_laws.proofs.SomeKnown.{some_known, some_knows}
 use Rattle.life_elab_laws.proofs.Knowledge.{at_set, beside_set, set_length, ready_set}
 use Rattle.life_elab_laws.proofs.Gifts.{Gift, nothing}
 use Rattle.life_elab_laws.proofs.OperandsThere.{object_there, type_there}
 use Rattle.life_elab_laws.proofs.Parts.{Makes, Runs}
-use Rattle.life_elab_laws.proofs.Shaped.{named_lasts}
+use Rattle.life_elab_laws.proofs.Shaped.{named_lasts, target_there}
 use Rattle.life_elab_laws.proofs.Shaping.{IsFine, fine_append}
 use Rattle.life_elab_laws.proofs.Types.{value_kind}
-use Rattle.life_elab_laws.proofs.VariablePlaces.{IsVariableAt, IsVariableType, a_raw, a_reference, a_value, a_view, an_owner, owner_kind, variable_type, a_walker, walker_is}
+use Rattle.life_elab_laws.proofs.VariablePlaces.{IsVariableAt, IsVariableType, a_raw, a_reference, a_value, a_view, an_owner, owner_kind, variable_type, a_walker, walker_is, an_alias}
 use Rattle.life_elab_laws.proofs.WrittenLocals.{IsLocalOf, locals_added, own_added}
 use Rattle.life_elab_laws.proofs.PendingTemporaries.{none_pending}
 use Rattle.life_elab_laws.proofs.EndedTemporaries.{ending, ends_alive, ends_apart, ends_below, ends_pending, ends_temporary}
@@ -52,6 +53,8 @@ use Rattle.life_elab_laws.proofs.TemporaryEnds.{TemporariesEnd}
 use Rattle.life_proper.specs.WellFormed.{can_end}
 use Rattle.life_proper.specs.ReadyKnown.{can_leave}
 use Rattle.life_types.specs.declared.place.Place.{Place}
+use Rattle.life_elab_laws.proofs.Targets.{owner_target, value_target}
+use Rattle.life_typed.specs.BaseTypes.{type_at}
 
 take_before : (xs ys : List ℕ) → take (length xs) (xs ++ ys) ≡ xs
 take_before [] ys = refl
@@ -65,7 +68,7 @@ abbrev pub with_new : Local → State → State
 with_new l s = (with_variable l s).state
 
 module _ (types : Types) (f : Function) (a : Around) (front : IsFront a.program.types.types types.types) where
-  module _ (v : Visible) (u : TypedLocal) (l : Local) (of : IsLocalOf a u l) (s : State) (h : Follows types f a v s) (at : slice_get a.function.locals v.declared ≡ Some u) (built : is_reached_variable false a.program.types u.ty ≡ true) where
+  module _ (v : Visible) (u : TypedLocal) (l : Local) (of : IsLocalOf a u l) (s : State) (h : Follows types f a v s) (at : slice_get a.function.locals v.declared ≡ Some u) (built : is_served_variable a.program.types u.ty ≡ true) where
     pub new_at : slice_get (with_new l s).locals (length s.locals) ≡ Some l
     new_at = last_there s.locals l
 
@@ -77,19 +80,10 @@ module _ (types : Types) (f : Function) (a : Around) (front : IsFront a.program.
     pub new_below : Begins types f (with_new l s) → length s.locals < length f.locals
     new_below b = slice_get_within f.locals (length s.locals) l (b.locals (length s.locals) l new_at)
 
-    -- ---- what it holds
-
-    pub new_sort : Begins types f (with_new l s) → (t : Ty) → slice_get a.program.types.types u.ty.0 ≡ Some t
-        → sort_of types f (length s.locals) ≡ held_if (class (Some t)) (kind (class (Some t))) (Some t)
-    new_sort b t is =
-        ap (held_by types) (b.locals (length s.locals) l new_at)
-        ∙ ap (λ (i : TyId). held_if (class (slice_get types.types i.0)) l.kind (slice_get types.types i.0)) of.typed
-        ∙ ap (λ (o : Option Ty). held_if (class o) l.kind o) (front u.ty.0 t is)
-        ∙ ap (λ (k : LocalKind). held_if (class (Some t)) k (Some t)) of.kind
-        ∙ ap (λ (o : Option Ty). held_if (class (Some t)) (kind (class o)) (Some t)) is
+    -- ---- it may end
 
     pub new_ends : Begins types f (with_new l s) → may_end types f (length s.locals) ≡ true
-    new_ends b = go (variable_type false a.program.types u.ty built)
+    new_ends b = go (variable_type a.program.types u.ty built)
       where
         there : slice_get f.locals (length s.locals) ≡ Some l
         there = b.locals (length s.locals) l new_at
@@ -106,15 +100,19 @@ module _ (types : Types) (f : Function) (a : Around) (front : IsFront a.program.
         pointer : (t : Ty) → placed.type_at types f (length s.locals) ≡ t → is_pointer t ≡ true → may_end types f (length s.locals) ≡ true
         pointer t at p = or_right (object_at types f (length s.locals)) _ (ap is_pointer at ∙ p)
 
-        go : IsVariableType false a.program.types u.ty → may_end types f (length s.locals) ≡ true
+        refers : (target : TyId) (constant : Bool) → slice_get a.program.types.types u.ty.0 ≡ Some (ty.Reference target constant) → is_target a.program.types (type_at a.program.types target) ≡ true → may_end types f (length s.locals) ≡ true
+        refers target constant is h =
+            pointer (ty.Reference target constant)
+            (reference_there types f (length s.locals) l target constant there (typed (ty.Reference target constant) is) (target_there a.program.types types front target h)) refl
+
+        go : IsVariableType a.program.types u.ty → may_end types f (length s.locals) ≡ true
         go (a_value t is e) = object t is (value_kind t e)
-        go (an_owner so t is o) = object t is (owner_kind a.program.types t o)
-        go (a_walker so t is w) = pointer t (type_there types f (length s.locals) l t there (typed t is) (walker_is a.program.types t w).reference) (walker_is a.program.types t w).pointer
+        go (an_owner t is o) = object t is (owner_kind a.program.types t o)
+        go (a_walker t is w) = pointer t (type_there types f (length s.locals) l t there (typed t is) (walker_is a.program.types t w).reference) (walker_is a.program.types t w).pointer
         go (a_raw target constant is e) = pointer (ty.Raw target constant) (type_there types f (length s.locals) l (ty.Raw target constant) there (typed (ty.Raw target constant) is) refl) refl
         go (a_view is) = pointer ty.View (type_there types f (length s.locals) l ty.View there (typed ty.View is) refl) refl
-        go (a_reference target constant is e) =
-            pointer (ty.Reference target constant)
-            (reference_there types f (length s.locals) l target constant there (typed (ty.Reference target constant) is) (ap is_value (type_later a.program.types types front target e) ∙ e)) refl
+        go (a_reference target constant is e) = refers target constant is (value_target a.program.types (type_at a.program.types target) e)
+        go (an_alias target constant is o) = refers target constant is (owner_target a.program.types (type_at a.program.types target) o)
 
     -- ---- the state
 
@@ -222,15 +220,30 @@ module _ (types : Types) (f : Function) (a : Around) (front : IsFront a.program.
         alive y (inr (inl e)) = subst (λ (z : ℕ). known_at (slice_set k (length s.locals) known.Ready) z ≡ known.Ready) e (at_set k (length s.locals) known.Ready lt)
         alive y (inr (inr none)) = absurd none
 
+-- ---- it stands, and what looks at nothing but what stood before leaves what is given over alone
+
+module _ (f : Function) (l : Local) (s : State) where
+  pub new_count : length s.locals < length (with_new l s).locals
+  new_count = omega (arith, length-append s.locals (l ∷ []))
+
+  pub new_none : IsBelow s → AreApart f s (with_new l s) [] []
+  new_none = none_apart f s (with_new l s) (omega (arith, new_count)) (λ x o. one_more (length s.locals) (length (with_new l s).locals) s.living s.pending x new_count o)
+
+  pub new_then : (looked given : List ℕ) → (IsBelow s → AreApart f s s looked given) → IsBelow s → AreApart f s (with_new l s) looked given
+  new_then looked given h below =
+      then_opens f s s (with_new l s) looked given (omega (arith, new_count)) (λ x o. one_more (length s.locals) (length (with_new l s).locals) s.living s.pending x new_count o) below (h below)
+
 -- ---- the whole: what computes what it is given, the variable, and what gives it that
 
-module _ (types : Types) (texts : ℕ) (so_far : Bool) (fs : List Function) (f : Function) (a : Around) (front : IsFront a.program.types.types types.types) where
-  module _ {A : Type 0} (v : Visible) (in_loop : Bool) (can : TemporariesEnd types texts fs f) (last : Place) (u : TypedLocal) (s : State) (w : Gives A) (Q : Gift types texts so_far fs f A) (code : List Tree)
-      (h : Follows types f a v s) (at : slice_get a.function.locals v.declared ≡ Some u) (built : is_reached_variable false a.program.types u.ty ≡ true)
-      (made : Makes types texts so_far fs f None s w Q)
-      (fine : Begins types f (with_new (variable_local a u) w.state) → Q.typed w.given → IsFine types texts so_far fs f code)
+module _ (types : Types) (texts : ℕ) (fs : List Function) (f : Function) (a : Around) (front : IsFront a.program.types.types types.types) where
+  module _ {A : Type 0} (v : Visible) (in_loop : Bool) (can : TemporariesEnd types texts fs f) (last : Place) (u : TypedLocal) (s : State) (w : Gives A) (Q : Gift types texts fs f A) (code : List Tree)
+      (h : Follows types f a v s) (at : slice_get a.function.locals v.declared ≡ Some u) (built : is_served_variable a.program.types u.ty ≡ true)
+      (made : Makes types texts fs f None s w Q)
+      (fine : Begins types f (with_new (variable_local a u) w.state) → Q.typed w.given → IsFine types texts fs f code)
       (falls : Begins types f (with_new (variable_local a u) w.state) → (k : List Known) → length k ≡ length f.locals → Q.ready w.given (length w.state.locals) k → known_at k (length w.state.locals) ≡ known.Blank
-      → Falls types f code k (slice_set k (length w.state.locals) known.Ready)) where
+      → Falls types f code k (slice_set k (length w.state.locals) known.Ready))
+      (apart : Begins types f (with_new (variable_local a u) w.state) → Q.typed w.given → (k : List Known) → Alive f w.state k → Q.ready w.given (length w.state.locals) k → known_at k (length w.state.locals) ≡ known.Blank
+      → Apart f w.state (with_new (variable_local a u) w.state) (trees code)) where
     -- its temporaries end behind it
     abbrev there : State
     there = settled types f s w.state
@@ -248,10 +261,10 @@ module _ (types : Types) (texts : ℕ) (so_far : Bool) (fs : List Function) (f :
     x = length w.state.locals
 
     abbrev over : List ℕ
-    over = ending types texts so_far fs f s w.state made.grown h.stands.pends last
+    over = ending types texts fs f s w.state made.grown h.stands.pends last
 
-    e : IsEnded types texts so_far fs f over last done
-    e = ended types texts so_far fs f over last done
+    e : IsEnded types texts fs f over last done
+    e = ended types texts fs f over last done
 
     abbrev finished : State
     finished = record done { code = done.code ++ e.code; pending = take (length s.pending) w.state.pending }
@@ -266,28 +279,28 @@ module _ (types : Types) (texts : ℕ) (so_far : Bool) (fs : List Function) (f :
       before : Begins types f w.state
       before = begins_old types f a front v u (variable_local a u) (its_local a u) there later at built b
 
-      part : Runs types texts so_far fs f (nothing types texts so_far fs f) tt None s w Q made.code
+      part : Runs types texts fs f (nothing types texts fs f) tt None s w Q made.code
       part = made.runs before tt
 
-      ends_fine_here : IsFine types texts so_far fs f e.code
-      ends_fine_here = e.fine (all_among (can_end types texts fs f) over (λ y m. can y (ends_temporary types texts so_far fs f s w.state made.grown h.stands.pends last before y m)))
+      ends_fine_here : IsFine types texts fs f e.code
+      ends_fine_here = e.fine (all_among (can_end types texts fs f) over (λ y m. can y (ends_temporary types texts fs f s w.state made.grown h.stands.pends last before y m)))
 
-      all_fine : IsFine types texts so_far fs f whole
-      all_fine = fine_append types texts so_far fs f made.code (code ++ e.code) part.fine (fine_append types texts so_far fs f code e.code (fine b part.typed) ends_fine_here)
+      all_fine : IsFine types texts fs f whole
+      all_fine = fine_append types texts fs f made.code (code ++ e.code) part.fine (fine_append types texts fs f code e.code (fine b part.typed) ends_fine_here)
 
       -- the variable is none of them
       beside : Among x over → ⊥
-      beside m = let lt = ends_below types texts so_far fs f s w.state made.grown h.stands.pends last x m in omega (arith, lt)
+      beside m = let lt = ends_below types texts fs f s w.state made.grown h.stands.pends last x m in omega (arith, lt)
 
       went : (k : List Known) → Knows f s.living k → Leaves f in_loop (w.state.living ++ x ∷ []) (take s.outside s.living) (flow types f (trees whole) (Some k))
       went k knows =
           let g = part.goes k (knows_alive types f a v s h k knows) tt in
-          let mid : Knows f w.state.living (set_blank over g.after) = alive_knows types f there (set_blank over g.after) later.pending (ends_alive types texts so_far fs f s w.state made.grown h.stands.pends last g.after g.alive) in
+          let mid : Knows f w.state.living (set_blank over g.after) = alive_knows types f there (set_blank over g.after) later.pending (ends_alive types texts fs f s w.state made.grown h.stands.pends last g.after g.alive) in
           let blank : known_at g.after x ≡ known.Blank = sym (blank_beside over g.after x beside) ∙ blank_new types f a front v u (variable_local a u) (its_local a u) there later at built b (set_blank over g.after) mid in
           let lt : x < length g.after = omega (arith, g.alive.sized, new_below types f a front v u (variable_local a u) (its_local a u) there later at built b) in
           let j : List Known = slice_set g.after x known.Ready in
           let ready : can_leave j over ≡ true =
-          ends_there over j (ends_apart types texts so_far fs f s w.state made.grown h.stands.pends last) (λ y m. ready_set g.after x y lt (g.alive.pending y (ends_pending types texts so_far fs f s w.state made.grown h.stands.pends last y m))) in
+          ends_there over j (ends_apart types texts fs f s w.state made.grown h.stands.pends last) (λ y m. ready_set g.after x y lt (g.alive.pending y (ends_pending types texts fs f s w.state made.grown h.stands.pends last y m))) in
           subst (Leaves f in_loop (w.state.living ++ x ∷ []) (take s.outside s.living))
           (sym (falls_append types f made.code (code ++ e.code) k g.after (set_blank over j) g.falls (falls_append types f code e.code g.after j (set_blank over j) (falls b g.after g.alive.sized g.gives blank) (e.falls j ready))))
           (leaves_falling f in_loop (w.state.living ++ x ∷ []) (take s.outside s.living) (set_blank over j)
@@ -296,25 +309,38 @@ module _ (types : Types) (texts : ℕ) (so_far : Bool) (fs : List Function) (f :
           (λ y. blank_set over g.after x y lt beside)
           (knows_new types f a front v u (variable_local a u) (its_local a u) there later at built b (set_blank over g.after) mid)))
 
-      acting : Acting types texts so_far fs f in_loop s finished whole
+      known_apart : (k : List Known) → Knows f s.living k → Apart f s finished (trees whole)
+      known_apart k knows =
+          let g = part.goes k (knows_alive types f a v s h k knows) tt in
+          let mid : Knows f w.state.living (set_blank over g.after) = alive_knows types f there (set_blank over g.after) later.pending (ends_alive types texts fs f s w.state made.grown h.stands.pends last g.after g.alive) in
+          let blank : known_at g.after x ≡ known.Blank = sym (blank_beside over g.after x beside) ∙ blank_new types f a front v u (variable_local a u) (its_local a u) there later at built b (set_blank over g.after) mid in
+          codes_apart f s w.state finished made.code (code ++ e.code) g.apart
+          (codes_apart f w.state (with_new (variable_local a u) w.state) finished code e.code (apart b part.typed g.after g.alive g.gives blank)
+          (e.apart (with_new (variable_local a u) w.state) finished (omega arith) (λ y o. elim o [ inl m ↦ inl (inl m) | inr m ↦ inl (inr (among_take (length s.pending) w.state.pending y m)) ])))
+
+      first_begins : Begins types f s
+      first_begins = begins_before types f s w.state made.grown before
+
+      acting : Acting types texts fs f in_loop s finished whole
       acting = record {
         stated = all_fine.stated in_loop;
         ways = leaves_may types f in_loop s.living (w.state.living ++ x ∷ []) (take s.outside s.living) (trees whole) went;
+        apart = known_apart (some_known types f a v s h first_begins) (some_knows types f a v s h first_begins);
       }
 
-    finished_does : Does types texts so_far fs f a (with_next v) in_loop s finished
+    finished_does : Does types texts fs f a (with_next v) in_loop s finished
     finished_does = record {
       adds = adds;
       locals = λ are.
-          own_added so_far types a w.state (variable_local a u) (record { number = v.declared; variable = u; there = at; of = its_local a u })
-          (locals_added so_far types a s w.state made.grown.types made.registers are);
+          own_added types a w.state (variable_local a u) (record { number = v.declared; variable = u; there = at; of = its_local a u })
+          (locals_added types a s w.state made.grown.types made.registers are);
       order = made.registers.1;
       follows = follows_new types f a front v u (variable_local a u) (its_local a u) there later at built;
       code = whole;
       written = ap (λ (c : List Tree). (c ++ code) ++ e.code) made.written ∙ ap (λ (c : List Tree). c ++ e.code) (append_assoc s.code made.code code) ∙ append_assoc s.code (made.code ++ code) e.code ∙ ap (λ (c : List Tree). s.code ++ c) (append_assoc made.code code e.code);
       acts = acting;
-      returns = λ b gives o k. fine_known types f (result_local a) texts so_far fs whole (all_fine b) o;
+      returns = λ b gives o k. fine_known types f (result_local a) texts fs whole (all_fine b) o;
     }
 
-    pub declared_does : Does types texts so_far fs f a (with_next v) in_loop s (end_pending (length s.pending) last done)
-    declared_does = subst (Does types texts so_far fs f a (with_next v) in_loop s) (sym finished_is) finished_does
+    pub declared_does : Does types texts fs f a (with_next v) in_loop s (end_pending (length s.pending) last done)
+    declared_does = subst (Does types texts fs f a (with_next v) in_loop s) (sym finished_is) finished_does

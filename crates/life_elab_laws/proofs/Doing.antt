@@ -1,5 +1,5 @@
 -- What a statement writes: from knowledge between statements to such knowledge, and at each exit.
-use Rattle.std.proofs.Common.{◌≡◌, ◌≤◌, ℕ, Bool, List, [], ◌++◌, length, take, Option, Some, refl, sym, ap, ◌∙◌, subst, append_assoc, append-nil}
+use Rattle.std.proofs.Common.{◌≡◌, ◌≤◌, inl, inr, ℕ, Bool, List, [], ◌++◌, length, take, Option, Some, refl, sym, ap, ◌∙◌, subst, append_assoc, append-nil, arith}
 use Rattle.life_types.specs.Types.{Types}
 use Rattle.life_core.specs.Function.{Function}
 use Rattle.life_core.specs.Tree.{Tree, trees}
@@ -14,7 +14,10 @@ use Rattle.life_elab_laws.proofs.Exits.{Knows, Leaves, MayKnow, leaves_falling, 
 use Rattle.life_elab_laws.proofs.Falling.{Falls, falls_append, flow_append}
 use Rattle.life_elab_laws.proofs.Following.{Adds, Follows, adds_none, adds_then, begins_added, alive_knows, follows_grown, grows_adds, knows_alive, take_front, take_itself}
 use Rattle.life_elab_laws.proofs.GivingBack.{GivesResult, fine_known, known_append}
-use Rattle.life_elab_laws.proofs.Growing.{Begins, Grows}
+use Rattle.life_elab_laws.proofs.Among.{among_take}
+use Rattle.life_elab_laws.proofs.GivenApart.{Apart, codes_apart, same_apart}
+use Rattle.life_elab_laws.proofs.Growing.{Begins, Grows, begins_before}
+use Rattle.life_elab_laws.proofs.SomeKnown.{some_known, some_knows}
 use Rattle.life_elab_laws.proofs.Gifts.{Gift}
 use Rattle.life_elab_laws.proofs.Parts.{Goes, Makes}
 use Rattle.life_elab_laws.proofs.OrderedTypes.{KeepsOrder, order_none, order_then}
@@ -26,14 +29,16 @@ use Rattle.life_elab_laws.proofs.TemporaryEnds.{TemporariesEnd}
 use Rattle.life_types.specs.declared.place.Place.{Place}
 use Rattle.life_writer.specs.Variables.{end_pending}
 
-module _ (types : Types) (texts : ℕ) (so_far : Bool) (fs : List Function) (f : Function) where
+module _ (types : Types) (texts : ℕ) (fs : List Function) (f : Function) where
   pub record Acting (in_loop : Bool) (s s' : State) (code : List Tree) : Type 0 where
-    pub stated : IsStated types texts so_far fs f in_loop (trees code)
+    pub stated : IsStated types texts fs f in_loop (trees code)
     pub ways : (o : Knowing) → MayKnow f s.living o → Leaves f in_loop s'.living (take s.outside s.living) (flow types f (trees code) o)
+    -- what it gives over is new, and nothing looks at it
+    pub apart : Apart f s s' (trees code)
 
   pub record Does (a : Around) (v : Visible) (in_loop : Bool) (s s' : State) : Type 0 where
     pub adds : Adds types f s s'
-    pub locals : AreWrittenLocals so_far types a s → AreWrittenLocals so_far types a s'
+    pub locals : AreWrittenLocals types a s → AreWrittenLocals types a s'
     pub order : KeepsOrder s.types s'.types
     pub follows : Follows types f a v s'
     pub code : List Tree
@@ -63,18 +68,19 @@ module _ (types : Types) (texts : ℕ) (so_far : Bool) (fs : List Function) (f :
     follows = h;
     code = [];
     written = sym (append-nil s.code);
-    acts = λ b. record { stated = stated_none types texts so_far fs f in_loop; ways = λ o k. record { fine = refl; next = k; on_break = none_leaves f in_loop (take s.outside s.living); on_continue = none_leaves f in_loop (take s.outside s.living); on_true = refl; on_false = refl } };
+    acts = λ b. record { stated = stated_none types texts fs f in_loop; ways = λ o k. record { fine = refl; next = k; on_break = none_leaves f in_loop (take s.outside s.living); on_continue = none_leaves f in_loop (take s.outside s.living); on_true = refl; on_false = refl }; apart = same_apart f s s refl refl refl };
     returns = λ b gives o k. tt;
   }
 
   pub acts_then : (in_loop : Bool) (s t r : State) (c d : List Tree) → s.outside ≤ length s.living → Adds types f s t → Acting in_loop s t c → Acting in_loop t r d → Acting in_loop s r (c ++ d)
   acts_then in_loop s t r c d h adds p q = record {
-    stated = stated_append types texts so_far fs f in_loop c d p.stated q.stated;
+    stated = stated_append types texts fs f in_loop c d p.stated q.stated;
     ways = λ o k.
         let w = p.ways o k in
         subst (λ (x : Flow). Leaves f in_loop r.living (take s.outside s.living) x) (sym (flow_append types f c d o))
         (leaves_then f in_loop t.living r.living (take s.outside s.living) (flow types f (trees c) o) (flow types f (trees d) (flow types f (trees c) o).next) w
         (subst (λ (ys : List ℕ). Leaves f in_loop r.living ys (flow types f (trees d) (flow types f (trees c) o).next)) (outside_stays s t adds h) (q.ways (flow types f (trees c) o).next w.next)));
+    apart = codes_apart f s t r c d p.apart q.apart;
   }
 
   -- one and then another
@@ -95,26 +101,26 @@ module _ (types : Types) (texts : ℕ) (so_far : Bool) (fs : List Function) (f :
 
   -- ---- what a full expression writes, as a statement: behind it its temporaries end
 
-  module _ {A : Type 0} (a : Around) (v : Visible) (in_loop : Bool) (into : Option ℕ) (s : State) (w : Gives A) (Q : Gift types texts so_far fs f A) (h : Follows types f a v s) (can : TemporariesEnd types texts fs f) (place : Place)
-      (made : Makes types texts so_far fs f into s w Q) where
+  module _ {A : Type 0} (a : Around) (v : Visible) (in_loop : Bool) (into : Option ℕ) (s : State) (w : Gives A) (Q : Gift types texts fs f A) (h : Follows types f a v s) (can : TemporariesEnd types texts fs f) (place : Place)
+      (made : Makes types texts fs f into s w Q) where
     -- where they have ended
     abbrev pub full_state : State
-    full_state = behind types texts so_far fs f s w.state made.grown h.stands.pends place
+    full_state = behind types texts fs f s w.state made.grown h.stands.pends place
 
     abbrev ends : List Tree
-    ends = (ending_is types texts so_far fs f s w.state made.grown h.stands.pends place).code
+    ends = (ending_is types texts fs f s w.state made.grown h.stands.pends place).code
 
     abbrev pub full_code : List Tree
     full_code = made.code ++ ends
 
     abbrev pub ended_then : List Known → List Known
-    ended_then k = set_blank (ending types texts so_far fs f s w.state made.grown h.stands.pends place) k
+    ended_then k = set_blank (ending types texts fs f s w.state made.grown h.stands.pends place) k
 
     full_level : full_state.pending ≡ s.pending
-    full_level = ends_level types texts so_far fs f s w.state made.grown h.stands.pends place
+    full_level = ends_level types texts fs f s w.state made.grown h.stands.pends place
 
     full_grows : Grows s full_state
-    full_grows = behind_grows types texts so_far fs f s w.state made.grown h.stands.pends place
+    full_grows = behind_grows types texts fs f s w.state made.grown h.stands.pends place
 
     pub full_adds : Adds types f s full_state
     full_adds = grows_adds types f s full_state full_level full_grows
@@ -123,14 +129,21 @@ module _ (types : Types) (texts : ℕ) (so_far : Bool) (fs : List Function) (f :
     full_follows = follows_grown types f a v s full_state full_level full_grows h
 
     -- the same variables live
-    pub full_knows : (k : List Known) → (g : Goes types texts so_far fs f into s w Q made.code k) → Knows f w.state.living (ended_then g.after)
-    full_knows k g = alive_knows types f full_state (ended_then g.after) (full_level ∙ h.pending) (ends_alive types texts so_far fs f s w.state made.grown h.stands.pends place g.after g.alive)
+    pub full_knows : (k : List Known) → (g : Goes types texts fs f into s w Q made.code k) → Knows f w.state.living (ended_then g.after)
+    full_knows k g = alive_knows types f full_state (ended_then g.after) (full_level ∙ h.pending) (ends_alive types texts fs f s w.state made.grown h.stands.pends place g.after g.alive)
 
-    pub full_fine : Begins types f w.state → IsFine types texts so_far fs f full_code
-    full_fine b = fine_append types texts so_far fs f made.code ends (made.runs b tt).fine (ends_fine types texts so_far fs f s w.state made.grown h.stands.pends place b can)
+    pub full_fine : Begins types f w.state → IsFine types texts fs f full_code
+    full_fine b = fine_append types texts fs f made.code ends (made.runs b tt).fine (ends_fine types texts fs f s w.state made.grown h.stands.pends place b can)
 
-    pub full_falls : (k : List Known) → (g : Goes types texts so_far fs f into s w Q made.code k) → Falls types f full_code k (ended_then g.after)
-    full_falls k g = falls_append types f made.code ends k g.after (ended_then g.after) g.falls (ends_fall types texts so_far fs f s w.state made.grown h.stands.pends place g.after g.alive)
+    pub full_falls : (k : List Known) → (g : Goes types texts fs f into s w Q made.code k) → Falls types f full_code k (ended_then g.after)
+    full_falls k g = falls_append types f made.code ends k g.after (ended_then g.after) g.falls (ends_fall types texts fs f s w.state made.grown h.stands.pends place g.after g.alive)
+
+    pub full_apart : Begins types f w.state → Apart f s full_state (trees full_code)
+    full_apart b =
+        let before = begins_before types f s w.state made.grown b in
+        let g = (made.runs b tt).goes (some_known types f a v s h before) (knows_alive types f a v s h (some_known types f a v s h before) (some_knows types f a v s h before)) tt in
+        codes_apart f s w.state full_state made.code ends g.apart
+        ((ending_is types texts fs f s w.state made.grown h.stands.pends place).apart w.state full_state (omega arith) (λ x o. elim o [ inl m ↦ inl (inl m) | inr m ↦ inl (inr (among_take (length s.pending) w.state.pending x m)) ]))
 
     pub full_written : full_state.code ≡ s.code ++ full_code
     full_written = ap (λ (c : List Tree). c ++ ends) made.written ∙ append_assoc s.code made.code ends
@@ -139,6 +152,7 @@ module _ (types : Types) (texts : ℕ) (so_far : Bool) (fs : List Function) (f :
     full_acts b = record {
       stated = (full_fine b).stated in_loop;
       ways = leaves_may types f in_loop s.living w.state.living (take s.outside s.living) (trees full_code) went;
+      apart = full_apart b;
     }
       where
         went : (k : List Known) → Knows f s.living k → Leaves f in_loop w.state.living (take s.outside s.living) (flow types f (trees full_code) (Some k))
@@ -150,14 +164,14 @@ module _ (types : Types) (texts : ℕ) (so_far : Bool) (fs : List Function) (f :
     full_does : Does a v in_loop s full_state
     full_does = record {
       adds = full_adds;
-      locals = locals_added so_far types a s w.state made.grown.types made.registers;
+      locals = locals_added types a s w.state made.grown.types made.registers;
       order = made.registers.1;
       follows = full_follows;
       code = full_code;
       written = full_written;
       acts = full_acts;
-      returns = λ b gives o k. fine_known types f (result_local a) texts so_far fs full_code (full_fine b) o;
+      returns = λ b gives o k. fine_known types f (result_local a) texts fs full_code (full_fine b) o;
     }
 
     pub does_full : Does a v in_loop s (end_pending (length s.pending) place w.state)
-    does_full = subst (Does a v in_loop s) (sym (behind_is types texts so_far fs f s w.state made.grown h.stands.pends place)) full_does
+    does_full = subst (Does a v in_loop s) (sym (behind_is types texts fs f s w.state made.grown h.stands.pends place)) full_does

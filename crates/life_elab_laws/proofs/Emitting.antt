@@ -1,5 +1,5 @@
 -- A register that an instruction writes.
-use Rattle.std.proofs.Common.{◌≡◌, ◌<◌, ℕ, true, List, length, slice_get, slice_set, Option, Some, None, refl, ap, ◌∙◌, arith, Bool, inl}
+use Rattle.std.proofs.Common.{◌≡◌, ◌<◌, ℕ, true, List, length, slice_get, slice_set, Option, Some, None, refl, ap, ◌∙◌, arith, inl}
 use Rattle.std.proofs.lemmas.Option.{slice_get_within}
 use Rattle.life_types.specs.Trees.{HasPartsBelow}
 use Rattle.life_types.specs.TypeTests.{is_value}
@@ -49,24 +49,24 @@ nameless_register f r is = ap (has_kind is_register) is.there ∙ ap is_register
 pub keeps_set : (f : Function) (n : ℕ) (into : Option ℕ) (r : ℕ) (a : Known) (k : List Known) → ((y : ℕ) → y < n → IsBeside into y → r ≡ y → ⊥) → Keeps f n into k (slice_set k r a)
 keeps_set f n into r a k beside = record { sized = set_length k r a; below = λ y lt b. beside_set k r y a (beside y lt b) }
 
-module _ (so_far : Bool) (types : Types) (f : Function) where
+module _ (types : Types) (f : Function) where
   -- the register that is written, where a part has begun
   pub record Targets (into : Option ℕ) (s : State) (w : Gives ℕ) : Type 0 where
     pub grown : Grows s w.state
-    pub registers : AddsRegisters so_far types s w.state
+    pub registers : AddsRegisters types s w.state
     pub unwritten : w.state.code ≡ s.code
     pub level : w.state.pending ≡ s.pending
     pub below : w.given < length w.state.locals
     pub there : Begins types f w.state → IsNameless f w.given
     pub beside : (y : ℕ) → y < length s.locals → IsBeside into y → w.given ≡ y → ⊥
 
-  register_new : (place : Place) (t : Ty) (s : State) → fits_register so_far types t ≡ true → HasPartsBelow s.types (length s.types.types) t → AddsRegisters so_far types s (new_register place t s).state
+  register_new : (place : Place) (t : Ty) (s : State) → fits_register types t ≡ true → HasPartsBelow s.types (length s.types.types) t → AddsRegisters types s (new_register place t s).state
   register_new place t s fits below = (
-    register_pushed so_far types (new_register place t s).state.types s.locals (added place t s) (record { nameless = refl; ty = t; typed = type_added s.types.types t; fits = inl (refl, fits) }),
+    register_pushed types (new_register place t s).state.types s.locals (added place t s) (record { nameless = refl; ty = t; typed = type_added s.types.types t; fits = inl (refl, fits) }),
     type_ordered s.types t below,
   )
 
-  pub new_targeted : (place : Place) (t : Ty) (s : State) → fits_register so_far types t ≡ true → HasPartsBelow s.types (length s.types.types) t → Targets None s (new_register place t s)
+  pub new_targeted : (place : Place) (t : Ty) (s : State) → fits_register types t ≡ true → HasPartsBelow s.types (length s.types.types) t → Targets None s (new_register place t s)
   new_targeted place t s fits below = record {
     grown = register_grows place t s;
     registers = register_new place t s fits below;
@@ -81,7 +81,7 @@ module _ (so_far : Bool) (types : Types) (f : Function) where
   pub kept_targeted : (s : State) (r : ℕ) (l : Local) → slice_get s.locals r ≡ Some l → l.name ≡ None → l.kind ≡ Register → Targets (Some r) s (gives r s)
   kept_targeted s r l at nameless kind = record {
     grown = grows_none s;
-    registers = registers_none so_far types s;
+    registers = registers_none types s;
     unwritten = refl;
     level = refl;
     below = slice_get_within s.locals r l at;
@@ -90,5 +90,5 @@ module _ (so_far : Bool) (types : Types) (f : Function) where
   }
 
   pub targeted : (place : Place) (t : Ty) (s : State) (into : Option ℕ) → is_value t ≡ true → IsInto s into → Targets into s (target place into t s)
-  targeted place t s None e h = new_targeted place t s (value_fits so_far types t e) (fits_below so_far s.types s.types (omega arith) t (value_fits so_far s.types t e))
+  targeted place t s None e h = new_targeted place t s (value_fits types t e) (fits_below s.types s.types (omega arith) t (value_fits s.types t e))
   targeted place t s (Some r) e h = kept_targeted s r h.local h.there h.nameless h.kind

@@ -1,12 +1,12 @@
 -- The instruction that ends locals, where there are any.
-use Rattle.std.proofs.Common.{◌≡◌, ℕ, Bool, true, List, [], ◌∷◌, ◌++◌, refl, sym, ap, append-nil}
+use Rattle.std.proofs.Common.{◌≡◌, ◌<◌, ◌≤◌, ◌⊎◌, ℕ, true, List, [], ◌∷◌, ◌++◌, length, refl, sym, ap, append-nil}
 use Rattle.std.specs.List.{list_all}
 use Rattle.life_types.specs.Types.{Types}
 use Rattle.life_types.specs.declared.place.Place.{Place}
 use Rattle.life_core.specs.Function.{Function}
 use Rattle.life_core.specs.Step.{End}
 use Rattle.life_core.specs.Touched.{touched_by}
-use Rattle.life_core.specs.Tree.{Tree, Acts}
+use Rattle.life_core.specs.Tree.{Tree, Acts, trees}
 use Rattle.life_proper.specs.declared.known.Known.{Known}
 use Rattle.life_proper.specs.ReadyKnown.{can_leave}
 use Rattle.life_proper.specs.WellFormed.{can_end}
@@ -15,27 +15,32 @@ use Rattle.life_writer.specs.Variables.{end}
 use Rattle.life_writer.specs.Writing.{State, with_code}
 use Rattle.life_elab_laws.proofs.Ending.{set_blank}
 use Rattle.life_elab_laws.proofs.Falling.{Falls, falls_acts}
+use Rattle.life_elab_laws.proofs.GivenApart.{Apart, Open, none_apart}
 use Rattle.life_elab_laws.proofs.Shaping.{IsFine, fine_acts, fine_none}
 
-module _ (types : Types) (texts : ℕ) (so_far : Bool) (fs : List Function) (f : Function) where
+module _ (types : Types) (texts : ℕ) (fs : List Function) (f : Function) where
   pub record IsEnded (xs : List ℕ) (place : Place) (s : State) : Type 0 where
     pub code : List Tree
     pub written : end xs place s ≡ with_code (s.code ++ code) s
-    pub fine : list_all (can_end types texts fs f) xs ≡ true → IsFine types texts so_far fs f code
+    pub fine : list_all (can_end types texts fs f) xs ≡ true → IsFine types texts fs f code
     pub falls : (k : List Known) → can_leave k xs ≡ true → Falls types f code k (set_blank xs k)
+    -- it looks at nothing
+    pub apart : (s t : State) → length s.locals ≤ length t.locals → ((x : ℕ) → Open t x → Open s x ⊎ ((length s.locals ≤ x) × (x < length t.locals))) → Apart f s t (trees code)
 
   pub ended : (xs : List ℕ) (place : Place) (s : State) → IsEnded xs place s
   ended [] place s = record {
     code = [];
     written = ap (λ (c : List Tree). with_code c s) (sym (append-nil s.code));
-    fine = λ ends. fine_none types texts so_far fs f;
+    fine = λ ends. fine_none types texts fs f;
     falls = λ k ready. refl;
+    apart = none_apart f;
   }
   ended (x ∷ xs) place s = record {
     code = Acts place (End (x ∷ xs)) ∷ [];
     written = refl;
-    fine = λ ends. fine_acts types texts so_far fs f place (End (x ∷ xs)) (record { given = refl; formed = ends; served = λ so. refl });
+    fine = λ ends. fine_acts types texts fs f place (End (x ∷ xs)) (record { given = refl; formed = ends; served = refl });
     falls = λ k ready. falls_acts types f place (End (x ∷ xs)) k (all_ready k (touched_by f (End (x ∷ xs))) refl ready refl);
+    apart = none_apart f;
   }
 
   pub end_living : (xs : List ℕ) (place : Place) (s : State) → (end xs place s).living ≡ s.living

@@ -1,5 +1,5 @@
 -- The end of the temporaries that were made since a state: each is there, and behind it those that were pending before are again.
-use Rattle.std.proofs.Common.{◌≡◌, ◌<◌, ◌⊎◌, inl, inr, ℕ, Bool, false, List, ◌++◌, drop, length, reverse, slice_get, take, Some, None, sym, ap, ◌∙◌, subst, arith}
+use Rattle.std.proofs.Common.{◌≡◌, ◌<◌, ◌⊎◌, inl, inr, ℕ, false, List, ◌++◌, drop, length, reverse, slice_get, take, Some, None, sym, ap, ◌∙◌, subst, arith}
 use Rattle.std.proofs.lemmas.Option.{slice_get_within}
 use Rattle.life_types.specs.Types.{Types}
 use Rattle.life_types.specs.declared.place.Place.{Place}
@@ -23,7 +23,7 @@ use Rattle.life_elab_laws.proofs.Shaping.{IsFine}
 use Rattle.life_elab_laws.proofs.TemporaryEnds.{TemporariesEnd}
 use Rattle.life_elab_laws.proofs.Shaped.{is_passing}
 
-module _ (types : Types) (texts : ℕ) (so_far : Bool) (fs : List Function) (f : Function) (s w : State) (grown : Grows s w) (before : ArePending s) (place : Place) where
+module _ (types : Types) (texts : ℕ) (fs : List Function) (f : Function) (s w : State) (grown : Grows s w) (before : ArePending s) (place : Place) where
   abbrev n : ℕ
   n = length s.pending
 
@@ -42,8 +42,8 @@ module _ (types : Types) (texts : ℕ) (so_far : Bool) (fs : List Function) (f :
 
   -- ---- the state behind it
 
-  pub ending_is : IsEnded types texts so_far fs f ending place w
-  ending_is = ended types texts so_far fs f ending place w
+  pub ending_is : IsEnded types texts fs f ending place w
+  ending_is = ended types texts fs f ending place w
 
   abbrev pub behind : State
   behind = record w { code = w.code ++ ending_is.code; pending = take n w.pending }
@@ -112,7 +112,7 @@ module _ (types : Types) (texts : ℕ) (so_far : Bool) (fs : List Function) (f :
 
   -- ---- the instruction
 
-  pub ends_fine : Begins types f w → TemporariesEnd types texts fs f → IsFine types texts so_far fs f ending_is.code
+  pub ends_fine : Begins types f w → TemporariesEnd types texts fs f → IsFine types texts fs f ending_is.code
   ends_fine b can = ending_is.fine (all_among (can_end types texts fs f) ending (λ y m. can y (ends_temporary b y m)))
 
   pub ends_fall : (k : List Known) → Alive f w k → Falls types f ending_is.code k (set_blank ending k)

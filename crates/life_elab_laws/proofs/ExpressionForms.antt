@@ -1,5 +1,5 @@
 -- What all laws ask of an expression and of what it is made by, and the ways to make a form: as a value, by tests, as a pointer, as a place, in parentheses.
-use Rattle.std.proofs.Common.{◌≡◌, ℕ, Bool, true, false, cond, List, [], slice_get, Option, Some, None, refl, sym, ap, ◌∙◌, subst}
+use Rattle.std.proofs.Common.{◌≡◌, ℕ, Bool, true, false, cond, List, [], slice_get, Option, Some, None, refl, sym, ap, ◌∙◌, subst, nat_lt}
 use Rattle.std.proofs.lemmas.Bool.{false≢true}
 use Rattle.life_types.specs.TypeTests.{is_raw, is_value}
 use Rattle.life_types.specs.Types.{Types}
@@ -15,10 +15,10 @@ use Rattle.life_typed.specs.TypedForm.{Form, Typed, paren, typed}
 use Rattle.life_typed.specs.declared.typed_expr.Category.{Category}
 use Rattle.life_typed.specs.declared.typed_expr.Category.TheVariants as category
 use Rattle.life_typed.specs.declared.typed_expr.ExprType.{ExprType}
-use Rattle.life_typed.specs.declared.typed_expr.ExprType.TheVariants.{Of}
+use Rattle.life_typed.specs.declared.typed_expr.ExprType.TheVariants.{Of, TextLiteral}
 use Rattle.life_type_expr.specs.Operands.{value as value_typed}
 use Rattle.life_core.specs.Function.{Function}
-use Rattle.life_core.specs.Operands.{Argument, Location, Operand}
+use Rattle.life_core.specs.Operands.{Argument, Location, Operand, Text}
 use Rattle.life_core.specs.Tree.{Tree}
 use Rattle.life_well_typed.specs.Expressions.{parameter_types, typed_in}
 use Rattle.life_well_typed.specs.Given.{is_number}
@@ -28,12 +28,12 @@ use Rattle.life_writer.specs.Behind.{closed_by, lasting}
 use Rattle.life_writer.specs.Calls.{Called, expression_call, form_call}
 use Rattle.life_writer.specs.ExpressionForms.{all_uses, form_uses, uses}
 use Rattle.life_writer.specs.Giving as giving
-use Rattle.life_writer.specs.Pointers.{Pointing, located}
+use Rattle.life_writer.specs.Pointers.{Pointing, located, aimed}
 use Rattle.life_writer.specs.Registers.{as_type, computed, conversion}
-use Rattle.life_writer.specs.Uses.{Uses, own}
+use Rattle.life_writer.specs.Uses.{Uses, own, Remaining, lived}
 use Rattle.life_writer.specs.Using.{condition, nullable, own_value as value_itself, pointer, pointing, pointing_by, read_or_made, register_type, tested_type, value}
 use Rattle.life_writer.specs.Values as values
-use Rattle.life_writer.specs.Writing.{Gives, State, ◌>>◌, with_code}
+use Rattle.life_writer.specs.Writing.{Gives, State, ◌>>◌, with_code, gives}
 use Rattle.life_writer.specs.declared.behind.Behind.{Behind}
 use Rattle.life_elab_laws.proofs.Conditions.{Tests, by_branch_part, condition_part}
 use Rattle.life_elab_laws.proofs.ExpressionTypes.{IsAnswered, condition_number, own_no_unique, own_value, pointer_fits}
@@ -44,32 +44,34 @@ use Rattle.life_elab_laws.proofs.Instructions.{IsIntoOf, as_type_part, located_p
 use Rattle.life_elab_laws.proofs.Locations.{IsPointed, at_location, by_literal, by_null, is_location, is_pointed, location_is, number_no_pointer, pointed_type, raw_location}
 use Rattle.life_elab_laws.proofs.Parts.{Makes, then_part}
 use Rattle.life_elab_laws.proofs.Setting.{Setting}
-use Rattle.life_elab_laws.proofs.TypedKinds.{IsKind, a_number as is_number_kind, kind_same, none_some, value_place}
+use Rattle.life_elab_laws.proofs.TypedKinds.{IsKind, a_number as is_number_kind, kind_same, none_some, value_place, text_value}
 use Rattle.life_elab_laws.proofs.VariablePlaces.{Stands}
 use Rattle.life_elab_laws.proofs.WrittenLocals.{fits_below, fits_later, fits_register}
 use Rattle.life_elab_laws.proofs.TemporaryEnds.{TemporariesEnd, temporary_ends}
+use Rattle.life_core.specs.declared.instr.Form.TheVariants.{Plain}
+use Rattle.life_writer.specs.OwnerForms.{set_to}
 
-module _ (a : Around) (visible : List ℕ) (types : Types) (texts : ℕ) (so_far : Bool) (fs : List Function) (f : Function) (setting : Setting so_far a types fs f) where
+module _ (a : Around) (visible : List ℕ) (types : Types) (texts : ℕ) (fs : List Function) (f : Function) (setting : Setting a types fs f) where
   abbrev pub Standing : State → Type 0
   Standing s = Stands a visible s
 
   abbrev pub Valued : Ty → Option ℕ → State → Gives ℕ → Type 0
-  Valued t into s w = Makes types texts so_far fs f into s w (a_number types texts so_far fs f t)
+  Valued t into s w = Makes types texts fs f into s w (a_number types texts fs f t)
 
   abbrev pub Placed : Ty → Bool → State → Gives Operand → Type 0
-  Placed t constant s w = Makes types texts so_far fs f None s w (a_place types texts so_far fs f t constant)
+  Placed t constant s w = Makes types texts fs f None s w (a_place types texts fs f t constant)
 
   abbrev pub Pointed : Ty → State → Gives Location → Type 0
-  Pointed t s w = Makes types texts so_far fs f None s w (a_pointer types texts so_far fs f t)
+  Pointed t s w = Makes types texts fs f None s w (a_pointer types texts fs f t)
 
   abbrev pub Points : ExprType → State → Gives Pointing → Type 0
-  Points t s w = Makes types texts so_far fs f None s w (a_pointing types texts so_far fs f t)
+  Points t s w = Makes types texts fs f None s w (a_pointing types texts fs f t)
 
   abbrev pub Hands : FunctionForm → State → Gives (List Argument) → Type 0
-  Hands of s w = Makes types texts so_far fs f None s w (arguments types texts so_far fs f (parameter_types (Some of)))
+  Hands of s w = Makes types texts fs f None s w (arguments types texts fs f (parameter_types (Some of)))
 
   abbrev pub Decided : Option Place → State → Gives Tree → Type 0
-  Decided ends s w = Tests types texts so_far fs f ends s w
+  Decided ends s w = Tests types texts fs f ends s w
 
   pub can : TemporariesEnd types texts fs f
   can = temporary_ends types texts fs f setting.registers
@@ -83,9 +85,16 @@ module _ (a : Around) (visible : List ℕ) (types : Types) (texts : ℕ) (so_far
     pub answers : IsAnswered a.program.types (type_at a.program.types of.result) t k
     pub hands : (s : State) → Standing s → Hands of s (giving.arguments a (all_uses a c.arguments) c.delimiters (around.parameter_types a c.function) s)
 
+  -- of a literal, which builds a string
+  pub record IsLiteral (object : State → Gives Remaining) : Type 0 where
+    pub place : Place
+    pub number : ℕ
+    pub few : nat_lt number texts ≡ true
+    pub is : object ≡ (λ s. located place ty.View (aimed (Text number)) s >> λ view s. gives (lived Plain (set_to view)) s)
+
   -- of what an expression is made by, wherever it stands
   pub record IsForm (form : Form) (e : Typed) : Type 0 where
-    pub kind : IsKind so_far a.program.types e
+    pub kind : IsKind a.program.types e
     -- a number that is neither a place nor decided by tests is computed
     pub computes : e.category ≡ category.Value → is_number e.ty ≡ true → (place : Place) (b : Behind) → (form_uses a form place e.ty e.category).decision b ≡ None → (into : Option ℕ) (s : State) → IsIntoOf (own_type e.ty) s into → Standing s
         → Valued (own_type e.ty) into s ((form_uses a form place e.ty e.category).made b.token into s)
@@ -101,10 +110,12 @@ module _ (a : Around) (visible : List ℕ) (types : Types) (texts : ℕ) (so_far
     pub decides : (place : Place) (b : Behind) (w : State → Gives Tree) → (form_uses a form place e.ty e.category).decision b ≡ Some w → (s : State) → Standing s → Decided b.ends s (w s)
     -- what is a call is one of a function that is there
     pub calls : (c : Called) → form_call form ≡ Some c → IsCall c e.ty e.category
+    -- .. and what has the type of a literal is one
+    pub as_literal : e.ty ≡ TextLiteral → (place : Place) → IsLiteral ((form_uses a form place e.ty e.category).object)
 
   -- of a whole expression
   pub record IsWhole (form : Form) : Type 0 where
-    pub kind : IsKind so_far a.program.types (typed_in form)
+    pub kind : IsKind a.program.types (typed_in form)
     pub valued : is_number (typed_in form).ty ≡ true → (behind : Place) (to : Ty) → is_value to ≡ true → (into : Option ℕ) (s : State) → IsIntoOf to s into → Standing s → Valued to into s (value (uses a form) behind to into s)
     pub lands : is_number (typed_in form).ty ≡ true → (behind : Place) (to : Ty) (r : ℕ) (s : State) → (value (uses a form) behind to (Some r) s).given ≡ r
     pub names : (id : TyId) (constant : Bool) → (typed_in form).category ≡ category.Place id constant → is_value (type_at a.program.types id) ≡ true → (s : State) → Standing s
@@ -114,6 +125,7 @@ module _ (a : Around) (visible : List ℕ) (types : Types) (texts : ℕ) (so_far
     pub conditions : is_condition (typed_in form).ty ≡ true → (b : Behind) (s : State) → Standing s → Decided b.ends s (condition (uses a form) b s)
     pub decides : (b : Behind) (w : State → Gives Tree) → (uses a form).decision b ≡ Some w → (s : State) → Standing s → Decided b.ends s (w s)
     pub calls : (c : Called) → expression_call form ≡ Some c → IsCall c (typed_in form).ty (typed_in form).category
+    pub as_literal : (typed_in form).ty ≡ TextLiteral → IsLiteral ((uses a form).object)
 
   -- ---- a whole expression, of what it is made by
 
@@ -123,10 +135,10 @@ module _ (a : Around) (visible : List ℕ) (types : Types) (texts : ℕ) (so_far
       → (d ≡ None → c ≡ category.Value → Valued t into s (make into s))
       → ((id : TyId) (constant : Bool) → c ≡ category.Place id constant → Placed t constant s (at s))
       → Valued t into s (values.value_from t place c d at make into s)
-  value_from ends (Some w) t place c at make into s v wanted stands decides makes places = by_branch_part types texts so_far fs f ends into t place w s v wanted (decides w refl)
+  value_from ends (Some w) t place c at make into s v wanted stands decides makes places = by_branch_part types texts fs f ends into t place w s v wanted (decides w refl)
   value_from ends None t place category.Value at make into s v wanted stands decides makes places = makes refl refl
   value_from ends None t place (category.Place id constant) at make into s v wanted stands decides makes places =
-      read_part types texts so_far fs f t constant place at into s v wanted stands.opened (places id constant refl)
+      read_part types texts fs f t constant place at into s v wanted stands.opened (places id constant refl)
 
   -- .. it lands in the register that is wanted
   lands_from : (t : Ty) (place : Place) (d : Option (State → Gives Tree)) (c : Category) (at : State → Gives Operand) (make : Option ℕ → State → Gives ℕ) (r : ℕ) (s : State)
@@ -142,16 +154,16 @@ module _ (a : Around) (visible : List ℕ) (types : Types) (texts : ℕ) (so_far
       go true = here
       go false = refl
 
-  pub pointer_part : (w : State → Gives Pointing) (t : ExprType) (u : Ty) (place : Place) (s : State) → t ≡ Of u → is_location u ≡ true → fits_register so_far a.program.types u ≡ true → Standing s → Points t s (w s)
+  pub pointer_part : (w : State → Gives Pointing) (t : ExprType) (u : Ty) (place : Place) (s : State) → t ≡ Of u → is_location u ≡ true → fits_register a.program.types u ≡ true → Standing s → Points t s (w s)
       → Pointed u s (located place (own_type t) (w s).given (w s).state)
   pointer_part w t u place s is raw fits stands first =
       subst (λ (x : ExprType). Pointed u s (located place (own_type x) (w s).given (w s).state)) (sym is) (go (subst (λ (x : ExprType). Points x s (w s)) is first))
     where
       go : Points (Of u) s (w s) → Pointed u s (located place u (w s).given (w s).state)
       go first =
-          then_part types texts so_far fs f (gifts.nothing types texts so_far fs f) tt None s (w s) _ (a_pointing types texts so_far fs f (Of u)) (a_pointer types texts so_far fs f u) stands.opened first
-          (located_part types texts so_far fs f (w s).given u place (w s).state raw (fits_later so_far a.program.types types setting.front u fits)
-          (fits_below so_far a.program.types (w s).state.types (front_length a.program.types.types (w s).state.types.types (front_then a.program.types.types s.types.types (w s).state.types.types stands.table first.grown.types)) u fits))
+          then_part types texts fs f (gifts.nothing types texts fs f) tt None s (w s) _ (a_pointing types texts fs f (Of u)) (a_pointer types texts fs f u) stands.opened first
+          (located_part types texts fs f (w s).given u place (w s).state raw (fits_later a.program.types types setting.front u fits)
+          (fits_below a.program.types (w s).state.types (front_length a.program.types.types (w s).state.types.types (front_then a.program.types.types s.types.types (w s).state.types.types stands.table first.grown.types)) u fits))
 
   -- a raw pointer or a view is tested, and is located, as what it is
   itself : (e : Uses) (t : Ty) (s : State) → is_location t ≡ true → pointing_by t e s ≡ e.pointing s
@@ -197,7 +209,7 @@ module _ (a : Around) (visible : List ℕ) (types : Types) (texts : ℕ) (so_far
   whole_of place t c form is = record {
     kind = is.kind;
     valued = λ n behind to v into s wanted stands.
-        as_type_part types texts so_far fs f (gifts.nothing types texts so_far fs f) tt (own_type t) to place (value_itself u behind) into s v wanted stands.opened
+        as_type_part types texts fs f (gifts.nothing types texts fs f) tt (own_type t) to place (value_itself u behind) into s v wanted stands.opened
         (λ i wanted. own_value_part behind n i s wanted stands);
     lands = λ n behind to r s.
         lands_as (own_type t) to place (value_itself u behind) r s
@@ -206,18 +218,19 @@ module _ (a : Around) (visible : List ℕ) (types : Types) (texts : ℕ) (so_far
     points = λ p s stands. is.points p place s stands;
     pointers = λ x at loc s stands. pointer_part u.pointing t x place s at loc (fits x at loc) stands (is.points (ap is_pointed at ∙ loc) place s stands);
     conditions = λ h b s stands.
-        condition_part types texts so_far fs f (u.decision b) (own_type t) place b.ends (nullable u) (read_or_made u b.token None) s (own_no_unique so_far a.program.types e is.kind.kind) stands.pends can
+        condition_part types texts fs f (u.decision b) (own_type t) place b.ends (nullable u) (read_or_made u b.token None) s (own_no_unique a.program.types e is.kind.kind) stands.pends can
         (λ w at. is.decides place b w at s stands)
         (λ none raw. let loc = raw_location (own_type t) raw in let at = location_is t loc in
-        subst (λ (w : Gives Location). Makes types texts so_far fs f None (with_code [] s) w (a_pointer types texts so_far fs f (own_type t))) (sym (nullable_raw u (own_type t) (with_code [] s) refl raw))
+        subst (λ (w : Gives Location). Makes types texts fs f None (with_code [] s) w (a_pointer types texts fs f (own_type t))) (sym (nullable_raw u (own_type t) (with_code [] s) refl raw))
         (pointer_part u.pointing t (own_type t) place (with_code [] s) at loc (fits (own_type t) at loc) stands (is.points (ap is_pointed at ∙ loc) place (with_code [] s) stands)))
         (λ none raw.
-        let n = condition_number so_far a.program.types e is.kind.kind h raw in
+        let n = condition_number a.program.types e is.kind.kind h raw in
         value_from None None (own_type t) place c u.at (u.made b.token) None (with_code [] s) (own_value t n) tt stands (λ w at. absurd (none_some at))
         (λ un at. is.computes at n place b none None (with_code [] s) tt stands)
         (λ id constant at. named n id constant at (with_code [] s) stands));
     decides = λ b w eq s stands. is.decides place b w eq s stands;
     calls = is.calls;
+    as_literal = λ at. is.as_literal at place;
   }
     where
       e : Typed
@@ -226,8 +239,8 @@ module _ (a : Around) (visible : List ℕ) (types : Types) (texts : ℕ) (so_far
       u : Uses
       u = uses a (typed place t c form)
 
-      fits : (x : Ty) → t ≡ Of x → is_location x ≡ true → fits_register so_far a.program.types x ≡ true
-      fits x at loc = subst (λ (y : ExprType). fits_register so_far a.program.types (own_type y) ≡ true) at (pointer_fits so_far a.program.types e is.kind.kind (ap (λ (y : ExprType). is_location (own_type y)) at ∙ loc))
+      fits : (x : Ty) → t ≡ Of x → is_location x ≡ true → fits_register a.program.types x ≡ true
+      fits x at loc = subst (λ (y : ExprType). fits_register a.program.types (own_type y) ≡ true) at (pointer_fits a.program.types e is.kind.kind (ap (λ (y : ExprType). is_location (own_type y)) at ∙ loc))
 
       named : is_number t ≡ true → (id : TyId) (constant : Bool) → c ≡ category.Place id constant → (s : State) → Standing s → Placed (own_type t) constant s ((uses a (typed place t c form)).at s)
       named n id constant at s stands =
@@ -253,6 +266,10 @@ module _ (a : Around) (visible : List ℕ) (types : Types) (texts : ℕ) (so_far
   pub of_number : (t : ExprType) (u : Ty) → t ≡ Of u → is_value u ≡ true → is_number t ≡ true
   of_number t u is v = ap is_number is ∙ v
 
+  -- what has a type of its own is no literal
+  pub no_literal : (t : Ty) → Of t ≡ TextLiteral → ⊥
+  no_literal t e = cc
+
   -- a value of a type: what it is written by
   abbrev pub ValueUses : Form → Ty → Place → Uses
   ValueUses form t place = form_uses a form place (Of t) category.Value
@@ -275,6 +292,7 @@ module _ (a : Around) (visible : List ℕ) (types : Types) (texts : ℕ) (so_far
     points = λ p. absurd (number_no_pointer e.ty (of_number e.ty t is v) p);
     decides = λ place b w at s stands. subst (λ (u : Uses). u.decision b ≡ Some w → Decided b.ends s (w s)) (as_told e t form place is c) (λ at. decides place b w at s stands) at;
     calls = λ d at. absurd (none_some (sym none ∙ at));
+    as_literal = λ at. absurd (no_literal t (sym is ∙ at));
   }
 
   pub value_form : (form : Form) (e : Typed) (t : Ty) → e.ty ≡ Of t → e.category ≡ category.Value → is_value t ≡ true → form_call form ≡ None → ((place : Place) (b : Behind) → (ValueUses form t place).decision b ≡ None)
@@ -290,9 +308,10 @@ module _ (a : Around) (visible : List ℕ) (types : Types) (texts : ℕ) (so_far
   literal form e t is v none plain makes lands = value_form form e t (ap (λ (y : Typed). y.ty) is) (ap (λ (y : Typed). y.category) is) v none plain makes lands
 
   -- a pointer that is no place
-  pub pointer_form : (form : Form) (e : Typed) → IsKind so_far a.program.types e → e.category ≡ category.Value → (is_number e.ty ≡ true → ⊥) → form_call form ≡ None → ((place : Place) (b : Behind) → (form_uses a form place e.ty e.category).decision b ≡ None)
+  pub pointer_form : (form : Form) (e : Typed) → IsKind a.program.types e → e.category ≡ category.Value → (is_number e.ty ≡ true → ⊥) → form_call form ≡ None → ((place : Place) (b : Behind) → (form_uses a form place e.ty e.category).decision b ≡ None)
+      → (e.ty ≡ TextLiteral → (place : Place) → IsLiteral ((form_uses a form place e.ty e.category).object))
       → (is_pointed e.ty ≡ true → (place : Place) (s : State) → Standing s → Points e.ty s ((form_uses a form place e.ty e.category).pointing s)) → IsForm form e
-  pointer_form form e kind c never none plain points = record {
+  pointer_form form e kind c never none plain told points = record {
     kind = kind;
     computes = λ at n. absurd (never n);
     lands = λ at n. absurd (never n);
@@ -300,10 +319,11 @@ module _ (a : Around) (visible : List ℕ) (types : Types) (texts : ℕ) (so_far
     points = points;
     decides = λ place b w at. absurd (none_some (sym (plain place b) ∙ at));
     calls = λ d at. absurd (none_some (sym none ∙ at));
+    as_literal = told;
   }
 
   -- a place
-  pub place_form : (form : Form) (e : Typed) → IsKind so_far a.program.types e → (e.category ≡ category.Value → ⊥) → form_call form ≡ None → ((place : Place) (b : Behind) → (form_uses a form place e.ty e.category).decision b ≡ None)
+  pub place_form : (form : Form) (e : Typed) → IsKind a.program.types e → (e.category ≡ category.Value → ⊥) → form_call form ≡ None → ((place : Place) (b : Behind) → (form_uses a form place e.ty e.category).decision b ≡ None)
       → ((id : TyId) (constant : Bool) → e.category ≡ category.Place id constant → is_value (type_at a.program.types id) ≡ true → (place : Place) (s : State) → Standing s → Placed (type_at a.program.types id) constant s ((form_uses a form place e.ty e.category).at s))
       → (is_pointed e.ty ≡ true → (place : Place) (s : State) → Standing s → Points e.ty s ((form_uses a form place e.ty e.category).pointing s)) → IsForm form e
   place_form form e kind c none plain names points = record {
@@ -314,16 +334,18 @@ module _ (a : Around) (visible : List ℕ) (types : Types) (texts : ℕ) (so_far
     points = points;
     decides = λ place b w at. absurd (none_some (sym (plain place b) ∙ at));
     calls = λ d at. absurd (none_some (sym none ∙ at));
+    as_literal = λ at. absurd (c (text_value a.program.types e kind.kind at));
   }
 
   -- what is in parentheses
   pub paren_form : (inner : Form) (closing : Place) (e : Typed) → (typed_in inner).ty ≡ e.ty → (typed_in inner).category ≡ e.category → IsWhole inner → IsForm (paren inner closing) e
   paren_form inner closing e t c is = record {
-    kind = kind_same so_far a.program.types (typed_in inner) e (sym t) (sym c) is.kind;
+    kind = kind_same a.program.types (typed_in inner) e (sym t) (sym c) is.kind;
     computes = λ at n place b none into s wanted stands. is.valued (ap is_number t ∙ n) closing (own_type e.ty) (own_value e.ty n) into s wanted stands;
     lands = λ at n place b none r s. is.lands (ap is_number t ∙ n) closing (own_type e.ty) r s;
     names = λ id constant at v place s stands. is.names id constant (c ∙ at) v s stands;
     points = λ p place s stands. subst (λ (x : ExprType). Points x s ((uses a inner).pointing s)) t (is.points (ap is_pointed t ∙ p) s stands);
     decides = λ place b. is.decides (closed_by closing b);
     calls = λ d at. subst (λ (x : ExprType). IsCall d x e.category) t (subst (IsCall d (typed_in inner).ty) c (is.calls d at));
+    as_literal = λ at place. is.as_literal (t ∙ at);
   }

@@ -1,13 +1,13 @@
 -- Each well typed expression that is built is of one of these kinds.
 use Rattle.std.proofs.Common.{◌≡◌, ℕ, Bool, true, false, cond, List, Option, Some, None, Ok, slice_get, unwrap_or, refl, sym, ap, ◌∙◌, subst, true≢false}
 use Rattle.std.proofs.lemmas.Bool.{false≢true}
+use Rattle.life_served.specs.Served.{are_served_functions, are_served_variables, is_plain_type, is_served_function, is_served_variable}
 use Rattle.life_types.specs.Trees.{is_plain, tree_at, tree_of, tree_within}
 use Rattle.life_types.specs.TypeTests.{is_raw, is_value, is_view}
 use Rattle.life_types.specs.Types.{Types}
 use Rattle.life_types.specs.declared.ty.Ty.{Ty}
 use Rattle.life_types.specs.declared.ty.Ty.TheVariants as ty
 use Rattle.life_types.specs.declared.ty.TyId.{TyId}
-use Rattle.life_elab_laws.specs.Reached.{are_reached_functions, are_reached_variables, is_reached_function, is_reached_variable, is_reached_type}
 use Rattle.life_names.specs.Found.{not_found}
 use Rattle.life_names.specs.declared.fault.IllKind.TheVariants as kinds
 use Rattle.life_typed.specs.BaseTypes.{type_at}
@@ -23,17 +23,18 @@ use Rattle.life_type_expr.specs.Operands.{dereferenced_to, inverted, negated_to,
 use Rattle.life_well_typed.specs.Expressions.{IsAddress, IsVariable}
 use Rattle.life_well_typed.specs.Given.{is_number}
 use Rattle.life_elab_laws.proofs.Fronts.{passed_at}
-use Rattle.life_elab_laws.proofs.Reaching.{reached_type}
-use Rattle.life_elab_laws.proofs.TypedKinds.{HasKind, IsKind, a_null, a_number, a_pointer, a_text, a_view, err_ok, kind_of_variable, no_value, ok_same, promoted_value, value_place}
+use Rattle.life_elab_laws.proofs.ServedTypes.{served_type_is}
+use Rattle.life_elab_laws.proofs.TypedKinds.{HasKind, IsKind, a_null, a_number, a_pointer, a_text, a_view, err_ok, kind_of_variable, no_value, ok_same, owner_refused, promoted_value, value_place}
+use Rattle.life_elab_laws.proofs.Targets.{IsTarget, target_is, to_owner, to_value}
 use Rattle.life_elab_laws.proofs.Values.{by_values}
 
 -- ---- what is built
 
-pub variable_built : (so_far : Bool) (types : Types) (vs : List TypedLocal) (x : ℕ) (v : TypedLocal) → are_reached_variables so_far types vs ≡ true → slice_get vs x ≡ Some v → is_reached_variable so_far types v.ty ≡ true
-variable_built so_far types vs x v = passed_at (λ (u : TypedLocal). is_reached_variable so_far types u.ty) (are_reached_variables so_far types) (λ u us. refl) vs x v
+pub variable_built : (types : Types) (vs : List TypedLocal) (x : ℕ) (v : TypedLocal) → are_served_variables types vs ≡ true → slice_get vs x ≡ Some v → is_served_variable types v.ty ≡ true
+variable_built types vs x v = passed_at (λ (u : TypedLocal). is_served_variable types u.ty) (are_served_variables types) (λ u us. refl) vs x v
 
-pub function_built : (texts : ℕ) (so_far : Bool) (types : Types) (fs : List FunctionForm) (g : ℕ) (f : FunctionForm) → are_reached_functions texts so_far types fs ≡ true → slice_get fs g ≡ Some f → is_reached_function texts so_far types f ≡ true
-function_built texts so_far types fs g f = passed_at (is_reached_function texts so_far types) (are_reached_functions texts so_far types) (λ h hs. refl) fs g f
+pub function_built : (texts : ℕ) (types : Types) (fs : List FunctionForm) (g : ℕ) (f : FunctionForm) → are_served_functions texts types fs ≡ true → slice_get fs g ≡ Some f → is_served_function texts types f ≡ true
+function_built texts types fs g f = passed_at (is_served_function texts types) (are_served_functions texts types) (λ h hs. refl) fs g f
 
 -- ---- single expressions
 
@@ -44,12 +45,12 @@ number_value n = go _
     go true = refl
     go false = refl
 
-pub kind_local : (so_far : Bool) (types : Types) (locals : List TypedLocal) (x : ℕ) (e : Typed) → are_reached_variables so_far types locals ≡ true → is_reached_type so_far e.ty ≡ true → IsVariable types x (slice_get locals x) e → IsKind so_far types e
-kind_local so_far types locals x e b n h = go (slice_get locals x) refl h
+pub kind_local : (types : Types) (locals : List TypedLocal) (x : ℕ) (e : Typed) → are_served_variables types locals ≡ true → is_plain_type e.ty ≡ true → IsVariable types x (slice_get locals x) e → IsKind types e
+kind_local types locals x e b n h = go (slice_get locals x) refl h
   where
-    go : (o : Option TypedLocal) → slice_get locals x ≡ o → IsVariable types x o e → IsKind so_far types e
+    go : (o : Option TypedLocal) → slice_get locals x ≡ o → IsVariable types x o e → IsKind types e
     go None at h = absurd h
-    go (Some v) at h = kind_of_variable so_far types e v.ty v.constant (local x) (type_at types v.ty) refl (reached_type so_far types (type_at types v.ty) (variable_built so_far types locals x v b at)) n h
+    go (Some v) at h = kind_of_variable types e v.ty v.constant (local x) (type_at types v.ty) refl (served_type_is types (type_at types v.ty) (variable_built types locals x v b at)) n h
 
 -- what a dereferenced operand is
 pub record IsDereferenced (types : Types) (inner e : Typed) : Type 0 where
@@ -63,13 +64,14 @@ pub record IsDereferenced (types : Types) (inner e : Typed) : Type 0 where
 value_no_target : (t : Ty) → is_value t ≡ true → dereferenced (Of t) ≡ None
 value_no_target = by_values (λ t. dereferenced (Of t) ≡ None) refl refl refl refl refl
 
-pub dereferenced_as : (so_far : Bool) (types : Types) (inner e : Typed) → IsKind so_far types inner → pointed_to types e.place inner ≡ Ok e → IsDereferenced types inner e
-dereferenced_as so_far types inner e k h = go k.kind
+-- .. that isn't an owner
+pub dereferenced_as : (types : Types) (inner e : Typed) → IsKind types inner → is_plain_type e.ty ≡ true → pointed_to types e.place inner ≡ Ok e → IsDereferenced types inner e
+dereferenced_as types inner e k n h = go k.kind
   where
     refused : dereferenced inner.ty ≡ None → IsDereferenced types inner e
     refused none = absurd (err_ok (sym (ap (λ o. dereferenced_to o types e.place inner) none) ∙ h))
 
-    go : HasKind so_far types inner → IsDereferenced types inner e
+    go : HasKind types inner → IsDereferenced types inner e
     go (a_number t is v) = refused (ap dereferenced is ∙ value_no_target t v)
     go (no_value is v) = refused (ap dereferenced is)
     go (a_null is v) = refused (ap dereferenced is)
@@ -79,10 +81,17 @@ dereferenced_as so_far types inner e k h = go k.kind
       target = target;
       constant = constant;
       pointer = is;
-      value = v;
+      value = worth (target_is types (type_at types target) v);
       form = dereference (typed inner.place inner.ty inner.category inner.form);
-      is = sym (ok_same (sym (ap (λ t. dereferenced_to (dereferenced t) types e.place inner) is) ∙ h));
+      is = here;
     }
+      where
+        here : e ≡ place_of types target constant e.place (dereference (typed inner.place inner.ty inner.category inner.form))
+        here = sym (ok_same (sym (ap (λ t. dereferenced_to (dereferenced t) types e.place inner) is) ∙ h))
+
+        worth : IsTarget types (type_at types target) → is_value (type_at types target) ≡ true
+        worth (to_value v) = v
+        worth (to_owner o) = absurd (owner_refused types (type_at types target) o (subst (λ (x : ExprType). is_plain_type x ≡ true) (ap (λ (x : Typed). x.ty) here) n))
 
 pub record IsNegated (inner e : Typed) : Type 0 where
   pub ty : Ty
@@ -90,10 +99,10 @@ pub record IsNegated (inner e : Typed) : Type 0 where
   pub worth : is_value ty ≡ true
   pub is : e ≡ value e.place ty e.form
 
-pub negated_as : (so_far : Bool) (types : Types) (inner e : Typed) → IsKind so_far types inner → negated_to (negated inner.ty) e.place inner ≡ Ok e → IsNegated inner e
-negated_as so_far types inner e k h = go k.kind
+pub negated_as : (types : Types) (inner e : Typed) → IsKind types inner → negated_to (negated inner.ty) e.place inner ≡ Ok e → IsNegated inner e
+negated_as types inner e k h = go k.kind
   where
-    go : HasKind so_far types inner → IsNegated inner e
+    go : HasKind types inner → IsNegated inner e
     go (a_number t is v) =
         let here : negated_to (negated_type t) e.place inner ≡ Ok e = subst (λ (x : ExprType). negated_to (negated x) e.place inner ≡ Ok e) is h in
         let plain : negated_to (Ok (promoted t t)) e.place inner ≡ Ok e = rw v at here in
@@ -138,10 +147,10 @@ view_not_plain types id is = go (slice_get types.types id.0) (ap is_view is)
     go (Some _) h = absurd (false≢true h)
     go None h = absurd (false≢true h)
 
-pub addressed_as : (so_far : Bool) (types : Types) (inner e : Typed) → IsKind so_far types inner → IsAddress types inner.category e → IsAddressed types inner e
-addressed_as so_far types inner e k h = go inner.category refl h
+pub addressed_as : (types : Types) (inner e : Typed) → IsKind types inner → IsAddress types inner.category e → IsAddressed types inner e
+addressed_as types inner e k h = go inner.category refl h
   where
-    typed_as : (id : TyId) (c : Bool) → inner.category ≡ category.Place id c → is_raw (type_at types id) ≡ false → is_plain (tree_at types id) ≡ true → HasKind so_far types inner → is_value (type_at types id) ≡ true
+    typed_as : (id : TyId) (c : Bool) → inner.category ≡ category.Place id c → is_raw (type_at types id) ≡ false → is_plain (tree_at types id) ≡ true → HasKind types inner → is_value (type_at types id) ≡ true
     typed_as id c at raw plain (a_number t is v) = subst (λ (x : Ty). is_value x ≡ true) (same (sym is ∙ k.place id c at)) v
       where
         same : Of t ≡ Of (type_at types id) → t ≡ type_at types id

@@ -21,9 +21,10 @@ use Rattle.life_writer.specs.Around.{own_type}
 use Rattle.life_elab_laws.proofs.Locations.{is_location, is_seen}
 use Rattle.life_elab_laws.proofs.RowTypes.{no_text, promoted_is, sees}
 use Rattle.life_elab_laws.proofs.TypedKinds.{HasKind, IsKind, a_null, a_number, a_pointer, a_text, a_view, err_ok, no_value, ok_same, value_simple}
-use Rattle.life_elab_laws.proofs.ResultTypes.{IsResultType, gives_nothing, gives_raw, gives_reference, gives_value, gives_view}
+use Rattle.life_elab_laws.proofs.ResultTypes.{IsResultType, gives_nothing, gives_raw, gives_reference, gives_value, gives_view, gives_alias}
 use Rattle.life_elab_laws.proofs.Values.{by_values}
 use Rattle.life_elab_laws.proofs.WrittenLocals.{fits_register, value_fits}
+use Rattle.life_served.specs.Served.{is_owner_of_values, is_target}
 
 -- ---- types of expressions
 
@@ -33,37 +34,37 @@ own_value NullPointer e = absurd (false≢true e)
 own_value TextLiteral e = absurd (false≢true e)
 
 -- a condition that is no pointer is a number
-pub condition_number : (so_far : Bool) (types : Types) (e : Typed) → HasKind so_far types e → is_condition e.ty ≡ true → is_raw (own_type e.ty) ≡ false → is_number e.ty ≡ true
-condition_number so_far types e (a_number t is v) c r = ap is_number is ∙ v
-condition_number so_far types e (a_pointer target constant is v) c r = absurd (true≢false (sym (ap (λ (x : ExprType). is_raw (own_type x)) is) ∙ r))
-condition_number so_far types e (a_view is) c r = absurd (false≢true (sym (ap is_condition is) ∙ c))
-condition_number so_far types e (a_text is v) c r = absurd (false≢true (sym (ap is_condition is) ∙ c))
-condition_number so_far types e (no_value is v) c r = absurd (false≢true (sym (ap is_condition is) ∙ c))
-condition_number so_far types e (a_null is v) c r = absurd (false≢true (sym (ap is_condition is) ∙ c))
+pub condition_number : (types : Types) (e : Typed) → HasKind types e → is_condition e.ty ≡ true → is_raw (own_type e.ty) ≡ false → is_number e.ty ≡ true
+condition_number types e (a_number t is v) c r = ap is_number is ∙ v
+condition_number types e (a_pointer target constant is v) c r = absurd (true≢false (sym (ap (λ (x : ExprType). is_raw (own_type x)) is) ∙ r))
+condition_number types e (a_view is) c r = absurd (false≢true (sym (ap is_condition is) ∙ c))
+condition_number types e (a_text is v) c r = absurd (false≢true (sym (ap is_condition is) ∙ c))
+condition_number types e (no_value is v) c r = absurd (false≢true (sym (ap is_condition is) ∙ c))
+condition_number types e (a_null is v) c r = absurd (false≢true (sym (ap is_condition is) ∙ c))
 
 -- nothing that is built is a unique_ptr
-pub own_no_unique : (so_far : Bool) (types : Types) (e : Typed) → HasKind so_far types e → is_unique (own_type e.ty) ≡ false
-own_no_unique so_far types e (a_number t is v) = ap (λ (x : ExprType). is_unique (own_type x)) is ∙ (value_simple t v).unique
-own_no_unique so_far types e (a_pointer target constant is v) = ap (λ (x : ExprType). is_unique (own_type x)) is
-own_no_unique so_far types e (a_view is) = ap (λ (x : ExprType). is_unique (own_type x)) is
-own_no_unique so_far types e (a_text is v) = ap (λ (x : ExprType). is_unique (own_type x)) is
-own_no_unique so_far types e (no_value is v) = ap (λ (x : ExprType). is_unique (own_type x)) is
-own_no_unique so_far types e (a_null is v) = ap (λ (x : ExprType). is_unique (own_type x)) is
+pub own_no_unique : (types : Types) (e : Typed) → HasKind types e → is_unique (own_type e.ty) ≡ false
+own_no_unique types e (a_number t is v) = ap (λ (x : ExprType). is_unique (own_type x)) is ∙ (value_simple t v).unique
+own_no_unique types e (a_pointer target constant is v) = ap (λ (x : ExprType). is_unique (own_type x)) is
+own_no_unique types e (a_view is) = ap (λ (x : ExprType). is_unique (own_type x)) is
+own_no_unique types e (a_text is v) = ap (λ (x : ExprType). is_unique (own_type x)) is
+own_no_unique types e (no_value is v) = ap (λ (x : ExprType). is_unique (own_type x)) is
+own_no_unique types e (a_null is v) = ap (λ (x : ExprType). is_unique (own_type x)) is
 
 -- a pointer is one to a value, or a view
-pub pointer_fits : (so_far : Bool) (types : Types) (e : Typed) → HasKind so_far types e → is_location (own_type e.ty) ≡ true → fits_register so_far types (own_type e.ty) ≡ true
-pointer_fits so_far types e (a_number t is v) r = ap (λ (x : ExprType). fits_register so_far types (own_type x)) is ∙ value_fits so_far types t v
-pointer_fits so_far types e (a_pointer target constant is v) r = ap (λ (x : ExprType). fits_register so_far types (own_type x)) is ∙ v
-pointer_fits so_far types e (a_view is) r = ap (λ (x : ExprType). fits_register so_far types (own_type x)) is
-pointer_fits so_far types e (a_text is v) r = absurd (false≢true (sym (ap (λ (x : ExprType). is_location (own_type x)) is) ∙ r))
-pointer_fits so_far types e (no_value is v) r = absurd (false≢true (sym (ap (λ (x : ExprType). is_location (own_type x)) is) ∙ r))
-pointer_fits so_far types e (a_null is v) r = absurd (false≢true (sym (ap (λ (x : ExprType). is_location (own_type x)) is) ∙ r))
+pub pointer_fits : (types : Types) (e : Typed) → HasKind types e → is_location (own_type e.ty) ≡ true → fits_register types (own_type e.ty) ≡ true
+pointer_fits types e (a_number t is v) r = ap (λ (x : ExprType). fits_register types (own_type x)) is ∙ value_fits types t v
+pointer_fits types e (a_pointer target constant is v) r = ap (λ (x : ExprType). fits_register types (own_type x)) is ∙ v
+pointer_fits types e (a_view is) r = ap (λ (x : ExprType). fits_register types (own_type x)) is
+pointer_fits types e (a_text is v) r = absurd (false≢true (sym (ap (λ (x : ExprType). is_location (own_type x)) is) ∙ r))
+pointer_fits types e (no_value is v) r = absurd (false≢true (sym (ap (λ (x : ExprType). is_location (own_type x)) is) ∙ r))
+pointer_fits types e (a_null is v) r = absurd (false≢true (sym (ap (λ (x : ExprType). is_location (own_type x)) is) ∙ r))
 
 -- minus gives what the operand is promoted to
-pub negated_promoted : (so_far : Bool) (types : Types) (inner e : Typed) → IsKind so_far types inner → negated_to (negated inner.ty) e.place inner ≡ Ok e → is_promoted (own_type e.ty) ≡ true
-negated_promoted so_far types inner e k h = go k.kind
+pub negated_promoted : (types : Types) (inner e : Typed) → IsKind types inner → negated_to (negated inner.ty) e.place inner ≡ Ok e → is_promoted (own_type e.ty) ≡ true
+negated_promoted types inner e k h = go k.kind
   where
-    go : HasKind so_far types inner → is_promoted (own_type e.ty) ≡ true
+    go : HasKind types inner → is_promoted (own_type e.ty) ≡ true
     go (a_number t is v) =
         let here : negated_to (negated_type t) e.place inner ≡ Ok e = subst (λ (x : ExprType). negated_to (negated x) e.place inner ≡ Ok e) is h in
         let plain : negated_to (Ok (promoted t t)) e.place inner ≡ Ok e = rw v at here in
@@ -80,9 +81,10 @@ negated_promoted so_far types inner e k h = go k.kind
 pub data IsAnswered (types : Types) (result : Ty) (t : ExprType) (k : Category) : Type 0 where
   answers_nothing : result ≡ ty.Void → t ≡ Of ty.Void → k ≡ category.Value → IsAnswered types result t k
   answers_value : is_value result ≡ true → t ≡ Of result → k ≡ category.Value → IsAnswered types result t k
-  answers_raw : (target : TyId) (constant : Bool) → result ≡ ty.Raw target constant → is_value (type_at types target) ≡ true → t ≡ Of (ty.Raw target constant) → k ≡ category.Value → IsAnswered types result t k
+  answers_raw : (target : TyId) (constant : Bool) → result ≡ ty.Raw target constant → is_target types (type_at types target) ≡ true → t ≡ Of (ty.Raw target constant) → k ≡ category.Value → IsAnswered types result t k
   answers_view : result ≡ ty.View → t ≡ Of ty.View → k ≡ category.Value → IsAnswered types result t k
   answers_place : (target : TyId) (constant : Bool) → result ≡ ty.Reference target constant → is_value (type_at types target) ≡ true → t ≡ Of (type_at types target) → k ≡ category.Place target constant → IsAnswered types result t k
+  answers_owner : (target : TyId) (constant : Bool) → result ≡ ty.Reference target constant → is_owner_of_values types (type_at types target) ≡ true → t ≡ Of (type_at types target) → k ≡ category.Place target constant → IsAnswered types result t k
 
 pub answered_as : (types : Types) (e : Typed) (t : Ty) → IsResultType types t → e ≡ answer_of t types e.place e.form → IsAnswered types t e.ty e.category
 answered_as types e t kind is = go kind
@@ -102,6 +104,9 @@ answered_as types e t kind is = go kind
     go (gives_reference target constant refers w) =
         let here = as_type (ty.Reference target constant) refers in
         answers_place target constant refers w (ap (λ (x : Typed). x.ty) here) (ap (λ (x : Typed). x.category) here)
+    go (gives_alias target constant refers o) =
+        let here = as_type (ty.Reference target constant) refers in
+        answers_owner target constant refers o (ap (λ (x : Typed). x.ty) here) (ap (λ (x : Typed). x.category) here)
 
 -- what is given back that is no place has the type of the result
 pub answer_own : (types : Types) (result : Ty) (t : ExprType) (k : Category) → IsAnswered types result t k → not (is_place k) ≡ true → result ≡ own_type t
@@ -110,6 +115,7 @@ answer_own types result t k (answers_value w own held) plain = sym (ap own_type 
 answer_own types result t k (answers_raw target constant raw w own held) plain = raw ∙ sym (ap own_type own)
 answer_own types result t k (answers_view view own held) plain = view ∙ sym (ap own_type own)
 answer_own types result t k (answers_place target constant refers w own held) plain = absurd (false≢true (sym (ap (λ (c : Category). not (is_place c)) held) ∙ plain))
+answer_own types result t k (answers_owner target constant refers o own held) plain = absurd (false≢true (sym (ap (λ (c : Category). not (is_place c)) held) ∙ plain))
 
 -- what may be null and isn't a unique_ptr is a raw pointer
 pub nullable_raw : (u : Ty) → is_nullable u ≡ true → is_unique u ≡ false → is_raw u ≡ true
@@ -118,27 +124,27 @@ nullable_raw (ty.Unique target) n e = absurd (false≢true (sym e))
 nullable_raw _ n e = absurd (false≢true n)
 
 -- what is seen without a string is a view or a literal
-pub seen_kind : (so_far : Bool) (types : Types) (e : Typed) → HasKind so_far types e → sees e.ty ≡ true → is_seen e.ty ≡ true
-seen_kind so_far types e (a_number t is v) s = absurd (false≢true (sym (ap sees is ∙ no_text t v) ∙ s))
-seen_kind so_far types e (a_pointer target constant is v) s = absurd (false≢true (sym (ap sees is) ∙ s))
-seen_kind so_far types e (a_view is) s = ap is_seen is
-seen_kind so_far types e (a_text is v) s = ap is_seen is
-seen_kind so_far types e (no_value is v) s = absurd (false≢true (sym (ap sees is) ∙ s))
-seen_kind so_far types e (a_null is v) s = absurd (false≢true (sym (ap sees is) ∙ s))
+pub seen_kind : (types : Types) (e : Typed) → HasKind types e → sees e.ty ≡ true → is_seen e.ty ≡ true
+seen_kind types e (a_number t is v) s = absurd (false≢true (sym (ap sees is ∙ no_text t v) ∙ s))
+seen_kind types e (a_pointer target constant is v) s = absurd (false≢true (sym (ap sees is) ∙ s))
+seen_kind types e (a_view is) s = ap is_seen is
+seen_kind types e (a_text is v) s = ap is_seen is
+seen_kind types e (no_value is v) s = absurd (false≢true (sym (ap sees is) ∙ s))
+seen_kind types e (a_null is v) s = absurd (false≢true (sym (ap sees is) ∙ s))
 
 -- nothing here is a string or an iterator
-pub own_no_text : (so_far : Bool) (types : Types) (e : Typed) → HasKind so_far types e → is_text (own_type e.ty) ≡ false
-own_no_text so_far types e (a_number t is v) = ap (λ (x : ExprType). is_text (own_type x)) is ∙ (value_simple t v).text
-own_no_text so_far types e (a_pointer target constant is v) = ap (λ (x : ExprType). is_text (own_type x)) is
-own_no_text so_far types e (a_view is) = ap (λ (x : ExprType). is_text (own_type x)) is
-own_no_text so_far types e (a_text is v) = ap (λ (x : ExprType). is_text (own_type x)) is
-own_no_text so_far types e (no_value is v) = ap (λ (x : ExprType). is_text (own_type x)) is
-own_no_text so_far types e (a_null is v) = ap (λ (x : ExprType). is_text (own_type x)) is
+pub own_no_text : (types : Types) (e : Typed) → HasKind types e → is_text (own_type e.ty) ≡ false
+own_no_text types e (a_number t is v) = ap (λ (x : ExprType). is_text (own_type x)) is ∙ (value_simple t v).text
+own_no_text types e (a_pointer target constant is v) = ap (λ (x : ExprType). is_text (own_type x)) is
+own_no_text types e (a_view is) = ap (λ (x : ExprType). is_text (own_type x)) is
+own_no_text types e (a_text is v) = ap (λ (x : ExprType). is_text (own_type x)) is
+own_no_text types e (no_value is v) = ap (λ (x : ExprType). is_text (own_type x)) is
+own_no_text types e (a_null is v) = ap (λ (x : ExprType). is_text (own_type x)) is
 
-pub own_no_iterator : (so_far : Bool) (types : Types) (e : Typed) → HasKind so_far types e → is_iterator (own_type e.ty) ≡ false
-own_no_iterator so_far types e (a_number t is v) = ap (λ (x : ExprType). is_iterator (own_type x)) is ∙ (value_simple t v).iterator
-own_no_iterator so_far types e (a_pointer target constant is v) = ap (λ (x : ExprType). is_iterator (own_type x)) is
-own_no_iterator so_far types e (a_view is) = ap (λ (x : ExprType). is_iterator (own_type x)) is
-own_no_iterator so_far types e (a_text is v) = ap (λ (x : ExprType). is_iterator (own_type x)) is
-own_no_iterator so_far types e (no_value is v) = ap (λ (x : ExprType). is_iterator (own_type x)) is
-own_no_iterator so_far types e (a_null is v) = ap (λ (x : ExprType). is_iterator (own_type x)) is
+pub own_no_iterator : (types : Types) (e : Typed) → HasKind types e → is_iterator (own_type e.ty) ≡ false
+own_no_iterator types e (a_number t is v) = ap (λ (x : ExprType). is_iterator (own_type x)) is ∙ (value_simple t v).iterator
+own_no_iterator types e (a_pointer target constant is v) = ap (λ (x : ExprType). is_iterator (own_type x)) is
+own_no_iterator types e (a_view is) = ap (λ (x : ExprType). is_iterator (own_type x)) is
+own_no_iterator types e (a_text is v) = ap (λ (x : ExprType). is_iterator (own_type x)) is
+own_no_iterator types e (no_value is v) = ap (λ (x : ExprType). is_iterator (own_type x)) is
+own_no_iterator types e (a_null is v) = ap (λ (x : ExprType). is_iterator (own_type x)) is

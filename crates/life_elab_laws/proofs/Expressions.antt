@@ -1,12 +1,12 @@
 -- What is written for a well typed expression, by one recursion: each form says by one way how it is written, and has all laws by that.
-use Rattle.std.proofs.Common.{◌≡◌, inl, inr, ℕ, zero, suc, Bool, true, List, [], ◌∷◌, slice_get, Option, Some, None, refl, sym, ap, ◌∙◌, subst, ◌&&◌, ◌||◌}
+use Rattle.std.proofs.Common.{◌≡◌, inl, inr, ℕ, zero, suc, true, List, [], ◌∷◌, slice_get, Option, Some, None, refl, sym, ap, ◌∙◌, subst, ◌&&◌, ◌||◌, Ok}
 use Rattle.std.proofs.lemmas.Bool.{and_parts, false≢true, or_cases}
 use Rattle.std.specs.Prelude.{pos}
+use Rattle.life_served.specs.Served.{is_asking, is_end, is_erase, is_owner_type, is_plain_type, is_served_either, is_served_form, is_served_object, is_served_owner, is_served_walker, is_subspan, is_walker_type, form_type, is_edge, is_equality, owns_elements, is_owner_of_values, is_walker_of_values, are_served_arguments, are_served_elements}
 use Rattle.life_types.specs.Types.{Types}
 use Rattle.life_types.specs.declared.place.Place.{Place}
 use Rattle.life_types.specs.declared.ty.Ty.TheVariants as ty
 use Rattle.life_types.specs.declared.ty.TyId.{TyId}
-use Rattle.life_elab_laws.specs.Reached.{is_reached_either, is_reached_form, is_reached_method, is_reached_type, compares, concatenates, is_reached_object, is_reached_owner, is_owner_type, is_end, is_reached_walker, is_walker_type, is_erase, is_subspan}
 use Rattle.life_typed.specs.BaseTypes.{type_at}
 use Rattle.life_typed.specs.Programs.{FunctionForm}
 use Rattle.life_typed.specs.Delimiters.{DelimitersForm, behind_others}
@@ -14,7 +14,7 @@ use Rattle.life_typed.specs.TypedForm.{Form, Typed, number, character, boolean, 
 use Rattle.life_typed.specs.declared.typed_expr.ExprType.{ExprType}
 use Rattle.life_typed.specs.declared.typed_expr.ExprType.TheVariants.{Of}
 use Rattle.life_typed.specs.declared.typed_expr.Method.TheVariants as methods
-use Rattle.life_type_expr.specs.Operands.{number_type}
+use Rattle.life_type_expr.specs.Operands.{number_type, pointed_to}
 use Rattle.life_core.specs.Function.{Function}
 use Rattle.life_core.specs.Tree.{Tree}
 use Rattle.life_proper.specs.OperandTypes as operands
@@ -38,228 +38,351 @@ use Rattle.life_elab_laws.proofs.HandedTypes.{IsHandedType}
 use Rattle.life_elab_laws.proofs.Instructions.{constant_part, input_part, negated_part}
 use Rattle.life_elab_laws.proofs.Parts.{Makes}
 use Rattle.life_elab_laws.proofs.Setting.{Setting}
-use Rattle.life_elab_laws.proofs.TypedKinds.{combined_as, none_some, ok_same, some_same}
+use Rattle.life_elab_laws.proofs.TypedKinds.{combined_as, none_some, ok_same, some_same, IsCombined}
 use Rattle.life_elab_laws.proofs.VariablePlaces.{Stands}
 use Rattle.life_elab_laws.proofs.OperatorForms.{binary_form}
 use Rattle.life_elab_laws.proofs.PointerForms.{address_form, call_form, dereference_form, null_form, text_form, variable_form}
-use Rattle.life_elab_laws.proofs.ElementForms.{either_reached, object_expression, owner_index_form, owner_method_form, view_index_form}
+use Rattle.life_elab_laws.proofs.ReferredOwners.{call_object, dereferenced_object, owner_address_form}
+use Rattle.life_elab_laws.proofs.ElementForms.{edge_reached, either_served, operand_typed, owner_index_reached, owner_method_form, view_index_reached}
 use Rattle.life_elab_laws.proofs.ViewForms.{AreWhole, method_form}
-use Rattle.life_writer.specs.Rows.{row_between}
 use Rattle.life_elab_laws.proofs.ComparedForms.{IsEither, compared_form}
-use Rattle.life_elab_laws.proofs.AdvancedForms.{advanced_walker, compared_walkers_form, end_walker, walker_dereference_form}
+use Rattle.life_elab_laws.proofs.AdvancedForms.{advanced_walker, compared_walkers_form, end_walker, walker_dereferenced}
 use Rattle.life_elab_laws.proofs.WalkerForms.{IsWalker, IsWalkerAt, variable_walker, walker_same}
-use Rattle.life_elab_laws.proofs.SpanForms.{span_index_form, span_method_form}
+use Rattle.life_elab_laws.proofs.SpanForms.{span_index_reached, span_method_form}
 use Rattle.life_elab_laws.proofs.SubspanForms.{subspan_walker}
 use Rattle.life_elab_laws.proofs.EraseForms.{erased_walker}
 use Rattle.life_elab_laws.proofs.MadeForms.{IsOwning, IsOwningAt, is_made, owning_owner, owning_same, stands_there}
-use Rattle.life_elab_laws.proofs.ObjectForms.{IsObject, IsOwner, owner_type, variable_object}
+use Rattle.life_elab_laws.proofs.ObjectForms.{IsObject, IsObjectAt, IsOwner, IsReached, object_same, reached_form, reached_object, variable_object}
 use Rattle.life_elab_laws.proofs.StringForms.{joined_made, text_of_owner, text_of_view}
 use Rattle.life_well_typed.specs.Members.{IsCalled}
 use Rattle.life_typed.specs.declared.typed_expr.Method.{Method}
+use Rattle.life_elab_laws.proofs.EqualityRows.{compares_both, joins_texts, is_ranged}
+use Rattle.life_elab_laws.proofs.RowTypes.{row_fits_between}
+use Rattle.life_typed.specs.declared.typed_expr.BinaryOperator.{BinaryOperator}
+use Rattle.life_types.specs.declared.ty.Ty.{Ty}
+use Rattle.life_elab_laws.proofs.HandedOwners.{owner_first, walker_first}
+use Rattle.life_elab_laws.proofs.PushedElements.{AreGiving, IsGiving}
+use Rattle.life_type_expr.specs.Members.{indexed_at}
 
-module _ (a : Around) (visible : List ℕ) (types : Types) (texts : ℕ) (so_far : Bool) (fs : List Function) (f : Function) (setting : Setting so_far a types fs f) where
+module _ (a : Around) (visible : List ℕ) (types : Types) (texts : ℕ) (fs : List Function) (f : Function) (setting : Setting a types fs f) where
   abbrev Standing : State → Type 0
   Standing s = Stands a visible s
 
   abbrev Decided : Option Place → State → Gives Tree → Type 0
-  Decided ends s w = Tests types texts so_far fs f ends s w
+  Decided ends s w = Tests types texts fs f ends s w
 
   -- one with a value, or an owner
-  either_of : (form : Form) → is_reached_either so_far form (is_reached_owner texts so_far form) (is_reached_form texts so_far form) ≡ true → (is_reached_form texts so_far form ≡ true → IsWhole a visible types texts so_far fs f setting form)
-      → (is_reached_owner texts so_far form ≡ true → is_owner_type so_far (typed_in form).ty ≡ true → IsOwning a visible types texts so_far fs f setting form) → IsEither a visible types texts so_far fs f setting form
-  either_of form b value owner = elim (either_reached so_far form (is_reached_owner texts so_far form) (is_reached_form texts so_far form) b) [
+  either_of : (form : Form) → is_served_either form (is_served_owner texts form) (is_served_form texts form) ≡ true → (is_served_form texts form ≡ true → IsWhole a visible types texts fs f setting form)
+      → (is_served_owner texts form ≡ true → is_owner_type (typed_in form).ty ≡ true → IsOwning a visible types texts fs f setting form) → IsEither a visible types texts fs f setting form
+  either_of form b value owner = elim (either_served form (is_served_owner texts form) (is_served_form texts form) b) [
     | inl v ↦ inl (value v)
-    | inr o ↦ inr (owning_owner a visible types texts so_far fs f setting form (owner o.1 o.0))
+    | inr o ↦ inr (owning_owner a visible types texts fs f setting form (owner o.1 o.0))
   ]
 
   abbrev OwningAt : Typed → Uses → Type 0
-  OwningAt e u = IsOwningAt a visible types texts so_far fs f setting e u.at u.object u.replacing
+  OwningAt e u = IsOwningAt a visible types texts fs f setting e u.at u.object u.replacing
 
   -- ---- iterators and spans
 
   abbrev IsFirstWalker : Form → Type 0
-  IsFirstWalker (e ⨟ es) = IsWalker a visible types texts so_far fs f setting e
+  IsFirstWalker (e ⨟ es) = IsWalker a visible types texts fs f setting e
   IsFirstWalker _ = ⊥
 
-  parted : (base : Form) (m : Method) (given : Form) (d : DelimitersForm) (e : Typed) (place : Place) → is_subspan m ≡ true → IsWalker a visible types texts so_far fs f setting base → AreWhole a visible types texts so_far fs f setting given
-      → IsCalled a.program.types (typed_in base).ty (typed_in base).category m given e → IsWalkerAt a visible types texts so_far fs f setting e ((form_uses a (method base m given d) place e.ty e.category).pointing)
-  parted base methods.Subspan given d e place b is whole h = subspan_walker a visible types texts so_far fs f setting base given d e place is whole h
+  parted : (base : Form) (m : Method) (given : Form) (d : DelimitersForm) (e : Typed) (place : Place) → is_subspan m ≡ true → IsWalker a visible types texts fs f setting base → AreWhole a visible types texts fs f setting given
+      → IsCalled a.program.types (typed_in base).ty (typed_in base).category m given e → IsWalkerAt a visible types texts fs f setting e ((form_uses a (method base m given d) place e.ty e.category).pointing)
+  parted base methods.Subspan given d e place b is whole h = subspan_walker a visible types texts fs f setting base given d e place is whole h
   parted base _ given d e place b is whole h = absurd (false≢true b)
 
-  erased : (base : Form) (m : Method) (given : Form) (d : DelimitersForm) (e : Typed) (place : Place) → is_erase m ≡ true → IsObject a visible types texts so_far fs f setting base → IsFirstWalker given
-      → IsCalled a.program.types (typed_in base).ty (typed_in base).category m given e → IsWalkerAt a visible types texts so_far fs f setting e ((form_uses a (method base m given d) place e.ty e.category).pointing)
-  erased base methods.Erase (position ⨟ others) d e place b is at h = erased_walker a visible types texts so_far fs f setting base position others d e place is at h
+  erased : (base : Form) (m : Method) (given : Form) (d : DelimitersForm) (e : Typed) (place : Place) → is_erase m ≡ true → IsObject a visible types texts fs f setting base → IsFirstWalker given
+      → IsCalled a.program.types (typed_in base).ty (typed_in base).category m given e → IsWalkerAt a visible types texts fs f setting e ((form_uses a (method base m given d) place e.ty e.category).pointing)
+  erased base methods.Erase (position ⨟ others) d e place b is at h = erased_walker a visible types texts fs f setting base position others d e place is at h
   erased base methods.Erase _ d e place b is at h = absurd at
   erased base _ given d e place b is at h = absurd (false≢true b)
+
+  -- ---- whether two are equal
+
+  walker_ranged : (form : Form) → IsWalker a visible types texts fs f setting form → is_ranged (typed_in form).ty ≡ true
+  walker_ranged form is = subst (λ (x : ExprType). is_ranged x ≡ true) (sym is.is) (go is.ty is.walker)
+    where
+      go : (t : Ty) → is_walker_of_values a.program.types t ≡ true → is_ranged (Of t) ≡ true
+      go (ty.Iterator item constant) w = refl
+      go (ty.Span item constant) w = refl
+      go _ w = absurd (false≢true w)
+
+  owner_ranged : (form : Form) → IsOwner a visible types texts fs f setting form → is_ranged (typed_in form).ty ≡ true
+  owner_ranged form is = subst (λ (x : ExprType). is_ranged x ≡ true) (sym is.is) (go is.ty is.owner)
+    where
+      go : (t : Ty) → is_owner_of_values a.program.types t ≡ true → is_ranged (Of t) ≡ true
+      go ty.Text o = refl
+      go (ty.Vector item) o = refl
+      go _ o = absurd (false≢true o)
+
+  -- values are, or texts of which one is a string
+  equated_form : (o : BinaryOperator) (left right : Form) (e : Typed) → IsCombined o (typed_in left) (typed_in right) e → is_equality o ≡ true → IsEither a visible types texts fs f setting left → IsEither a visible types texts fs f setting right
+      → IsForm a visible types texts fs f setting (binary o left right) e
+  equated_form o left right e c equality (inl l) (inl r) = binary_form a visible types texts fs f setting o left right e c l r
+  equated_form o left right e c equality (inr l) r =
+      compared_form a visible types texts fs f setting o left right e c (compares_both o left right c.ty equality (inl (owner_ranged left l)) (row_fits_between o left right c.ty c.answer)) (inr l) r
+  equated_form o left right e c equality (inl l) (inr r) =
+      compared_form a visible types texts fs f setting o left right e c (compares_both o left right c.ty equality (inr (owner_ranged right r)) (row_fits_between o left right c.ty c.answer)) (inl l) (inr r)
+
+  -- ---- elements, and what is behind a pointer or an iterator
+
+  indexed_of : (base position : Form) (closing : Place) (e : Typed) → (is_served_either base (is_served_owner texts base) (is_served_form texts base) || is_served_walker texts base) ≡ true
+      → indexed_at a.program.types e.place (typed_in base) (typed_in position) closing ≡ Ok e → (is_served_form texts base ≡ true → IsWhole a visible types texts fs f setting base)
+      → (is_served_owner texts base ≡ true → is_owner_type (typed_in base).ty ≡ true → IsOwning a visible types texts fs f setting base) → (is_served_walker texts base ≡ true → IsWalker a visible types texts fs f setting base)
+      → IsWhole a visible types texts fs f setting position → IsReached a visible types texts fs f setting (index base position closing) e
+  indexed_of base position closing e b h value owner walker at =
+      elim (or_cases (is_served_either base (is_served_owner texts base) (is_served_form texts base)) (is_served_walker texts base) b) [
+        | inl either ↦ elim (either_served base (is_served_owner texts base) (is_served_form texts base) either) [
+          | inl v ↦ view_index_reached a visible types texts fs f setting base position closing e (value v) at h
+          | inr o ↦ owner_index_reached a visible types texts fs f setting base position closing e (owning_owner a visible types texts fs f setting base (owner o.1 o.0)) at h
+        ]
+        | inr w ↦ span_index_reached a visible types texts fs f setting base position closing e (walker w) at h
+      ]
+
+  edge_of : (base : Form) (which : Method) (given : Form) (delimiters : DelimitersForm) (e : Typed) → (is_edge which && (is_owner_type (form_type base) && is_served_owner texts base)) ≡ true
+      → IsCalled a.program.types (typed_in base).ty (typed_in base).category which given e → (is_served_owner texts base ≡ true → is_owner_type (typed_in base).ty ≡ true → IsOwning a visible types texts fs f setting base)
+      → IsReached a visible types texts fs f setting (method base which given delimiters) e
+  edge_of base which given delimiters e b h owner =
+      let one = and_parts (is_edge which) (is_owner_type (form_type base) && is_served_owner texts base) b in
+      let two = and_parts (is_owner_type (form_type base)) (is_served_owner texts base) one.1 in
+      edge_reached a visible types texts fs f setting base which given delimiters e (owning_owner a visible types texts fs f setting base (owner two.1 (ap is_owner_type (operand_typed base) ∙ two.0))) one.0 h
+
+  behind_of : (inner : Form) (e : Typed) (place : Place) → (is_served_form texts inner || is_served_walker texts inner) ≡ true → is_owner_type e.ty ≡ true → pointed_to a.program.types e.place (typed_in inner) ≡ Ok e
+      → (is_served_form texts inner ≡ true → IsWhole a visible types texts fs f setting inner) → (is_served_walker texts inner ≡ true → IsWalker a visible types texts fs f setting inner)
+      → IsObjectAt a visible types texts fs f setting e ((form_uses a (dereference inner) place e.ty e.category).at)
+  behind_of inner e place b n h value walker =
+      elim (or_cases (is_served_form texts inner) (is_served_walker texts inner) b) [
+        | inl v ↦ dereferenced_object a visible types texts fs f setting inner e place (value v) n h
+        | inr w ↦ reached_object a visible types texts fs f setting (dereference inner) e place (walker_dereferenced a visible types texts fs f setting inner e (walker w) h) n
+      ]
 
   -- ---- any expression
 
   mutual
-    pub whole_expression : (form : Form) → is_reached_form texts so_far form ≡ true → IsExpression a.program a.function.locals visible form → IsWhole a visible types texts so_far fs f setting form
+    pub whole_expression : (form : Form) → is_served_form texts form ≡ true → IsExpression a.program a.function.locals visible form → IsWhole a visible types texts fs f setting form
     whole_expression (typed place t c form) b h =
-        let parts = and_parts (is_reached_type so_far t) (is_reached_form texts so_far form) b in
-        whole_of a visible types texts so_far fs f setting place t c form (expression form (record { place = place; ty = t; category = c; form = form }) parts.0 parts.1 h)
+        let parts = and_parts (is_plain_type t) (is_served_form texts form) b in
+        whole_of a visible types texts fs f setting place t c form (expression form (record { place = place; ty = t; category = c; form = form }) parts.0 parts.1 h)
     whole_expression _ b h = absurd h
 
     -- each form by the way it is made
-    expression : (form : Form) (e : Typed) → is_reached_type so_far e.ty ≡ true → is_reached_form texts so_far form ≡ true → IsMadeOf a.program a.function.locals visible e form → IsForm a visible types texts so_far fs f setting form e
-    expression (number n) e q b h = literal a visible types texts so_far fs f setting (number n) e (number_type n) h (number_value n) refl (λ place b. refl) (λ place behind into s wanted stands. constant_part types texts so_far fs f into (number_type n) place (values.long n) s (number_value n) wanted) (λ place behind r s. refl)
-    expression (character c) e q b h = literal a visible types texts so_far fs f setting (character c) e ty.Char h refl refl (λ place b. refl) (λ place behind into s wanted stands. constant_part types texts so_far fs f into ty.Char place (pos c) s refl wanted) (λ place behind r s. refl)
-    expression (boolean x) e q b h = literal a visible types texts so_far fs f setting (boolean x) e ty.Bool h refl refl (λ place b. refl) (λ place behind into s wanted stands. constant_part types texts so_far fs f into ty.Bool place (values.truth x) s refl wanted) (λ place behind r s. refl)
-    expression null e q b h = null_form a visible types texts so_far fs f setting e h.0 h.1
-    expression (local x) e q b h = variable_form a visible types texts so_far fs f setting x e q h.0 h.1
-    expression (call g given delimiters) e q b h = call_form a visible types texts so_far fs f setting g given delimiters e h.0 (λ of at s stands. handed delimiters given b h.2 (parameter_types (Some of)) (subst (λ (o : Option FunctionForm). are_given a.program.types (parameter_types o) given ≡ true) at h.1) (setting.taken g of at) s stands)
-    expression (paren inner closing) e q b h = paren_form a visible types texts so_far fs f setting inner closing e (ap (λ (y : Typed). y.ty) (ok_same h.0)) (ap (λ (y : Typed). y.category) (ok_same h.0)) (whole_expression inner b h.1)
-    expression input e q b h = literal a visible types texts so_far fs f setting input e ty.Long h refl refl (λ place b. refl) (λ place behind into s wanted stands. input_part types texts so_far fs f into ty.Long place s refl wanted) (λ place behind r s. refl)
+    expression : (form : Form) (e : Typed) → is_plain_type e.ty ≡ true → is_served_form texts form ≡ true → IsMadeOf a.program a.function.locals visible e form → IsForm a visible types texts fs f setting form e
+    expression (number n) e q b h = literal a visible types texts fs f setting (number n) e (number_type n) h (number_value n) refl (λ place b. refl) (λ place behind into s wanted stands. constant_part types texts fs f into (number_type n) place (values.long n) s (number_value n) wanted) (λ place behind r s. refl)
+    expression (character c) e q b h = literal a visible types texts fs f setting (character c) e ty.Char h refl refl (λ place b. refl) (λ place behind into s wanted stands. constant_part types texts fs f into ty.Char place (pos c) s refl wanted) (λ place behind r s. refl)
+    expression (boolean x) e q b h = literal a visible types texts fs f setting (boolean x) e ty.Bool h refl refl (λ place b. refl) (λ place behind into s wanted stands. constant_part types texts fs f into ty.Bool place (values.truth x) s refl wanted) (λ place behind r s. refl)
+    expression null e q b h = null_form a visible types texts fs f setting e h.0 h.1
+    expression (local x) e q b h = variable_form a visible types texts fs f setting x e q h.0 h.1
+    expression (call g given delimiters) e q b h = call_form a visible types texts fs f setting g given delimiters e q h.0 (λ of at s stands. handed delimiters given b h.2 (parameter_types (Some of)) (subst (λ (o : Option FunctionForm). are_given a.program.types (parameter_types o) given ≡ true) at h.1) (setting.taken g of at) s stands)
+    expression (paren inner closing) e q b h = paren_form a visible types texts fs f setting inner closing e (ap (λ (y : Typed). y.ty) (ok_same h.0)) (ap (λ (y : Typed). y.category) (ok_same h.0)) (whole_expression inner b h.1)
+    expression input e q b h = literal a visible types texts fs f setting input e ty.Long h refl refl (λ place b. refl) (λ place behind into s wanted stands. input_part types texts fs f into ty.Long place s refl wanted) (λ place behind r s. refl)
     expression (dereference inner) e q b h =
-        elim (or_cases (is_reached_form texts so_far inner) (is_reached_walker texts so_far inner) b) [
-          | inl value ↦ let is = whole_expression inner value h.1 in dereference_form a visible types texts so_far fs f setting inner e (dereferenced_as so_far a.program.types (typed_in inner) e is.kind h.0) is
-          | inr walker ↦ walker_dereference_form a visible types texts so_far fs f setting inner e (walker_expression inner walker h.1) h.0
+        elim (or_cases (is_served_form texts inner) (is_served_walker texts inner) b) [
+          | inl value ↦ let is = whole_expression inner value h.1 in dereference_form a visible types texts fs f setting inner e (dereferenced_as a.program.types (typed_in inner) e is.kind q h.0) is
+          | inr walker ↦ reached_form a visible types texts fs f setting (dereference inner) e (walker_dereferenced a visible types texts fs f setting inner e (walker_expression inner walker h.1) h.0) q refl (λ place b. refl)
         ]
     expression (negate inner) e q b h =
         let is = whole_expression inner b h.1 in
-        let g = negated_as so_far a.program.types (typed_in inner) e is.kind h.0 in
+        let g = negated_as a.program.types (typed_in inner) e is.kind h.0 in
         let own : e.ty ≡ Of g.ty = ap (λ (y : Typed). y.ty) g.is in
-        value_form a visible types texts so_far fs f setting (negate inner) e g.ty own (ap (λ (y : Typed). y.category) g.is) g.worth refl (λ place b. refl)
-        (λ place behind into s wanted stands. negated_part types texts so_far fs f g.ty place (value (uses a inner) behind g.ty None) into s g.worth (sym (ap (λ (t : ExprType). operands.is_promoted (own_type t)) own) ∙ negated_promoted so_far a.program.types (typed_in inner) e is.kind h.0) wanted stands.opened
+        value_form a visible types texts fs f setting (negate inner) e g.ty own (ap (λ (y : Typed). y.category) g.is) g.worth refl (λ place b. refl)
+        (λ place behind into s wanted stands. negated_part types texts fs f g.ty place (value (uses a inner) behind g.ty None) into s g.worth (sym (ap (λ (t : ExprType). operands.is_promoted (own_type t)) own) ∙ negated_promoted a.program.types (typed_in inner) e is.kind h.0) wanted stands.opened
         (is.valued g.number behind g.ty g.worth None s tt stands))
         (λ place behind r s. refl)
     expression (not inner) e q b h =
         let is = whole_expression inner b h.1 in
         let g = inverted_as (typed_in inner) e h.0 in
-        decided_form a visible types texts so_far fs f setting (not inner) e ty.Bool (ap (λ (y : Typed). y.ty) g.is) (ap (λ (y : Typed). y.category) g.is) refl refl (λ place b none. absurd (none_some (sym none))) (λ place b none. absurd (none_some (sym none)))
-        (λ place b w at s stands. subst (λ (v : State → Gives Tree). Decided b.ends s (v s)) (some_same at) (negation_part types texts so_far fs f b.ends (condition (uses a inner) b) s (is.conditions g.condition b s stands)))
+        decided_form a visible types texts fs f setting (not inner) e ty.Bool (ap (λ (y : Typed). y.ty) g.is) (ap (λ (y : Typed). y.category) g.is) refl refl (λ place b none. absurd (none_some (sym none))) (λ place b none. absurd (none_some (sym none)))
+        (λ place b w at s stands. subst (λ (v : State → Gives Tree). Decided b.ends s (v s)) (some_same at) (negation_part types texts fs f b.ends (condition (uses a inner) b) s (is.conditions g.condition b s stands)))
     expression (address_of inner) e q b h =
-        let is = whole_expression inner b h.1 in address_form a visible types texts so_far fs f setting inner e (addressed_as so_far a.program.types (typed_in inner) e is.kind h.0) is
+        elim (either_served inner (is_served_object texts inner) (is_served_form texts inner) b) [
+          | inl value ↦ let is = whole_expression inner value h.1 in address_form a visible types texts fs f setting inner e (addressed_as a.program.types (typed_in inner) e is.kind h.0) is
+          | inr owner ↦ owner_address_form a visible types texts fs f setting inner e (object_expression inner owner.1 owner.0 h.1) h.0
+        ]
     expression (binary o left right) e q b h =
         let c = combined_as o e.place (typed_in left) (typed_in right) e h.0 in
-        elim (or_cases (is_reached_form texts so_far left && is_reached_form texts so_far right) _ b) [
-          | inl values ↦ let parts = and_parts (is_reached_form texts so_far left) (is_reached_form texts so_far right) values in binary_form a visible types texts so_far fs f setting o left right e c (whole_expression left parts.0 h.1) (whole_expression right parts.1 h.2)
-          | inr others ↦ elim (or_cases (compares (row_between o left right) && (is_reached_either so_far left (is_reached_owner texts so_far left) (is_reached_form texts so_far left) && is_reached_either so_far right (is_reached_owner texts so_far right) (is_reached_form texts so_far right))) _ others) [
-            | inl texts_too ↦
-                let parts = and_parts (compares (row_between o left right)) _ texts_too in
-                let both = and_parts (is_reached_either so_far left (is_reached_owner texts so_far left) (is_reached_form texts so_far left)) (is_reached_either so_far right (is_reached_owner texts so_far right) (is_reached_form texts so_far right)) parts.1 in
-                compared_form a visible types texts so_far fs f setting o left right e c parts.0 (either_of left both.0 (λ v. whole_expression left v h.1) (λ o n. owner_expression left o n h.1)) (either_of right both.1 (λ v. whole_expression right v h.2) (λ o n. owner_expression right o n h.2))
-            | inr walkers ↦
-                let parts = and_parts (compares (row_between o left right)) (is_reached_walker texts so_far left && is_reached_walker texts so_far right) walkers in
-                let both = and_parts (is_reached_walker texts so_far left) (is_reached_walker texts so_far right) parts.1 in
-                compared_walkers_form a visible types texts so_far fs f setting o left right e c parts.0 (walker_expression left both.0 h.1) (walker_expression right both.1 h.2)
-          ]
+        elim (or_cases (is_served_form texts left && is_served_form texts right) _ b) [
+          | inl values ↦ let parts = and_parts (is_served_form texts left) (is_served_form texts right) values in binary_form a visible types texts fs f setting o left right e c (whole_expression left parts.0 h.1) (whole_expression right parts.1 h.2)
+          | inr others ↦
+              let equality = and_parts (is_equality o) _ others in
+              elim (or_cases (is_served_either left (is_served_owner texts left) (is_served_form texts left) && is_served_either right (is_served_owner texts right) (is_served_form texts right)) (is_served_walker texts left && is_served_walker texts right) equality.1) [
+                | inl texts_too ↦
+                    let both = and_parts (is_served_either left (is_served_owner texts left) (is_served_form texts left)) (is_served_either right (is_served_owner texts right) (is_served_form texts right)) texts_too in
+                    equated_form o left right e c equality.0 (either_of left both.0 (λ v. whole_expression left v h.1) (λ o n. owner_expression left o n h.1)) (either_of right both.1 (λ v. whole_expression right v h.2) (λ o n. owner_expression right o n h.2))
+                | inr walkers ↦
+                    let both = and_parts (is_served_walker texts left) (is_served_walker texts right) walkers in
+                    let l = walker_expression left both.0 h.1 in
+                    compared_walkers_form a visible types texts fs f setting o left right e c (compares_both o left right c.ty equality.0 (inl (walker_ranged left l)) (row_fits_between o left right c.ty c.answer)) l (walker_expression right both.1 h.2)
+              ]
         ]
-    expression (text n) e q b h = text_form a visible types texts so_far fs f setting n e h.0 h.1 b
+    expression (text n) e q b h = text_form a visible types texts fs f setting n e h.0 h.1 b
     expression (construct structure elements delimiters) e q b h = absurd (false≢true b)
     expression (move x) e q b h = absurd (false≢true b)
     expression (make_unique id argument closing) e q b h = absurd (false≢true b)
     expression (text_of inner closing) e q b h = absurd (false≢true b)
     expression (member base which) e q b h = absurd (false≢true b)
     expression (index base position closing) e q b h =
-        let parts = and_parts (is_reached_either so_far base (is_reached_owner texts so_far base) (is_reached_form texts so_far base) || is_reached_walker texts so_far base) (is_reached_form texts so_far position) b in
-        let at = whole_expression position parts.1 h.2 in
-        elim (or_cases (is_reached_either so_far base (is_reached_owner texts so_far base) (is_reached_form texts so_far base)) (is_reached_walker texts so_far base) parts.0) [
-          | inl either ↦ elim (either_reached so_far base (is_reached_owner texts so_far base) (is_reached_form texts so_far base) either) [
-            | inl value ↦ view_index_form a visible types texts so_far fs f setting base position closing e (whole_expression base value h.1) at h.0
-            | inr owner ↦ owner_index_form a visible types texts so_far fs f setting base position closing e (owning_owner a visible types texts so_far fs f setting base (owner_expression base owner.1 owner.0 h.1)) at h.0
-          ]
-          | inr walker ↦ span_index_form a visible types texts so_far fs f setting base position closing e (walker_expression base walker h.1) at h.0
-        ]
+        let parts = and_parts (is_served_either base (is_served_owner texts base) (is_served_form texts base) || is_served_walker texts base) (is_served_form texts position) b in
+        let is = indexed_of base position closing e parts.0 h.0 (λ v. whole_expression base v h.1) (λ o n. owner_expression base o n h.1) (λ w. walker_expression base w h.1) (whole_expression position parts.1 h.2) in
+        reached_form a visible types texts fs f setting (index base position closing) e is q refl (λ place b. refl)
     expression (method base which given delimiters) e q b h =
-        let one = and_parts (is_reached_method which) _ b in
-        let two = and_parts (is_reached_either so_far base (is_reached_owner texts so_far base) (is_reached_form texts so_far base) || is_reached_walker texts so_far base) (is_reached_form texts so_far given) one.1 in
-        elim (or_cases (is_reached_either so_far base (is_reached_owner texts so_far base) (is_reached_form texts so_far base)) (is_reached_walker texts so_far base) two.0) [
-          | inl either ↦ elim (either_reached so_far base (is_reached_owner texts so_far base) (is_reached_form texts so_far base) either) [
-            | inl value ↦ method_form a visible types texts so_far fs f setting base which given delimiters e (whole_expression base value h.1) (wholes given two.1 h.2) one.0 h.0
-            | inr owner ↦ owner_method_form a visible types texts so_far fs f setting base which given delimiters e (owning_owner a visible types texts so_far fs f setting base (owner_expression base owner.1 owner.0 h.1)) one.0 h.0
+        let one = and_parts (is_asking which) _ b in
+        let two = and_parts (is_served_either base (is_served_owner texts base) (is_served_form texts base) || is_served_walker texts base) (is_served_form texts given) one.1 in
+        elim (or_cases (is_served_either base (is_served_owner texts base) (is_served_form texts base)) (is_served_walker texts base) two.0) [
+          | inl either ↦ elim (either_served base (is_served_owner texts base) (is_served_form texts base) either) [
+            | inl value ↦ method_form a visible types texts fs f setting base which given delimiters e (whole_expression base value h.1) (wholes given two.1 h.2) one.0 h.0
+            | inr owner ↦ owner_method_form a visible types texts fs f setting base which given delimiters e q (owning_owner a visible types texts fs f setting base (owner_expression base owner.1 owner.0 h.1)) one.0 h.0
           ]
-          | inr walker ↦ span_method_form a visible types texts so_far fs f setting base which given delimiters e (walker_expression base walker h.1) one.0 h.0
+          | inr walker ↦ span_method_form a visible types texts fs f setting base which given delimiters e (walker_expression base walker h.1) one.0 h.0
         ]
     expression (typed at t c form) e q b h = absurd h
     expression nothing e q b h = absurd h
     expression (first ⨟ others) e q b h = absurd h
 
     -- an owner
-    pub owner_expression : (form : Form) → is_reached_owner texts so_far form ≡ true → is_owner_type so_far (typed_in form).ty ≡ true → IsExpression a.program a.function.locals visible form → IsOwning a visible types texts so_far fs f setting form
+    pub owner_expression : (form : Form) → is_served_owner texts form ≡ true → is_owner_type (typed_in form).ty ≡ true → IsExpression a.program a.function.locals visible form → IsOwning a visible types texts fs f setting form
     owner_expression (typed place t c form) b n h = owner_made form (record { place = place; ty = t; category = c; form = form }) b n h place
     owner_expression _ b n h = absurd h
 
-    owner_made : (form : Form) (e : Typed) → is_reached_owner texts so_far form ≡ true → is_owner_type so_far e.ty ≡ true → IsMadeOf a.program a.function.locals visible e form → (place : Place) → OwningAt e (form_uses a form place e.ty e.category)
-    owner_made (local x) e b n h place = stands_there (variable_object a visible types texts so_far fs f setting x e n h.0 h.1)
+    owner_made : (form : Form) (e : Typed) → is_served_owner texts form ≡ true → is_owner_type e.ty ≡ true → IsMadeOf a.program a.function.locals visible e form → (place : Place) → OwningAt e (form_uses a form place e.ty e.category)
+    owner_made (local x) e b n h place = stands_there (variable_object a visible types texts fs f setting x e n h.0 h.1)
     owner_made (paren inner closing) e b n h place =
         let same = ok_same h.0 in
         let t : (typed_in inner).ty ≡ e.ty = ap (λ (y : Typed). y.ty) same in
-        owning_same a visible types texts so_far fs f setting (typed_in inner) e ((uses a inner).at) ((uses a inner).object) ((uses a inner).replacing) t (ap (λ (y : Typed). y.category) same) (owner_expression inner b (ap (is_owner_type so_far) t ∙ n) h.1)
+        owning_same a visible types texts fs f setting (typed_in inner) e ((uses a inner).at) ((uses a inner).object) ((uses a inner).replacing) t (ap (λ (y : Typed). y.category) same) (owner_expression inner b (ap is_owner_type t ∙ n) h.1)
     owner_made (binary o left right) e b n h place =
-        let parts = and_parts (concatenates (row_between o left right)) _ b in
-        let both = and_parts (is_reached_either so_far left (is_reached_owner texts so_far left) (is_reached_form texts so_far left)) (is_reached_either so_far right (is_reached_owner texts so_far right) (is_reached_form texts so_far right)) parts.1 in
-        is_made (joined_made a visible types texts so_far fs f setting o left right e place (combined_as o e.place (typed_in left) (typed_in right) e h.0) parts.0 (owner_type so_far e.ty n).wide (either_of left both.0 (λ v. whole_expression left v h.1) (λ o n. owner_expression left o n h.1)) (either_of right both.1 (λ v. whole_expression right v h.2) (λ o n. owner_expression right o n h.2)))
+        let both = and_parts (is_served_either left (is_served_owner texts left) (is_served_form texts left)) (is_served_either right (is_served_owner texts right) (is_served_form texts right)) b in
+        let c = combined_as o e.place (typed_in left) (typed_in right) e h.0 in
+        let owner : owns_elements c.ty ≡ true = subst (λ (x : ExprType). is_owner_type x ≡ true) c.is.0 n in
+        is_made (joined_made a visible types texts fs f setting o left right e place c (joins_texts o left right c.ty owner (row_fits_between o left right c.ty c.answer)) (either_of left both.0 (λ v. whole_expression left v h.1) (λ o n. owner_expression left o n h.1)) (either_of right both.1 (λ v. whole_expression right v h.2) (λ o n. owner_expression right o n h.2)))
     owner_made (text_of inner closing) e b n h place =
-        elim (either_reached so_far inner (is_reached_owner texts so_far inner) (is_reached_form texts so_far inner) b) [
-          | inl value ↦ is_made (text_of_view a visible types texts so_far fs f setting inner closing e place h.0 (owner_type so_far e.ty n).wide (whole_expression inner value h.1))
-          | inr owner ↦ is_made (text_of_owner a visible types texts so_far fs f setting inner closing e place h.0 (owner_expression inner owner.1 owner.0 h.1))
+        elim (either_served inner (is_served_owner texts inner) (is_served_form texts inner) b) [
+          | inl value ↦ is_made (text_of_view a visible types texts fs f setting inner closing e place h.0 (whole_expression inner value h.1))
+          | inr owner ↦ is_made (text_of_owner a visible types texts fs f setting inner closing e place h.0 (owner_expression inner owner.1 owner.0 h.1))
         ]
+    owner_made (call g given delimiters) e b n h place =
+        stands_there (call_object a visible types texts fs f setting g given delimiters e place n h.0
+        (λ of at s stands. handed delimiters given b h.2 (parameter_types (Some of)) (subst (λ (o : Option FunctionForm). are_given a.program.types (parameter_types o) given ≡ true) at h.1) (setting.taken g of at) s stands))
+    owner_made (dereference inner) e b n h place = stands_there (behind_of inner e place b n h.0 (λ v. whole_expression inner v h.1) (λ w. walker_expression inner w h.1))
+    owner_made (index base position closing) e b n h place =
+        let parts = and_parts (is_served_either base (is_served_owner texts base) (is_served_form texts base) || is_served_walker texts base) (is_served_form texts position) b in
+        let is = indexed_of base position closing e parts.0 h.0 (λ v. whole_expression base v h.1) (λ o n. owner_expression base o n h.1) (λ w. walker_expression base w h.1) (whole_expression position parts.1 h.2) in
+        stands_there (reached_object a visible types texts fs f setting (index base position closing) e place is n)
+    owner_made (method base which given delimiters) e b n h place =
+        let is = edge_of base which given delimiters e b h.0 (λ o n. owner_expression base o n h.1) in
+        stands_there (reached_object a visible types texts fs f setting (method base which given delimiters) e place is n)
     owner_made (typed at t c form) e b n h place = absurd h
     owner_made _ e b n h place = absurd (false≢true b)
 
+    -- .. that stands at a place
+    pub object_expression : (form : Form) → is_served_object texts form ≡ true → is_owner_type (typed_in form).ty ≡ true → IsExpression a.program a.function.locals visible form → IsObject a visible types texts fs f setting form
+    object_expression (typed place t c form) b n h = object_made form (record { place = place; ty = t; category = c; form = form }) b n h place
+    object_expression _ b n h = absurd h
+
+    object_made : (form : Form) (e : Typed) → is_served_object texts form ≡ true → is_owner_type e.ty ≡ true → IsMadeOf a.program a.function.locals visible e form → (place : Place)
+        → IsObjectAt a visible types texts fs f setting e ((form_uses a form place e.ty e.category).at)
+    object_made (local x) e b n h place = variable_object a visible types texts fs f setting x e n h.0 h.1
+    object_made (paren inner closing) e b n h place =
+        let same = ok_same h.0 in
+        let t : (typed_in inner).ty ≡ e.ty = ap (λ (y : Typed). y.ty) same in
+        object_same a visible types texts fs f setting (typed_in inner) e ((uses a inner).at) t (ap (λ (y : Typed). y.category) same) (object_expression inner b (ap is_owner_type t ∙ n) h.1)
+    object_made (call g given delimiters) e b n h place =
+        call_object a visible types texts fs f setting g given delimiters e place n h.0
+        (λ of at s stands. handed delimiters given b h.2 (parameter_types (Some of)) (subst (λ (o : Option FunctionForm). are_given a.program.types (parameter_types o) given ≡ true) at h.1) (setting.taken g of at) s stands)
+    object_made (dereference inner) e b n h place = behind_of inner e place b n h.0 (λ v. whole_expression inner v h.1) (λ w. walker_expression inner w h.1)
+    object_made (index base position closing) e b n h place =
+        let parts = and_parts (is_served_either base (is_served_owner texts base) (is_served_form texts base) || is_served_walker texts base) (is_served_form texts position) b in
+        let is = indexed_of base position closing e parts.0 h.0 (λ v. whole_expression base v h.1) (λ o n. owner_expression base o n h.1) (λ w. walker_expression base w h.1) (whole_expression position parts.1 h.2) in
+        reached_object a visible types texts fs f setting (index base position closing) e place is n
+    object_made (method base which given delimiters) e b n h place =
+        let is = edge_of base which given delimiters e b h.0 (λ o n. owner_expression base o n h.1) in
+        reached_object a visible types texts fs f setting (method base which given delimiters) e place is n
+    object_made (typed place t c form) e b n h at = absurd h
+    object_made _ e b n h place = absurd (false≢true b)
+
     -- an iterator or a span
-    pub walker_expression : (form : Form) → is_reached_walker texts so_far form ≡ true → IsExpression a.program a.function.locals visible form → IsWalker a visible types texts so_far fs f setting form
+    pub walker_expression : (form : Form) → is_served_walker texts form ≡ true → IsExpression a.program a.function.locals visible form → IsWalker a visible types texts fs f setting form
     walker_expression (typed place t c form) b h =
-        let parts = and_parts (is_walker_type so_far t) (is_reached_walker texts so_far form) b in walker_made form (record { place = place; ty = t; category = c; form = form }) parts.0 parts.1 h place
+        let parts = and_parts (is_walker_type t) (is_served_walker texts form) b in walker_made form (record { place = place; ty = t; category = c; form = form }) parts.0 parts.1 h place
     walker_expression _ b h = absurd h
 
-    walker_made : (form : Form) (e : Typed) → is_walker_type so_far e.ty ≡ true → is_reached_walker texts so_far form ≡ true → IsMadeOf a.program a.function.locals visible e form → (place : Place)
-        → IsWalkerAt a visible types texts so_far fs f setting e ((form_uses a form place e.ty e.category).pointing)
-    walker_made (local x) e n b h place = variable_walker a visible types texts so_far fs f setting x e n h.0 h.1
-    walker_made (paren inner closing) e n b h place = walker_same a visible types texts so_far fs f setting (typed_in inner) e ((uses a inner).pointing) (ap (λ (y : Typed). y.ty) (ok_same h.0)) (walker_expression inner b h.1)
+    walker_made : (form : Form) (e : Typed) → is_walker_type e.ty ≡ true → is_served_walker texts form ≡ true → IsMadeOf a.program a.function.locals visible e form → (place : Place)
+        → IsWalkerAt a visible types texts fs f setting e ((form_uses a form place e.ty e.category).pointing)
+    walker_made (local x) e n b h place = variable_walker a visible types texts fs f setting x e n h.0 h.1
+    walker_made (paren inner closing) e n b h place = walker_same a visible types texts fs f setting (typed_in inner) e ((uses a inner).pointing) (ap (λ (y : Typed). y.ty) (ok_same h.0)) (ap (λ (y : Typed). y.category) (ok_same h.0)) (walker_expression inner b h.1)
     walker_made (method base which given delimiters) e n b h place =
-        elim (or_cases (is_end which && (is_owner_type so_far (typed_in base).ty && is_reached_owner texts so_far base)) _ b) [
+        elim (or_cases (is_end which && (is_owner_type (form_type base) && is_served_owner texts base)) _ b) [
           | inl ends ↦
-              let one = and_parts (is_end which) (is_owner_type so_far (typed_in base).ty && is_reached_owner texts so_far base) ends in
-              let two = and_parts (is_owner_type so_far (typed_in base).ty) (is_reached_owner texts so_far base) one.1 in
-              end_walker a visible types texts so_far fs f setting base which given delimiters e place (owning_owner a visible types texts so_far fs f setting base (owner_expression base two.1 two.0 h.1)) one.0 h.0
-          | inr others ↦ elim (or_cases (is_subspan which && (is_reached_walker texts so_far base && is_reached_form texts so_far given)) _ others) [
+              let one = and_parts (is_end which) (is_owner_type (form_type base) && is_served_owner texts base) ends in
+              let two = and_parts (is_owner_type (form_type base)) (is_served_owner texts base) one.1 in
+              end_walker a visible types texts fs f setting base which given delimiters e place (owning_owner a visible types texts fs f setting base (owner_expression base two.1 (ap is_owner_type (operand_typed base) ∙ two.0) h.1)) one.0 h.0
+          | inr others ↦ elim (or_cases (is_subspan which && (is_served_walker texts base && is_served_form texts given)) _ others) [
             | inl part ↦
-                let one = and_parts (is_subspan which) (is_reached_walker texts so_far base && is_reached_form texts so_far given) part in
-                let two = and_parts (is_reached_walker texts so_far base) (is_reached_form texts so_far given) one.1 in
+                let one = and_parts (is_subspan which) (is_served_walker texts base && is_served_form texts given) part in
+                let two = and_parts (is_served_walker texts base) (is_served_form texts given) one.1 in
                 parted base which given delimiters e place one.0 (walker_expression base two.0 h.1) (wholes given two.1 h.2) h.0
             | inr erases ↦
-                let one = and_parts (is_erase which) (is_owner_type so_far (typed_in base).ty && (is_reached_object base && is_reached_walker texts so_far given)) erases in
-                let two = and_parts (is_owner_type so_far (typed_in base).ty) (is_reached_object base && is_reached_walker texts so_far given) one.1 in
-                let three = and_parts (is_reached_object base) (is_reached_walker texts so_far given) two.1 in
-                erased base which given delimiters e place one.0 (object_expression a visible types texts so_far fs f setting base three.0 two.0 h.1) (walker_given given three.1 h.2) h.0
+                let one = and_parts (is_erase which) (is_owner_type (form_type base) && (is_served_object texts base && is_served_walker texts given)) erases in
+                let two = and_parts (is_owner_type (form_type base)) (is_served_object texts base && is_served_walker texts given) one.1 in
+                let three = and_parts (is_served_object texts base) (is_served_walker texts given) two.1 in
+                erased base which given delimiters e place one.0 (object_expression base three.0 (ap is_owner_type (operand_typed base) ∙ two.0) h.1) (walker_given given three.1 h.2) h.0
           ]
         ]
     walker_made (binary o left right) e n b h place =
-        let parts = and_parts (is_reached_walker texts so_far left) (is_reached_form texts so_far right) b in
-        advanced_walker a visible types texts so_far fs f setting o left right e place n (combined_as o e.place (typed_in left) (typed_in right) e h.0) (walker_expression left parts.0 h.1) (whole_expression right parts.1 h.2)
+        let parts = and_parts (is_served_walker texts left) (is_served_form texts right) b in
+        advanced_walker a visible types texts fs f setting o left right e place n (combined_as o e.place (typed_in left) (typed_in right) e h.0) (walker_expression left parts.0 h.1) (whole_expression right parts.1 h.2)
     walker_made (typed at t c form) e n b h place = absurd h
     walker_made (first ⨟ others) e n b h place = absurd h
     walker_made _ e n b h place = absurd (false≢true b)
 
     -- .. the first of several
-    walker_given : (form : Form) → is_reached_walker texts so_far form ≡ true → AreExpressions a.program a.function.locals visible form → IsFirstWalker form
+    walker_given : (form : Form) → is_served_walker texts form ≡ true → AreExpressions a.program a.function.locals visible form → IsFirstWalker form
     walker_given nothing b h = absurd (false≢true b)
     walker_given (e ⨟ es) b h = walker_expression e b h.0
     walker_given _ b h = absurd h
 
     -- all of several
-    pub wholes : (form : Form) → is_reached_form texts so_far form ≡ true → AreExpressions a.program a.function.locals visible form → AreWhole a visible types texts so_far fs f setting form
+    pub wholes : (form : Form) → is_served_form texts form ≡ true → AreExpressions a.program a.function.locals visible form → AreWhole a visible types texts fs f setting form
     wholes nothing b h = tt
-    wholes (e ⨟ es) b h = let parts = and_parts (is_reached_form texts so_far e) (is_reached_form texts so_far es) b in (whole_expression e parts.0 h.0, wholes es parts.1 h.1)
+    wholes (e ⨟ es) b h = let parts = and_parts (is_served_form texts e) (is_served_form texts es) b in (whole_expression e parts.0 h.0, wholes es parts.1 h.1)
     wholes _ b h = absurd h
 
     -- arguments
-    pub handed : (d : DelimitersForm) (form : Form) → is_reached_form texts so_far form ≡ true → AreExpressions a.program a.function.locals visible form → (ids : List TyId) → are_given a.program.types ids form ≡ true
+    pub handed : (d : DelimitersForm) (form : Form) → are_served_arguments texts form ≡ true → AreExpressions a.program a.function.locals visible form → (ids : List TyId) → are_given a.program.types ids form ≡ true
         → ((n : ℕ) (id : TyId) → slice_get ids n ≡ Some id → IsHandedType a.program.types id) → (s : State) → Standing s
-        → Makes types texts so_far fs f None s (giving.arguments a (all_uses a form) d ids s) (arguments types texts so_far fs f ids)
-    handed d nothing b h [] g v s stands = none_handed types texts so_far fs f s
+        → Makes types texts fs f None s (giving.arguments a (all_uses a form) d ids s) (arguments types texts fs f ids)
+    handed d nothing b h [] g v s stands = none_handed types texts fs f s
     handed d nothing b h (id ∷ ids) g v s stands = absurd (false≢true g)
     handed d (e ⨟ es) b h [] g v s stands = absurd (false≢true g)
     handed d (e ⨟ es) b h (id ∷ ids) g v s stands =
-        let parts = and_parts (is_reached_form texts so_far e) (is_reached_form texts so_far es) b in
+        let parts = and_parts (is_served_either e (is_served_owner texts e) (is_served_form texts e) || is_served_walker texts e) (are_served_arguments texts es) b in
         let given = and_parts (is_given a.program.types (type_at a.program.types id) (typed_in e)) (are_given a.program.types ids es) g in
-        first_handed a visible types texts so_far fs f setting e es d id ids (whole_expression e parts.0 h.0) (λ s stands. handed (behind_others d) es parts.1 h.1 ids given.1 (λ n. v (suc n)) s stands) (v zero id refl) given.0 s stands
+        let rest : (s : State) → Standing s → Makes types texts fs f None s (giving.arguments a (all_uses a es) (behind_others d) ids s) (arguments types texts fs f ids) = λ s stands. handed (behind_others d) es parts.1 h.1 ids given.1 (λ n. v (suc n)) s stands in
+        elim (or_cases (is_served_either e (is_served_owner texts e) (is_served_form texts e)) (is_served_walker texts e) parts.0) [
+          | inl either ↦ elim (either_served e (is_served_owner texts e) (is_served_form texts e) either) [
+            | inl value ↦ first_handed a visible types texts fs f setting e es d id ids (whole_expression e value h.0) rest (v zero id refl) given.0 s stands
+            | inr owner ↦ owner_first a visible types texts fs f setting e es d id ids (owner_expression e owner.1 owner.0 h.0) rest (v zero id refl) given.0 s stands
+          ]
+          | inr walker ↦ walker_first a visible types texts fs f setting e es d id ids (walker_expression e walker h.0) rest (v zero id refl) given.0 s stands
+        ]
     handed d _ b h ids g v s stands = absurd h
+
+  -- ---- what a vector is given
+
+  giving_expression : (form : Form) → is_served_either form (is_served_owner texts form) (is_served_form texts form) ≡ true → IsExpression a.program a.function.locals visible form → IsGiving a visible types texts fs f setting form
+  giving_expression form b h = elim (either_served form (is_served_owner texts form) (is_served_form texts form) b) [
+    | inl value ↦ inl (whole_expression form value h)
+    | inr owner ↦ inr (owner_expression form owner.1 owner.0 h)
+  ]
+
+  pub givings : (form : Form) → are_served_elements texts form ≡ true → AreExpressions a.program a.function.locals visible form → AreGiving a visible types texts fs f setting form
+  givings nothing b h = tt
+  givings (e ⨟ es) b h =
+      let parts = and_parts (is_served_either e (is_served_owner texts e) (is_served_form texts e)) (are_served_elements texts es) b in (giving_expression e parts.0 h.0, givings es parts.1 h.1)
+  givings _ b h = absurd h
 
   -- ---- an owner that is asked something
 
-  pub asked_expression : (form : Form) → is_reached_owner texts so_far form ≡ true → is_owner_type so_far (typed_in form).ty ≡ true → IsExpression a.program a.function.locals visible form → IsOwner a visible types texts so_far fs f setting form
-  asked_expression form b n h = owning_owner a visible types texts so_far fs f setting form (owner_expression form b n h)
+  pub asked_expression : (form : Form) → is_served_owner texts form ≡ true → is_owner_type (typed_in form).ty ≡ true → IsExpression a.program a.function.locals visible form → IsOwner a visible types texts fs f setting form
+  asked_expression form b n h = owning_owner a visible types texts fs f setting form (owner_expression form b n h)

@@ -1,14 +1,14 @@
 -- What ends is an object or a pointer, and neither the result nor a slot.
-use Rattle.std.proofs.Common.{◌≡◌, ℕ, Bool, true, false, ◌&&◌, not, List, nat_eq, slice_get, Option, Some, None, is_none, refl, sym, ap, ◌∙◌, arith}
+use Rattle.std.proofs.Common.{◌≡◌, ℕ, Bool, true, false, ◌&&◌, not, List, nat_eq, slice_get, Option, Some, is_none, refl, sym, ap, ◌∙◌, arith, None}
 use Rattle.std.proofs.lemmas.Bool.{and_from, false≢true}
 use Rattle.std.proofs.lemmas.Bool.Decides.{nat_tests}
+use Rattle.life_served.specs.Served.{is_owner_of_values, is_walker_of_values}
 use Rattle.life_types.specs.Pointees.{ty_of}
 use Rattle.life_types.specs.TypeTests.{is_value, is_void}
-use Rattle.life_types.specs.Types.{Types, is_slot_target, is_slot_type}
+use Rattle.life_types.specs.Types.{Types, is_slot_type}
 use Rattle.life_types.specs.declared.ty.NameId.{NameId}
 use Rattle.life_types.specs.declared.ty.Ty.{Ty}
 use Rattle.life_types.specs.declared.ty.Ty.TheVariants as ty
-use Rattle.life_types.specs.declared.ty.TyId.{TyId}
 use Rattle.life_typed.specs.BaseTypes.{type_at}
 use Rattle.life_core.specs.Function.{Function}
 use Rattle.life_core.specs.Kinds.{is_object, is_register}
@@ -17,32 +17,16 @@ use Rattle.life_core.specs.declared.program.LocalKind.{LocalKind}
 use Rattle.life_core.specs.declared.program.LocalKind.TheVariants.{Object, Register, Range}
 use Rattle.life_elab_laws.proofs.Shaped.{AreShaped, is_passing, shaped_at}
 use Rattle.life_elab_laws.proofs.Following.{may_end}
-use Rattle.life_elab_laws.proofs.VariablePlaces.{IsVariableType, a_raw, a_reference, a_value, a_view, an_owner, variable_type, a_walker}
+use Rattle.life_elab_laws.proofs.VariablePlaces.{IsVariableType, a_raw, a_reference, a_value, a_view, an_alias, an_owner, variable_type, a_walker}
+use Rattle.life_elab_laws.proofs.Targets.{owner_target, reference_no_slot, value_target}
 use Rattle.life_proper.specs.Placed.{is_slot_local, result_at, slot_at}
 use Rattle.life_proper.specs.WellFormed.{can_end}
-use Rattle.life_elab_laws.proofs.FormedVariables.{type_found}
-use Rattle.life_elab_laws.specs.Reached.{is_owner_of_values, is_walker_of_values}
 
 -- ---- slots
-
-value_no_target : (t : Ty) → is_value t ≡ true → is_slot_target (Some t) ≡ false
-value_no_target (ty.Iterator item constant) v = absurd (false≢true v)
-value_no_target (ty.Span item constant) v = absurd (false≢true v)
-value_no_target ty.View v = absurd (false≢true v)
-value_no_target (ty.Unique item) v = absurd (false≢true v)
-value_no_target _ v = refl
-
-found_no_target : (o : Option Ty) → ((t : Ty) → o ≡ Some t → is_value t ≡ true) → is_slot_target o ≡ false
-found_no_target None v = refl
-found_no_target (Some t) v = value_no_target t (v t refl)
 
 value_no_slot : (types : Types) (t : Ty) → is_value t ≡ true → is_slot_type types (Some t) ≡ false
 value_no_slot types (ty.Reference target constant) v = absurd (false≢true v)
 value_no_slot types _ v = refl
-
-pub reference_no_slot : (types : Types) (target : TyId) (constant : Bool) → is_value (type_at types target) ≡ true → is_slot_type types (Some (ty.Reference target constant)) ≡ false
-reference_no_slot types target true v = refl
-reference_no_slot types target false v = ap is_slot_target (type_found types types (λ n x e. e) target v) ∙ value_no_target (type_at types target) v
 
 walker_no_slot : (types : Types) (t : Ty) → is_walker_of_values types t ≡ true → is_slot_type types (Some t) ≡ false
 walker_no_slot types (ty.Reference target constant) w = absurd (false≢true w)
@@ -52,7 +36,7 @@ owner_no_slot : (types : Types) (t : Ty) → is_owner_of_values types t ≡ true
 owner_no_slot types (ty.Reference target constant) o = absurd (false≢true o)
 owner_no_slot types _ o = refl
 
-module _ (types : Types) (texts : ℕ) (so_far : Bool) (fs : List Function) (f : Function) (shaped : AreShaped types f.locals)
+module _ (types : Types) (texts : ℕ) (fs : List Function) (f : Function) (shaped : AreShaped types f.locals)
     (nameless : (l : Local) → slice_get f.locals f.parameters ≡ Some l → is_void (ty_of types f.result) ≡ false → l.name ≡ None)
     (registers : (l : Local) → slice_get f.locals f.parameters ≡ Some l → is_void (ty_of types f.result) ≡ false → l.kind ≡ Register) where
   -- a local that isn't passing isn't the result
@@ -73,7 +57,7 @@ module _ (types : Types) (texts : ℕ) (so_far : Bool) (fs : List Function) (f :
   -- what lives
   pub variable_ends : (y : ℕ) (l : Local) → slice_get f.locals y ≡ Some l → is_passing l ≡ false → may_end types f y ≡ true → can_end types texts fs f y ≡ true
   variable_ends y l at lasts ends =
-      go (variable_type false types l.ty (shaped_at types f.locals y l shaped at (no_register l.kind (is_none l.name) lasts)).built)
+      go (variable_type types l.ty (shaped_at types f.locals y l shaped at (no_register l.kind (is_none l.name) lasts)).built)
     where
       no_register : (k : LocalKind) (n : Bool) → (n && not (is_object k)) ≡ false → (is_register k && n) ≡ false
       no_register Object n e = refl
@@ -86,10 +70,11 @@ module _ (types : Types) (texts : ℕ) (so_far : Bool) (fs : List Function) (f :
           and_from (may_end types f y) _ ends
           (and_from (not (result_at types f y)) (not (slot_at types f y)) (no_result y l at lasts) (ap (λ (o : Option Local). not (is_slot_local types f o)) at ∙ ap not slot))
 
-      go : IsVariableType false types l.ty → can_end types texts fs f y ≡ true
+      go : IsVariableType types l.ty → can_end types texts fs f y ≡ true
       go (a_value t found v) = both (ap (is_slot_type types) found ∙ value_no_slot types t v)
-      go (a_walker so t found w) = both (ap (is_slot_type types) found ∙ walker_no_slot types t w)
-      go (an_owner so t found o) = both (ap (is_slot_type types) found ∙ owner_no_slot types t o)
+      go (a_walker t found w) = both (ap (is_slot_type types) found ∙ walker_no_slot types t w)
+      go (an_owner t found o) = both (ap (is_slot_type types) found ∙ owner_no_slot types t o)
       go (a_raw target constant found v) = both (ap (is_slot_type types) found)
       go (a_view found) = both (ap (is_slot_type types) found)
-      go (a_reference target constant found v) = both (ap (is_slot_type types) found ∙ reference_no_slot types target constant v)
+      go (a_reference target constant found v) = both (ap (is_slot_type types) found ∙ reference_no_slot types target constant (value_target types (type_at types target) v))
+      go (an_alias target constant found o) = both (ap (is_slot_type types) found ∙ reference_no_slot types target constant (owner_target types (type_at types target) o))

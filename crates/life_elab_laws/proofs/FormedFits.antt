@@ -1,8 +1,8 @@
 -- What the rules of initialisation let a pointer be given it takes, and so does a reference: of one target, and const stays const.
 use Rattle.std.proofs.Common.{◌≡◌, Bool, true, false, ◌&&◌, not, cond, Err, refl, ap, ◌∙◌, subst, rules, ◌||◌, sym}
 use Rattle.std.proofs.lemmas.Bool.{and_from, false≢true}
+use Rattle.life_served.specs.Served.{is_owner_of_values, is_walker_of_values, is_element, is_target}
 use Rattle.life_types.specs.Pointees.{ty_of}
-use Rattle.life_types.specs.TypeTests.{is_value}
 use Rattle.life_types.specs.Types.{Types}
 use Rattle.life_types.specs.contracts.ty.TyIdPartialEq.TheImpl.{ghosts as id}
 use Rattle.life_types.specs.declared.ty.Ty.TheVariants as ty
@@ -20,13 +20,11 @@ use Rattle.life_type_expr.specs.Operands.{is_constant}
 use Rattle.life_well_typed.specs.Given.{is_given}
 use Rattle.life_proper.specs.OperandTypes.{keeps_const, same, takes}
 use Rattle.life_elab_laws.proofs.Gifts.{takes_from}
-use Rattle.life_elab_laws.proofs.FormedVariables.{type_later}
 use Rattle.life_elab_laws.proofs.Fronts.{IsFront}
 use Rattle.life_elab_laws.proofs.Locations.{is_seen}
-use Rattle.life_elab_laws.proofs.OperandsThere.{value_same}
-use Rattle.life_elab_laws.proofs.Values.{by_values}
 use Rattle.life_types.specs.declared.ty.Ty.{Ty}
-use Rattle.life_elab_laws.specs.Reached.{is_owner_of_values, is_walker_of_values}
+use Rattle.life_elab_laws.proofs.Elements.{one_element}
+use Rattle.life_elab_laws.proofs.Targets.{one_target}
 
 pub same_id : (a b : TyId) → id.eq a b ≡ true → a ≡ b
 same_id a b e = search rules
@@ -36,18 +34,16 @@ keeps_as true held e = refl
 keeps_as false true e = absurd (false≢true e)
 keeps_as false false e = refl
 
-module _ (few more : Types) (front : IsFront few.types more.types) (target : TyId) (constant : Bool) (worth : is_value (type_at few target) ≡ true) where
-  one_target : (found : TyId) → found ≡ target → same (ty_of more target) (ty_of more found) ≡ true
-  one_target found e =
-      ap (λ (i : TyId). same (ty_of more target) (ty_of more i)) e
-      ∙ value_same (ty_of more target) (ap is_value (type_later few more front target worth) ∙ worth)
+module _ (few more : Types) (front : IsFront few.types more.types) (target : TyId) (constant : Bool) (worth : is_target few (type_at few target) ≡ true) where
+  alike : (found : TyId) → found ≡ target → same (ty_of more target) (ty_of more found) ≡ true
+  alike found e = ap (λ (i : TyId). same (ty_of more target) (ty_of more i)) e ∙ one_target few more front target worth
 
   from_pointer : (found : TyId) (held : Bool) → fits_at_all (pointer_from target constant (ty.Raw found held)) ≡ true → takes_from more (ty.Raw target constant) (Of (ty.Raw found held)) ≡ true
   from_pointer found held e = go (id.eq found target) refl e
     where
       go : (b : Bool) → id.eq found target ≡ b → fits_at_all (cond b (unless (held && not constant) Constant) (Err General)) ≡ true
           → (same (ty_of more target) (ty_of more found) && keeps_const constant held) ≡ true
-      go true is e = and_from (same (ty_of more target) (ty_of more found)) (keeps_const constant held) (one_target found (same_id found target is)) (keeps_as constant held e)
+      go true is e = and_from (same (ty_of more target) (ty_of more found)) (keeps_const constant held) (alike found (same_id found target is)) (keeps_as constant held e)
       go false is e = absurd (false≢true e)
 
   fits_raw : (t : ExprType) (c : Category) → fits_at_all (initialised few (ty.Raw target constant) t c) ≡ true → takes_from more (ty.Raw target constant) t ≡ true
@@ -116,12 +112,13 @@ pub data IsBound (types : Types) (target : TyId) (constant : Bool) (e : Typed) :
   at_place : IsBoundTo target constant e.category → IsBound types target constant e
   by_temporary : is_place_of e.category target ≡ false → is_given types (type_at types target) e ≡ true → IsBound types target constant e
 
-pub given_bound : (types : Types) (target : TyId) (constant : Bool) (e : Typed) → is_value (type_at types target) ≡ true → is_given types (ty.Reference target constant) e ≡ true → IsBound types target constant e
+pub given_bound : (types : Types) (target : TyId) (constant : Bool) (e : Typed) → is_target types (type_at types target) ≡ true → is_given types (ty.Reference target constant) e ≡ true → IsBound types target constant e
 given_bound types target false e worth given = at_place (given_changed types target e given)
 given_bound types target true e worth given = go (is_place_of e.category target) refl given
   where
-    initial : (t : Ty) → is_value t ≡ true → fits_at_all (initialised types t e.ty e.category) ≡ true → is_given types t e ≡ true
-    initial = by_values (λ t. fits_at_all (initialised types t e.ty e.category) ≡ true → is_given types t e ≡ true) (λ h. h) (λ h. h) (λ h. h) (λ h. h) (λ h. h)
+    initial : (t : Ty) → is_target types t ≡ true → fits_at_all (initialised types t e.ty e.category) ≡ true → is_given types t e ≡ true
+    initial (ty.Reference found held) worth h = absurd (false≢true worth)
+    initial _ worth h = h
 
     go : (b : Bool) → is_place_of e.category target ≡ b → fits_at_all (cond b fitting (initialised types (type_at types target) e.ty e.category)) ≡ true → IsBound types target true e
     go true is h = at_place (bound_place types target true e.ty e.category is given)
@@ -172,8 +169,8 @@ tested_target true held constant h = (refl, keeps_as constant held h)
 tested_target false held constant h = absurd (false≢true h)
 
 module _ (few more : Types) (front : IsFront few.types more.types) where
-  one_item : (item found : TyId) → is_value (type_at few item) ≡ true → id.eq found item ≡ true → same (ty_of more item) (ty_of more found) ≡ true
-  one_item item found v e = ap (λ (i : TyId). same (ty_of more item) (ty_of more i)) (same_id found item e) ∙ value_same (ty_of more item) (ap is_value (type_later few more front item v) ∙ v)
+  one_item : (item found : TyId) → is_element few (type_at few item) ≡ true → id.eq found item ≡ true → same (ty_of more item) (ty_of more found) ≡ true
+  one_item item found v e = ap (λ (i : TyId). same (ty_of more item) (ty_of more i)) (same_id found item e) ∙ one_element few more front item v
 
   -- one that is given to another
   pub given_walker : (t u : Ty) (e : Typed) → is_walker_of_values few t ≡ true → is_walker_of_values few u ≡ true → e.ty ≡ Of u → is_given few t e ≡ true → takes more t u ≡ true

@@ -12,7 +12,7 @@ use Rattle.life_types.specs.declared.ty.NameId.{NameId}
 use Rattle.life_types.specs.declared.ty.Ty.{Ty}
 use Rattle.life_types.specs.declared.ty.Ty.TheVariants as ty
 use Rattle.life_types.specs.declared.ty.TyId.{TyId}
-use Rattle.life_served.specs.Served.{is_pointing}
+use Rattle.life_served.specs.Served.{is_owner_of_values, is_pointing, is_target, is_walker_of_values, is_element, is_inner_owner}
 use Rattle.life_typed.specs.BaseTypes.{type_at}
 use Rattle.life_typed.specs.Programs.{FunctionForm, ProgramForm, PromiseForm, default, listed}
 use Rattle.life_typed.specs.declared.typed_program.ParameterPromise.{ParameterPromise}
@@ -21,7 +21,7 @@ use Rattle.life_core.specs.Function.{Function}
 use Rattle.life_core.specs.declared.program.Local.{Local}
 use Rattle.life_core.specs.declared.program.LocalKind.{LocalKind}
 use Rattle.life_core.specs.declared.program.LocalKind.TheVariants.{Object, Register}
-use Rattle.life_pset.specs.Shapes.{referred, shape, shape_if, unslotted}
+use Rattle.life_pset.specs.Shapes.{shape, shape_if, unslotted}
 use Rattle.life_proper.specs.WellFormedPrograms.{are_well_formed_locals, fits_kind, is_name, is_name_if, is_named_as, is_result_local, is_result_of, is_well_formed_local, may_stand, names_parameters}
 use Rattle.life_well_typed.specs.Functions.{lists_parameters}
 use Rattle.life_well_typed.specs.Names.{is_function_named, is_local_named}
@@ -36,16 +36,23 @@ use Rattle.life_elab_laws.proofs.Callees.{IsFunctionOf, type_found}
 use Rattle.life_elab_laws.proofs.ExpressionKinds.{variable_built}
 use Rattle.life_elab_laws.proofs.Fronts.{IsFront, front_length, passed_at}
 use Rattle.life_elab_laws.proofs.OperandsThere.{type_either}
-use Rattle.life_elab_laws.proofs.Reaching.{IsReachedType, variable_found}
+use Rattle.life_elab_laws.proofs.ServedTypes.{IsServedType, variable_found}
 use Rattle.life_elab_laws.proofs.ResultTypes.{result_is}
 use Rattle.life_elab_laws.proofs.Values.{by_values}
 use Rattle.life_elab_laws.proofs.WrittenLocals.{AreWrittenLocals, IsIntermediate, IsOwn, fits_later, fits_local, fits_register, local_later, owner_local, register_local, FitsNameless, FitsTemporary}
-use Rattle.life_elab_laws.specs.Reached.{is_owner_of_values, is_walker_of_values}
 use Rattle.life_elab_laws.proofs.Shaped.{owner_later}
+use Rattle.life_elab_laws.proofs.Targets.{IsTarget, target_is, target_referred, to_owner, to_value}
+use Rattle.life_elab_laws.proofs.Elements.{IsElement, has_value, has_owner, element_is}
 
 -- ---- what a register or a variable holds
 
 module _ (types : Types) where
+  -- a vector stands where its elements do
+  of_elements : (n : ℕ) (element : TyId) → (is_plain (tree_within n types element) && may_stand (tree_within n types element)) ≡ true
+      → (is_plain (tree_within n types element) && (is_plain (tree_within n types element) && may_stand (tree_within n types element))) ≡ true
+  of_elements n element item =
+      and_from (is_plain (tree_within n types element)) (is_plain (tree_within n types element) && may_stand (tree_within n types element)) (and_parts (is_plain (tree_within n types element)) (may_stand (tree_within n types element)) item).0 item
+
   -- the tree of a value, however many steps deep
   value_tree : (n : ℕ) (id : TyId) → is_value (type_at types id) ≡ true → (is_plain (tree_within n types id) && may_stand (tree_within n types id)) ≡ true
   value_tree zero id v = refl
@@ -59,17 +66,48 @@ module _ (types : Types) where
       go (Some ty.Size) v = refl
       go _ v = absurd (false≢true v)
 
+  -- .. of what a vector has
+  inner_tree : (n : ℕ) (id : TyId) → is_inner_owner types (type_at types id) ≡ true → (is_plain (tree_within n types id) && may_stand (tree_within n types id)) ≡ true
+  inner_tree zero id o = refl
+  inner_tree (suc n) id o = go (slice_get types.types id.0) o
+    where
+      go : (t : Option Ty) → is_inner_owner types (unwrap_or t ty.Void) ≡ true → (is_plain (tree_of types (tree_within n types) t) && may_stand (tree_of types (tree_within n types) t)) ≡ true
+      go (Some ty.Text) o = refl
+      go (Some (ty.Vector element)) o = of_elements n element (value_tree n element o)
+      go _ o = absurd (false≢true o)
+
+  element_tree : (n : ℕ) (id : TyId) → is_element types (type_at types id) ≡ true → (is_plain (tree_within n types id) && may_stand (tree_within n types id)) ≡ true
+  element_tree n id h = go (element_is types (type_at types id) h)
+    where
+      go : IsElement types (type_at types id) → (is_plain (tree_within n types id) && may_stand (tree_within n types id)) ≡ true
+      go (has_value v) = value_tree n id v
+      go (has_owner o) = inner_tree n id o
+
+  -- .. and of an owner, which is what pointers are to too
+  owner_tree : (n : ℕ) (id : TyId) → is_owner_of_values types (type_at types id) ≡ true → (is_plain (tree_within n types id) && may_stand (tree_within n types id)) ≡ true
+  owner_tree zero id o = refl
+  owner_tree (suc n) id o = go (slice_get types.types id.0) o
+    where
+      go : (t : Option Ty) → is_owner_of_values types (unwrap_or t ty.Void) ≡ true → (is_plain (tree_of types (tree_within n types) t) && may_stand (tree_of types (tree_within n types) t)) ≡ true
+      go (Some ty.Text) o = refl
+      go (Some (ty.Vector element)) o = of_elements n element (element_tree n element o)
+      go _ o = absurd (false≢true o)
+
+  target_tree : (n : ℕ) (id : TyId) → IsTarget types (type_at types id) → (is_plain (tree_within n types id) && may_stand (tree_within n types id)) ≡ true
+  target_tree n id (to_value v) = value_tree n id v
+  target_tree n id (to_owner o) = owner_tree n id o
+
   fits_stands : (id : TyId) (t : Ty) → slice_get types.types id.0 ≡ Some t → fits_local types t ≡ true → may_stand (tree_at types id) ≡ true
   unfolding tree_at
   fits_stands id t at h = ap (λ (o : Option Ty). may_stand (tree_of types (tree_within id.0 types) o)) at ∙ go t h
     where
       go : (t : Ty) → fits_local types t ≡ true → may_stand (tree_of types (tree_within id.0 types) (Some t)) ≡ true
-      go (ty.Raw target constant) h = value_tree id.0 target h
-      go (ty.Reference target constant) h = value_tree id.0 target h
-      go (ty.Vector element) h = value_tree id.0 element h
+      go (ty.Raw target constant) h = target_tree id.0 target (target_is types (type_at types target) h)
+      go (ty.Reference target constant) h = target_tree id.0 target (target_is types (type_at types target) h)
+      go (ty.Vector element) h = element_tree id.0 element h
       go (ty.Unique target) h = absurd (false≢true h)
-      go (ty.Iterator target constant) h = value_tree id.0 target h
-      go (ty.Span target constant) h = value_tree id.0 target h
+      go (ty.Iterator target constant) h = element_tree id.0 target h
+      go (ty.Span target constant) h = element_tree id.0 target h
       go (ty.Struct number) h = absurd (false≢true h)
       go _ h = refl
 
@@ -78,99 +116,91 @@ module _ (types : Types) where
   fits_itself false id t at h = refl
   fits_itself true id t at h = ap (λ (o : Option Ty). unslotted types id (or_void o)) at ∙ go t h
     where
-      to : (target : TyId) (u : Ty) → is_value u ≡ true → referred id target u ≡ id
-      to target (ty.Iterator item constant) v = absurd (false≢true v)
-      to target (ty.Span item constant) v = absurd (false≢true v)
-      to target ty.View v = absurd (false≢true v)
-      to target (ty.Unique item) v = absurd (false≢true v)
-      to target _ v = refl
-
       go : (t : Ty) → fits_local types t ≡ true → unslotted types id t ≡ id
-      go (ty.Reference target false) h = to target (ty_of types target) (ap is_value (type_either types target) ∙ h)
+      go (ty.Reference target false) h = target_referred types id target (ty_of types target) (ap (is_target types) (type_either types target) ∙ h)
       go _ h = refl
 
   fits_no_void : (t : Ty) → fits_local types t ≡ true → not (is_void t) ≡ true
   fits_no_void ty.Void h = absurd (false≢true h)
   fits_no_void _ h = refl
 
-  fits_kept : (so_far : Bool) (t : Ty) → fits_register so_far types t ≡ true → fits_kind Register t ≡ true
-  fits_kept so_far ty.Void h = absurd (false≢true h)
-  fits_kept so_far ty.Text h = absurd (false≢true h)
-  fits_kept so_far (ty.Vector element) h = absurd (false≢true h)
-  fits_kept so_far (ty.Unique target) h = absurd (false≢true h)
-  fits_kept so_far (ty.Struct number) h = absurd (false≢true h)
-  fits_kept so_far _ h = refl
+  fits_kept : (t : Ty) → fits_register types t ≡ true → fits_kind Register t ≡ true
+  fits_kept ty.Void h = absurd (false≢true h)
+  fits_kept ty.Text h = absurd (false≢true h)
+  fits_kept (ty.Vector element) h = absurd (false≢true h)
+  fits_kept (ty.Unique target) h = absurd (false≢true h)
+  fits_kept (ty.Struct number) h = absurd (false≢true h)
+  fits_kept _ h = refl
 
-  module _ (so_far : Bool) where
-    pub variable_fits : (t : Ty) → IsReachedType so_far types t → fits_local types t ≡ true
-    variable_fits t (inr (inl o)) = owner_local types t o.1
-    variable_fits t (inr (inr w)) = go t w.1
-      where
-        go : (t : Ty) → is_walker_of_values types t ≡ true → fits_local types t ≡ true
-        go (ty.Iterator target constant) w = w
-        go (ty.Span target constant) w = w
-        go _ w = absurd (false≢true w)
-    variable_fits t (inl b) = go t b
-      where
-        go : (t : Ty) → (is_value t || is_pointing types t) ≡ true → fits_local types t ≡ true
-        go ty.View b = refl
-        go ty.Text b = absurd (false≢true b)
-        go (ty.Vector element) b = absurd (false≢true b)
-        go (ty.Iterator target constant) b = absurd (false≢true b)
-        go (ty.Span target constant) b = absurd (false≢true b)
-        go _ b = b
+  pub variable_fits : (t : Ty) → IsServedType types t → fits_local types t ≡ true
+  variable_fits t (inr (inl o)) = owner_local types t o
+  variable_fits t (inr (inr w)) = go t w
+    where
+      go : (t : Ty) → is_walker_of_values types t ≡ true → fits_local types t ≡ true
+      go (ty.Iterator target constant) w = w
+      go (ty.Span target constant) w = w
+      go _ w = absurd (false≢true w)
+  variable_fits t (inl b) = go t b
+    where
+      go : (t : Ty) → (is_value t || is_pointing types t) ≡ true → fits_local types t ≡ true
+      go ty.View b = refl
+      go ty.Text b = absurd (false≢true b)
+      go (ty.Vector element) b = absurd (false≢true b)
+      go (ty.Iterator target constant) b = absurd (false≢true b)
+      go (ty.Span target constant) b = absurd (false≢true b)
+      go _ b = b
 
-    variable_kept : (t : Ty) → IsReachedType so_far types t → fits_kind (kind (class (Some t))) t ≡ true
-    variable_kept t (inr (inr w)) = go t w.1
-      where
-        go : (t : Ty) → is_walker_of_values types t ≡ true → fits_kind (kind (class (Some t))) t ≡ true
-        go (ty.Iterator target constant) w = refl
-        go (ty.Span target constant) w = refl
-        go _ w = absurd (false≢true w)
-    variable_kept t (inr (inl o)) = go t o.1
-      where
-        go : (t : Ty) → is_owner_of_values types t ≡ true → fits_kind (kind (class (Some t))) t ≡ true
-        go ty.Text o = refl
-        go (ty.Vector element) o = refl
-        go _ o = absurd (false≢true o)
-    variable_kept t (inl b) = go t b
-      where
-        go : (t : Ty) → (is_value t || is_pointing types t) ≡ true → fits_kind (kind (class (Some t))) t ≡ true
-        go ty.Bool b = refl
-        go ty.Char b = refl
-        go ty.Int b = refl
-        go ty.Long b = refl
-        go ty.Size b = refl
-        go ty.View b = refl
-        go (ty.Raw target constant) b = refl
-        go (ty.Reference target constant) b = refl
-        go _ b = absurd (false≢true b)
+  variable_kept : (t : Ty) → IsServedType types t → fits_kind (kind (class (Some t))) t ≡ true
+  variable_kept t (inr (inr w)) = go t w
+    where
+      go : (t : Ty) → is_walker_of_values types t ≡ true → fits_kind (kind (class (Some t))) t ≡ true
+      go (ty.Iterator target constant) w = refl
+      go (ty.Span target constant) w = refl
+      go _ w = absurd (false≢true w)
+  variable_kept t (inr (inl o)) = go t o
+    where
+      go : (t : Ty) → is_owner_of_values types t ≡ true → fits_kind (kind (class (Some t))) t ≡ true
+      go ty.Text o = refl
+      go (ty.Vector element) o = refl
+      go _ o = absurd (false≢true o)
+  variable_kept t (inl b) = go t b
+    where
+      go : (t : Ty) → (is_value t || is_pointing types t) ≡ true → fits_kind (kind (class (Some t))) t ≡ true
+      go ty.Bool b = refl
+      go ty.Char b = refl
+      go ty.Int b = refl
+      go ty.Long b = refl
+      go ty.Size b = refl
+      go ty.View b = refl
+      go (ty.Raw target constant) b = refl
+      go (ty.Reference target constant) b = refl
+      go _ b = absurd (false≢true b)
 
-    variable_named : (t : Ty) (name : NameId) → IsReachedType so_far types t → is_named_as (kind (class (Some t))) t (Some name) ≡ true
-    variable_named t name (inr (inr w)) = go t w.1
-      where
-        go : (t : Ty) → is_walker_of_values types t ≡ true → is_named_as (kind (class (Some t))) t (Some name) ≡ true
-        go (ty.Iterator target constant) w = refl
-        go (ty.Span target constant) w = refl
-        go _ w = absurd (false≢true w)
-    variable_named t name (inr (inl o)) = go t o.1
-      where
-        go : (t : Ty) → is_owner_of_values types t ≡ true → is_named_as (kind (class (Some t))) t (Some name) ≡ true
-        go ty.Text o = refl
-        go (ty.Vector element) o = refl
-        go _ o = absurd (false≢true o)
-    variable_named t name (inl b) = go t b
-      where
-        go : (t : Ty) → (is_value t || is_pointing types t) ≡ true → is_named_as (kind (class (Some t))) t (Some name) ≡ true
-        go ty.Bool b = refl
-        go ty.Char b = refl
-        go ty.Int b = refl
-        go ty.Long b = refl
-        go ty.Size b = refl
-        go ty.View b = refl
-        go (ty.Raw target constant) b = refl
-        go (ty.Reference target constant) b = refl
-        go _ b = absurd (false≢true b)
+  variable_named : (t : Ty) (name : NameId) → IsServedType types t → is_named_as (kind (class (Some t))) t (Some name) ≡ true
+  variable_named t name (inr (inr w)) = go t w
+    where
+      go : (t : Ty) → is_walker_of_values types t ≡ true → is_named_as (kind (class (Some t))) t (Some name) ≡ true
+      go (ty.Iterator target constant) w = refl
+      go (ty.Span target constant) w = refl
+      go _ w = absurd (false≢true w)
+  variable_named t name (inr (inl o)) = go t o
+    where
+      go : (t : Ty) → is_owner_of_values types t ≡ true → is_named_as (kind (class (Some t))) t (Some name) ≡ true
+      go ty.Text o = refl
+      go (ty.Vector element) o = refl
+      go _ o = absurd (false≢true o)
+  variable_named t name (inl b) = go t b
+    where
+      go : (t : Ty) → (is_value t || is_pointing types t) ≡ true → is_named_as (kind (class (Some t))) t (Some name) ≡ true
+      go ty.Bool b = refl
+      go ty.Char b = refl
+      go ty.Int b = refl
+      go ty.Long b = refl
+      go ty.Size b = refl
+      go ty.View b = refl
+      go (ty.Raw target constant) b = refl
+      go (ty.Reference target constant) b = refl
+      go _ b = absurd (false≢true b)
 
   -- ---- a local, and all of them
 
@@ -230,9 +260,9 @@ result_some types id o ty.Void h = refl
 result_some types id o _ h = h
 
 -- as it is written, in a finished table that begins with the one behind it
-module _ (so_far : Bool) (p : ProgramForm) (of : FunctionForm) (T types : Types) (names : ℕ) (made : IsFunctionOf so_far p of) (table : IsFront p.types.types T.types) (front : IsFront p.types.types types.types)
+module _ (p : ProgramForm) (of : FunctionForm) (T types : Types) (names : ℕ) (made : IsFunctionOf p of) (table : IsFront p.types.types T.types) (front : IsFront p.types.types types.types)
     (grown : IsFront (first_state (around p of) T).locals (written (around p of) T).locals) (later : IsFront (written (around p of) T).types.types types.types)
-    (own : AreWrittenLocals so_far p.types (around p of) (written (around p of) T)) (named : is_function_named names of ≡ true) where
+    (own : AreWrittenLocals p.types (around p of) (written (around p of) T)) (named : is_function_named names of ≡ true) where
   abbrev core : Function
   core = function_from of (written (around p of) T)
 
@@ -246,7 +276,7 @@ module _ (so_far : Bool) (p : ProgramForm) (of : FunctionForm) (T types : Types)
           let there : slice_get core.locals x ≡ Some found.0 = grown x found.0 (parameters_front (around p of) T made.typed.parameters table made.built.result x found.0 found.1) in
           ap (λ (l : Local). is_some l.name) (same_Some l found.0 (sym at ∙ there)) ∙ found.2
 
-  intermediate_formed : (x : ℕ) (l : Local) → slice_get core.locals x ≡ Some l → IsIntermediate so_far p.types (written (around p of) T).types l → is_well_formed_local types names core.parameters x l ≡ true
+  intermediate_formed : (x : ℕ) (l : Local) → slice_get core.locals x ≡ Some l → IsIntermediate p.types (written (around p of) T).types l → is_well_formed_local types names core.parameters x l ≡ true
   intermediate_formed x l at is = go is.fits
     where
       nameless_formed : fits_local types is.ty ≡ true → fits_kind l.kind is.ty ≡ true → is_well_formed_local types names core.parameters x l ≡ true
@@ -257,32 +287,32 @@ module _ (so_far : Bool) (p : ProgramForm) (of : FunctionForm) (T types : Types)
       owner_kept (ty.Vector element) o = refl
       owner_kept _ o = absurd (false≢true o)
 
-      temporary_fits : FitsTemporary so_far p.types is.ty → (fits_local types is.ty ≡ true) × (fits_kind Object is.ty ≡ true)
+      temporary_fits : FitsTemporary p.types is.ty → (fits_local types is.ty ≡ true) × (fits_kind Object is.ty ≡ true)
       temporary_fits (inl value) = (by_values (λ t. fits_local types t ≡ true) refl refl refl refl refl is.ty value, by_values (λ t. fits_kind Object t ≡ true) refl refl refl refl refl is.ty value)
-      temporary_fits (inr o) = let owner = owner_later p.types types front is.ty o.1 in (owner_local types is.ty owner, owner_kept is.ty owner)
+      temporary_fits (inr o) = let owner = owner_later p.types types front is.ty o in (owner_local types is.ty owner, owner_kept is.ty owner)
 
-      go : FitsNameless so_far p.types l.kind is.ty → is_well_formed_local types names core.parameters x l ≡ true
+      go : FitsNameless p.types l.kind is.ty → is_well_formed_local types names core.parameters x l ≡ true
       go (inl register) =
-          let fit = fits_later so_far p.types types front is.ty register.1 in
-          nameless_formed (register_local so_far types is.ty fit) (ap (λ (k : LocalKind). fits_kind k is.ty) register.0 ∙ fits_kept types so_far is.ty fit)
+          let fit = fits_later p.types types front is.ty register.1 in
+          nameless_formed (register_local types is.ty fit) (ap (λ (k : LocalKind). fits_kind k is.ty) register.0 ∙ fits_kept types is.ty fit)
       go (inr temporary) = let fit = temporary_fits temporary.1 in nameless_formed fit.0 (ap (λ (k : LocalKind). fits_kind k is.ty) temporary.0 ∙ fit.1)
 
   own_formed : (x : ℕ) (l : Local) → slice_get core.locals x ≡ Some l → IsOwn (around p of) l → is_well_formed_local types names core.parameters x l ≡ true
   own_formed x l at is =
-      let found = variable_found so_far p.types is.variable.ty (variable_built so_far p.types of.locals is.number is.variable made.built.variables is.there) in
+      let found = variable_found p.types is.variable.ty (variable_built p.types of.locals is.number is.variable made.built.variables is.there) in
       let kept : l.kind ≡ kind (class (Some found.0)) = is.of.kind ∙ ap (λ (o : Option Ty). kind (class o)) found.1 in
       let known = (and_parts (nat_lt of.name.0 names) (list_all (is_local_named names) of.locals) named).1 in
       local_formed types names core.parameters x l found.0 (ap (λ (id : TyId). slice_get types.types id.0) is.of.typed ∙ front is.variable.ty.0 found.0 found.1)
-      (local_later p.types types front found.0 (variable_fits p.types so_far found.0 found.2))
-      (ap (λ (k : LocalKind). fits_kind k found.0) kept ∙ variable_kept p.types so_far found.0 found.2)
-      (ap (λ (k : LocalKind). is_named_as k found.0 l.name) kept ∙ ap (is_named_as (kind (class (Some found.0))) found.0) is.of.named ∙ variable_named p.types so_far found.0 is.variable.name found.2)
+      (local_later p.types types front found.0 (variable_fits p.types found.0 found.2))
+      (ap (λ (k : LocalKind). fits_kind k found.0) kept ∙ variable_kept p.types found.0 found.2)
+      (ap (λ (k : LocalKind). is_named_as k found.0 l.name) kept ∙ ap (is_named_as (kind (class (Some found.0))) found.0) is.of.named ∙ variable_named p.types found.0 is.variable.name found.2)
       (ap (is_name_if names) is.of.named ∙ passed_at (is_local_named names) (list_all (is_local_named names)) (λ u us. refl) of.locals is.number is.variable known is.there)
       (has_name x l at)
 
   locals_formed : are_well_formed_locals types names core.parameters 0 core.locals ≡ true
   locals_formed = all_formed types names core.parameters 0 core.locals (λ y l at. subst (λ (z : ℕ). is_well_formed_local types names core.parameters z l ≡ true) (omega arith) (each y l at (own y l at)))
     where
-      each : (y : ℕ) (l : Local) → slice_get core.locals y ≡ Some l → IsIntermediate so_far p.types (written (around p of) T).types l ⊎ IsOwn (around p of) l → is_well_formed_local types names core.parameters y l ≡ true
+      each : (y : ℕ) (l : Local) → slice_get core.locals y ≡ Some l → IsIntermediate p.types (written (around p of) T).types l ⊎ IsOwn (around p of) l → is_well_formed_local types names core.parameters y l ≡ true
       each y l at (inl is) = intermediate_formed y l at is
       each y l at (inr is) = own_formed y l at is
 

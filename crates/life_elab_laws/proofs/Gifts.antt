@@ -38,7 +38,7 @@ takes_from types t TextLiteral = is_view t
 abbrev pub IsTakenBy : Types → Ty → ExprType → Type 0
 IsTakenBy types u t = (t ≡ Of u) ⊎ (takes_from types u t ≡ true)
 
-module _ (types : Types) (texts : ℕ) (so_far : Bool) (fs : List Function) (f : Function) where
+module _ (types : Types) (texts : ℕ) (fs : List Function) (f : Function) where
   -- what is ready stays so where the locals that are there keep what is known of them
   pub record Gift (A : Type 0) : Type 1 where
     pub typed : A → Type 0
@@ -72,7 +72,7 @@ module _ (types : Types) (texts : ℕ) (so_far : Bool) (fs : List Function) (f :
   pub record IsPlaceOf (t : Ty) (constant : Bool) (o : Operand) : Type 0 where
     pub typed : type_of types f o ≡ t
     pub held : keeps_const constant (is_const_place types f o) ≡ true
-    pub served : so_far ≡ true → is_served_operand o ≡ true
+    pub served : is_served_operand o ≡ true
 
   pub place_stays : (o : Operand) (n m : ℕ) (k j : List Known) → n ≤ m → IsPlace o n k → Keeps f n None k j → IsPlace o m j
   place_stays o n m k j h p keeps = record { local = p.local; uses = p.uses; below = omega (arith, p.below, h); held = keeps.below p.local p.below tt ∙ p.held }
@@ -85,7 +85,7 @@ module _ (types : Types) (texts : ℕ) (so_far : Bool) (fs : List Function) (f :
   pub record IsAt (t : Ty) (l : Location) : Type 0 where
     pub typed : type_in types f l ≡ t
     pub kept : is_register_at f l.local ≡ true
-    pub served : so_far ≡ true → is_served_location l ≡ true
+    pub served : is_served_location l ≡ true
 
   pub pointer_stays : (l : Location) (n m : ℕ) (k j : List Known) → n ≤ m → IsPointer l n k → Keeps f n None k j → IsPointer l m j
   pointer_stays l n m k j h p keeps = record { local = p.local; is = p.is; below = omega (arith, p.below, h); held = keeps.below p.local p.below tt ∙ p.held }
@@ -97,7 +97,7 @@ module _ (types : Types) (texts : ℕ) (so_far : Bool) (fs : List Function) (f :
 
   -- an instruction with a hole can stand for each pointer that takes what is given
   abbrev pub IsGivenAs : ExprType → Pointing → Type 0
-  IsGivenAs t (By step) = (u : Ty) (l : Location) → is_location u ≡ true → IsAt u l → IsTakenBy types u t → IsFineStep types texts so_far fs f (step l)
+  IsGivenAs t (By step) = (u : Ty) (l : Location) → is_location u ≡ true → IsAt u l → IsTakenBy types u t → IsFineStep types texts fs f (step l)
   IsGivenAs (Of t) (As l) = IsAt t l
   IsGivenAs NullPointer (As l) = ⊥
   IsGivenAs TextLiteral (As l) = ⊥
@@ -122,7 +122,7 @@ module _ (types : Types) (texts : ℕ) (so_far : Bool) (fs : List Function) (f :
     pub fit : are_arguments_for types texts fs f ids xs ≡ true
     pub own : have_own_slots types texts fs f xs ≡ true
     pub given : flat_map given_argument xs ≡ []
-    pub served : so_far ≡ true → list_all is_served_argument xs ≡ true
+    pub served : list_all is_served_argument xs ≡ true
 
   pub numbers_stay : (ids : List TyId) (xs : List Argument) (n m : ℕ) (k j : List Known) → n ≤ m → AreNumbersFor ids xs n k → Keeps f n None k j → AreNumbersFor ids xs m j
   numbers_stay [] [] n m k j h p keeps = tt

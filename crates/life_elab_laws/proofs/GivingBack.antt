@@ -1,5 +1,5 @@
 -- Where each return of what is written stands behind a write of the result: parts one after the other, and code without returns.
-use Rattle.std.proofs.Common.{◌≡◌, ℕ, true, false, ◌&&◌, List, [], ◌∷◌, ◌++◌, Some, None, refl, sym, ap, Bool}
+use Rattle.std.proofs.Common.{◌≡◌, ℕ, true, false, ◌&&◌, List, [], ◌∷◌, ◌++◌, Some, None, refl, sym, ap}
 use Rattle.std.proofs.lemmas.Bool.{and_parts, false≢true}
 use Rattle.std.proofs.lemmas.Option.{none-some}
 use Rattle.life_types.specs.TypeTests.{is_void}
@@ -75,11 +75,11 @@ module _ (types : Types) (f : Function) (r : ℕ) where
     test_known (Negated a) h s o = test_known a h s o
     test_known _ h s o = absurd (false≢true h)
 
-  pub fine_known : (texts : ℕ) (so_far : Bool) (fs : List Function) (c : List Tree) → IsFine types texts so_far fs f c → (o : State) → Holds (trees c) o
-  fine_known texts so_far fs c h o = let one = h.stated false in code_known (trees c) one.statement h.straight one.tests o
+  pub fine_known : (texts : ℕ) (fs : List Function) (c : List Tree) → IsFine types texts fs f c → (o : State) → Holds (trees c) o
+  fine_known texts fs c h o = let one = h.stated false in code_known (trees c) one.statement h.straight one.tests o
 
-  pub asks_known : (texts : ℕ) (so_far : Bool) (fs : List Function) (t : Tree) → IsFineTest types texts so_far fs f t → (o : State) → Holds t o
-  asks_known texts so_far fs t h o = test_known t h.condition h.straight o
+  pub asks_known : (texts : ℕ) (fs : List Function) (t : Tree) → IsFineTest types texts fs f t → (o : State) → Holds t o
+  asks_known texts fs t h o = test_known t h.condition h.straight o
 
   -- ---- where no way comes
 

@@ -10,12 +10,12 @@ use Rattle.life_types.specs.declared.ty.Ty.{Ty}
 use Rattle.life_types.specs.declared.ty.Ty.TheVariants as ty
 use Rattle.life_types.specs.declared.ty.TyId.{TyId}
 use Rattle.life_typed.specs.BaseTypes.{type_at}
-use Rattle.life_typed.specs.Conversions.{is_place_of}
+use Rattle.life_typed.specs.Conversions.{is_place_of, fits}
 use Rattle.life_typed.specs.Delimiters.{DelimitersForm, behind_first, behind_others}
-use Rattle.life_typed.specs.TypedForm.{Form, ◌⨟◌}
+use Rattle.life_typed.specs.TypedForm.{Form, ◌⨟◌, Typed}
 use Rattle.life_typed.specs.declared.typed_expr.Category.{Category}
 use Rattle.life_typed.specs.declared.typed_expr.ExprType.{ExprType}
-use Rattle.life_typed.specs.declared.typed_expr.ExprType.TheVariants.{NullPointer}
+use Rattle.life_typed.specs.declared.typed_expr.ExprType.TheVariants.{NullPointer, Of, TextLiteral}
 use Rattle.life_core.specs.Function.{Function}
 use Rattle.life_core.specs.Operands.{Argument, Location, Operand, Place as Aimed, PointerOf, Value, object_named, whole}
 use Rattle.life_core_served.specs.Served.{is_served_argument}
@@ -39,101 +39,131 @@ use Rattle.life_elab_laws.proofs.Emitting.{new_targeted}
 use Rattle.life_elab_laws.proofs.ExpressionForms.{IsWhole, Standing}
 use Rattle.life_elab_laws.proofs.ExpressionTypes.{seen_kind}
 use Rattle.life_elab_laws.proofs.Filling.{aimed_filling, filling_fills}
-use Rattle.life_elab_laws.proofs.FormedEnds.{reference_no_slot}
+use Rattle.life_elab_laws.proofs.Targets.{reference_no_slot, one_target, owner_target, value_target}
 use Rattle.life_elab_laws.proofs.FormedFits.{IsBound, at_place, by_temporary, given_bound, given_raw}
 use Rattle.life_elab_laws.proofs.FormedVariables.{keeps_all, reference_there, type_later}
 use Rattle.life_elab_laws.proofs.Fronts.{IsFront, front_length, last_there}
 use Rattle.life_elab_laws.proofs.Gifts.{Gift, a_number, a_place, a_pointer, a_pointing, arguments, both, nothing as no_gift, takes_from}
 use Rattle.life_elab_laws.proofs.GivenKinds.{given_number, given_pointer, given_view}
 use Rattle.life_elab_laws.proofs.Growing.{Begins, added}
-use Rattle.life_elab_laws.proofs.HandedTypes.{IsHandedType, a_raw, a_reference, a_value, a_view}
+use Rattle.life_elab_laws.proofs.HandedTypes.{IsHandedType, a_raw, a_reference, a_value, a_view, a_walker, an_alias}
 use Rattle.life_elab_laws.proofs.Instructions.{emit_part, null_located_part}
 use Rattle.life_elab_laws.proofs.Locations.{IsPointed, at_location, by_literal, by_null, is_pointed, pointed_type}
 use Rattle.life_elab_laws.proofs.Making.{IsOpen}
 use Rattle.life_elab_laws.proofs.NewVariables.{bound_given}
-use Rattle.life_elab_laws.proofs.OperandsThere.{register_there, value_same}
+use Rattle.life_elab_laws.proofs.OperandsThere.{register_there}
 use Rattle.life_elab_laws.proofs.Parts.{Makes, Part, and_part, seen_part, then_part}
 use Rattle.life_elab_laws.proofs.PointerForms.{held_typed, own_typed, pointer_whole, points_whole, view_whole}
 use Rattle.life_elab_laws.proofs.Setting.{Setting}
-use Rattle.life_elab_laws.proofs.Shaped.{value_later}
+use Rattle.life_elab_laws.proofs.Shaped.{target_later, target_there}
 use Rattle.life_elab_laws.proofs.Types.{type_added}
 use Rattle.life_elab_laws.proofs.ValueTemporaries.{value_temporary}
 use Rattle.life_elab_laws.proofs.Values.{by_values}
 use Rattle.life_elab_laws.proofs.VariablePlaces.{stands_later}
 use Rattle.life_elab_laws.proofs.WalkerSteps.{keeps_itself}
 use Rattle.life_elab_laws.proofs.WrittenLocals.{fits_below}
+use Rattle.life_served.specs.Served.{is_walker_of_values, is_owner_of_values, is_target}
+use Rattle.life_type_expr.specs.Lists.{fits_at_all}
+use Rattle.life_elab_laws.proofs.TypedKinds.{HasKind, a_null, a_number as is_number_kind, a_pointer as is_pointer_kind, a_text, a_view as is_view_kind, no_value}
+use Rattle.life_elab_laws.proofs.AliasForms.{IsAliased, whole_aliased, to_built, to_place}
+use Rattle.life_elab_laws.proofs.MadeForms.{temporary_made}
 
 -- what a table has has the type that is there
 found_type : (types : Types) (id : TyId) (t : Ty) → slice_get types.types id.0 ≡ Some t → type_at types id ≡ t
 found_type types id t at = ap (λ (o : Option Ty). unwrap_or o ty.Void) at
 
-module _ (types : Types) (texts : ℕ) (so_far : Bool) (fs : List Function) (f : Function) where
+-- what has a value or points to one is given to no iterator and to no span
+no_walker_given : (types : Types) (e : Typed) → HasKind types e → (t : Ty) → is_walker_of_values types t ≡ true → is_given types t e ≡ true → ⊥
+no_walker_given types e kind (ty.Iterator item constant) w given = refused kind
+  where
+    as_told : (x : ExprType) → e.ty ≡ x → fits_at_all (fits types (ty.Iterator item constant) x e.category) ≡ true
+    as_told x is = subst (λ (x : ExprType). fits_at_all (fits types (ty.Iterator item constant) x e.category) ≡ true) is given
+
+    refused : HasKind types e → ⊥
+    refused (is_number_kind u is v) = false≢true (sym (by_values (λ u. fits_at_all (fits types (ty.Iterator item constant) (Of u) e.category) ≡ false) refl refl refl refl refl u v) ∙ as_told (Of u) is)
+    refused (is_pointer_kind target held is v) = false≢true (as_told (Of (ty.Raw target held)) is)
+    refused (is_view_kind is) = false≢true (as_told (Of ty.View) is)
+    refused (a_text is v) = false≢true (as_told TextLiteral is)
+    refused (no_value is v) = false≢true (as_told (Of ty.Void) is)
+    refused (a_null is v) = false≢true (as_told NullPointer is)
+no_walker_given types e kind (ty.Span item constant) w given = refused kind
+  where
+    as_told : (x : ExprType) → e.ty ≡ x → fits_at_all (fits types (ty.Span item constant) x e.category) ≡ true
+    as_told x is = subst (λ (x : ExprType). fits_at_all (fits types (ty.Span item constant) x e.category) ≡ true) is given
+
+    refused : HasKind types e → ⊥
+    refused (is_number_kind u is v) = false≢true (sym (by_values (λ u. fits_at_all (fits types (ty.Span item constant) (Of u) e.category) ≡ false) refl refl refl refl refl u v) ∙ as_told (Of u) is)
+    refused (is_pointer_kind target held is v) = false≢true (as_told (Of (ty.Raw target held)) is)
+    refused (is_view_kind is) = false≢true (as_told (Of ty.View) is)
+    refused (a_text is v) = false≢true (as_told TextLiteral is)
+    refused (no_value is v) = false≢true (as_told (Of ty.Void) is)
+    refused (a_null is v) = false≢true (as_told NullPointer is)
+no_walker_given types e kind _ w given = false≢true w
+
+module _ (types : Types) (texts : ℕ) (fs : List Function) (f : Function) where
   -- a pointer before the others
   pub pointer_handed_part : (id : TyId) (t u : Ty) (ids : List TyId) (first : State → Gives Location) (others : State → Gives (List Argument)) (s : State) → is_slot_at types id ≡ false → ty_of types id ≡ t → takes types t u ≡ true → IsOpen s
-      → Makes types texts so_far fs f None s (first s) (a_pointer types texts so_far fs f u) → Makes types texts so_far fs f None (first s).state (others (first s).state) (arguments types texts so_far fs f ids)
-      → Makes types texts so_far fs f None s (first s >> λ l s. mapped (λ xs. PointerOf l ∷ xs) (others s)) (arguments types texts so_far fs f (id ∷ ids))
+      → Makes types texts fs f None s (first s) (a_pointer types texts fs f u) → Makes types texts fs f None (first s).state (others (first s).state) (arguments types texts fs f ids)
+      → Makes types texts fs f None s (first s >> λ l s. mapped (λ xs. PointerOf l ∷ xs) (others s)) (arguments types texts fs f (id ∷ ids))
   pointer_handed_part id t u ids first others s plain at taken opened one more =
       let l = first s in
       let xs = others l.state in
-      let G = no_gift types texts so_far fs f in
-      let P = a_pointer types texts so_far fs f u in
-      let Q = arguments types texts so_far fs f ids in
-      seen_part types texts so_far fs f G tt None s (gives (l.given, xs.given) xs.state) (both types texts so_far fs f P Q) (λ x. PointerOf x.0 ∷ x.1) (arguments types texts so_far fs f (id ∷ ids))
-      (and_part types texts so_far fs f G tt s l xs P Q opened one more)
+      let G = no_gift types texts fs f in
+      let P = a_pointer types texts fs f u in
+      let Q = arguments types texts fs f ids in
+      seen_part types texts fs f G tt None s (gives (l.given, xs.given) xs.state) (both types texts fs f P Q) (λ x. PointerOf x.0 ∷ x.1) (arguments types texts fs f (id ∷ ids))
+      (and_part types texts fs f G tt s l xs P Q opened one more)
       (λ b h. record {
         fit =
             and_from (is_argument_for types texts fs f id (PointerOf l.given)) (are_arguments_for types texts fs f ids xs.given)
             (and_from (not (is_slot_at types id)) (takes types (ty_of types id) (type_in types f l.given)) (ap not plain) (ap (λ (w : Ty). takes types w (type_in types f l.given)) at ∙ ap (takes types t) h.0.typed ∙ taken)) h.1.fit;
         own = h.1.own;
         given = h.1.given;
-        served = λ so. and_from (is_served_argument (PointerOf l.given)) (list_all is_served_argument xs.given) (h.0.served so) (h.1.served so);
+        served = and_from (is_served_argument (PointerOf l.given)) (list_all is_served_argument xs.given) h.0.served h.1.served;
       })
       (λ n k h. h)
 
   -- ---- a reference, which is aimed by a register
 
   module _ (a : Around) (front : IsFront a.program.types.types types.types) (target : TyId) (constant held : Bool) (place : Place) (o : Operand) (s : State) (table : IsFront a.program.types.types s.types.types)
-      (worth : is_value (type_at a.program.types target) ≡ true) (kept : keeps_const constant held ≡ true) where
+      (worth : is_target a.program.types (type_at a.program.types target) ≡ true) (kept : keeps_const constant held ≡ true) where
     abbrev reference : Ty
     reference = ty.Reference target constant
 
     abbrev w : Gives ℕ
     w = new_register place reference s
 
-    later : is_value (ty_of types target) ≡ true
-    later = ap is_value (type_later a.program.types types front target worth) ∙ worth
-
     there : Begins types f w.state → type_in types f (whole w.given) ≡ reference
     there b =
         let l = added place reference s in
-        reference_there types f (length s.locals) l target constant (b.locals (length s.locals) l (last_there s.locals l)) (b.table l.ty.0 reference (type_added s.types.types reference)) later
+        reference_there types f (length s.locals) l target constant (b.locals (length s.locals) l (last_there s.locals l)) (b.table l.ty.0 reference (type_added s.types.types reference)) (target_there a.program.types types front target worth)
 
-    pub aimed_part : Part types texts so_far fs f (a_place types texts so_far fs f (type_at a.program.types target) held) o None s (gives (whole w.given) (emit place (Aim (whole w.given) (Aimed o)) w.state)) (a_pointer types texts so_far fs f reference)
+    pub aimed_part : Part types texts fs f (a_place types texts fs f (type_at a.program.types target) held) o None s (gives (whole w.given) (emit place (Aim (whole w.given) (Aimed o)) w.state)) (a_pointer types texts fs f reference)
     aimed_part =
-        emit_part types texts so_far fs f (a_place types texts so_far fs f (type_at a.program.types target) held) o None s w place (λ r. Aim (whole r) (Aimed o)) (whole w.given) (a_pointer types texts so_far fs f reference)
-        (new_targeted so_far types f place reference s (value_later a.program.types types front target worth) (fits_below so_far a.program.types s.types (front_length a.program.types.types s.types.types table) reference worth))
+        emit_part types texts fs f (a_place types texts fs f (type_at a.program.types target) held) o None s w place (λ r. Aim (whole r) (Aimed o)) (whole w.given) (a_pointer types texts fs f reference)
+        (new_targeted types f place reference s (target_later a.program.types types front target worth) (fits_below a.program.types s.types (front_length a.program.types.types s.types.types table) reference worth))
         (λ b h. let at = there b in (
           record {
             given = refl;
-            formed = ap (λ (t : Ty). is_source_of types texts fs f t (Aimed o)) at ∙ bound_given a types texts so_far fs f front target constant held o worth kept h;
-            served = λ so. h.served so;
+            formed = ap (λ (t : Ty). is_source_of types texts fs f t (Aimed o)) at ∙ bound_given a types texts fs f front target constant held o worth kept h;
+            served = h.served;
           },
-          record { typed = at; kept = register_there types f (length s.locals) (added place reference s) (b.locals (length s.locals) (added place reference s) (last_there s.locals (added place reference s))) refl; served = λ so. refl },
+          record { typed = at; kept = register_there types f (length s.locals) (added place reference s) (b.locals (length s.locals) (added place reference s) (last_there s.locals (added place reference s))) refl; served = refl },
         ))
         (λ r n k e h. filling_fills f (λ p. Aim p (Aimed o)) n k (aimed_filling f o n k h) r e)
         (λ k lt e. record { local = w.given; is = refl; below = lt; held = e })
 
-module _ (a : Around) (visible : List ℕ) (types : Types) (texts : ℕ) (so_far : Bool) (fs : List Function) (f : Function) (setting : Setting so_far a types fs f) where
+module _ (a : Around) (visible : List ℕ) (types : Types) (texts : ℕ) (fs : List Function) (f : Function) (setting : Setting a types fs f) where
   abbrev Stood : State → Type 0
-  Stood s = Standing a visible types texts so_far fs f setting s
+  Stood s = Standing a visible types texts fs f setting s
 
   abbrev Hands : List TyId → State → Gives (List Argument) → Type 0
-  Hands ids s w = Makes types texts so_far fs f None s w (arguments types texts so_far fs f ids)
+  Hands ids s w = Makes types texts fs f None s w (arguments types texts fs f ids)
 
   -- ---- a raw pointer, which nullptr is too
 
-  raw_part : (form : Form) (target : TyId) (constant : Bool) (s : State) → IsWhole a visible types texts so_far fs f setting form → is_value (type_at a.program.types target) ≡ true → is_given a.program.types (ty.Raw target constant) (typed_in form) ≡ true → Stood s
-      → (u : Ty) × (takes types (ty.Raw target constant) u ≡ true) × Makes types texts so_far fs f None s (pointer (uses a form) (ty.Raw target constant) s) (a_pointer types texts so_far fs f u)
+  raw_part : (form : Form) (target : TyId) (constant : Bool) (s : State) → IsWhole a visible types texts fs f setting form → is_target a.program.types (type_at a.program.types target) ≡ true → is_given a.program.types (ty.Raw target constant) (typed_in form) ≡ true → Stood s
+      → (u : Ty) × (takes types (ty.Raw target constant) u ≡ true) × Makes types texts fs f None s (pointer (uses a form) (ty.Raw target constant) s) (a_pointer types texts fs f u)
   raw_part form target constant s is worth given stands = go (pointed_type (typed_in form).ty pointed)
     where
       t : Ty
@@ -145,38 +175,74 @@ module _ (a : Around) (visible : List ℕ) (types : Types) (texts : ℕ) (so_far
       taken : takes_from types (ty.Raw target constant) (typed_in form).ty ≡ true
       taken = given_raw a.program.types types setting.front target constant worth (typed_in form) given
 
-      go : IsPointed (typed_in form).ty → (u : Ty) × (takes types (ty.Raw target constant) u ≡ true) × Makes types texts so_far fs f None s (pointer (uses a form) (ty.Raw target constant) s) (a_pointer types texts so_far fs f u)
-      go (at_location u at loc) = (u, ap (takes_from types (ty.Raw target constant)) (sym at) ∙ taken, pointer_whole a visible types texts so_far fs f setting form is u at loc (ty.Raw target constant) s stands)
+      go : IsPointed (typed_in form).ty → (u : Ty) × (takes types (ty.Raw target constant) u ≡ true) × Makes types texts fs f None s (pointer (uses a form) (ty.Raw target constant) s) (a_pointer types texts fs f u)
+      go (at_location u at loc) = (u, ap (takes_from types (ty.Raw target constant)) (sym at) ∙ taken, pointer_whole a visible types texts fs f setting form is u at loc (ty.Raw target constant) s stands)
       go (by_literal at) = absurd (false≢true (ap (takes_from types (ty.Raw target constant)) (sym at) ∙ taken))
       go (by_null at) =
           let w = pointing (uses a form) s in
-          let first = subst (λ (x : ExprType). Makes types texts so_far fs f None s w (a_pointing types texts so_far fs f x)) at (points_whole a visible types texts so_far fs f setting form is pointed s stands) in
+          let first = subst (λ (x : ExprType). Makes types texts fs f None s w (a_pointing types texts fs f x)) at (points_whole a visible types texts fs f setting form is pointed s stands) in
           let later = stands_later a visible s w.state first.grown stands in (
             ty.Raw target constant,
-            and_from (same (ty_of types target) (ty_of types target)) (keeps_const constant constant) (value_same (ty_of types target) (ap is_value (type_later a.program.types types setting.front target worth) ∙ worth)) (keeps_itself constant),
-            subst (λ (x : Ty). Makes types texts so_far fs f None s (w >> λ p s. located (uses a form).place (register_type (ty.Raw target constant) x) p s) (a_pointer types texts so_far fs f (ty.Raw target constant)))
-                (sym (ap own_type (sym (own_typed a visible types texts so_far fs f setting form) ∙ at)))
-                (then_part types texts so_far fs f (no_gift types texts so_far fs f) tt None s w _ (a_pointing types texts so_far fs f NullPointer) (a_pointer types texts so_far fs f (ty.Raw target constant)) stands.opened first
-                (null_located_part types texts so_far fs f w.given (ty.Raw target constant) (uses a form).place w.state refl refl (value_later a.program.types types setting.front target worth)
-                (fits_below so_far a.program.types w.state.types (front_length a.program.types.types w.state.types.types later.table) (ty.Raw target constant) worth))),
+            and_from (same (ty_of types target) (ty_of types target)) (keeps_const constant constant) (one_target a.program.types types setting.front target worth) (keeps_itself constant),
+            subst (λ (x : Ty). Makes types texts fs f None s (w >> λ p s. located (uses a form).place (register_type (ty.Raw target constant) x) p s) (a_pointer types texts fs f (ty.Raw target constant)))
+                (sym (ap own_type (sym (own_typed a visible types texts fs f setting form) ∙ at)))
+                (then_part types texts fs f (no_gift types texts fs f) tt None s w _ (a_pointing types texts fs f NullPointer) (a_pointer types texts fs f (ty.Raw target constant)) stands.opened first
+                (null_located_part types texts fs f w.given (ty.Raw target constant) (uses a form).place w.state refl refl (target_later a.program.types types setting.front target worth)
+                (fits_below a.program.types w.state.types (front_length a.program.types.types w.state.types.types later.table) (ty.Raw target constant) worth))),
           )
 
   -- ---- any of them, before the others
 
-  abbrev others_of : Form → DelimitersForm → List TyId → State → Gives (List Argument)
+  abbrev pub others_of : Form → DelimitersForm → List TyId → State → Gives (List Argument)
   others_of es d ids s = giving.arguments a (all_uses a es) (behind_others d) ids s
 
   -- a register of a reference, which is aimed at a place
-  abbrev aimed_to : Uses → Ty → Gives Operand → Gives Location
+  abbrev pub aimed_to : Uses → Ty → Gives Operand → Gives Location
   aimed_to u t w = gives (whole (new_register u.place t w.state).given) (emit u.place (Aim (whole (new_register u.place t w.state).given) (Aimed w.given)) (new_register u.place t w.state).state)
 
   -- .. or at a temporary
-  abbrev bound_by : Uses → TyId → Bool → Place → State → Bool → Gives Argument
+  abbrev pub bound_by : Uses → TyId → Bool → Place → State → Bool → Gives Argument
   bound_by u target constant behind s c =
       (cond c (mapped (giving.aimed_at u.place) (u.at s)) (giving.given u (type_at a.program.types target) behind s >> λ rest s. rest (temporary u.place (type_at a.program.types target)) s >> λ x s. gives (giving.aimed_at u.place (object_named x)) s))
       >> λ rest s. mapped (λ r. PointerOf (whole r)) (rest (wanted u.place None (ty.Reference target constant)) s)
 
-  pub first_handed : (e es : Form) (d : DelimitersForm) (id : TyId) (ids : List TyId) → IsWhole a visible types texts so_far fs f setting e → ((s : State) → Stood s → Hands ids s (giving.arguments a (all_uses a es) (behind_others d) ids s))
+  -- a register that is aimed at what is written first, before the others
+  pub aimed_first : (u : Uses) (es : Form) (d : DelimitersForm) (id : TyId) (ids : List TyId) (target : TyId) (constant held : Bool) (w : State → Gives Operand) → slice_get a.program.types.types id.0 ≡ Some (ty.Reference target constant)
+      → is_target a.program.types (type_at a.program.types target) ≡ true → keeps_const constant held ≡ true → ((s : State) → Stood s → Hands ids s (others_of es d ids s))
+      → (s : State) → Stood s → Makes types texts fs f None s (w s) (a_place types texts fs f (type_at a.program.types target) held)
+      → Hands (id ∷ ids) s (aimed_to u (ty.Reference target constant) (w s) >> λ l s. mapped (λ xs. PointerOf l ∷ xs) (others_of es d ids s))
+  aimed_first u es d id ids target constant held w at worth kept rest s stands first =
+      let t = ty.Reference target constant in
+      let there = stands_later a visible s (w s).state first.grown stands in
+      let aim = aimed_part types texts fs f a setting.front target constant held u.place (w s).given (w s).state there.table worth kept in
+      let v = aimed_to u t (w s) in
+      let all = then_part types texts fs f (no_gift types texts fs f) tt None s (w s) v (a_place types texts fs f (type_at a.program.types target) held) (a_pointer types texts fs f t) stands.opened first aim in
+      pointer_handed_part types texts fs f id t t ids (λ s. aimed_to u t (w s)) (others_of es d ids) s (ap (is_slot_type types) (setting.front id.0 t at) ∙ reference_no_slot types target constant (target_later a.program.types types setting.front target worth)) (ap or_void (setting.front id.0 t at))
+      (and_from (same (ty_of types target) (ty_of types target)) (keeps_const constant constant) (one_target a.program.types types setting.front target worth) (keeps_itself constant)) stands.opened all
+      (rest v.state (stands_later a visible s v.state all.grown stands))
+
+  -- a reference to an owner
+  pub alias_first : (e es : Form) (d : DelimitersForm) (id : TyId) (ids : List TyId) (target : TyId) (constant : Bool) → IsAliased a visible types texts fs f setting (uses a e) target constant → ((s : State) → Stood s → Hands ids s (others_of es d ids s))
+      → slice_get a.program.types.types id.0 ≡ Some (ty.Reference target constant) → is_owner_of_values a.program.types (type_at a.program.types target) ≡ true → (s : State) → Stood s
+      → Hands (id ∷ ids) s (giving.arguments a (all_uses a (e ⨟ es)) d (id ∷ ids) s)
+  alias_first e es d id ids target constant from rest at o s stands =
+      subst (λ (x : Ty). Hands (id ∷ ids) s (giving.argument a (uses a e) x (behind_first d) s >> λ x s. mapped (λ xs. x ∷ xs) (others_of es d ids s))) (sym (found_type a.program.types id (ty.Reference target constant) at)) (go from)
+    where
+      wide : is_target a.program.types (type_at a.program.types target) ≡ true
+      wide = owner_target a.program.types (type_at a.program.types target) o
+
+      as_bound : (c : Bool) → is_place_of (uses a e).category target ≡ c → Hands (id ∷ ids) s (bound_by (uses a e) target constant (behind_first d) s c >> λ x s. mapped (λ xs. x ∷ xs) (others_of es d ids s))
+          → Hands (id ∷ ids) s (bound_by (uses a e) target constant (behind_first d) s (is_place_of (uses a e).category target) >> λ x s. mapped (λ xs. x ∷ xs) (others_of es d ids s))
+      as_bound c same part = subst (λ (c : Bool). Hands (id ∷ ids) s (bound_by (uses a e) target constant (behind_first d) s c >> λ x s. mapped (λ xs. x ∷ xs) (others_of es d ids s))) (sym same) part
+
+      go : IsAliased a visible types texts fs f setting (uses a e) target constant → Hands (id ∷ ids) s (giving.argument a (uses a e) (ty.Reference target constant) (behind_first d) s >> λ x s. mapped (λ xs. x ∷ xs) (others_of es d ids s))
+      go (to_place held here kept names) = as_bound true here (aimed_first (uses a e) es d id ids target constant held (uses a e).at at wide kept rest s stands (names s stands))
+      go (to_built none made) =
+          as_bound false none
+          (aimed_first (uses a e) es d id ids target constant false (λ s. mapped object_named (giving.given (uses a e) (type_at a.program.types target) (behind_first d) s >> λ rest s. rest (temporary (uses a e).place (type_at a.program.types target)) s)) at wide (keeps_all constant) rest s stands
+          (temporary_made a visible types texts fs f setting (type_at a.program.types target) (uses a e).place s (giving.given (uses a e) (type_at a.program.types target) (behind_first d) s) o (made (behind_first d) s stands) stands))
+
+  pub first_handed : (e es : Form) (d : DelimitersForm) (id : TyId) (ids : List TyId) → IsWhole a visible types texts fs f setting e → ((s : State) → Stood s → Hands ids s (giving.arguments a (all_uses a es) (behind_others d) ids s))
       → IsHandedType a.program.types id → is_given a.program.types (type_at a.program.types id) (typed_in e) ≡ true → (s : State) → Stood s → Hands (id ∷ ids) s (giving.arguments a (all_uses a (e ⨟ es)) d (id ∷ ids) s)
   first_handed e es d id ids is rest kind given s stands = go kind
     where
@@ -192,7 +258,7 @@ module _ (a : Around) (visible : List ℕ) (types : Types) (texts : ℕ) (so_far
       plain : (t : Ty) → slice_get a.program.types.types id.0 ≡ Some t → is_slot_type types (Some t) ≡ false → is_slot_at types id ≡ false
       plain t at none = ap (is_slot_type types) (setting.front id.0 t at) ∙ none
 
-      behind_first_part : {A : Type 0} (w : Gives A) (Q : Gift types texts so_far fs f A) → Makes types texts so_far fs f None s w Q → Hands ids w.state (others_of es d ids w.state)
+      behind_first_part : {A : Type 0} (w : Gives A) (Q : Gift types texts fs f A) → Makes types texts fs f None s w Q → Hands ids w.state (others_of es d ids w.state)
       behind_first_part w Q first = rest w.state (stands_later a visible s w.state first.grown stands)
 
       go : IsHandedType a.program.types id → Hands (id ∷ ids) s (giving.arguments a (all_uses a (e ⨟ es)) d (id ∷ ids) s)
@@ -201,48 +267,38 @@ module _ (a : Around) (visible : List ℕ) (types : Types) (texts : ℕ) (so_far
           let first = is.valued (given_number a.program.types t (typed_in e) worth given) (behind_first d) t worth None s tt stands in
           subst (Hands (id ∷ ids) s)
           (sym (ap (λ (w : Gives Argument). w >> λ x s. mapped (λ xs. x ∷ xs) (others_of es d ids s)) (by_values (λ x. giving.argument a (uses a e) x (behind_first d) s ≡ mapped Value (value (uses a e) (behind_first d) x None s)) refl refl refl refl refl t worth)))
-          (handed_part types texts so_far fs f id t ids (value (uses a e) (behind_first d) t None) (others_of es d ids) s (type_later a.program.types types setting.front id worth) stands.opened first
-          (behind_first_part (value (uses a e) (behind_first d) t None s) (a_number types texts so_far fs f t) first))
+          (handed_part types texts fs f id t ids (value (uses a e) (behind_first d) t None) (others_of es d ids) s (type_later a.program.types types setting.front id worth) stands.opened first
+          (behind_first_part (value (uses a e) (behind_first d) t None s) (a_number types texts fs f t) first))
       go (a_raw target constant at worth) =
           let t = ty.Raw target constant in
           let found = raw_part e target constant s is worth (given_as t at) stands in
           as_type t at
-          (pointer_handed_part types texts so_far fs f id t found.0 ids (pointer (uses a e) t) (others_of es d ids) s (plain t at refl) (later t at) found.1 stands.opened found.2
-          (behind_first_part (pointer (uses a e) t s) (a_pointer types texts so_far fs f found.0) found.2))
+          (pointer_handed_part types texts fs f id t found.0 ids (pointer (uses a e) t) (others_of es d ids) s (plain t at refl) (later t at) found.1 stands.opened found.2
+          (behind_first_part (pointer (uses a e) t s) (a_pointer types texts fs f found.0) found.2))
+      go (an_alias target constant at o) = alias_first e es d id ids target constant (whole_aliased a visible types texts fs f setting e target constant o (given_as (ty.Reference target constant) at) is) rest at o s stands
+      go (a_walker t at w) = absurd (no_walker_given a.program.types (typed_in e) is.kind.kind t w (given_as t at))
       go (a_view at) =
-          let seen = seen_kind so_far a.program.types (typed_in e) is.kind.kind (given_view a.program.types (typed_in e) (given_as ty.View at)) in
-          let first = view_whole a visible types texts so_far fs f setting e is seen s stands in
+          let seen = seen_kind a.program.types (typed_in e) is.kind.kind (given_view a.program.types (typed_in e) (given_as ty.View at)) in
+          let first = view_whole a visible types texts fs f setting e is seen s stands in
           as_type ty.View at
-          (pointer_handed_part types texts so_far fs f id ty.View ty.View ids (pointer (uses a e) ty.View) (others_of es d ids) s (plain ty.View at refl) (later ty.View at) refl stands.opened first
-          (behind_first_part (pointer (uses a e) ty.View s) (a_pointer types texts so_far fs f ty.View) first))
-      go (a_reference target constant at worth) = as_type (ty.Reference target constant) at (bound_first target constant at worth (given_bound a.program.types target constant (typed_in e) worth (given_as (ty.Reference target constant) at)))
+          (pointer_handed_part types texts fs f id ty.View ty.View ids (pointer (uses a e) ty.View) (others_of es d ids) s (plain ty.View at refl) (later ty.View at) refl stands.opened first
+          (behind_first_part (pointer (uses a e) ty.View s) (a_pointer types texts fs f ty.View) first))
+      go (a_reference target constant at worth) = as_type (ty.Reference target constant) at (bound_first target constant at worth (given_bound a.program.types target constant (typed_in e) (value_target a.program.types (type_at a.program.types target) worth) (given_as (ty.Reference target constant) at)))
         where
-          -- aimed at what is written first
-          aimed_first : (target : TyId) (constant held : Bool) (w : State → Gives Operand) → slice_get a.program.types.types id.0 ≡ Some (ty.Reference target constant) → is_value (type_at a.program.types target) ≡ true → keeps_const constant held ≡ true
-              → Makes types texts so_far fs f None s (w s) (a_place types texts so_far fs f (type_at a.program.types target) held)
-              → Hands (id ∷ ids) s (aimed_to (uses a e) (ty.Reference target constant) (w s) >> λ l s. mapped (λ xs. PointerOf l ∷ xs) (others_of es d ids s))
-          aimed_first target constant held w at worth kept first =
-              let t = ty.Reference target constant in
-              let there = stands_later a visible s (w s).state first.grown stands in
-              let aim = aimed_part types texts so_far fs f a setting.front target constant held (uses a e).place (w s).given (w s).state there.table worth kept in
-              let v = aimed_to (uses a e) t (w s) in
-              let all = then_part types texts so_far fs f (no_gift types texts so_far fs f) tt None s (w s) v (a_place types texts so_far fs f (type_at a.program.types target) held) (a_pointer types texts so_far fs f t) stands.opened first aim in
-              pointer_handed_part types texts so_far fs f id t t ids (λ s. aimed_to (uses a e) t (w s)) (others_of es d ids) s (plain t at (reference_no_slot types target constant (value_later a.program.types types setting.front target worth))) (later t at)
-              (and_from (same (ty_of types target) (ty_of types target)) (keeps_const constant constant) (value_same (ty_of types target) (ap is_value (type_later a.program.types types setting.front target worth) ∙ worth)) (keeps_itself constant)) stands.opened all
-              (behind_first_part v (a_pointer types texts so_far fs f t) all)
-
           as_bound : (target : TyId) (constant c : Bool) → is_place_of (uses a e).category target ≡ c → Hands (id ∷ ids) s (bound_by (uses a e) target constant (behind_first d) s c >> λ x s. mapped (λ xs. x ∷ xs) (others_of es d ids s))
               → Hands (id ∷ ids) s (bound_by (uses a e) target constant (behind_first d) s (is_place_of (uses a e).category target) >> λ x s. mapped (λ xs. x ∷ xs) (others_of es d ids s))
           as_bound target constant c same part = subst (λ (c : Bool). Hands (id ∷ ids) s (bound_by (uses a e) target constant (behind_first d) s c >> λ x s. mapped (λ xs. x ∷ xs) (others_of es d ids s))) (sym same) part
 
           seen_here : (target : TyId) → is_place_of (uses a e).category target ≡ is_place_of (typed_in e).category target
-          seen_here target = ap (λ (c : Category). is_place_of c target) (sym (held_typed a visible types texts so_far fs f setting e))
+          seen_here target = ap (λ (c : Category). is_place_of c target) (sym (held_typed a visible types texts fs f setting e))
 
           bound_first : (target : TyId) (constant : Bool) → slice_get a.program.types.types id.0 ≡ Some (ty.Reference target constant) → (worth : is_value (type_at a.program.types target) ≡ true) → IsBound a.program.types target constant (typed_in e)
               → Hands (id ∷ ids) s (giving.argument a (uses a e) (ty.Reference target constant) (behind_first d) s >> λ x s. mapped (λ xs. x ∷ xs) (others_of es d ids s))
           bound_first target constant at worth (at_place bound) =
-              as_bound target constant true (seen_here target ∙ bound.here) (aimed_first target constant bound.held (uses a e).at at worth bound.kept (is.names target bound.held bound.place worth s stands))
+              as_bound target constant true (seen_here target ∙ bound.here)
+              (aimed_first (uses a e) es d id ids target constant bound.held (uses a e).at at (value_target a.program.types (type_at a.program.types target) worth) bound.kept rest s stands (is.names target bound.held bound.place worth s stands))
           bound_first target constant at worth (by_temporary none initial) =
               as_bound target constant false (seen_here target ∙ none)
-              (aimed_first target constant false (λ s. mapped object_named (giving.given (uses a e) (type_at a.program.types target) (behind_first d) s >> λ rest s. rest (temporary (uses a e).place (type_at a.program.types target)) s)) at worth (keeps_all constant)
-              (value_temporary a visible types texts so_far fs f setting e is (type_at a.program.types target) worth (given_number a.program.types (type_at a.program.types target) (typed_in e) worth initial) (behind_first d) s stands))
+              (aimed_first (uses a e) es d id ids target constant false (λ s. mapped object_named (giving.given (uses a e) (type_at a.program.types target) (behind_first d) s >> λ rest s. rest (temporary (uses a e).place (type_at a.program.types target)) s)) at
+              (value_target a.program.types (type_at a.program.types target) worth) (keeps_all constant) rest s stands
+              (value_temporary a visible types texts fs f setting e is (type_at a.program.types target) worth (given_number a.program.types (type_at a.program.types target) (typed_in e) worth initial) (behind_first d) s stands))

@@ -1,38 +1,57 @@
--- The types of parameters that the law reaches: values, and pointers and views that an argument is or makes.
-use Rattle.std.proofs.Common.{◌≡◌, inl, inr, Bool, true, Option, Some, None, slice_get, unwrap_or, refl}
+-- The types of parameters that are served: values, and pointers, views, iterators and spans that an argument is or makes.
+use Rattle.std.proofs.Common.{◌≡◌, inl, inr, Bool, true, Option, Some, None, slice_get, unwrap_or, refl, ◌||◌, ap, sym, ◌∙◌}
 use Rattle.std.proofs.lemmas.Bool.{false≢true, or_cases}
 use Rattle.life_types.specs.TypeTests.{is_value}
 use Rattle.life_types.specs.Types.{Types}
 use Rattle.life_types.specs.declared.ty.Ty.{Ty}
 use Rattle.life_types.specs.declared.ty.Ty.TheVariants as ty
 use Rattle.life_types.specs.declared.ty.TyId.{TyId}
-use Rattle.life_served.specs.Served.{is_pointing, is_served_variable}
+use Rattle.life_served.specs.Served.{is_pointing, is_served_parameter, is_walker_of_values, is_owner_of_values, is_target}
 use Rattle.life_typed.specs.BaseTypes.{type_at}
 use Rattle.life_elab_laws.proofs.Fronts.{IsFront}
-use Rattle.life_elab_laws.proofs.Shaped.{value_later}
+use Rattle.life_elab_laws.proofs.Shaped.{value_later, walker_later, owner_later, target_later}
+use Rattle.life_elab_laws.proofs.Targets.{IsTarget, owner_target, target_is, target_type, to_owner, to_value}
+use Rattle.life_elab_laws.proofs.OperandsThere.{type_either}
 
 pub data IsHandedType (types : Types) (id : TyId) : Type 0 where
   a_value : is_value (type_at types id) ≡ true → IsHandedType types id
-  a_raw : (target : TyId) (constant : Bool) → slice_get types.types id.0 ≡ Some (ty.Raw target constant) → is_value (type_at types target) ≡ true → IsHandedType types id
+  a_raw : (target : TyId) (constant : Bool) → slice_get types.types id.0 ≡ Some (ty.Raw target constant) → is_target types (type_at types target) ≡ true → IsHandedType types id
   a_reference : (target : TyId) (constant : Bool) → slice_get types.types id.0 ≡ Some (ty.Reference target constant) → is_value (type_at types target) ≡ true → IsHandedType types id
+  an_alias : (target : TyId) (constant : Bool) → slice_get types.types id.0 ≡ Some (ty.Reference target constant) → is_owner_of_values types (type_at types target) ≡ true → IsHandedType types id
   a_view : slice_get types.types id.0 ≡ Some ty.View → IsHandedType types id
+  a_walker : (t : Ty) → slice_get types.types id.0 ≡ Some t → is_walker_of_values types t ≡ true → IsHandedType types id
 
-pub handed_type : (types : Types) (id : TyId) → is_served_variable types id ≡ true → IsHandedType types id
-handed_type types id h = elim (or_cases (is_value (type_at types id)) (is_pointing types (type_at types id)) h) [
+pub handed_type : (types : Types) (id : TyId) → is_served_parameter types id ≡ true → IsHandedType types id
+handed_type types id h = elim (or_cases (is_value (type_at types id)) (is_pointing types (type_at types id) || is_walker_of_values types (type_at types id)) h) [
   | inl v ↦ a_value v
-  | inr p ↦ pointer (slice_get types.types id.0) refl p
+  | inr q ↦ elim (or_cases (is_pointing types (type_at types id)) (is_walker_of_values types (type_at types id)) q) [
+    | inl p ↦ pointer (slice_get types.types id.0) refl p
+    | inr w ↦ walker (slice_get types.types id.0) refl w
+  ]
 ]
   where
     pointer : (o : Option Ty) → slice_get types.types id.0 ≡ o → is_pointing types (unwrap_or o ty.Void) ≡ true → IsHandedType types id
     pointer None at p = absurd (false≢true p)
     pointer (Some (ty.Raw target constant)) at p = a_raw target constant at p
-    pointer (Some (ty.Reference target constant)) at p = a_reference target constant at p
+    pointer (Some (ty.Reference target constant)) at p = refers (target_is types (type_at types target) p)
+      where
+        refers : IsTarget types (type_at types target) → IsHandedType types id
+        refers (to_value v) = a_reference target constant at v
+        refers (to_owner o) = an_alias target constant at o
     pointer (Some ty.View) at p = a_view at
     pointer (Some _) at p = absurd (false≢true p)
+
+    walker : (o : Option Ty) → slice_get types.types id.0 ≡ o → is_walker_of_values types (unwrap_or o ty.Void) ≡ true → IsHandedType types id
+    walker None at w = absurd (false≢true w)
+    walker (Some t) at w = a_walker t at w
 
 -- .. in a table with more types too
 pub handed_later : (few more : Types) → IsFront few.types more.types → (id : TyId) → IsHandedType few id → IsHandedType more id
 handed_later few more front id (a_value v) = a_value (value_later few more front id v)
-handed_later few more front id (a_raw target constant at v) = a_raw target constant (front id.0 (ty.Raw target constant) at) (value_later few more front target v)
+handed_later few more front id (a_raw target constant at v) = a_raw target constant (front id.0 (ty.Raw target constant) at) (target_later few more front target v)
 handed_later few more front id (a_reference target constant at v) = a_reference target constant (front id.0 (ty.Reference target constant) at) (value_later few more front target v)
+handed_later few more front id (an_alias target constant at o) =
+    let here = target_type few more front target (owner_target few (type_at few target) o) in
+    an_alias target constant (front id.0 (ty.Reference target constant) at) (ap (is_owner_of_values more) (sym (type_either more target) ∙ here) ∙ owner_later few more front (type_at few target) o)
 handed_later few more front id (a_view at) = a_view (front id.0 ty.View at)
+handed_later few more front id (a_walker t at w) = a_walker t (front id.0 t at) (walker_later few more front t w)

@@ -1,5 +1,8 @@
 -- A reference that is declared with what isn't a place of its type: what is computed is saved in a temporary that lives as long as it, or a call gives its result there.
-use Rattle.std.proofs.Common.{◌≡◌, ℕ, Bool, true, false, ◌&&◌, cond, not, List, [], ◌∷◌, ◌++◌, length, slice_get, Option, Some, None, refl, sym, ap, ◌∙◌, subst, arith, append_assoc}
+use Rattle.std.proofs.Common.{◌≡◌, ℕ, Bool, true, false, ◌&&◌, cond, not, List, [], ◌∷◌, ◌++◌, length, slice_get, Option, Some, None, refl, sym, ap, ◌∙◌, subst, arith, append_assoc, inl}
+use Rattle.std.proofs.lemmas.Bool.{and_parts}
+use Rattle.std.specs.List.{list_all}
+use Rattle.life_served.specs.Served.{is_served_variable}
 use Rattle.life_types.specs.TypeTests.{is_value}
 use Rattle.life_types.specs.Types.{Types}
 use Rattle.life_types.specs.contracts.ty.TyPartialEq.TheImpl.{ghosts as compared}
@@ -13,8 +16,9 @@ use Rattle.life_typed.specs.declared.typed_program.TypedLocal.{TypedLocal}
 use Rattle.life_core.specs.Function.{Function}
 use Rattle.life_core.specs.Operands.{Place as Aimed, Location, object_named, whole}
 use Rattle.life_core.specs.Step.{Aim, Live, Save, Step}
-use Rattle.life_core.specs.Tree.{Acts, Tree}
+use Rattle.life_core.specs.Tree.{Acts, Tree, trees}
 use Rattle.life_core.specs.declared.instr.Form.TheVariants.{Plain}
+use Rattle.life_proper.specs.GivenOver.{given_step}
 use Rattle.life_proper.specs.WellFormed.{goes_to}
 use Rattle.life_well_typed.specs.Expressions.{parameter_types}
 use Rattle.life_well_typed.specs.Given.{is_number}
@@ -30,7 +34,7 @@ use Rattle.life_writer.specs.Using.{value}
 use Rattle.life_writer.specs.Variables.{end_pending, variable_local}
 use Rattle.life_writer.specs.Writing.{Gives, State, gives, mapped, with_code, ◌>>◌}
 use Rattle.life_elab.specs.Declarations.{variable as home}
-use Rattle.life_elab_laws.proofs.BoundVariables.{bound_does, kept_place, temporary_below, temporary_goes, temporary_lives, with_temporary}
+use Rattle.life_elab_laws.proofs.BoundVariables.{bound_does, kept_none, kept_place, kept_then, temporary_below, temporary_goes, temporary_lives, with_temporary, value_below}
 use Rattle.life_elab_laws.proofs.CallParts.{called_fine}
 use Rattle.life_elab_laws.proofs.Calls.{born_fills}
 use Rattle.life_elab_laws.proofs.Declaring.{with_new}
@@ -40,23 +44,24 @@ use Rattle.life_elab_laws.proofs.ExpressionTypes.{answer_own}
 use Rattle.life_elab_laws.proofs.Falling.{falls_filling}
 use Rattle.life_elab_laws.proofs.Following.{Follows}
 use Rattle.life_elab_laws.proofs.Gifts.{a_number, arguments}
+use Rattle.life_elab_laws.proofs.GivenApart.{given_of, looked_of, step_apart}
+use Rattle.life_elab_laws.proofs.Growing.{Begins}
 use Rattle.life_elab_laws.proofs.PointerForms.{result_later}
 use Rattle.life_elab_laws.proofs.Saving.{saved_falls, saved_fine}
 use Rattle.life_elab_laws.proofs.Setting.{Setting}
-use Rattle.life_elab_laws.proofs.Shaping.{fine_acts, fine_append}
+use Rattle.life_elab_laws.proofs.Shaping.{IsFineStep, fine_acts, fine_append, is_no_object, keeps_its_target}
 use Rattle.life_elab_laws.proofs.Types.{same_types}
 use Rattle.life_elab_laws.proofs.Values.{by_values}
-use Rattle.life_elab_laws.specs.Reached.{is_reached_variable}
 use Rattle.life_types.specs.declared.ty.Ty.TheVariants as ty
 use Rattle.life_writer.specs.Around as around
 use Rattle.life_writer.specs.Giving as giving
 
-module _ (a : Around) (types : Types) (texts : ℕ) (so_far : Bool) (fs : List Function) (f : Function) (setting : Setting so_far a types fs f) (v : Visible) (in_loop : Bool) (last : Place)
-    (u : TypedLocal) (s : State) (h : Follows types f a v s) (at : slice_get a.function.locals v.declared ≡ Some u) (built : is_reached_variable false a.program.types u.ty ≡ true)
+module _ (a : Around) (types : Types) (texts : ℕ) (fs : List Function) (f : Function) (setting : Setting a types fs f) (v : Visible) (in_loop : Bool) (last : Place)
+    (u : TypedLocal) (s : State) (h : Follows types f a v s) (at : slice_get a.function.locals v.declared ≡ Some u) (built : is_served_variable a.program.types u.ty ≡ true)
     (target : TyId) (constant : Bool) (is : slice_get a.program.types.types u.ty.0 ≡ Some (ty.Reference target constant)) (worth : is_value (type_at a.program.types target) ≡ true)
-    (e : Typed) (whole_is : IsWhole a v.visible types texts so_far fs f setting (whole_form e)) (n : is_number e.ty ≡ true) (behind : Place) where
+    (e : Typed) (whole_is : IsWhole a v.visible types texts fs f setting (whole_form e)) (n : is_number e.ty ≡ true) (behind : Place) where
   abbrev Born : State → Type 0
-  Born s' = Does types texts so_far fs f a (with_next v) in_loop s (end_pending (length s.pending) last s')
+  Born s' = Does types texts fs f a (with_next v) in_loop s (end_pending (length s.pending) last s')
 
   -- what is built, and the reference to it
   abbrev bound_to : Ty → Gives Remaining → State
@@ -74,37 +79,42 @@ module _ (a : Around) (types : Types) (texts : ℕ) (so_far : Bool) (fs : List F
       let w = value (uses a (whole_form e)) behind t None s in
       let made = whole_is.valued n behind t worth None s tt h.stands in
       let x = length w.state.locals in
-      let kept = with_temporary a types texts so_far fs f e.place t worth w.state in
+      let kept = with_temporary a types texts fs f e.place t (inl worth) w.state (value_below w.state.types t worth) in
       let lives = Acts e.place (Live x Plain) ∷ [] in
       let saves = Acts e.place (Save (object_named x) w.given) ∷ [] in
       let aims = Acts e.place (Aim (whole (length kept.locals)) (Aimed (object_named x))) ∷ [] in
       subst (λ (c : List Tree). Born (with_code c (with_new (variable_local a u) kept)))
       (sym (append_assoc (w.state.code ++ lives) saves aims ∙ append_assoc w.state.code lives (saves ++ aims)))
-      (bound_does a types texts so_far fs f setting v in_loop last u s h at built target constant is worth e.place w (a_number types texts so_far fs f t) made (lives ++ saves)
+      (bound_does a types texts fs f setting v in_loop last u s h at built target constant is worth e.place w (a_number types texts fs f t) made (lives ++ saves)
       (λ b q.
-      fine_append types texts so_far fs f lives saves (fine_acts types texts so_far fs f e.place (Live x Plain) (temporary_lives a types texts so_far fs f e.place t worth w.state b))
-      (fine_acts types texts so_far fs f e.place (Save (object_named x) w.given) (saved_fine types texts so_far fs f t w.given (object_named x) q (kept_place a types texts so_far fs f e.place t worth w.state b))))
-      (λ b k size q blank. saved_falls types f e.place x w.given k (omega (arith, size, temporary_below a types texts so_far fs f e.place t worth w.state b)) blank q.0 q.1))
+      fine_append types texts fs f lives saves (fine_acts types texts fs f e.place (Live x Plain) (temporary_lives a types texts fs f e.place t (inl worth) w.state (value_below w.state.types t worth) b Plain))
+      (fine_acts types texts fs f e.place (Save (object_named x) w.given) (saved_fine types texts fs f t w.given (object_named x) q (kept_place a types texts fs f e.place t (inl worth) w.state (value_below w.state.types t worth) b))))
+      (λ b k size q blank. saved_falls types f e.place x w.given k (omega (arith, size, temporary_below a types texts fs f e.place t (inl worth) w.state (value_below w.state.types t worth) b)) blank q.0 q.1)
+      (λ b q k alive r blank. kept_none a types texts fs f e.place t (inl worth) w.state (value_below w.state.types t worth)))
 
   kept_call_does : (c : Called) → form_call e.form ≡ Some c → compared.eq (own_type e.ty) t ≡ true → not (is_place e.category) ≡ true → Born (Kept (Some c))
   kept_call_does c found same plain =
       let k = whole_is.calls c found in
       let w = giving.arguments a (all_uses a c.arguments) c.delimiters (around.parameter_types a c.function) s in
       let x = length w.state.locals in
-      let kept = with_temporary a types texts so_far fs f e.place t worth w.state in
+      let kept = with_temporary a types texts fs f e.place t (inl worth) w.state (value_below w.state.types t worth) in
       let ids = parameter_types (Some k.of) in
       let calls = Acts e.place (called c.function w.given (whole x)) ∷ [] in
       let aims = Acts e.place (Aim (whole (length kept.locals)) (Aimed (object_named x))) ∷ [] in
+      let fits : Begins types f kept → (arguments types texts fs f ids).typed w.given → IsFineStep types texts fs f (called c.function w.given (whole x)) = λ b q.
+      called_fine types texts fs f c.function w.given k.of x (setting.callees c.function k.of k.there) q
+      (ap (λ (r : Ty). goes_to types texts fs f r (Some (whole x)))
+      (result_later a v.visible types texts fs f setting c.function k.of k.there ∙ answer_own a.program.types (type_at a.program.types k.of.result) e.ty e.category k.answers plain ∙ same_types (own_type e.ty) t same)
+      ∙ temporary_goes a types texts fs f e.place t (inl worth) w.state (value_below w.state.types t worth) b worth) in
       subst (λ (c : List Tree). Born (with_code c (with_new (variable_local a u) kept)))
       (sym (append_assoc w.state.code calls aims))
-      (bound_does a types texts so_far fs f setting v in_loop last u s h at built target constant is worth e.place w (arguments types texts so_far fs f ids) (k.hands s h.stands) calls
-      (λ b q.
-      fine_acts types texts so_far fs f e.place (called c.function w.given (whole x))
-      (called_fine types texts so_far fs f c.function w.given k.of x (setting.callees c.function k.of k.there) q
-      (ap (λ (r : Ty). goes_to types texts fs f r (Some (whole x)))
-      (result_later a v.visible types texts so_far fs f setting c.function k.of k.there ∙ answer_own a.program.types (type_at a.program.types k.of.result) e.ty e.category k.answers plain ∙ same_types (own_type e.ty) t same)
-      ∙ temporary_goes a types texts so_far fs f e.place t worth w.state b)))
-      (λ b m size q blank. falls_filling types f e.place (called c.function w.given (whole x)) x m (born_fills f c.function ids w.given x m q x blank)))
+      (bound_does a types texts fs f setting v in_loop last u s h at built target constant is worth e.place w (arguments types texts fs f ids) (k.hands s h.stands) calls
+      (λ b q. fine_acts types texts fs f e.place (called c.function w.given (whole x)) (fits b q))
+      (λ b m size q blank. falls_filling types f e.place (called c.function w.given (whole x)) x m (born_fills f c.function ids w.given x m q x blank))
+      (λ b q m alive r blank.
+      kept_then a types texts fs f e.place t (inl worth) w.state (value_below w.state.types t worth) (looked_of (trees calls)) (given_of (trees calls))
+      (step_apart f types (called c.function w.given (whole x)) e.place w.state m alive (born_fills f c.function ids w.given x m r x blank).ready
+      (and_parts (list_all (is_no_object types f) (given_step (called c.function w.given (whole x)))) (keeps_its_target (called c.function w.given (whole x))) (fits b q).given).0)))
 
   kept_does : Born (Kept (call_for e t))
   kept_does = go (compared.eq (own_type e.ty) t) refl (not (is_place e.category)) refl

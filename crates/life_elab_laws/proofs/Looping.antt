@@ -23,7 +23,9 @@ use Rattle.life_elab_laws.proofs.Falling.{deciding}
 use Rattle.life_elab_laws.proofs.Following.{Adds, Follows, adds_then, begins_added, follows_again, follows_grown, follows_lasting, grows_adds, knows_alive, take_itself, visible_again}
 use Rattle.life_elab_laws.proofs.Fronts.{front_itself}
 use Rattle.life_elab_laws.proofs.GivingBack.{GivesResult, asks_known, known_may}
-use Rattle.life_elab_laws.proofs.Growing.{Begins}
+use Rattle.life_elab_laws.proofs.GivenApart.{alone_apart, three_apart}
+use Rattle.life_elab_laws.proofs.Growing.{Begins, begins_before}
+use Rattle.life_elab_laws.proofs.SomeKnown.{some_known, some_knows}
 use Rattle.life_elab_laws.proofs.OrderedTypes.{order_then}
 use Rattle.life_elab_laws.proofs.Shaped.{AreShaped, shaped_at, is_passing}
 use Rattle.life_elab_laws.proofs.Conditions.{Asked, AsksAll, Tests}
@@ -69,7 +71,7 @@ forgotten_at (u ∷ ls) (x ∷ k) zero l at e = rw here refl
     here = passing_known u x (ap (λ (v : Local). is_passing v) (same_Some u l at) ∙ e)
 forgotten_at (u ∷ ls) (x ∷ k) (suc y) l at e = forgotten_at ls k y l at e
 
-module _ (types : Types) (texts : ℕ) (so_far : Bool) (fs : List Function) (f : Function) where
+module _ (types : Types) (texts : ℕ) (fs : List Function) (f : Function) where
   knows_forgotten : (living : List ℕ) (k : List Known) → AreLasting f living → Knows f living k → Knows f living (forgotten f.locals k)
   knows_forgotten living k lasting knows = record {
     sized = forgotten_length f.locals k ∙ knows.sized;
@@ -122,7 +124,7 @@ module _ (types : Types) (texts : ℕ) (so_far : Bool) (fs : List Function) (f :
 
   -- ---- the whole loop
 
-  module _ {ends : Place} (a : Around) (v : Visible) (in_loop : Bool) (s : State) (w : Gives Tree) (h : Follows types f a v s) (test : Tests types texts so_far fs f (Some ends) s w) (shaped : AreShaped types f.locals) where
+  module _ {ends : Place} (a : Around) (v : Visible) (in_loop : Bool) (s : State) (w : Gives Tree) (h : Follows types f a v s) (test : Tests types texts fs f (Some ends) s w) (shaped : AreShaped types f.locals) where
     -- the body is written where all that lives stays outside of the loop
     abbrev pub inside : State
     inside = with_outside (length w.state.living) (with_code [] w.state)
@@ -136,13 +138,13 @@ module _ (types : Types) (texts : ℕ) (so_far : Bool) (fs : List Function) (f :
         follows_again types f a v w.state inside v.declared later (front_itself w.state.locals) (front_itself w.state.types.types) (front_itself w.state.variables) refl refl (omega arith) later.count (omega arith)
 
     -- .. and the step where what was visible before the body is again
-    pub step_follows : (u : Visible) (t : State) → DoesLevel types texts so_far fs f a u true inside t → Follows types f a (behind v u) (with_code [] (past t))
+    pub step_follows : (u : Visible) (t : State) → DoesLevel types texts fs f a u true inside t → Follows types f a (behind v u) (with_code [] (past t))
     step_follows u t body =
         let again = visible_again types f a v u inside t inside_follows body.does.adds body.does.follows body.level in
         follows_again types f a (behind v u) t (with_code [] (past t)) u.declared again (front_itself t.locals) (front_itself t.types.types) (front_itself t.variables) refl refl
         (omega (arith, test.grown.outside, h.outside, ap length body.level, ap length test.grown.living)) again.count (omega arith)
 
-    module _ (u x : Visible) (t r : State) (body : DoesLevel types texts so_far fs f a u true inside t) (step : DoesLevel types texts so_far fs f a x false (with_code [] (past t)) r) where
+    module _ (u x : Visible) (t r : State) (body : DoesLevel types texts fs f a u true inside t) (step : DoesLevel types texts fs f a x false (with_code [] (past t)) r) where
       abbrev whole : State
       whole = write (Turns w.given (trees t.code) (trees r.code)) (with_code w.state.code r)
 
@@ -166,13 +168,19 @@ module _ (types : Types) (texts : ℕ) (so_far : Bool) (fs : List Function) (f :
         tested : Begins types f w.state
         tested = begins_added types f w.state (past t) to_body begun
 
-        asks : AsksAll types texts so_far fs f s w.state w.given
+        before : Begins types f s
+        before = begins_before types f s w.state test.grown tested
+
+        abbrev known_first : List Known
+        known_first = some_known types f a v s h before
+
+        asks : AsksAll types texts fs f s w.state w.given
         asks = test.runs tested
 
-        one : Acting types texts so_far fs f true inside t body.does.code
+        one : Acting types texts fs f true inside t body.does.code
         one = body.does.acts begun
 
-        other : Acting types texts so_far fs f false (with_code [] (past t)) r step.does.code
+        other : Acting types texts fs f false (with_code [] (past t)) r step.does.code
         other = step.does.acts b
 
         body_living : t.living ≡ s.living
@@ -198,11 +206,11 @@ module _ (types : Types) (texts : ℕ) (so_far : Bool) (fs : List Function) (f :
           at_head : Knows f s.living head
           at_head = knows_forgotten s.living k lasting knows
 
-          abbrev g : Asked types texts so_far fs f s w.state w.given head
+          abbrev g : Asked types texts fs f s w.state w.given head
           g = asks.goes head (knows_alive types f a v s h head at_head)
 
           both : Knows f s.living g.on × Knows f s.living g.off
-          both = known_behind types texts so_far fs f a v in_loop s w h test head g
+          both = known_behind types texts fs f a v in_loop s w h test head g
 
           known_on : Knows f w.state.living g.on
           known_on = subst (λ (xs : List ℕ). Knows f xs g.on) (sym test.grown.living) both.0
@@ -244,23 +252,27 @@ module _ (types : Types) (texts : ℕ) (so_far : Bool) (fs : List Function) (f :
           returned : GivesResult a → ReturnsKnown types f (result_local a) (trees (turns ∷ [])) (Some k)
           returned gives =
               let behind = subst ReturnBehind (sym g.decides) (body.does.returns begun gives (Some g.on) known_on, step.does.returns b gives back known_back) in
-              ((asks_known types f (result_local a) texts so_far fs w.given asks.fine (Some head), behind), tt)
+              ((asks_known types f (result_local a) texts fs w.given asks.fine (Some head), behind), tt)
 
-        loop_acts : Acting types texts so_far fs f in_loop s whole (turns ∷ [])
+        loop_acts : Acting types texts fs f in_loop s whole (turns ∷ [])
         loop_acts = record {
           stated =
-              stated_alone types texts so_far fs f in_loop turns (stated_turns types texts so_far fs f in_loop w.given (trees body.does.code) (trees step.does.code) asks.fine one.stated other.stated);
+              stated_alone types texts fs f in_loop turns (stated_turns types texts fs f in_loop w.given (trees body.does.code) (trees step.does.code) asks.fine one.stated other.stated);
           ways = leaves_may types f in_loop s.living r.living (take s.outside s.living) (trees (turns ∷ [])) went;
+          apart =
+              alone_apart f s whole turns
+              (three_apart f s w.state t r w.given (trees body.does.code) (trees step.does.code)
+              (asks.goes known_first (knows_alive types f a v s h known_first (some_knows types f a v s h before))).apart one.apart other.apart);
         }
 
         loop_returns : GivesResult a → (o : Knowing) → MayKnow f s.living o → ReturnsKnown types f (result_local a) (trees (turns ∷ [])) o
         loop_returns gives = known_may types f (result_local a) s.living (trees (turns ∷ [])) (λ k knows. returned k knows gives)
 
-      pub loop_does : DoesLevel types texts so_far fs f a x in_loop s whole
+      pub loop_does : DoesLevel types texts fs f a x in_loop s whole
       loop_does = record {
         does = record {
           adds = adds_then types f s (past t) r (adds_then types f s w.state (past t) (grows_adds types f s w.state (test.level tt) test.grown) to_body) step.does.adds;
-          locals = λ are. step.does.locals (body.does.locals (locals_added so_far types a s w.state test.grown.types test.registers are));
+          locals = λ are. step.does.locals (body.does.locals (locals_added types a s w.state test.grown.types test.registers are));
           order = order_then s.types w.state.types r.types test.registers.1 (order_then w.state.types t.types r.types body.does.order step.does.order);
           follows = step.does.follows;
           code = turns ∷ [];

@@ -1,5 +1,6 @@
 -- Owners that are made: what is found first, and the act that makes one of it, where a variable or a temporary has come to life.
-use Rattle.std.proofs.Common.{◌≡◌, inr, ℕ, Bool, true, false, List, Contains, length, Option, None, sym, ap, ◌∙◌, subst, arith}
+use Rattle.std.proofs.Common.{◌≡◌, inr, ℕ, Bool, true, false, List, [], ◌++◌, Contains, length, Option, None, sym, ap, ◌∙◌, subst, arith}
+use Rattle.life_served.specs.Served.{is_owner_of_values}
 use Rattle.life_types.specs.Trees.{HasPartsBelow}
 use Rattle.life_types.specs.Types.{Types}
 use Rattle.life_types.specs.declared.place.Place.{Place}
@@ -21,13 +22,13 @@ use Rattle.life_writer.specs.Temporaries.{temporary}
 use Rattle.life_writer.specs.Uses.{Act, Remaining, Uses, lived, own}
 use Rattle.life_writer.specs.Using.{operand, operand_by, temporary_of}
 use Rattle.life_writer.specs.Writing.{Gives, State, gives, mapped}
-use Rattle.life_elab_laws.specs.Reached.{is_owner_of_values}
 use Rattle.life_elab_laws.proofs.AppendForms.{a_found}
 use Rattle.life_elab_laws.proofs.ExpressionForms.{Placed, Standing}
 use Rattle.life_elab_laws.proofs.Fronts.{front_length}
 use Rattle.life_elab_laws.proofs.Gifts.{Gift, a_place, a_pointer, both, nothing as no_gift}
 use Rattle.life_elab_laws.proofs.ObjectForms.{IsObjectAt, IsOwner, object_owner, object_same}
 use Rattle.life_elab_laws.proofs.Parts.{Makes, Part, and_part, keep_part, seen_part}
+use Rattle.life_elab_laws.proofs.PlainActs.{IsPlainAct, seen_names}
 use Rattle.life_elab_laws.proofs.PointerForms.{held_typed, own_typed}
 use Rattle.life_elab_laws.proofs.Setting.{Setting}
 use Rattle.life_elab_laws.proofs.Shaped.{owner_later}
@@ -35,90 +36,109 @@ use Rattle.life_elab_laws.proofs.TemporaryBirths.{lived_part, lived_there}
 use Rattle.life_elab_laws.proofs.VariablePlaces.{stands_later}
 use Rattle.life_elab_laws.proofs.WrittenLocals.{owner_below}
 
--- of what an owner is made: of two texts, of a string at a place, which is const or not, of what a view sees, or of elements, which are found one after the other
+-- of what an owner is made: of two texts, of another one of its type at a place, which is const or not, of what a view sees, or of elements, which are found one after the other
 pub data Making : Type 0 where
   of_texts : Making
-  of_string : (constant : Bool) → Making
+  of_copy : (t : Ty) (constant : Bool) → Making
   of_view : Making
   of_elements : Making
 
 -- .. which stand there
 abbrev pub Found : Making → Type 0
 Found of_texts = Seen × Seen
-Found (of_string constant) = Operand
+Found (of_copy t constant) = Operand
 Found of_view = Location
 Found of_elements = Unit {0}
 
-module _ (a : Around) (visible : List ℕ) (types : Types) (texts : ℕ) (so_far : Bool) (fs : List Function) (f : Function) (setting : Setting so_far a types fs f) where
+-- .. and may be looked at
+abbrev pub looked_found : (m : Making) → Found m → List ℕ
+looked_found of_texts x = seen_names x.0 ++ seen_names x.1
+looked_found (of_copy t constant) x = []
+looked_found of_view x = []
+looked_found of_elements x = []
+
+module _ (a : Around) (visible : List ℕ) (types : Types) (texts : ℕ) (fs : List Function) (f : Function) (setting : Setting a types fs f) where
   abbrev Stood : State → Type 0
-  Stood s = Standing a visible types texts so_far fs f setting s
+  Stood s = Standing a visible types texts fs f setting s
 
   abbrev PlacedAs : Ty → Bool → State → Gives Operand → Type 0
-  PlacedAs t constant s w = Placed a visible types texts so_far fs f setting t constant s w
+  PlacedAs t constant s w = Placed a visible types texts fs f setting t constant s w
 
   -- ---- what makes an owner of a type, where that has come to life
 
   -- what is found before
-  abbrev pub gift_of : (m : Making) → Gift types texts so_far fs f (Found m)
-  gift_of of_texts = both types texts so_far fs f (a_found types texts so_far fs f) (a_found types texts so_far fs f)
-  gift_of (of_string constant) = a_place types texts so_far fs f ty.Text constant
-  gift_of of_view = a_pointer types texts so_far fs f ty.View
-  gift_of of_elements = no_gift types texts so_far fs f
+  abbrev pub gift_of : (m : Making) → Gift types texts fs f (Found m)
+  gift_of of_texts = both types texts fs f (a_found types texts fs f) (a_found types texts fs f)
+  gift_of (of_copy t constant) = a_place types texts fs f t constant
+  gift_of of_view = a_pointer types texts fs f ty.View
+  gift_of of_elements = no_gift types texts fs f
 
-  pub record Builds (t : Ty) (s : State) (w : Gives Remaining) : Type 0 where
+  -- plain is what no list builds
+  pub record BuildsIn (plain : Bool) (t : Ty) (s : State) (w : Gives Remaining) : Type 0 where
     pub making : Making
     pub found : Found making
-    pub part : Makes types texts so_far fs f None s (gives found w.state) (gift_of making)
+    pub part : Makes types texts fs f None s (gives found w.state) (gift_of making)
     pub form : LiveForm
     pub act : Act
     pub lives : w.given ≡ lived form act
     pub acts : (place : Place) (to : Operand) (s' : State) → Stood s'
-        → Part types texts so_far fs f (both types texts so_far fs f (gift_of making) (a_place types texts so_far fs f t false)) (found, to) None s' (gives tt (act place to s')) (no_gift types texts so_far fs f)
+        → Part types texts fs f (both types texts fs f (gift_of making) (a_place types texts fs f t false)) (found, to) None s' (gives tt (act place to s')) (no_gift types texts fs f)
+    pub alone : plain ≡ true → IsPlainAct act (looked_found making found)
+
+  abbrev pub Builds : Ty → State → Gives Remaining → Type 0
+  Builds t s w = BuildsIn true t s w
 
   -- .. as a temporary
-  module _ (t : Ty) (place : Place) (s : State) (w : Gives Remaining) (wide : so_far ≡ false) (owner : is_owner_of_values a.program.types t ≡ true) (is : Builds t s w) (stands : Stood s) where
-    later : Stood w.state
+  module _ {plain : Bool} (t : Ty) (place : Place) (s : State) (w : Gives Remaining) (owner : is_owner_of_values a.program.types t ≡ true) (is : BuildsIn plain t s w) (stands : Stood s) where
+    pub later : Stood w.state
     later = stands_later a visible s w.state is.part.grown stands
 
-    v : is_owner_of_values types t ≡ true
+    pub v : is_owner_of_values types t ≡ true
     v = owner_later a.program.types types setting.front t owner
 
-    within : HasPartsBelow w.state.types (length w.state.types.types) t
+    pub within : HasPartsBelow w.state.types (length w.state.types.types) t
     within = owner_below a.program.types w.state.types (front_length a.program.types.types w.state.types.types later.table) t owner
 
-    abbrev x : Gives Operand
-    x = lived_there types texts so_far fs f place is.form t w.state (inr (wide, v)) later.opened later.pends within
+    -- it comes to life, and is pending
+    abbrev pub born : Gives Operand
+    born = lived_there types texts fs f place is.form t w.state (inr v) later.opened later.pends within
 
-    one : Makes types texts so_far fs f None w.state x (a_place types texts so_far fs f t false)
-    one = lived_part types texts so_far fs f place is.form t w.state (inr (wide, v)) later.opened later.pends within
+    pub born_part : Makes types texts fs f None w.state born (a_place types texts fs f t false)
+    born_part = lived_part types texts fs f place is.form t w.state (inr v) later.opened later.pends within
 
-    abbrev done : State
-    done = is.act place x.given x.state
+    -- .. and is built
+    abbrev pub built : State
+    built = is.act place born.given born.state
 
-    act : Part types texts so_far fs f (both types texts so_far fs f (gift_of is.making) (a_place types texts so_far fs f t false)) (is.found, x.given) None x.state (gives tt done) (no_gift types texts so_far fs f)
-    act = is.acts place x.given x.state (stands_later a visible w.state x.state one.grown later)
+    pub act_part : Part types texts fs f (both types texts fs f (gift_of is.making) (a_place types texts fs f t false)) (is.found, born.given) None born.state (gives tt built) (no_gift types texts fs f)
+    act_part = is.acts place born.given born.state (stands_later a visible w.state born.state born_part.grown later)
+
+    pub built_part : Makes types texts fs f None s (gives ((is.found, born.given), tt) built) (both types texts fs f (both types texts fs f (gift_of is.making) (a_place types texts fs f t false)) (no_gift types texts fs f))
+    built_part =
+        let G = no_gift types texts fs f in
+        let Q = a_place types texts fs f t false in
+        let B = both types texts fs f (gift_of is.making) Q in
+        keep_part types texts fs f G tt s (gives (is.found, born.given) born.state) (gives tt built) B G stands.opened
+        (and_part types texts fs f G tt s (gives is.found w.state) born (gift_of is.making) Q stands.opened is.part born_part) act_part
 
     pub temporary_made : PlacedAs t false s (mapped object_named (w.given (temporary place t) w.state))
     temporary_made =
-        let G = no_gift types texts so_far fs f in
-        let Q = a_place types texts so_far fs f t false in
-        let B = both types texts so_far fs f (gift_of is.making) Q in
-        let pair = and_part types texts so_far fs f G tt s (gives is.found w.state) x (gift_of is.making) Q stands.opened is.part one in
-        let all = keep_part types texts so_far fs f G tt s (gives (is.found, x.given) x.state) (gives tt done) B G stands.opened pair act in
+        let G = no_gift types texts fs f in
+        let Q = a_place types texts fs f t false in
+        let B = both types texts fs f (gift_of is.making) Q in
         subst (λ (r : Remaining). PlacedAs t false s (mapped object_named (r (temporary place t) w.state))) (sym is.lives)
-        (seen_part types texts so_far fs f G tt None s (gives ((is.found, x.given), tt) done) (both types texts so_far fs f B G) (λ y. y.0.1) Q all (λ b h. h.0.1) (λ n k h. h.0.1))
+        (seen_part types texts fs f G tt None s (gives ((is.found, born.given), tt) built) (both types texts fs f B G) (λ y. y.0.1) Q built_part (λ b h. h.0.1) (λ n k h. h.0.1))
 
     -- it is no variable
     pub temporary_dead : (let r = w.given (temporary place t) w.state in Contains r.state.living r.given) → ⊥
     temporary_dead c =
         let told = subst (λ (r : Remaining). let g = r (temporary place t) w.state in Contains g.state.living g.given) is.lives c in
-        let far = later.opened (length w.state.locals) (subst (λ (xs : List ℕ). Contains xs (length w.state.locals)) (act.grown.living ∙ one.grown.living) told) in
+        let far = later.opened (length w.state.locals) (subst (λ (xs : List ℕ). Contains xs (length w.state.locals)) (act_part.grown.living ∙ born_part.grown.living) told) in
         omega (arith, far)
 
   -- ---- an expression that makes one
 
   pub record IsMadeAt (e : Typed) (object : State → Gives Remaining) (replacing : Option (State → Gives Act)) : Type 0 where
-    pub wide : so_far ≡ false
     pub ty : Ty
     pub is : e.ty ≡ Of ty
     pub owner : is_owner_of_values a.program.types ty ≡ true
@@ -131,18 +151,17 @@ module _ (a : Around) (visible : List ℕ) (types : Types) (texts : ℕ) (so_far
   IsMade form = IsMadeAt (typed_in form) ((uses a form).object) ((uses a form).replacing)
 
   pub made_same : (e e' : Typed) (object : State → Gives Remaining) (replacing : Option (State → Gives Act)) → e.ty ≡ e'.ty → e.category ≡ e'.category → IsMadeAt e object replacing → IsMadeAt e' object replacing
-  made_same e e' object replacing t c is = record { wide = is.wide; ty = is.ty; is = sym t ∙ is.is; owner = is.owner; value = sym c ∙ is.value; builds = is.builds; plain = is.plain }
+  made_same e e' object replacing t c is = record { ty = is.ty; is = sym t ∙ is.is; owner = is.owner; value = sym c ∙ is.value; builds = is.builds; plain = is.plain }
 
   -- what is asked of it is asked of a temporary
-  pub made_owner : (form : Form) → IsMade form → IsOwner a visible types texts so_far fs f setting form
+  pub made_owner : (form : Form) → IsMade form → IsOwner a visible types texts fs f setting form
   made_owner form is = record {
-    wide = is.wide;
     ty = is.ty;
     is = is.is;
     owner = is.owner;
     constant = false;
     told = ap is_constant is.value;
-    names = λ s stands. subst (PlacedAs is.ty false s) (sym (temporary_is s)) (temporary_made is.ty u.place s (u.object s) is.wide is.owner (is.builds s stands) stands);
+    names = λ s stands. subst (PlacedAs is.ty false s) (sym (temporary_is s)) (temporary_made is.ty u.place s (u.object s) is.owner (is.builds s stands) stands);
   }
     where
       u : Uses
@@ -150,22 +169,22 @@ module _ (a : Around) (visible : List ℕ) (types : Types) (texts : ℕ) (so_far
 
       temporary_is : (s : State) → operand u s ≡ mapped object_named (temporary_of u is.ty s)
       temporary_is s =
-          ap (λ (c : Category). operand_by c u.at (temporary_of u (own u)) s) (sym (held_typed a visible types texts so_far fs f setting form) ∙ is.value)
-          ∙ ap (λ (t : Ty). mapped object_named (temporary_of u t s)) (ap own_type (sym (own_typed a visible types texts so_far fs f setting form) ∙ is.is))
+          ap (λ (c : Category). operand_by c u.at (temporary_of u (own u)) s) (sym (held_typed a visible types texts fs f setting form) ∙ is.value)
+          ∙ ap (λ (t : Ty). mapped object_named (temporary_of u t s)) (ap own_type (sym (own_typed a visible types texts fs f setting form) ∙ is.is))
 
   -- ---- an owner of either kind
 
   pub data IsOwningAt (e : Typed) (at : State → Gives Operand) (object : State → Gives Remaining) (replacing : Option (State → Gives Act)) : Type 0 where
-    stands_there : IsObjectAt a visible types texts so_far fs f setting e at → IsOwningAt e at object replacing
+    stands_there : IsObjectAt a visible types texts fs f setting e at → IsOwningAt e at object replacing
     is_made : IsMadeAt e object replacing → IsOwningAt e at object replacing
 
   abbrev pub IsOwning : Form → Type 0
   IsOwning form = IsOwningAt (typed_in form) ((uses a form).at) ((uses a form).object) ((uses a form).replacing)
 
   pub owning_same : (e e' : Typed) (at : State → Gives Operand) (object : State → Gives Remaining) (replacing : Option (State → Gives Act)) → e.ty ≡ e'.ty → e.category ≡ e'.category → IsOwningAt e at object replacing → IsOwningAt e' at object replacing
-  owning_same e e' at object replacing t c (stands_there is) = stands_there (object_same a visible types texts so_far fs f setting e e' at t c is)
+  owning_same e e' at object replacing t c (stands_there is) = stands_there (object_same a visible types texts fs f setting e e' at t c is)
   owning_same e e' at object replacing t c (is_made is) = is_made (made_same e e' object replacing t c is)
 
-  pub owning_owner : (form : Form) → IsOwning form → IsOwner a visible types texts so_far fs f setting form
-  owning_owner form (stands_there is) = object_owner a visible types texts so_far fs f setting form is
+  pub owning_owner : (form : Form) → IsOwning form → IsOwner a visible types texts fs f setting form
+  owning_owner form (stands_there is) = object_owner a visible types texts fs f setting form is
   owning_owner form (is_made is) = made_owner form is

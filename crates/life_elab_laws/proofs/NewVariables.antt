@@ -1,6 +1,7 @@
 -- The variable that is declared next: its kind and its type in the finished function, so it can live, and what it is given fits it.
 use Rattle.std.proofs.Common.{◌≡◌, ℕ, Bool, true, false, not, ◌&&◌, List, length, slice_get, Option, Some, refl, sym, ap, ◌∙◌}
 use Rattle.std.proofs.lemmas.Bool.{and_from, or_left, or_right}
+use Rattle.life_served.specs.Served.{is_owner_of_values, is_target}
 use Rattle.life_types.specs.Pointees.{ty_of}
 use Rattle.life_types.specs.TypeTests.{is_pointer, is_reference, is_value}
 use Rattle.life_types.specs.Types.{Types, class}
@@ -23,25 +24,25 @@ use Rattle.life_writer.specs.Writing.{State}
 use Rattle.life_elab_laws.proofs.Aiming.{keeps_further}
 use Rattle.life_elab_laws.proofs.CallParts.{goes_object}
 use Rattle.life_elab_laws.proofs.Declaring.{with_new}
-use Rattle.life_elab_laws.proofs.FormedVariables.{location_kind, location_no_reference, object_place, reference_there, type_found, type_later, owner_no_reference}
+use Rattle.life_elab_laws.proofs.FormedVariables.{location_kind, location_no_reference, object_place, reference_there, type_found, owner_no_reference}
 use Rattle.life_elab_laws.proofs.Fronts.{IsFront, front_itself, last_there}
 use Rattle.life_elab_laws.proofs.Gifts.{IsAt, IsPlaceOf}
 use Rattle.life_elab_laws.proofs.Growing.{Begins}
 use Rattle.life_elab_laws.proofs.Locations.{is_location}
-use Rattle.life_elab_laws.proofs.OperandsThere.{object_there, register_there, type_there, value_no_reference, value_same}
+use Rattle.life_elab_laws.proofs.OperandsThere.{object_there, register_there, type_there, value_no_reference}
 use Rattle.life_elab_laws.proofs.Shaping.{IsFineStep}
 use Rattle.life_elab_laws.proofs.Types.{value_kind}
 use Rattle.life_elab_laws.proofs.VariablePlaces.{owner_kind}
-use Rattle.life_elab_laws.specs.Reached.{is_owner_of_values}
+use Rattle.life_elab_laws.proofs.Targets.{one_target, target_type}
+use Rattle.life_elab_laws.proofs.Shaped.{target_there}
 
-module _ (a : Around) (types : Types) (texts : ℕ) (so_far : Bool) (fs : List Function) (f : Function) (front : IsFront a.program.types.types types.types) where
+module _ (a : Around) (types : Types) (texts : ℕ) (fs : List Function) (f : Function) (front : IsFront a.program.types.types types.types) where
   -- what a reference is bound to fits it
-  pub bound_given : (target : TyId) (constant held : Bool) (o : Operand) → is_value (type_at a.program.types target) ≡ true → keeps_const constant held ≡ true
-      → IsPlaceOf types texts so_far fs f (type_at a.program.types target) held o → (same (ty_of types target) (placed.type_of types f o) && keeps_const constant (is_const_place types f o)) ≡ true
+  pub bound_given : (target : TyId) (constant held : Bool) (o : Operand) → is_target a.program.types (type_at a.program.types target) ≡ true → keeps_const constant held ≡ true
+      → IsPlaceOf types texts fs f (type_at a.program.types target) held o → (same (ty_of types target) (placed.type_of types f o) && keeps_const constant (is_const_place types f o)) ≡ true
   bound_given target constant held o worth kept place =
-      let later = type_later a.program.types types front target worth in
       and_from (same (ty_of types target) (placed.type_of types f o)) (keeps_const constant (is_const_place types f o))
-      (ap (same (ty_of types target)) (place.typed ∙ sym later) ∙ value_same (ty_of types target) (ap is_value later ∙ worth))
+      (ap (same (ty_of types target)) (place.typed ∙ sym (target_type a.program.types types front target worth)) ∙ one_target a.program.types types front target worth)
       (keeps_further constant held (is_const_place types f o) kept place.held)
 
   module _ (v : TypedLocal) (s : State) (b : Begins types f (with_new (variable_local a v) s)) where
@@ -64,18 +65,18 @@ module _ (a : Around) (types : Types) (texts : ℕ) (so_far : Bool) (fs : List F
       pub value_lives : can_live types texts fs f (length s.locals) ≡ true
       value_lives = or_left (object_at types f (length s.locals)) _ object_declared
 
-      pub value_saved : (r : ℕ) → is_number_of types f (type_at a.program.types v.ty) r ≡ true → IsFineStep types texts so_far fs f (Save (object_named (length s.locals)) r)
+      pub value_saved : (r : ℕ) → is_number_of types f (type_at a.program.types v.ty) r ≡ true → IsFineStep types texts fs f (Save (object_named (length s.locals)) r)
       value_saved r h = record {
         given = refl;
         formed =
             and_from (is_number_of types f (placed.type_of types f (object_named (length s.locals))) r) true
-            (ap (λ (t : Ty). is_number_of types f t r) (object_place types texts so_far fs f (length s.locals) (type_at a.program.types v.ty) false object_declared type_declared).typed ∙ h) refl;
-        served = λ so. refl;
+            (ap (λ (t : Ty). is_number_of types f t r) (object_place types texts fs f (length s.locals) (type_at a.program.types v.ty) false object_declared type_declared).typed ∙ h) refl;
+        served = refl;
       }
 
       -- a call brings it to life
       pub value_goes : goes_to types texts fs f (type_at a.program.types v.ty) (Some (whole (length s.locals))) ≡ true
-      value_goes = goes_object types texts so_far fs f (type_at a.program.types v.ty) (length s.locals) worth type_declared object_declared
+      value_goes = goes_object types texts fs f (type_at a.program.types v.ty) (length s.locals) worth type_declared object_declared
 
     -- an owner
     pub owner_lives : (t : Ty) → slice_get a.program.types.types v.ty.0 ≡ Some t → is_owner_of_values a.program.types t ≡ true → can_live types texts fs f (length s.locals) ≡ true
@@ -83,18 +84,18 @@ module _ (a : Around) (types : Types) (texts : ℕ) (so_far : Bool) (fs : List F
         or_left (object_at types f (length s.locals)) _
         (object_there types f (length s.locals) (variable_local a v) there (ap (λ (u : Option Ty). kind (class u)) found ∙ owner_kind a.program.types t o))
 
-    pub owner_declared : (t : Ty) → slice_get a.program.types.types v.ty.0 ≡ Some t → is_owner_of_values a.program.types t ≡ true → IsPlaceOf types texts so_far fs f t false (object_named (length s.locals))
+    pub owner_declared : (t : Ty) → slice_get a.program.types.types v.ty.0 ≡ Some t → is_owner_of_values a.program.types t ≡ true → IsPlaceOf types texts fs f t false (object_named (length s.locals))
     owner_declared t found o =
-        object_place types texts so_far fs f (length s.locals) t false
+        object_place types texts fs f (length s.locals) t false
         (object_there types f (length s.locals) (variable_local a v) there (ap (λ (u : Option Ty). kind (class u)) found ∙ owner_kind a.program.types t o))
         (type_there types f (length s.locals) (variable_local a v) t there (front v.ty.0 t found) (owner_no_reference a.program.types t o))
 
     -- of the type of a raw pointer or a view
-    pub location_declared : (t : Ty) → is_location t ≡ true → slice_get a.program.types.types v.ty.0 ≡ Some t → IsAt types texts so_far fs f t (whole (length s.locals))
+    pub location_declared : (t : Ty) → is_location t ≡ true → slice_get a.program.types.types v.ty.0 ≡ Some t → IsAt types texts fs f t (whole (length s.locals))
     location_declared t loc found = record {
       typed = type_there types f (length s.locals) (variable_local a v) t there (front v.ty.0 t found) (location_no_reference t loc);
       kept = register_there types f (length s.locals) (variable_local a v) there (ap (λ (o : Option Ty). kind (class o)) found ∙ location_kind t loc);
-      served = λ so. refl;
+      served = refl;
     }
 
     -- .. it can live where it is no reference
@@ -110,11 +111,11 @@ module _ (a : Around) (types : Types) (texts : ℕ) (so_far : Bool) (fs : List F
     raw_lives target constant found = location_lives (ty.Raw target constant) refl refl refl found
 
     -- of a reference type
-    module _ (target : TyId) (constant : Bool) (found : slice_get a.program.types.types v.ty.0 ≡ Some (ty.Reference target constant)) (worth : is_value (type_at a.program.types target) ≡ true) where
+    module _ (target : TyId) (constant : Bool) (found : slice_get a.program.types.types v.ty.0 ≡ Some (ty.Reference target constant)) (worth : is_target a.program.types (type_at a.program.types target) ≡ true) where
       pub reference_declared : type_in types f (whole (length s.locals)) ≡ ty.Reference target constant
       reference_declared =
           reference_there types f (length s.locals) (variable_local a v) target constant there (front v.ty.0 (ty.Reference target constant) found)
-          (ap is_value (type_later a.program.types types front target worth) ∙ worth)
+          (target_there a.program.types types front target worth)
 
       pub reference_kept : register_at types f (length s.locals) ≡ true
       reference_kept = register_there types f (length s.locals) (variable_local a v) there (ap (λ (o : Option Ty). kind (class o)) found)

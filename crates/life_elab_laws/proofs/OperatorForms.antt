@@ -47,48 +47,48 @@ use Rattle.life_elab_laws.proofs.VariablePlaces.{Stands, stands_later}
 use Rattle.life_elab_laws.proofs.PointerForms.{seen_view, tested_pointer, view_whole}
 use Rattle.life_elab_laws.proofs.TemporaryEnds.{temporary_ends}
 
-module _ (a : Around) (visible : List ℕ) (types : Types) (texts : ℕ) (so_far : Bool) (fs : List Function) (f : Function) (setting : Setting so_far a types fs f) where
+module _ (a : Around) (visible : List ℕ) (types : Types) (texts : ℕ) (fs : List Function) (f : Function) (setting : Setting a types fs f) where
   abbrev Standing : State → Type 0
   Standing s = Stands a visible s
 
   abbrev Valued : Ty → Option ℕ → State → Gives ℕ → Type 0
-  Valued t into s w = Makes types texts so_far fs f into s w (a_number types texts so_far fs f t)
+  Valued t into s w = Makes types texts fs f into s w (a_number types texts fs f t)
 
   abbrev Pointed : Ty → State → Gives Location → Type 0
-  Pointed t s w = Makes types texts so_far fs f None s w (a_pointer types texts so_far fs f t)
+  Pointed t s w = Makes types texts fs f None s w (a_pointer types texts fs f t)
 
   abbrev Decided : Option Place → State → Gives Tree → Type 0
-  Decided ends s w = Tests types texts so_far fs f ends s w
+  Decided ends s w = Tests types texts fs f ends s w
 
   -- ---- operators: what is written by each row
 
-  module _ (left right : Form) (t : Ty) (l : IsWhole a visible types texts so_far fs f setting left) (r : IsWhole a visible types texts so_far fs f setting right) where
+  module _ (left right : Form) (t : Ty) (l : IsWhole a visible types texts fs f setting left) (r : IsWhole a visible types texts fs f setting right) where
     abbrev Operated : Row → Place → Uses
     Operated w place = binary_uses w (uses a left) (uses a right) place (Of t) category.Value
 
     -- neither is a unique_ptr
     raw_on : (side : Side) → (is : IsTested (on side (typed_in left).ty (typed_in right).ty) t) → is_raw is.own ≡ true
-    raw_on Left is = raw_if is.own is.nullable (sym (ap (λ (x : ExprType). is_unique (own_type x)) is.is) ∙ own_no_unique so_far a.program.types (typed_in left) l.kind.kind)
-    raw_on Right is = raw_if is.own is.nullable (sym (ap (λ (x : ExprType). is_unique (own_type x)) is.is) ∙ own_no_unique so_far a.program.types (typed_in right) r.kind.kind)
+    raw_on Left is = raw_if is.own is.nullable (sym (ap (λ (x : ExprType). is_unique (own_type x)) is.is) ∙ own_no_unique a.program.types (typed_in left) l.kind.kind)
+    raw_on Right is = raw_if is.own is.nullable (sym (ap (λ (x : ExprType). is_unique (own_type x)) is.is) ∙ own_no_unique a.program.types (typed_in right) r.kind.kind)
 
     -- the pointer that is tested
     pointer_on : (side : Side) (s : State) → Standing s → (is : IsTested (on side (typed_in left).ty (typed_in right).ty) t) → Pointed is.own s (on side (nullable (uses a left)) (nullable (uses a right)) s)
-    pointer_on Left s stands is = let raw = raw_on Left is in tested_pointer a visible types texts so_far fs f setting left is.own s is.is raw (l.pointers is.own is.is (raw_location is.own raw) s stands)
-    pointer_on Right s stands is = let raw = raw_on Right is in tested_pointer a visible types texts so_far fs f setting right is.own s is.is raw (r.pointers is.own is.is (raw_location is.own raw) s stands)
+    pointer_on Left s stands is = let raw = raw_on Left is in tested_pointer a visible types texts fs f setting left is.own s is.is raw (l.pointers is.own is.is (raw_location is.own raw) s stands)
+    pointer_on Right s stands is = let raw = raw_on Right is in tested_pointer a visible types texts fs f setting right is.own s is.is raw (r.pointers is.own is.is (raw_location is.own raw) s stands)
 
     not_null_on : (side : Side) (place : Place) (ends : Option Place) (s : State) → Standing s → IsTested (on side (typed_in left).ty (typed_in right).ty) t → Decided ends s (not_null place ends (on side (nullable (uses a left)) (nullable (uses a right))) s)
-    not_null_on side place ends s stands is = not_null_part types texts so_far fs f place ends is.own (on side (nullable (uses a left)) (nullable (uses a right))) s (raw_on side is) stands.pends (temporary_ends types texts fs f setting.registers) (pointer_on side (with_code [] s) stands is)
+    not_null_on side place ends s stands is = not_null_part types texts fs f place ends is.own (on side (nullable (uses a left)) (nullable (uses a right))) s (raw_on side is) stands.pends (temporary_ends types texts fs f setting.registers) (pointer_on side (with_code [] s) stands is)
 
     -- neither is a string or an iterator
     no_texts : AreTexts (typed_in left).ty (typed_in right).ty t → ⊥
     no_texts fit = go (or_cases (is_text (own_type (typed_in left).ty)) (is_text (own_type (typed_in right).ty)) fit.string)
       where
         go : (is_text (own_type (typed_in left).ty) ≡ true) ⊎ (is_text (own_type (typed_in right).ty) ≡ true) → ⊥
-        go (inl e) = false≢true (sym (own_no_text so_far a.program.types (typed_in left) l.kind.kind) ∙ e)
-        go (inr e) = false≢true (sym (own_no_text so_far a.program.types (typed_in right) r.kind.kind) ∙ e)
+        go (inl e) = false≢true (sym (own_no_text a.program.types (typed_in left) l.kind.kind) ∙ e)
+        go (inr e) = false≢true (sym (own_no_text a.program.types (typed_in right) r.kind.kind) ∙ e)
 
     no_move : IsMoved (typed_in left).ty (typed_in right).ty t → ⊥
-    no_move fit = false≢true (sym (own_no_iterator so_far a.program.types (typed_in left) l.kind.kind) ∙ ap (λ (x : ExprType). is_iterator (own_type x)) fit.left ∙ fit.iterator)
+    no_move fit = false≢true (sym (own_no_iterator a.program.types (typed_in left) l.kind.kind) ∙ ap (λ (x : ExprType). is_iterator (own_type x)) fit.left ∙ fit.iterator)
 
     row_worth : (w : Row) → Fits w (typed_in left).ty (typed_in right).ty t → is_value t ≡ true
     row_worth (Computed by common) fit = fit.worth
@@ -108,8 +108,8 @@ module _ (a : Around) (visible : List ℕ) (types : Types) (texts : ℕ) (so_far
         one _ second e = absurd (false≢true e)
 
         go : ((sees (typed_in left).ty ≡ true) × (sees (typed_in right).ty ≡ true)) ⊎ AreIterators (typed_in left).ty (typed_in right).ty → (is_seen (typed_in left).ty ≡ true) × (is_seen (typed_in right).ty ≡ true)
-        go (inl s) = (seen_kind so_far a.program.types (typed_in left) l.kind.kind s.0, seen_kind so_far a.program.types (typed_in right) r.kind.kind s.1)
-        go (inr is) = absurd (false≢true (sym (own_no_iterator so_far a.program.types (typed_in left) l.kind.kind) ∙ ap (λ (x : ExprType). is_iterator (own_type x)) is.left ∙ one is.first is.second is.one))
+        go (inl s) = (seen_kind a.program.types (typed_in left) l.kind.kind s.0, seen_kind a.program.types (typed_in right) r.kind.kind s.1)
+        go (inr is) = absurd (false≢true (sym (own_no_iterator a.program.types (typed_in left) l.kind.kind) ∙ ap (λ (x : ExprType). is_iterator (own_type x)) is.left ∙ one is.first is.second is.one))
 
     compared_part : (equal : Bool) (place : Place) (into : Option ℕ) (s : State) → IsCompared (typed_in left).ty (typed_in right).ty t → is_value t ≡ true → IsIntoOf t s into → Standing s
         → Valued t into s (seen (uses a left) s >> λ x s. seen (uses a right) s >> λ y s. viewed x s >> λ p s. viewed y s >> λ q s. computed into t place (λ n. Same n p q equal) s)
@@ -117,25 +117,25 @@ module _ (a : Around) (visible : List ℕ) (types : Types) (texts : ℕ) (so_far
         let both = both_seen fit in
         let x = pointer (uses a left) ty.View s in
         let y = pointer (uses a right) ty.View x.state in
-        let first = view_whole a visible types texts so_far fs f setting left l both.0 s stands in
-        let second = view_whole a visible types texts so_far fs f setting right r both.1 x.state (stands_later a visible s x.state first.grown stands) in
-        let P = a_pointer types texts so_far fs f ty.View in
+        let first = view_whole a visible types texts fs f setting left l both.0 s stands in
+        let second = view_whole a visible types texts fs f setting right r both.1 x.state (stands_later a visible s x.state first.grown stands) in
+        let P = a_pointer types texts fs f ty.View in
         subst (Valued t into s)
-        (sym (ap (λ (w : Gives Seen). w >> λ x s. seen (uses a right) s >> λ y s. viewed x s >> λ p s. viewed y s >> λ q s. computed into t place (λ n. Same n p q equal) s) (seen_view a visible types texts so_far fs f setting left both.0 s)
-        ∙ ap (λ (w : Gives Seen). w >> λ z s. viewed z s >> λ q s. computed into t place (λ n. Same n x.given q equal) s) (seen_view a visible types texts so_far fs f setting right both.1 x.state)))
-        (then_part types texts so_far fs f (gifts.nothing types texts so_far fs f) tt into s (gives (x.given, y.given) y.state) _ (gifts.both types texts so_far fs f P P) (a_number types texts so_far fs f t) stands.opened
-        (and_part types texts so_far fs f (gifts.nothing types texts so_far fs f) tt s x y P P stands.opened first second)
-        (same_part types texts so_far fs f into t place equal (x.given, y.given) y.state fit.answers v (into_of_later t x.state y.state into second.grown (into_of_later t s x.state into first.grown wanted))))
+        (sym (ap (λ (w : Gives Seen). w >> λ x s. seen (uses a right) s >> λ y s. viewed x s >> λ p s. viewed y s >> λ q s. computed into t place (λ n. Same n p q equal) s) (seen_view a visible types texts fs f setting left both.0 s)
+        ∙ ap (λ (w : Gives Seen). w >> λ z s. viewed z s >> λ q s. computed into t place (λ n. Same n x.given q equal) s) (seen_view a visible types texts fs f setting right both.1 x.state)))
+        (then_part types texts fs f (gifts.nothing types texts fs f) tt into s (gives (x.given, y.given) y.state) _ (gifts.both types texts fs f P P) (a_number types texts fs f t) stands.opened
+        (and_part types texts fs f (gifts.nothing types texts fs f) tt s x y P P stands.opened first second)
+        (same_part types texts fs f into t place equal (x.given, y.given) y.state fit.answers v (into_of_later t x.state y.state into second.grown (into_of_later t s x.state into first.grown wanted))))
 
     row_decides : (w : Row) → Fits w (typed_in left).ty (typed_in right).ty t → (place : Place) (b : Behind) (by : State → Gives Tree) → (Operated w place).decision b ≡ Some by → (s : State) → Standing s → Decided b.ends s (by s)
     row_decides (Joined join) fit place b by at s stands =
         let first = l.conditions fit.left (ending place) s stands in
         subst (λ (v : State → Gives Tree). Decided b.ends s (v s)) (some_same at)
-        (joined_part types texts so_far fs f join b.ends place b.token (condition (uses a left) (ending place)) (condition (uses a right) (ending b.token)) s first
+        (joined_part types texts fs f join b.ends place b.token (condition (uses a left) (ending place)) (condition (uses a right) (ending b.token)) s first
         (r.conditions fit.right (ending b.token) (condition (uses a left) (ending place) s).state (stands_later a visible s (condition (uses a left) (ending place) s).state first.grown stands)))
     row_decides (IsNull side) fit place b by at s stands =
         subst (λ (v : State → Gives Tree). Decided b.ends s (v s)) (some_same at)
-        (negation_part types texts so_far fs f b.ends (not_null place b.ends (on side (nullable (uses a left)) (nullable (uses a right)))) s (not_null_on side place b.ends s stands fit))
+        (negation_part types texts fs f b.ends (not_null place b.ends (on side (nullable (uses a left)) (nullable (uses a right)))) s (not_null_on side place b.ends s stands fit))
     row_decides (NotNull side) fit place b by at s stands = subst (λ (v : State → Gives Tree). Decided b.ends s (v s)) (some_same at) (not_null_on side place b.ends s stands fit)
     row_decides (Computed by common) fit place b w at s stands = absurd (none_some at)
     row_decides Concatenated fit place b w at s stands = absurd (no_texts fit)
@@ -146,7 +146,7 @@ module _ (a : Around) (visible : List ℕ) (types : Types) (texts : ℕ) (so_far
         → Valued t into s ((Operated w place).made b.token into s)
     row_computes (Computed by common) fit v place b none into s wanted stands =
         let first = l.valued fit.left b.token common fit.value None s tt stands in
-        operated_part types texts so_far fs f into common t place by (value (uses a left) b.token common None) (value (uses a right) b.token common None) s fit.promoted fit.answers v wanted stands.opened first
+        operated_part types texts fs f into common t place by (value (uses a left) b.token common None) (value (uses a right) b.token common None) s fit.promoted fit.answers v wanted stands.opened first
         (r.valued fit.right b.token common fit.value None (value (uses a left) b.token common None s).state tt (stands_later a visible s (value (uses a left) b.token common None s).state first.grown stands))
     row_computes (Joined join) fit v place b none into s wanted stands = absurd (none_some (sym none))
     row_computes (IsNull side) fit v place b none into s wanted stands = absurd (none_some (sym none))
@@ -164,10 +164,10 @@ module _ (a : Around) (visible : List ℕ) (types : Types) (texts : ℕ) (so_far
     row_lands (Advanced direction) fit place b none r s = absurd (no_move fit)
     row_lands (Compared equal) fit place b none r s = refl
 
-  pub binary_form : (o : BinaryOperator) (left right : Form) (e : Typed) → IsCombined o (typed_in left) (typed_in right) e → IsWhole a visible types texts so_far fs f setting left → IsWhole a visible types texts so_far fs f setting right
-      → IsForm a visible types texts so_far fs f setting (binary o left right) e
+  pub binary_form : (o : BinaryOperator) (left right : Form) (e : Typed) → IsCombined o (typed_in left) (typed_in right) e → IsWhole a visible types texts fs f setting left → IsWhole a visible types texts fs f setting right
+      → IsForm a visible types texts fs f setting (binary o left right) e
   binary_form o left right e c l r =
-      decided_form a visible types texts so_far fs f setting (binary o left right) e c.ty c.is.0 c.is.1 v refl
+      decided_form a visible types texts fs f setting (binary o left right) e c.ty c.is.0 c.is.1 v refl
       (row_computes left right c.ty l r (row_between o left right) fit v)
       (row_lands left right c.ty l r (row_between o left right) fit)
       (row_decides left right c.ty l r (row_between o left right) fit)

@@ -1,12 +1,12 @@
 -- Output: a number, what a view sees, or the end of a line, which is the last text.
 use Rattle.std.proofs.Common.{◌≡◌, inl, inr, ℕ, Bool, true, false, cond, List, [], ◌∷◌, length, nat_lt, None, refl, sym, ap, ◌∙◌, subst}
 use Rattle.std.proofs.lemmas.Bool.{and_from, false≢true}
+use Rattle.life_served.specs.Served.{is_owner_of_values, is_served_expression, is_served_item, is_served_owner}
 use Rattle.life_types.specs.TypeTests.{is_value, is_view}
 use Rattle.life_types.specs.Types.{Types}
 use Rattle.life_types.specs.declared.place.Place.{Place}
 use Rattle.life_types.specs.declared.ty.Ty.{Ty}
 use Rattle.life_types.specs.declared.ty.Ty.TheVariants as ty
-use Rattle.life_elab_laws.specs.Reached.{is_reached_item, is_owner_of_values, is_reached_expression, is_reached_owner}
 use Rattle.life_typed.specs.TypedForm.{Typed, whole as whole_form}
 use Rattle.life_typed.specs.TypedStatement.{ItemForm, line_end, printed}
 use Rattle.life_typed.specs.declared.typed_expr.ExprType.{ExprType}
@@ -48,38 +48,38 @@ use Rattle.life_elab_laws.proofs.Types.{type_added}
 use Rattle.life_elab_laws.proofs.VariablePlaces.{Stands}
 use Rattle.life_elab_laws.proofs.SeenForms.{Shows, a_shown, string_shows, viewed_part, whole_shows}
 use Rattle.life_elab_laws.proofs.ObjectForms.{IsOwner}
-use Rattle.life_elab_laws.proofs.ElementForms.{either_reached}
+use Rattle.life_elab_laws.proofs.ElementForms.{either_served}
 use Rattle.life_typed.specs.Statements.{is_printed}
 
-module _ (a : Around) (visible : List ℕ) (types : Types) (texts : ℕ) (so_far : Bool) (fs : List Function) (f : Function) (setting : Setting so_far a types fs f) where
+module _ (a : Around) (visible : List ℕ) (types : Types) (texts : ℕ) (fs : List Function) (f : Function) (setting : Setting a types fs f) where
   -- a view in a register
-  abbrev a_view : Gift types texts so_far fs f ℕ
+  abbrev a_view : Gift types texts fs f ℕ
   a_view = record {
     typed = λ r. is_view (type_in types f (whole_local r)) ≡ true;
     ready = IsHeld;
-    stays = held_stays types texts so_far fs f;
+    stays = held_stays types texts fs f;
   }
 
   -- the end of a line is the last text
-  line_part : (place behind : Place) (s : State) → nat_lt (end_line a) texts ≡ true → Stands a visible s → Acts a visible types texts so_far fs f setting s (item a (line_end place) behind s)
+  line_part : (place behind : Place) (s : State) → nat_lt (end_line a) texts ≡ true → Stands a visible s → Acts a visible types texts fs f setting s (item a (line_end place) behind s)
   line_part place behind s few stands =
       let w = new_register place ty.View s in
       let aimed : State = emit place (Aim (whole_local w.given) (Text (end_line a))) w.state in
-      then_part types texts so_far fs f (nothing types texts so_far fs f) tt None s (gives w.given aimed) _ a_view (nothing types texts so_far fs f) stands.opened
-      (emit_part types texts so_far fs f (nothing types texts so_far fs f) tt None s w place (λ r. Aim (whole_local r) (Text (end_line a))) w.given a_view
-      (new_targeted so_far types f place ty.View s refl tt)
+      then_part types texts fs f (nothing types texts fs f) tt None s (gives w.given aimed) _ a_view (nothing types texts fs f) stands.opened
+      (emit_part types texts fs f (nothing types texts fs f) tt None s w place (λ r. Aim (whole_local r) (Text (end_line a))) w.given a_view
+      (new_targeted types f place ty.View s refl tt)
       (λ b p. (
         record {
           given = refl;
           formed = ap (λ (t : Ty). is_source_of types texts fs f t (Text (end_line a))) (at_view b) ∙ and_from true (nat_lt (end_line a) texts) refl few;
-          served = λ so. refl;
+          served = refl;
         },
         ap is_view (at_view b),
       ))
       (λ r n k e p. record { ready = refl; after = refl })
       (λ k lt e. (lt, e)))
-      (acted_part types texts so_far fs f a_view w.given place (Ports (WritesView (whole_local w.given))) aimed
-      (λ h. record { given = refl; formed = h; served = λ so. refl })
+      (acted_part types texts fs f a_view w.given place (Ports (WritesView (whole_local w.given))) aimed
+      (λ h. record { given = refl; formed = h; served = refl })
       (λ n k p. uses_ready k (w.given ∷ []) [] (one_there k w.given p.1))
       (λ n m k p. keeps_all f m None k))
     where
@@ -88,28 +88,28 @@ module _ (a : Around) (visible : List ℕ) (types : Types) (texts : ℕ) (so_far
           type_there types f (length s.locals) (added place ty.View s) ty.View (b.locals (length s.locals) (added place ty.View s) (last_there s.locals (added place ty.View s)))
           (b.table (added place ty.View s).ty.0 ty.View (type_added s.types.types ty.View)) refl
 
-  printed_part : (e : Typed) (behind : Place) (s : State) → IsWhole a visible types texts so_far fs f setting (whole_form e) → is_number e.ty ≡ true → Stands a visible s → Acts a visible types texts so_far fs f setting s (item a (printed e) behind s)
+  printed_part : (e : Typed) (behind : Place) (s : State) → IsWhole a visible types texts fs f setting (whole_form e) → is_number e.ty ≡ true → Stands a visible s → Acts a visible types texts fs f setting s (item a (printed e) behind s)
   printed_part e behind s is n stands =
       let u = uses a (whole_form e) in
       let t = own_type e.ty in
       let w = value u behind t None s in
-      subst (λ (b : Bool). Acts a visible types texts so_far fs f setting s (cond b (w >> λ r s. emit e.place (Ports (Writes r)) s) (seen u s >> λ x s. viewed x s >> λ l s. emit e.place (Ports (WritesView l)) s))) (sym (own_value e.ty n))
-      (then_part types texts so_far fs f (nothing types texts so_far fs f) tt None s w _ (a_number types texts so_far fs f t) (nothing types texts so_far fs f) stands.opened (is.valued n behind t (own_value e.ty n) None s tt stands)
-      (acted_part types texts so_far fs f (a_number types texts so_far fs f t) w.given e.place (Ports (Writes w.given)) w.state (λ h. record { given = refl; formed = number_any types f t w.given h; served = λ so. refl })
+      subst (λ (b : Bool). Acts a visible types texts fs f setting s (cond b (w >> λ r s. emit e.place (Ports (Writes r)) s) (seen u s >> λ x s. viewed x s >> λ l s. emit e.place (Ports (WritesView l)) s))) (sym (own_value e.ty n))
+      (then_part types texts fs f (nothing types texts fs f) tt None s w _ (a_number types texts fs f t) (nothing types texts fs f) stands.opened (is.valued n behind t (own_value e.ty n) None s tt stands)
+      (acted_part types texts fs f (a_number types texts fs f t) w.given e.place (Ports (Writes w.given)) w.state (λ h. record { given = refl; formed = number_any types f t w.given h; served = refl })
       (λ n k p. uses_ready k (w.given ∷ []) [] (one_there k w.given p.1)) (λ n m k p. keeps_all f m None k)))
 
   -- characters that are seen
-  seen_part : (e : Typed) (behind : Place) (s : State) → Shows a visible types texts so_far fs f setting (whole_form e) → is_value (own_type e.ty) ≡ false → Stands a visible s → Acts a visible types texts so_far fs f setting s (item a (printed e) behind s)
+  seen_part : (e : Typed) (behind : Place) (s : State) → Shows a visible types texts fs f setting (whole_form e) → is_value (own_type e.ty) ≡ false → Stands a visible s → Acts a visible types texts fs f setting s (item a (printed e) behind s)
   seen_part e behind s shows no_value stands =
       let u = uses a (whole_form e) in
       let x = seen u s in
       let l = viewed x.given x.state in
-      let P = a_shown types texts so_far fs f in
-      let Q = a_pointer types texts so_far fs f ty.View in
-      subst (λ (b : Bool). Acts a visible types texts so_far fs f setting s (cond b (value u behind (own_type e.ty) None s >> λ r s. emit e.place (Ports (Writes r)) s) (seen u s >> λ x s. viewed x s >> λ l s. emit e.place (Ports (WritesView l)) s))) (sym no_value)
-      (then_part types texts so_far fs f (nothing types texts so_far fs f) tt None s l _ Q (nothing types texts so_far fs f) stands.opened
-      (then_part types texts so_far fs f (nothing types texts so_far fs f) tt None s x l P Q stands.opened (shows s stands) (viewed_part types texts so_far fs f x.given x.state))
-      (acted_part types texts so_far fs f Q l.given e.place (Ports (WritesView l.given)) l.state (λ h. record { given = refl; formed = ap is_view h.typed; served = h.served })
+      let P = a_shown types texts fs f in
+      let Q = a_pointer types texts fs f ty.View in
+      subst (λ (b : Bool). Acts a visible types texts fs f setting s (cond b (value u behind (own_type e.ty) None s >> λ r s. emit e.place (Ports (Writes r)) s) (seen u s >> λ x s. viewed x s >> λ l s. emit e.place (Ports (WritesView l)) s))) (sym no_value)
+      (then_part types texts fs f (nothing types texts fs f) tt None s l _ Q (nothing types texts fs f) stands.opened
+      (then_part types texts fs f (nothing types texts fs f) tt None s x l P Q stands.opened (shows s stands) (viewed_part types texts fs f x.given x.state))
+      (acted_part types texts fs f Q l.given e.place (Ports (WritesView l.given)) l.state (λ h. record { given = refl; formed = ap is_view h.typed; served = h.served })
       (λ n k p. uses_ready k (l.given.local ∷ []) [] (one_there k l.given.local (ap (λ (q : Location). known_at k q.local) p.is ∙ p.held))) (λ n m k p. keeps_all f m None k)))
 
   -- what is printed and is no number has no value
@@ -120,25 +120,25 @@ module _ (a : Around) (visible : List ℕ) (types : Types) (texts : ℕ) (so_far
   seen_no_value TextLiteral e = refl
 
   -- a string
-  string_part : (e : Typed) (behind : Place) (s : State) → IsOwner a visible types texts so_far fs f setting (whole_form e) → is_printed e.ty ≡ true → Stands a visible s → Acts a visible types texts so_far fs f setting s (item a (printed e) behind s)
+  string_part : (e : Typed) (behind : Place) (s : State) → IsOwner a visible types texts fs f setting (whole_form e) → is_printed e.ty ≡ true → Stands a visible s → Acts a visible types texts fs f setting s (item a (printed e) behind s)
   string_part e behind s is shown stands =
       let text = go is.ty is.owner (sym (ap is_printed is.is) ∙ shown) in
-      seen_part e behind s (string_shows a visible types texts so_far fs f setting (whole_form e) is text) (ap (λ (x : ExprType). is_value (own_type x)) is.is ∙ ap is_value text) stands
+      seen_part e behind s (string_shows a visible types texts fs f setting (whole_form e) is text) (ap (λ (x : ExprType). is_value (own_type x)) is.is ∙ ap is_value text) stands
     where
       go : (t : Ty) → is_owner_of_values a.program.types t ≡ true → is_printed (Of t) ≡ true → t ≡ ty.Text
       go ty.Text o p = refl
       go (ty.Vector element) o p = absurd (false≢true p)
       go _ o p = absurd (false≢true o)
 
-  pub item_part : nat_lt (end_line a) texts ≡ true → (i : ItemForm) (behind : Place) (s : State) → is_reached_item texts so_far i ≡ true → IsItem a.program a.function.locals a.function.result visible i → Stands a visible s → Acts a visible types texts so_far fs f setting s (item a i behind s)
+  pub item_part : nat_lt (end_line a) texts ≡ true → (i : ItemForm) (behind : Place) (s : State) → is_served_item texts i ≡ true → IsItem a.program a.function.locals a.function.result visible i → Stands a visible s → Acts a visible types texts fs f setting s (item a i behind s)
   item_part lines (printed e) behind s b h stands =
-      elim (either_reached so_far (whole_form e) (is_reached_owner texts so_far (whole_form e)) (is_reached_expression texts so_far e) b) [
+      elim (either_served (whole_form e) (is_served_owner texts (whole_form e)) (is_served_expression texts e) b) [
         | inl value ↦
-            let is = whole_expression a visible types texts so_far fs f setting (whole_form e) value h.2 in
-            elim (printed_type so_far a.program.types e is.kind.kind h.0) [
+            let is = whole_expression a visible types texts fs f setting (whole_form e) value h.2 in
+            elim (printed_type a.program.types e is.kind.kind h.0) [
               | inl n ↦ printed_part e behind s is n stands
-              | inr sees ↦ seen_part e behind s (whole_shows a visible types texts so_far fs f setting (whole_form e) is sees) (seen_no_value e.ty sees) stands
+              | inr sees ↦ seen_part e behind s (whole_shows a visible types texts fs f setting (whole_form e) is sees) (seen_no_value e.ty sees) stands
             ]
-        | inr owner ↦ string_part e behind s (asked_expression a visible types texts so_far fs f setting (whole_form e) owner.1 owner.0 h.2) h.0 stands
+        | inr owner ↦ string_part e behind s (asked_expression a visible types texts fs f setting (whole_form e) owner.1 owner.0 h.2) h.0 stands
       ]
   item_part lines (line_end place) behind s b h stands = line_part place behind s lines stands

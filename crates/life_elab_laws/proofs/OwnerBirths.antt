@@ -1,15 +1,17 @@
 -- A variable that comes to life, and is then given something by one more instruction.
-use Rattle.std.proofs.Common.{◌≡◌, ◌<◌, ◌++◌, ℕ, Bool, true, false, List, [], ◌∷◌, None, length, slice_get, slice_set, Some, refl, sym, ap, ◌∙◌, subst, arith, append_assoc}
-use Rattle.std.proofs.lemmas.Bool.{false≢true}
+use Rattle.std.proofs.Common.{◌≡◌, ◌<◌, ◌++◌, ℕ, Bool, true, List, [], ◌∷◌, None, length, slice_get, slice_set, Some, refl, sym, ap, ◌∙◌, subst, arith, append_assoc}
+use Rattle.std.proofs.lemmas.Bool.{and_parts}
+use Rattle.std.specs.List.{list_all}
+use Rattle.life_served.specs.Served.{is_served_variable}
 use Rattle.life_types.specs.Types.{Types}
 use Rattle.life_types.specs.declared.place.Place.{Place}
-use Rattle.life_elab_laws.specs.Reached.{is_reached_variable}
 use Rattle.life_typed.specs.declared.typed_program.TypedLocal.{TypedLocal}
 use Rattle.life_core.specs.Function.{Function}
 use Rattle.life_core.specs.Step.{Live, Step}
 use Rattle.life_core.specs.Touched.{Touched, nothing as no_locals, touched_by}
 use Rattle.life_core.specs.Tree.{Acts, Tree}
 use Rattle.life_core.specs.declared.instr.Form.TheVariants.{Plain}
+use Rattle.life_proper.specs.GivenOver.{given_step}
 use Rattle.life_proper.specs.Knowing.{known_at}
 use Rattle.life_proper.specs.ReadyKnown.{are_ready, known_after}
 use Rattle.life_proper.specs.WellFormed.{can_live}
@@ -20,7 +22,7 @@ use Rattle.life_well_typed.specs.Visible.{Visible, with_next}
 use Rattle.life_writer.specs.Around.{Around}
 use Rattle.life_writer.specs.Variables.{variable_local, end_pending}
 use Rattle.life_writer.specs.Writing.{Gives, State, emit, with_code}
-use Rattle.life_elab_laws.proofs.Declaring.{declared_does, its_local, new_below, with_new}
+use Rattle.life_elab_laws.proofs.Declaring.{declared_does, its_local, new_below, new_count, with_new}
 use Rattle.life_elab_laws.proofs.Doing.{Does}
 use Rattle.life_elab_laws.proofs.Falling.{Falls, falls_acts, falls_append, falls_filling}
 use Rattle.life_elab_laws.proofs.Filling.{all_there}
@@ -28,11 +30,12 @@ use Rattle.life_elab_laws.proofs.Following.{Follows, follows_settled, settled}
 use Rattle.life_elab_laws.proofs.Gifts.{Gift}
 use Rattle.life_elab_laws.proofs.Growing.{Begins}
 use Rattle.life_elab_laws.proofs.Held.{blank_there, one_there}
+use Rattle.life_elab_laws.proofs.GivenApart.{looked_step, one_more, quiet_apart}
 use Rattle.life_elab_laws.proofs.Knowledge.{at_set, beside_set}
 use Rattle.life_elab_laws.proofs.Making.{AreHeld}
 use Rattle.life_elab_laws.proofs.Parts.{Makes}
 use Rattle.life_elab_laws.proofs.Setting.{Setting}
-use Rattle.life_elab_laws.proofs.Shaping.{IsFineStep, fine_acts, fine_append}
+use Rattle.life_elab_laws.proofs.Shaping.{IsFineStep, fine_acts, fine_append, is_no_object, keeps_its_target}
 use Rattle.life_elab_laws.proofs.TemporaryEnds.{temporary_ends}
 
 -- what is there stays so where the next local comes to life
@@ -40,10 +43,10 @@ held_beside : (xs : List ℕ) (n : ℕ) (k : List Known) → AreHeld xs n k → 
 held_beside [] n k h = tt
 held_beside (x ∷ xs) n k h = ((h.0.0, beside_set k n x known.Ready (λ e. omega (arith, e, h.0.0)) ∙ h.0.1), held_beside xs n k h.1)
 
-module _ (a : Around) (types : Types) (texts : ℕ) (so_far : Bool) (fs : List Function) (f : Function) (setting : Setting so_far a types fs f) (v : Visible) (in_loop : Bool) (last : Place)
-    (u : TypedLocal) (s : State) (h : Follows types f a v s) (at : slice_get a.function.locals v.declared ≡ Some u) (built : is_reached_variable false a.program.types u.ty ≡ true) where
-  module _ {A : Type 0} (place : Place) (w : Gives A) (Q : Gift types texts so_far fs f A) (made : Makes types texts so_far fs f None s w Q) (step : ℕ → Step) (used : List ℕ)
-      (touches : (x : ℕ) → touched_by f (step x) ≡ record no_locals { uses = x ∷ used }) (ready : (n : ℕ) (k : List Known) → Q.ready w.given n k → AreHeld used n k) (wide : so_far ≡ false) where
+module _ (a : Around) (types : Types) (texts : ℕ) (fs : List Function) (f : Function) (setting : Setting a types fs f) (v : Visible) (in_loop : Bool) (last : Place)
+    (u : TypedLocal) (s : State) (h : Follows types f a v s) (at : slice_get a.function.locals v.declared ≡ Some u) (built : is_served_variable a.program.types u.ty ≡ true) where
+  module _ {A : Type 0} (place : Place) (w : Gives A) (Q : Gift types texts fs f A) (made : Makes types texts fs f None s w Q) (step : ℕ → Step) (used : List ℕ)
+      (touches : (x : ℕ) → touched_by f (step x) ≡ record no_locals { uses = x ∷ used }) (ready : (n : ℕ) (k : List Known) → Q.ready w.given n k → AreHeld used n k) (quiet : (x : ℕ) → looked_step (step x) ≡ []) where
     abbrev x : ℕ
     x = length w.state.locals
 
@@ -56,8 +59,8 @@ module _ (a : Around) (types : Types) (texts : ℕ) (so_far : Bool) (fs : List F
     abbrev acts : List Tree
     acts = Acts place (step x) ∷ []
 
-    live_fine : can_live types texts fs f x ≡ true → IsFineStep types texts so_far fs f (Live x Plain)
-    live_fine can = record { given = refl; formed = can; served = λ so. absurd (false≢true (sym wide ∙ so)) }
+    live_fine : can_live types texts fs f x ≡ true → IsFineStep types texts fs f (Live x Plain)
+    live_fine can = record { given = refl; formed = can; served = refl }
 
     falls : (k : List Known) → x < length k → Q.ready w.given x k → known_at k x ≡ known.Blank → Falls types f (lives ++ acts) k (slice_set k x known.Ready)
     falls k lt q blank =
@@ -67,11 +70,14 @@ module _ (a : Around) (types : Types) (texts : ℕ) (so_far : Bool) (fs : List F
         (falls_filling types f u.place (Live x Plain) x k (record { ready = one_known known.Blank k x (blank_there k x blank); after = refl }))
         (subst (Falls types f acts j) (ap (λ (t : Touched). known_after t j) (touches x)) (falls_acts types f place (step x) j (ap (are_ready j) (touches x) ∙ uses_ready j (x ∷ used) [] all)))
 
-    pub lives_then : (New → can_live types texts fs f x ≡ true) → (New → Q.typed w.given → IsFineStep types texts so_far fs f (step x))
-        → Does types texts so_far fs f a (with_next v) in_loop s (end_pending (length s.pending) last (emit place (step x) (emit u.place (Live x Plain) (with_new (variable_local a u) w.state))))
+    pub lives_then : (New → can_live types texts fs f x ≡ true) → (New → Q.typed w.given → IsFineStep types texts fs f (step x))
+        → Does types texts fs f a (with_next v) in_loop s (end_pending (length s.pending) last (emit place (step x) (emit u.place (Live x Plain) (with_new (variable_local a u) w.state))))
     lives_then can fine =
-        subst (λ (c : List Tree). Does types texts so_far fs f a (with_next v) in_loop s (end_pending (length s.pending) last (with_code c (with_new (variable_local a u) w.state))))
+        subst (λ (c : List Tree). Does types texts fs f a (with_next v) in_loop s (end_pending (length s.pending) last (with_code c (with_new (variable_local a u) w.state))))
         (sym (append_assoc w.state.code lives acts))
-        (declared_does types texts so_far fs f a setting.front v in_loop (temporary_ends types texts fs f setting.registers) last u s w Q (lives ++ acts) h at built made
-        (λ b q. fine_append types texts so_far fs f lives acts (fine_acts types texts so_far fs f u.place (Live x Plain) (live_fine (can b))) (fine_acts types texts so_far fs f place (step x) (fine b q)))
-        (λ b k size q blank. falls k (omega (arith, size, new_below types f a setting.front v u (variable_local a u) (its_local a u) (settled types f s w.state) (follows_settled types f a v s w.state made.grown h) at built b)) q blank))
+        (declared_does types texts fs f a setting.front v in_loop (temporary_ends types texts fs f setting.registers) last u s w Q (lives ++ acts) h at built made
+        (λ b q. fine_append types texts fs f lives acts (fine_acts types texts fs f u.place (Live x Plain) (live_fine (can b))) (fine_acts types texts fs f place (step x) (fine b q)))
+        (λ b k size q blank. falls k (omega (arith, size, new_below types f a setting.front v u (variable_local a u) (its_local a u) (settled types f s w.state) (follows_settled types f a v s w.state made.grown h) at built b)) q blank)
+        (λ b q k alive r blank.
+        quiet_apart f types (step x) place w.state (with_new (variable_local a u) w.state) (quiet x) (and_parts (list_all (is_no_object types f) (given_step (step x))) (keeps_its_target (step x)) (fine b q).given).0
+        (omega (arith, new_count f (variable_local a u) w.state)) (λ y o. one_more x (length (with_new (variable_local a u) w.state).locals) w.state.living w.state.pending y (new_count f (variable_local a u) w.state) o)))

@@ -1,6 +1,7 @@
 -- Variables, calls, pointers, places behind them, literals, and what is seen: how each is written.
 use Rattle.std.proofs.Common.{◌≡◌, ◌⊎◌, inl, inr, ℕ, Bool, true, List, [], ◌∷◌, Contains, length, nat_lt, slice_get, Option, Some, None, refl, sym, ap, ◌∙◌, subst, unwrap_or}
 use Rattle.std.proofs.lemmas.Bool.{and_from, false≢true}
+use Rattle.life_served.specs.Served.{is_plain_type}
 use Rattle.life_types.specs.Pointees.{or_void, ty_of}
 use Rattle.life_types.specs.TypeTests.{is_raw, is_value}
 use Rattle.life_types.specs.Types.{Types}
@@ -42,11 +43,11 @@ use Rattle.life_writer.specs.Writing.{Gives, State, ◌>>◌, gives, mapped}
 use Rattle.life_elab_laws.proofs.Aiming.{literal_given, null_given, place_given}
 use Rattle.life_elab_laws.proofs.CallParts.{call_part}
 use Rattle.life_elab_laws.proofs.CalledPointers.{pointed_call, referred_call, viewed_call}
-use Rattle.life_elab_laws.proofs.ExpressionForms.{IsCall, IsForm, IsWhole, nullable_raw, of_number, place_form, pointer_form, pointer_own, pointing_itself}
+use Rattle.life_elab_laws.proofs.ExpressionForms.{IsCall, IsForm, IsWhole, nullable_raw, of_number, place_form, pointer_form, pointer_own, pointing_itself, no_literal}
 use Rattle.life_elab_laws.proofs.ExpressionKinds.{IsAddressed, IsDereferenced, kind_local, variable_built}
-use Rattle.life_elab_laws.proofs.ExpressionTypes.{IsAnswered, answered_as, answers_nothing, answers_place, answers_raw, answers_value, answers_view, own_value}
+use Rattle.life_elab_laws.proofs.ExpressionTypes.{IsAnswered, answered_as, answers_nothing, answers_place, answers_raw, answers_value, answers_view, own_value, answers_owner}
 use Rattle.life_elab_laws.proofs.Filling.{aimed_filling, null_filling, text_filling}
-use Rattle.life_elab_laws.proofs.FormedVariables.{behind_place, const_same, pointer_formed, type_later, variable_formed}
+use Rattle.life_elab_laws.proofs.FormedVariables.{behind_place, const_same, pointer_formed, type_later, variable_formed, owner_no_value, value_no_void, owner_no_location}
 use Rattle.life_elab_laws.proofs.Gifts.{IsGivenAs, a_number, a_place, a_pointer, a_pointing, arguments}
 use Rattle.life_elab_laws.proofs.Gifts as gifts
 use Rattle.life_elab_laws.proofs.Instructions.{IsIntoOf, literal_located_part}
@@ -58,23 +59,23 @@ use Rattle.life_elab_laws.proofs.RowTypes.{sees}
 use Rattle.life_elab_laws.proofs.Setting.{Setting}
 use Rattle.life_elab_laws.proofs.TypedKinds.{HasKind, IsKind, a_null, a_number as is_number_kind, a_pointer as is_pointer_kind, a_text, a_view, kind_of_place, kind_of_result, no_value, none_some, place_same, some_same, value_place}
 use Rattle.life_elab_laws.proofs.VariablePlaces.{Stands, named_pointer, pointer_there, stands_later, variable_there}
-use Rattle.life_elab_laws.specs.Reached.{is_reached_type}
+use Rattle.life_elab_laws.proofs.Targets.{value_target}
 
-module _ (a : Around) (visible : List ℕ) (types : Types) (texts : ℕ) (so_far : Bool) (fs : List Function) (f : Function) (setting : Setting so_far a types fs f) where
+module _ (a : Around) (visible : List ℕ) (types : Types) (texts : ℕ) (fs : List Function) (f : Function) (setting : Setting a types fs f) where
   abbrev Standing : State → Type 0
   Standing s = Stands a visible s
 
   abbrev Placed : Ty → Bool → State → Gives Operand → Type 0
-  Placed t constant s w = Makes types texts so_far fs f None s w (a_place types texts so_far fs f t constant)
+  Placed t constant s w = Makes types texts fs f None s w (a_place types texts fs f t constant)
 
   abbrev Pointed : Ty → State → Gives Location → Type 0
-  Pointed t s w = Makes types texts so_far fs f None s w (a_pointer types texts so_far fs f t)
+  Pointed t s w = Makes types texts fs f None s w (a_pointer types texts fs f t)
 
   abbrev Points : ExprType → State → Gives Pointing → Type 0
-  Points t s w = Makes types texts so_far fs f None s w (a_pointing types texts so_far fs f t)
+  Points t s w = Makes types texts fs f None s w (a_pointing types texts fs f t)
 
   abbrev Hands : FunctionForm → State → Gives (List Argument) → Type 0
-  Hands of s w = Makes types texts so_far fs f None s w (arguments types texts so_far fs f (parameter_types (Some of)))
+  Hands of s w = Makes types texts fs f None s w (arguments types texts fs f (parameter_types (Some of)))
 
   -- ---- variables
 
@@ -85,9 +86,9 @@ module _ (a : Around) (visible : List ℕ) (types : Types) (texts : ℕ) (so_far
       go : (o : Option TypedLocal) → slice_get a.function.locals x ≡ o → IsVariable a.program.types x o e → Placed (type_at a.program.types id) constant s (gives (variable_place s x) s)
       go None found h = absurd h
       go (Some l) found h =
-          let built = variable_built so_far a.program.types a.function.locals x l setting.variables found in
-          leaf_part types texts so_far fs f (variable_place s x) s (a_place types texts so_far fs f (type_at a.program.types id) constant)
-          (λ b. variable_formed types texts so_far fs f a setting.front s b x l (stands.seen x l c found) e (local x) built h id constant at v)
+          let built = variable_built a.program.types a.function.locals x l setting.variables found in
+          leaf_part types texts fs f (variable_place s x) s (a_place types texts fs f (type_at a.program.types id) constant)
+          (λ b. variable_formed types texts fs f a setting.front s b x l (stands.seen x l c found) e (local x) built h id constant at v)
           (λ b k alive. variable_there a s x l (stands.seen x l c found) f k alive)
 
   variable_points : (x : ℕ) (e : Typed) (s : State) → Standing s → Contains visible x → IsVariable a.program.types x (slice_get a.function.locals x) e → (t : Ty) → e.ty ≡ Of t → is_location t ≡ true → Points e.ty s (gives (As (whole (variable s x))) s)
@@ -96,10 +97,10 @@ module _ (a : Around) (visible : List ℕ) (types : Types) (texts : ℕ) (so_far
       go : (o : Option TypedLocal) → slice_get a.function.locals x ≡ o → IsVariable a.program.types x o e → Points e.ty s (gives (As (whole (variable s x))) s)
       go None found h = absurd h
       go (Some l) found is =
-          leaf_part types texts so_far fs f (As (whole (variable s x))) s (a_pointing types texts so_far fs f e.ty)
-          (λ b. subst (λ (u : ExprType). IsGivenAs types texts so_far fs f u (As (whole (variable s x)))) (sym of)
-          (pointer_formed types texts so_far fs f a setting.front s b x l (stands.seen x l c found) t loc
-          (named_pointer so_far a.program.types e l (local x) (variable_built so_far a.program.types a.function.locals x l setting.variables found) is t of loc)))
+          leaf_part types texts fs f (As (whole (variable s x))) s (a_pointing types texts fs f e.ty)
+          (λ b. subst (λ (u : ExprType). IsGivenAs types texts fs f u (As (whole (variable s x)))) (sym of)
+          (pointer_formed types texts fs f a setting.front s b x l (stands.seen x l c found) t loc
+          (named_pointer a.program.types e l (local x) (variable_built a.program.types a.function.locals x l setting.variables found) is t of loc)))
           (λ b k alive. pointer_there a s x l (stands.seen x l c found) f k alive)
 
   -- it is a place
@@ -115,10 +116,10 @@ module _ (a : Around) (visible : List ℕ) (types : Types) (texts : ℕ) (so_far
           named _ h = value_place (sym is ∙ ap (λ (y : Typed). y.category) h)
 
   -- what is no type of an object has a value
-  bare_value : (e : Typed) → IsKind so_far a.program.types e → ((t : Ty) → e.ty ≡ Of t → ⊥) → e.category ≡ category.Value
+  bare_value : (e : Typed) → IsKind a.program.types e → ((t : Ty) → e.ty ≡ Of t → ⊥) → e.category ≡ category.Value
   bare_value e k never = go k.kind
     where
-      go : HasKind so_far a.program.types e → e.category ≡ category.Value
+      go : HasKind a.program.types e → e.category ≡ category.Value
       go (is_number_kind t at v) = absurd (never t at)
       go (is_pointer_kind target constant at v) = absurd (never (ty.Raw target constant) at)
       go (a_view at) = absurd (never ty.View at)
@@ -126,11 +127,11 @@ module _ (a : Around) (visible : List ℕ) (types : Types) (texts : ℕ) (so_far
       go (no_value at v) = v
       go (a_null at v) = v
 
-  pub variable_form : (x : ℕ) (e : Typed) → is_reached_type so_far e.ty ≡ true → Contains visible x → IsVariable a.program.types x (slice_get a.function.locals x) e → IsForm a visible types texts so_far fs f setting (local x) e
-  variable_form x e n c h = place_form a visible types texts so_far fs f setting (local x) e kind (variable_no_value x e h) refl (λ place b. refl) (λ id constant at v place s stands. variable_names x e s stands c h id constant at v) (λ p place s stands. go (pointed_type e.ty p) s stands)
+  pub variable_form : (x : ℕ) (e : Typed) → is_plain_type e.ty ≡ true → Contains visible x → IsVariable a.program.types x (slice_get a.function.locals x) e → IsForm a visible types texts fs f setting (local x) e
+  variable_form x e n c h = place_form a visible types texts fs f setting (local x) e kind (variable_no_value x e h) refl (λ place b. refl) (λ id constant at v place s stands. variable_names x e s stands c h id constant at v) (λ p place s stands. go (pointed_type e.ty p) s stands)
     where
-      kind : IsKind so_far a.program.types e
-      kind = kind_local so_far a.program.types a.function.locals x e setting.variables n h
+      kind : IsKind a.program.types e
+      kind = kind_local a.program.types a.function.locals x e setting.variables n h
 
       go : IsPointed e.ty → (s : State) → Standing s → Points e.ty s (gives (As (whole (variable s x))) s)
       go (at_location u is loc) s stands = variable_points x e s stands c h u is loc
@@ -151,7 +152,7 @@ module _ (a : Around) (visible : List ℕ) (types : Types) (texts : ℕ) (so_far
       let t = setting.results g of there in
       ap or_void (setting.front of.result.0 t.0 t.1) ∙ sym (ap (λ (o : Option Ty). unwrap_or o ty.Void) t.1)
 
-  module _ (g : ℕ) (given : Form) (delimiters : DelimitersForm) (e : Typed) (is : IsCall a visible types texts so_far fs f setting (record { function = g; arguments = given; delimiters = delimiters }) e.ty e.category) where
+  module _ (g : ℕ) (given : Form) (delimiters : DelimitersForm) (e : Typed) (is : IsCall a visible types texts fs f setting (record { function = g; arguments = given; delimiters = delimiters }) e.ty e.category) where
     abbrev Answers : Type 0
     Answers = IsAnswered a.program.types (type_at a.program.types is.of.result) e.ty e.category
 
@@ -162,13 +163,14 @@ module _ (a : Around) (visible : List ℕ) (types : Types) (texts : ℕ) (so_far
     later = result_later g is.of is.there
 
     computed : Answers → e.category ≡ category.Value → is_number e.ty ≡ true → (place : Place) (into : Option ℕ) (s : State) → IsIntoOf (own_type e.ty) s into → Standing s
-        → Makes types texts so_far fs f into s (computed_by into (own_type e.ty) place (λ r. called g (handed s).given (whole r)) (handed s).state) (a_number types texts so_far fs f (own_type e.ty))
+        → Makes types texts fs f into s (computed_by into (own_type e.ty) place (λ r. called g (handed s).given (whole r)) (handed s).state) (a_number types texts fs f (own_type e.ty))
     computed (answers_nothing void own held) c n place into s wanted stands = absurd (false≢true (sym (ap is_number own) ∙ n))
     computed (answers_value v own held) c n place into s wanted stands =
-        call_part types texts so_far fs f g is.of into (own_type e.ty) place s (handed s) (setting.callees g is.of is.there) (later ∙ sym (ap own_type own)) (own_value e.ty n) wanted stands.opened (is.hands s stands)
+        call_part types texts fs f g is.of into (own_type e.ty) place s (handed s) (setting.callees g is.of is.there) (later ∙ sym (ap own_type own)) (own_value e.ty n) wanted stands.opened (is.hands s stands)
     computed (answers_raw target constant raw w own held) c n place into s wanted stands = absurd (false≢true (sym (ap is_number own) ∙ n))
     computed (answers_view view own held) c n place into s wanted stands = absurd (false≢true (sym (ap is_number own) ∙ n))
     computed (answers_place target constant refers w own held) c n place into s wanted stands = absurd (value_place (sym c ∙ held))
+    computed (answers_owner target constant refers o own held) c n place into s wanted stands = absurd (value_place (sym c ∙ held))
 
     named : Answers → (id : TyId) (constant : Bool) → e.category ≡ category.Place id constant → is_value (type_at a.program.types id) ≡ true → (place : Place) (s : State) → Standing s
         → Placed (type_at a.program.types id) constant s ((form_uses a (call g given delimiters) place e.ty e.category).at s)
@@ -176,24 +178,34 @@ module _ (a : Around) (visible : List ℕ) (types : Types) (texts : ℕ) (so_far
     named (answers_value w own held) id constant at v place s stands = absurd (value_place (sym held ∙ at))
     named (answers_raw target d raw w own held) id constant at v place s stands = absurd (value_place (sym held ∙ at))
     named (answers_view view own held) id constant at v place s stands = absurd (value_place (sym held ∙ at))
+    named (answers_owner target d refers o own held) id constant at v place s stands = absurd (owner_no_value a.program.types (type_at a.program.types target) o (ap (λ (i : TyId). is_value (type_at a.program.types i)) (place_same target id d constant (sym held ∙ at)) ∙ v))
     named (answers_place target d refers w own held) id constant at v place s stands =
         let first = is.hands s stands in
         subst (λ (t : Ty). Placed (type_at a.program.types id) constant s (mapped through (built (Fill place (called g (handed s).given)) (wanted place None t) (handed s).state))) (sym (ap reference_to at))
-        (referred_call types texts so_far fs f g is.of (setting.callees g is.of is.there) s (handed s) first a.program.types setting.front id constant v (later ∙ refers ∙ ap reference_to (sym held ∙ at)) place stands.opened
+        (referred_call types texts fs f g is.of (setting.callees g is.of is.there) s (handed s) first a.program.types setting.front id constant (value_target a.program.types (type_at a.program.types id) v) (later ∙ refers ∙ ap reference_to (sym held ∙ at)) place stands.opened
         (stands_later a visible s (handed s).state first.grown stands).table)
 
     pointed : Answers → is_pointed e.ty ≡ true → (place : Place) (s : State) → Standing s → Points e.ty s ((form_uses a (call g given delimiters) place e.ty e.category).pointing s)
     pointed (answers_nothing void own held) p place s stands = absurd (false≢true (sym (ap is_pointed own) ∙ p))
     pointed (answers_value v own held) p place s stands = absurd (number_no_pointer e.ty (ap is_number own ∙ v) p)
     pointed (answers_place target constant refers w own held) p place s stands = absurd (number_no_pointer e.ty (ap is_number own ∙ w) p)
+    pointed (answers_owner target constant refers o own held) p place s stands = absurd (owner_no_location a.program.types (type_at a.program.types target) o (sym (ap is_pointed own) ∙ p))
     pointed (answers_raw target constant raw w own held) p place s stands =
         subst (λ (t : ExprType). Points t s (mapped (λ (xs : List Argument). By (called g xs)) (handed s))) (sym own)
-        (pointed_call types texts so_far fs f g is.of (setting.callees g is.of is.there) s (handed s) (is.hands s stands) a.program.types setting.front target constant w (later ∙ raw))
+        (pointed_call types texts fs f g is.of (setting.callees g is.of is.there) s (handed s) (is.hands s stands) a.program.types setting.front target constant w (later ∙ raw))
     pointed (answers_view view own held) p place s stands =
         subst (λ (t : ExprType). Points t s (mapped (λ (xs : List Argument). By (called g xs)) (handed s))) (sym own)
-        (viewed_call types texts so_far fs f g is.of (setting.callees g is.of is.there) s (handed s) (is.hands s stands) (later ∙ view))
+        (viewed_call types texts fs f g is.of (setting.callees g is.of is.there) s (handed s) (is.hands s stands) (later ∙ view))
 
-    call_of : IsKind so_far a.program.types e → IsForm a visible types texts so_far fs f setting (call g given delimiters) e
+    answers_no_literal : Answers → e.ty ≡ TextLiteral → ⊥
+    answers_no_literal (answers_nothing void own held) at = no_literal a visible types texts fs f setting ty.Void (sym own ∙ at)
+    answers_no_literal (answers_value v own held) at = no_literal a visible types texts fs f setting (type_at a.program.types is.of.result) (sym own ∙ at)
+    answers_no_literal (answers_raw target constant raw w own held) at = no_literal a visible types texts fs f setting (ty.Raw target constant) (sym own ∙ at)
+    answers_no_literal (answers_view view own held) at = no_literal a visible types texts fs f setting ty.View (sym own ∙ at)
+    answers_no_literal (answers_place target constant refers w own held) at = no_literal a visible types texts fs f setting (type_at a.program.types target) (sym own ∙ at)
+    answers_no_literal (answers_owner target constant refers o own held) at = no_literal a visible types texts fs f setting (type_at a.program.types target) (sym own ∙ at)
+
+    call_of : IsKind a.program.types e → IsForm a visible types texts fs f setting (call g given delimiters) e
     call_of kind = record {
       kind = kind;
       computes = λ c n place b none into s wanted stands. computed is.answers c n place into s wanted stands;
@@ -201,14 +213,15 @@ module _ (a : Around) (visible : List ℕ) (types : Types) (texts : ℕ) (so_far
       names = λ id constant at v place s stands. named is.answers id constant at v place s stands;
       points = λ p place s stands. pointed is.answers p place s stands;
       decides = λ place b w at. absurd (none_some at);
-      calls = λ c at. subst (λ (d : Called). IsCall a visible types texts so_far fs f setting d e.ty e.category) (some_same at) is;
+      calls = λ c at. subst (λ (d : Called). IsCall a visible types texts fs f setting d e.ty e.category) (some_same at) is;
+      as_literal = λ at. absurd (answers_no_literal is.answers at);
     }
 
-  pub call_form : (g : ℕ) (given : Form) (delimiters : DelimitersForm) (e : Typed) → HasResult a.program.types (slice_get a.program.functions g) e
-      → ((of : FunctionForm) → slice_get a.program.functions g ≡ Some of → (s : State) → Standing s → Hands of s (giving.arguments a (all_uses a given) delimiters (parameter_types (Some of)) s)) → IsForm a visible types texts so_far fs f setting (call g given delimiters) e
-  call_form g given delimiters e h hands = go (slice_get a.program.functions g) refl h
+  pub call_form : (g : ℕ) (given : Form) (delimiters : DelimitersForm) (e : Typed) → is_plain_type e.ty ≡ true → HasResult a.program.types (slice_get a.program.functions g) e
+      → ((of : FunctionForm) → slice_get a.program.functions g ≡ Some of → (s : State) → Standing s → Hands of s (giving.arguments a (all_uses a given) delimiters (parameter_types (Some of)) s)) → IsForm a visible types texts fs f setting (call g given delimiters) e
+  call_form g given delimiters e plain h hands = go (slice_get a.program.functions g) refl h
     where
-      go : (o : Option FunctionForm) → slice_get a.program.functions g ≡ o → HasResult a.program.types o e → IsForm a visible types texts so_far fs f setting (call g given delimiters) e
+      go : (o : Option FunctionForm) → slice_get a.program.functions g ≡ o → HasResult a.program.types o e → IsForm a visible types texts fs f setting (call g given delimiters) e
       go None at h = absurd h
       go (Some of) at h =
           let kind = result_is a.program.types (type_at a.program.types of.result) (setting.returned g of at) in
@@ -219,7 +232,7 @@ module _ (a : Around) (visible : List ℕ) (types : Types) (texts : ℕ) (so_far
             answers = answered_as a.program.types e (type_at a.program.types of.result) kind h;
             hands = λ s stands. subst (λ (ids : List TyId). Hands of s (giving.arguments a (all_uses a given) delimiters ids s)) (sym (ap parameters_of at)) (hands of at s stands);
           })
-          (kind_of_result so_far a.program.types e (type_at a.program.types of.result) kind h)
+          (kind_of_result a.program.types e (type_at a.program.types of.result) kind plain h)
 
   -- ---- pointers
 
@@ -239,16 +252,16 @@ module _ (a : Around) (visible : List ℕ) (types : Types) (texts : ℕ) (so_far
       ap (λ (c : Category). operand_by c e.at (temporary_of e (own e)) s) (sym (held_typed form) ∙ at)
 
   -- what a pointer gives
-  pub points_whole : (form : Form) → IsWhole a visible types texts so_far fs f setting form → is_pointed (typed_in form).ty ≡ true → (s : State) → Standing s → Points (typed_in form).ty s (pointing (uses a form) s)
+  pub points_whole : (form : Form) → IsWhole a visible types texts fs f setting form → is_pointed (typed_in form).ty ≡ true → (s : State) → Standing s → Points (typed_in form).ty s (pointing (uses a form) s)
   points_whole form is p s stands =
-      subst (Points (typed_in form).ty s) (sym (pointing_itself a visible types texts so_far fs f setting (uses a form) s (ap is_pointed (sym (own_typed form)) ∙ p))) (is.points p s stands)
+      subst (Points (typed_in form).ty s) (sym (pointing_itself a visible types texts fs f setting (uses a form) s (ap is_pointed (sym (own_typed form)) ∙ p))) (is.points p s stands)
 
   -- where a raw pointer or a view lies
-  pub pointer_whole : (form : Form) → IsWhole a visible types texts so_far fs f setting form → (u : Ty) → (typed_in form).ty ≡ Of u → is_location u ≡ true → (wanted : Ty) (s : State) → Standing s → Pointed u s (pointer (uses a form) wanted s)
+  pub pointer_whole : (form : Form) → IsWhole a visible types texts fs f setting form → (u : Ty) → (typed_in form).ty ≡ Of u → is_location u ≡ true → (wanted : Ty) (s : State) → Standing s → Pointed u s (pointer (uses a form) wanted s)
   pointer_whole form is u at loc wanted s stands =
       let e = uses a form in
       let own_is : own e ≡ u = ap own_type (sym (own_typed form) ∙ at) in
-      subst (Pointed u s) (sym (pointer_own a visible types texts so_far fs f setting e wanted (own e) s refl (ap is_location own_is ∙ loc))) (is.pointers u at loc s stands)
+      subst (Pointed u s) (sym (pointer_own a visible types texts fs f setting e wanted (own e) s refl (ap is_location own_is ∙ loc))) (is.pointers u at loc s stands)
 
   -- a raw pointer that is tested
   pub tested_pointer : (form : Form) (u : Ty) (s : State) → (typed_in form).ty ≡ Of u → is_raw u ≡ true → Pointed u s (located (uses a form).place (own (uses a form)) ((uses a form).pointing s).given ((uses a form).pointing s).state)
@@ -256,14 +269,14 @@ module _ (a : Around) (visible : List ℕ) (types : Types) (texts : ℕ) (so_far
   tested_pointer form u s at raw h =
       let e = uses a form in
       let own_is : own e ≡ u = ap own_type (sym (own_typed form) ∙ at) in
-      subst (Pointed u s) (sym (nullable_raw a visible types texts so_far fs f setting e (own e) s refl (ap is_raw own_is ∙ raw))) h
+      subst (Pointed u s) (sym (nullable_raw a visible types texts fs f setting e (own e) s refl (ap is_raw own_is ∙ raw))) h
 
   -- what it points to
-  raw_target : (e : Uses) (t : Ty) (place : Place) (c : Category) (s : State) → own e ≡ t → is_raw t ≡ true
+  pub raw_target : (e : Uses) (t : Ty) (place : Place) (c : Category) (s : State) → own e ≡ t → is_raw t ≡ true
       → target_at (own e) e place c s ≡ mapped (λ (q : Location). Through q []) (located e.place t (e.pointing s).given (e.pointing s).state)
   raw_target e t place c s own_is raw =
       ap (λ (x : Ty). target_at x e place c s) own_is ∙ through t raw
-      ∙ ap (mapped (λ (q : Location). Through q [])) (pointer_own a visible types texts so_far fs f setting e (own e) t s own_is (raw_location t raw))
+      ∙ ap (mapped (λ (q : Location). Through q [])) (pointer_own a visible types texts fs f setting e (own e) t s own_is (raw_location t raw))
     where
       through : (x : Ty) → is_raw x ≡ true → target_at x e place c s ≡ mapped (λ (q : Location). Through q []) (pointer e (own e) s)
       through (ty.Raw target constant) raw = refl
@@ -271,10 +284,10 @@ module _ (a : Around) (visible : List ℕ) (types : Types) (texts : ℕ) (so_far
 
   -- ---- what is dereferenced, and addresses
 
-  pub dereference_form : (inner : Form) (e : Typed) → (d : IsDereferenced a.program.types (typed_in inner) e) → IsWhole a visible types texts so_far fs f setting inner → IsForm a visible types texts so_far fs f setting (dereference inner) e
+  pub dereference_form : (inner : Form) (e : Typed) → (d : IsDereferenced a.program.types (typed_in inner) e) → IsWhole a visible types texts fs f setting inner → IsForm a visible types texts fs f setting (dereference inner) e
   dereference_form inner e d is =
-      place_form a visible types texts so_far fs f setting (dereference inner) e (kind_of_place so_far a.program.types e d.target d.constant d.form d.is (is_number_kind (type_at a.program.types d.target) (ap (λ (y : Typed). y.ty) d.is) d.value))
-      (λ at. value_place (sym at ∙ ap (λ (y : Typed). y.category) d.is)) refl (λ place b. refl) names (λ p. absurd (number_no_pointer e.ty (of_number a visible types texts so_far fs f setting e.ty (type_at a.program.types d.target) (ap (λ (y : Typed). y.ty) d.is) d.value) p))
+      place_form a visible types texts fs f setting (dereference inner) e (kind_of_place a.program.types e d.target d.constant d.form d.is (is_number_kind (type_at a.program.types d.target) (ap (λ (y : Typed). y.ty) d.is) d.value))
+      (λ at. value_place (sym at ∙ ap (λ (y : Typed). y.category) d.is)) refl (λ place b. refl) names (λ p. absurd (number_no_pointer e.ty (of_number a visible types texts fs f setting e.ty (type_at a.program.types d.target) (ap (λ (y : Typed). y.ty) d.is) d.value) p))
     where
       -- what it goes through is a raw pointer
       pointer_own : own (uses a inner) ≡ ty.Raw d.target d.constant
@@ -294,20 +307,20 @@ module _ (a : Around) (visible : List ℕ) (types : Types) (texts : ℕ) (so_far
           let l = located w.place (own w) (w.pointing s).given (w.pointing s).state in
           subst (λ (g : Gives Operand). Placed (type_at a.program.types id) constant s g) (sym (reached place s))
           (subst (λ (c : Bool). Placed (type_at a.program.types id) c s (gives (Through l.given []) l.state)) (const_same d.target id d.constant constant same)
-          (seen_part types texts so_far fs f (gifts.nothing types texts so_far fs f) tt None s l (a_pointer types texts so_far fs f (ty.Raw d.target d.constant)) (λ q. Through q []) (a_place types texts so_far fs f (type_at a.program.types id) d.constant)
+          (seen_part types texts fs f (gifts.nothing types texts fs f) tt None s l (a_pointer types texts fs f (ty.Raw d.target d.constant)) (λ q. Through q []) (a_place types texts fs f (type_at a.program.types id) d.constant)
           (is.pointers (ty.Raw d.target d.constant) d.pointer refl s stands)
-          (λ b h. behind_place types texts so_far fs f l.given (ty.Raw d.target d.constant) d.target d.constant (type_at a.program.types id) h refl refl refl
-          (type_later a.program.types types setting.front d.target d.value ∙ ap (type_at a.program.types) (place_same d.target id d.constant constant same)) v)
+          (λ b h. behind_place types texts fs f l.given (ty.Raw d.target d.constant) d.target d.constant (type_at a.program.types id) h refl refl refl
+          (type_later a.program.types types setting.front d.target d.value ∙ ap (type_at a.program.types) (place_same d.target id d.constant constant same)) (value_no_void (type_at a.program.types id) v))
           (λ n k q. record { local = q.local; uses = ap (λ (m : Location). m.local ∷ []) q.is; below = q.below; held = q.held })))
 
-  pub address_form : (inner : Form) (e : Typed) → (d : IsAddressed a.program.types (typed_in inner) e) → IsWhole a visible types texts so_far fs f setting inner → IsForm a visible types texts so_far fs f setting (address_of inner) e
+  pub address_form : (inner : Form) (e : Typed) → (d : IsAddressed a.program.types (typed_in inner) e) → IsWhole a visible types texts fs f setting inner → IsForm a visible types texts fs f setting (address_of inner) e
   address_form inner e d is =
-      pointer_form a visible types texts so_far fs f setting (address_of inner) e (record { kind = is_pointer_kind d.target d.constant typed_as d.worth; place = λ id c at. absurd (value_place (sym no ∙ at)) }) no (λ n. false≢true (sym (ap is_number typed_as) ∙ n)) refl (λ place b. refl)
+      pointer_form a visible types texts fs f setting (address_of inner) e (record { kind = is_pointer_kind d.target d.constant typed_as (value_target a.program.types (type_at a.program.types d.target) d.worth); place = λ id c at. absurd (value_place (sym no ∙ at)) }) no (λ n. false≢true (sym (ap is_number typed_as) ∙ n)) refl (λ place b. refl) (λ at. absurd (no_literal a visible types texts fs f setting (ty.Raw d.target d.constant) (sym typed_as ∙ at)))
       (λ p place s stands. subst (λ (t : ExprType). Points t s (mapped (λ o. aimed (Aimed o)) (operand (uses a inner) s))) (sym typed_as)
-      (seen_part types texts so_far fs f (gifts.nothing types texts so_far fs f) tt None s (operand (uses a inner) s) (a_place types texts so_far fs f (type_at a.program.types d.target) d.constant) (λ o. aimed (Aimed o)) (a_pointing types texts so_far fs f (Of (ty.Raw d.target d.constant)))
+      (seen_part types texts fs f (gifts.nothing types texts fs f) tt None s (operand (uses a inner) s) (a_place types texts fs f (type_at a.program.types d.target) d.constant) (λ o. aimed (Aimed o)) (a_pointing types texts fs f (Of (ty.Raw d.target d.constant)))
       (subst (λ (g : Gives Operand). Placed (type_at a.program.types d.target) d.constant s g) (sym (placed_operand inner d.target d.constant s d.place)) (is.names d.target d.constant d.place d.worth s stands))
       (λ b h. let later = type_later a.program.types types setting.front d.target d.worth in
-      place_given types texts so_far fs f (ty.Raw d.target d.constant) (operand (uses a inner) s).given
+      place_given types texts fs f (ty.Raw d.target d.constant) (operand (uses a inner) s).given
       (and_from (aims_at types (ty.Raw d.target d.constant) (placed.type_of types f (operand (uses a inner) s).given)) (keeps_const d.constant (is_const_place types f (operand (uses a inner) s).given))
       (ap (aims_at types (ty.Raw d.target d.constant)) (h.typed ∙ sym later) ∙ value_same (ty_of types d.target) (ap is_value later ∙ d.worth)) h.held)
       h.served)
@@ -319,31 +332,34 @@ module _ (a : Around) (visible : List ℕ) (types : Types) (texts : ℕ) (so_far
       no : e.category ≡ category.Value
       no = ap (λ (y : Typed). y.category) d.is
 
-  pub null_form : (e : Typed) → e.ty ≡ NullPointer → e.category ≡ category.Value → IsForm a visible types texts so_far fs f setting null e
+  pub null_form : (e : Typed) → e.ty ≡ NullPointer → e.category ≡ category.Value → IsForm a visible types texts fs f setting null e
   null_form e t c =
-      pointer_form a visible types texts so_far fs f setting null e (record { kind = a_null t c; place = λ id d at. absurd (value_place (sym c ∙ at)) }) c (λ n. false≢true (sym (ap is_number t) ∙ n)) refl (λ place b. refl)
-      (λ p place s stands. leaf_part types texts so_far fs f (aimed Null) s (a_pointing types texts so_far fs f e.ty) (λ b. subst (λ (t : ExprType). IsGivenAs types texts so_far fs f t (aimed Null)) (sym t) (null_given types texts so_far fs f)) (λ b k alive. null_filling f (length s.locals) k))
+      pointer_form a visible types texts fs f setting null e (record { kind = a_null t c; place = λ id d at. absurd (value_place (sym c ∙ at)) }) c (λ n. false≢true (sym (ap is_number t) ∙ n)) refl (λ place b. refl) (λ at. absurd (null_text (sym t ∙ at)))
+      (λ p place s stands. leaf_part types texts fs f (aimed Null) s (a_pointing types texts fs f e.ty) (λ b. subst (λ (t : ExprType). IsGivenAs types texts fs f t (aimed Null)) (sym t) (null_given types texts fs f)) (λ b k alive. null_filling f (length s.locals) k))
+    where
+      null_text : NullPointer ≡ TextLiteral → ⊥
+      null_text e = cc
 
   -- a literal is seen where it stands
-  pub text_form : (n : ℕ) (e : Typed) → e.ty ≡ TextLiteral → e.category ≡ category.Value → nat_lt n texts ≡ true → IsForm a visible types texts so_far fs f setting (text n) e
+  pub text_form : (n : ℕ) (e : Typed) → e.ty ≡ TextLiteral → e.category ≡ category.Value → nat_lt n texts ≡ true → IsForm a visible types texts fs f setting (text n) e
   text_form n e t c few =
-      pointer_form a visible types texts so_far fs f setting (text n) e (record { kind = a_text t c; place = λ id d at. absurd (value_place (sym c ∙ at)) }) c (λ m. false≢true (sym (ap is_number t) ∙ m)) refl (λ place b. refl)
-      (λ p place s stands. leaf_part types texts so_far fs f (aimed (Text n)) s (a_pointing types texts so_far fs f e.ty)
-      (λ b. subst (λ (t : ExprType). IsGivenAs types texts so_far fs f t (aimed (Text n))) (sym t) (literal_given types texts so_far fs f n few))
+      pointer_form a visible types texts fs f setting (text n) e (record { kind = a_text t c; place = λ id d at. absurd (value_place (sym c ∙ at)) }) c (λ m. false≢true (sym (ap is_number t) ∙ m)) refl (λ place b. refl) (λ at place. record { place = place; number = n; few = few; is = refl })
+      (λ p place s stands. leaf_part types texts fs f (aimed (Text n)) s (a_pointing types texts fs f e.ty)
+      (λ b. subst (λ (t : ExprType). IsGivenAs types texts fs f t (aimed (Text n))) (sym t) (literal_given types texts fs f n few))
       (λ b k alive. text_filling f n (length s.locals) k))
 
   -- ---- what is seen: a view, or a literal in a register
 
-  pub view_whole : (form : Form) → IsWhole a visible types texts so_far fs f setting form → is_seen (typed_in form).ty ≡ true → (s : State) → Standing s → Pointed ty.View s (pointer (uses a form) ty.View s)
+  pub view_whole : (form : Form) → IsWhole a visible types texts fs f setting form → is_seen (typed_in form).ty ≡ true → (s : State) → Standing s → Pointed ty.View s (pointer (uses a form) ty.View s)
   view_whole form is sees s stands = go (seen_type (typed_in form).ty sees)
     where
       go : ((typed_in form).ty ≡ Of ty.View) ⊎ ((typed_in form).ty ≡ TextLiteral) → Pointed ty.View s (pointer (uses a form) ty.View s)
       go (inl at) = pointer_whole form is ty.View at refl ty.View s stands
       go (inr at) =
           subst (Pointed ty.View s) (sym (ap (λ (x : Ty). pointing (uses a form) s >> λ p s. located (uses a form).place (register_type ty.View x) p s) (ap own_type (sym (own_typed form) ∙ at))))
-          (then_part types texts so_far fs f (gifts.nothing types texts so_far fs f) tt None s (pointing (uses a form) s) _ (a_pointing types texts so_far fs f TextLiteral) (a_pointer types texts so_far fs f ty.View) stands.opened
+          (then_part types texts fs f (gifts.nothing types texts fs f) tt None s (pointing (uses a form) s) _ (a_pointing types texts fs f TextLiteral) (a_pointer types texts fs f ty.View) stands.opened
           (subst (λ (x : ExprType). Points x s (pointing (uses a form) s)) at (points_whole form is (ap is_pointed at) s stands))
-          (literal_located_part types texts so_far fs f (pointing (uses a form) s).given (uses a form).place (pointing (uses a form) s).state))
+          (literal_located_part types texts fs f (pointing (uses a form) s).given (uses a form).place (pointing (uses a form) s).state))
 
   pub seen_view : (form : Form) → is_seen (typed_in form).ty ≡ true → (s : State) → seen (uses a form) s ≡ mapped InView (pointer (uses a form) ty.View s)
   seen_view form sees s = go (seen_type (typed_in form).ty sees)

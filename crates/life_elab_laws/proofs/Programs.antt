@@ -1,6 +1,6 @@
--- The core program of a well typed program that the law reaches: each of its functions is checked, among all of them, and has short places.
+-- The core program of a well typed program that is served: each of its functions is checked, among all of them, and has short places.
 use Rattle.std.proofs.Common.{◌≡◌, ◌<◌, ℕ, zero, suc, Bool, true, false, ◌&&◌, List, [], ◌∷◌, ◌++◌, length, map, slice_get, take, Option, Some, None, option_map, refl, sym, ap, ◌∙◌, subst, arith, append_assoc, append-nil}
-use Rattle.std.proofs.lemmas.Bool.{and_from, and_parts, false≢true}
+use Rattle.std.proofs.lemmas.Bool.{and_from, false≢true}
 use Rattle.std.proofs.lemmas.Option.{none-some, same_Some, slice_get-map}
 use Rattle.std.specs.List.{list_all}
 use Rattle.life_types.specs.Pointees.{or_void, ty_of}
@@ -8,8 +8,7 @@ use Rattle.life_types.specs.TypeTests.{is_void}
 use Rattle.life_types.specs.Types.{Types, class}
 use Rattle.life_types.specs.declared.ty.Ty.{Ty}
 use Rattle.life_types.specs.declared.ty.TyId.{TyId}
-use Rattle.life_served.specs.Served.{has_no_structs}
-use Rattle.life_elab_laws.specs.Reached.{are_reached_functions, is_reached}
+use Rattle.life_served.specs.Served.{are_served_functions}
 use Rattle.life_typed.specs.BaseTypes.{type_at}
 use Rattle.life_typed.specs.Programs.{FunctionForm, ProgramForm, is_main}
 use Rattle.life_core.specs.Function.{Function}
@@ -25,9 +24,9 @@ use Rattle.life_elab.specs.ProgramForms.{all_functions, first_state, functions, 
 use Rattle.life_elab.specs.Programs.{Functions, around, texts_of, with_function}
 use Rattle.life_well_typed.specs.Mains.{HasIntMain, HaveIntMains}
 use Rattle.life_well_typed.specs.Names.{HasNames, is_function_named}
-use Rattle.life_well_typed.specs.Results.{HasResults, HaveResults, HasTable}
+use Rattle.life_well_typed.specs.Results.{HasResults, HaveResults}
 use Rattle.life_elab_laws.proofs.Beginning.{first_locals, first_types}
-use Rattle.life_elab_laws.proofs.Callees.{IsBegun, IsFunctionOf, callee_from, gives_from, handed_at, reached_parts, result_register, takes_handed, type_found}
+use Rattle.life_elab_laws.proofs.Callees.{IsBegun, IsFunctionOf, callee_from, gives_from, handed_at, served_parts, result_register, takes_handed, type_found}
 use Rattle.life_elab_laws.proofs.Calls.{IsCallee}
 use Rattle.life_elab_laws.proofs.ExpressionKinds.{function_built}
 use Rattle.life_elab_laws.proofs.FormedLocals.{HasFormedHead, head_formed}
@@ -62,10 +61,10 @@ result_at : (types : Types) (fs : List FunctionForm) (n : ℕ) (f : FunctionForm
 result_at types fs n f h at = there types.types f.result.0 (each_at (λ (g : FunctionForm). g.result.0 < length types.types) (HaveResults types) (λ g gs h. h) fs n f h at)
 
 -- what is written for a function, whatever the table has by then, adds to what stands there where its body begins
-pub record FunctionGrows (so_far : Bool) (p : ProgramForm) (f : FunctionForm) (T : Types) : Type 0 where
+pub record FunctionGrows (p : ProgramForm) (f : FunctionForm) (T : Types) : Type 0 where
   pub locals : IsFront (first_state (around p f) T).locals (written (around p f) T).locals
   pub table : IsFront T.types (written (around p f) T).types.types
-  pub own : AreWrittenLocals so_far p.types (around p f) (written (around p f) T)
+  pub own : AreWrittenLocals p.types (around p f) (written (around p f) T)
   pub order : KeepsOrder T (written (around p f) T).types
 
 -- a core function is what is written for a typed one, in a table that the program's ends with
@@ -95,12 +94,12 @@ pub record AllWritten (p : ProgramForm) (fs : List FunctionForm) (w : Functions)
   pub order : KeepsOrder w.types (functions p fs w).types
   pub each : (types : Types) → IsFront (functions p fs w).types.types types.types → AreWritten p types fs more
 
-all_written : (so_far : Bool) (p : ProgramForm) (fs : List FunctionForm) (w : Functions) → ((n : ℕ) (f : FunctionForm) → slice_get fs n ≡ Some f → (T : Types) → IsFront p.types.types T.types → FunctionGrows so_far p f T) → IsFront p.types.types w.types.types → AllWritten p fs w
-all_written so_far p [] w grows table = record { more = []; listed = sym (append-nil w.functions); table = front_itself w.types.types; order = order_none w.types; each = λ types later. tt }
-all_written so_far p (f ∷ fs) w grows table =
+all_written : (p : ProgramForm) (fs : List FunctionForm) (w : Functions) → ((n : ℕ) (f : FunctionForm) → slice_get fs n ≡ Some f → (T : Types) → IsFront p.types.types T.types → FunctionGrows p f T) → IsFront p.types.types w.types.types → AllWritten p fs w
+all_written p [] w grows table = record { more = []; listed = sym (append-nil w.functions); table = front_itself w.types.types; order = order_none w.types; each = λ types later. tt }
+all_written p (f ∷ fs) w grows table =
     let s = written (around p f) w.types in
     let one = grows zero f refl w.types table in
-    let rest = all_written so_far p fs (with_function f s w) (λ n. grows (suc n)) (front_then p.types.types w.types.types s.types.types table one.table) in
+    let rest = all_written p fs (with_function f s w) (λ n. grows (suc n)) (front_then p.types.types w.types.types s.types.types table one.table) in
     record {
       more = function_from f s ∷ rest.more;
       listed = rest.listed ∙ append_assoc w.functions (function_from f s ∷ []) rest.more;
@@ -109,15 +108,15 @@ all_written so_far p (f ∷ fs) w grows table =
       each = λ types later. (record { before = w.types; table = table; is = refl; later = front_then s.types.types _ types.types rest.table later }, rest.each types later);
     }
 
-module _ (so_far : Bool) (p : ProgramForm) (typed : IsWellTyped p) (built : are_reached_functions (length (texts_of p)) so_far p.types p.functions ≡ true) (results : HasResults p) (chars : type_at p.types CHAR ≡ ty.Char) where
-  pub of_program : (n : ℕ) (f : FunctionForm) → slice_get p.functions n ≡ Some f → IsFunctionOf so_far p f
+module _ (p : ProgramForm) (typed : IsWellTyped p) (built : are_served_functions (length (texts_of p)) p.types p.functions ≡ true) (results : HasResults p) (chars : type_at p.types CHAR ≡ ty.Char) where
+  pub of_program : (n : ℕ) (f : FunctionForm) → slice_get p.functions n ≡ Some f → IsFunctionOf p f
   of_program n f at =
       let t = result_at p.types p.functions n f results at in
-      record { typed = each_at (IsWellTypedFunction p) (AreWellTyped p) (λ g gs h. h) p.functions n f typed at; built = reached_parts (length (texts_of p)) so_far p.types f (function_built (length (texts_of p)) so_far p.types p.functions n f built at); ty = t.0; result = t.1 }
+      record { typed = each_at (IsWellTypedFunction p) (AreWellTyped p) (λ g gs h. h) p.functions n f typed at; built = served_parts (length (texts_of p)) p.types f (function_built (length (texts_of p)) p.types p.functions n f built at); ty = t.0; result = t.1 }
 
   setting_of : (types : Types) (fs : List Function) (f : FunctionForm) (core : Function) (n : ℕ) → slice_get p.functions n ≡ Some f → IsFront p.types.types types.types → GivesBack (around p f) types core
       → ((l : Local) → slice_get core.locals core.parameters ≡ Some l → is_void (ty_of types core.result) ≡ false → (l.name ≡ None) × (l.kind ≡ Register))
-      → ((g : ℕ) (of : FunctionForm) → slice_get p.functions g ≡ Some of → IsCallee types fs g of) → AreShaped types core.locals → Setting so_far (around p f) types fs core
+      → ((g : ℕ) (of : FunctionForm) → slice_get p.functions g ≡ Some of → IsCallee types fs g of) → AreShaped types core.locals → Setting (around p f) types fs core
   setting_of types fs f core n at front gives register callees shaped = let is = of_program n f at in record {
     front = front;
     variables = is.built.variables;
@@ -145,29 +144,29 @@ module _ (so_far : Bool) (p : ProgramForm) (typed : IsWellTyped p) (built : are_
   begun_so f = record { table = front_itself p.types.types; later = front_itself p.types.types; count = refl; same = refl; locals = front_itself (first_state (around p f) p.types).locals }
 
   begun_callee : (g : ℕ) (of : FunctionForm) → slice_get p.functions g ≡ Some of → IsCallee p.types (map begun p.functions) g of
-  begun_callee g of at = callee_from so_far p of p.types p.types (begun of) (of_program g of at) (begun_so of) (map begun p.functions) g (begun_there g of at)
+  begun_callee g of at = callee_from p of p.types p.types (begun of) (of_program g of at) (begun_so of) (map begun p.functions) g (begun_there g of at)
 
   -- .. one of them that gives nothing back itself: a type that isn't in the table is none
   abbrev mute : FunctionForm → Function
   mute f = record (begun f) { result = record { 0 = length p.types.types } }
 
-  mute_setting : (n : ℕ) (f : FunctionForm) → slice_get p.functions n ≡ Some f → Setting so_far (around p f) p.types (map begun p.functions) (mute f)
+  mute_setting : (n : ℕ) (f : FunctionForm) → slice_get p.functions n ≡ Some f → Setting (around p f) p.types (map begun p.functions) (mute f)
   mute_setting n f at =
       let is = of_program n f at in
       let table = front_itself p.types.types in
       let first = subst (λ (x : Types). IsFront x.types p.types.types) (sym (first_types (around p f) p.types is.typed.parameters table)) table in
       setting_of p.types (map begun p.functions) f (mute f) n at table (unasked (ap class (past p.types.types))) (λ l there some. absurd (false≢true (sym some ∙ ap (λ (o : Option Ty). is_void (or_void o)) (past p.types.types)))) begun_callee
-      (written_shaped so_far (around p f) (first_state (around p f) p.types) p.types table first is.built.any (first_locals (around p f) p.types is.typed.parameters table so_far is.ty is.result is.built.result))
+      (written_shaped (around p f) (first_state (around p f) p.types) p.types table first is.built.variables (first_locals (around p f) p.types is.typed.parameters table is.ty is.result is.built.result))
 
-  pub grows : (n : ℕ) (f : FunctionForm) → slice_get p.functions n ≡ Some f → (T : Types) → IsFront p.types.types T.types → FunctionGrows so_far p f T
+  pub grows : (n : ℕ) (f : FunctionForm) → slice_get p.functions n ≡ Some f → (T : Types) → IsFront p.types.types T.types → FunctionGrows p f T
   grows n f at T table =
       let is = of_program n f at in
       let first = first_types (around p f) T is.typed.parameters table in
-      let done = function_finished so_far p f T p.types (map begun p.functions) (mute f) (mute_setting n f at) is table in
+      let done = function_finished p f T p.types (map begun p.functions) (mute f) (mute_setting n f at) is table in
       record {
         locals = done.does.adds.locals;
         table = subst (λ (x : Types). IsFront x.types (written (around p f) T).types.types) first done.does.adds.table;
-        own = done.does.locals (first_locals (around p f) T is.typed.parameters table so_far is.ty is.result is.built.result);
+        own = done.does.locals (first_locals (around p f) T is.typed.parameters table is.ty is.result is.built.result);
         order = subst (λ (x : Types). KeepsOrder x (written (around p f) T).types) first done.does.order;
       }
 
@@ -177,7 +176,7 @@ module _ (so_far : Bool) (p : ProgramForm) (typed : IsWellTyped p) (built : are_
   whole = all_functions p
 
   all : AllWritten p p.functions (record { types = p.types; functions = [] })
-  all = all_written so_far p p.functions (record { types = p.types; functions = [] }) grows (front_itself p.types.types)
+  all = all_written p p.functions (record { types = p.types; functions = [] }) grows (front_itself p.types.types)
 
   -- .. in whose table each type comes behind its parts, and which has no more structs
   pub whole_order : KeepsOrder p.types whole.types
@@ -202,7 +201,7 @@ module _ (so_far : Bool) (p : ProgramForm) (typed : IsWellTyped p) (built : are_
     shaped : AreShaped whole.types core.locals
     shaped =
         subst (λ (c : Function). AreShaped whole.types c.locals) (sym w.is)
-        (written_shaped so_far (around p f) (written (around p f) w.before) whole.types front w.later (of_program n f at).built.any (grows n f at w.before w.table).own)
+        (written_shaped (around p f) (written (around p f) w.before) whole.types front w.later (of_program n f at).built.variables (grows n f at w.before w.table).own)
 
     -- the type of what it gives back
     pub written_result : slice_get whole.types.types core.result.0 ≡ Some (type_at p.types f.result)
@@ -219,30 +218,30 @@ module _ (so_far : Bool) (p : ProgramForm) (typed : IsWellTyped p) (built : are_
   callee : (g : ℕ) (of : FunctionForm) → slice_get p.functions g ≡ Some of → IsCallee whole.types whole.functions g of
   callee g of at =
       let found = written_at p whole.types p.functions whole.functions g of each_written at in
-      callee_from so_far p of found.2.before whole.types found.0 (of_program g of at) (as_begun g of at found.0 found.2) whole.functions g found.1
+      callee_from p of found.2.before whole.types found.0 (of_program g of at) (as_begun g of at found.0 found.2) whole.functions g found.1
 
   -- ---- one function
 
   module _ (n : ℕ) (f : FunctionForm) (at : slice_get p.functions n ≡ Some f) (core : Function) (w : IsWritten p whole.types f core) where
-    is : IsFunctionOf so_far p f
+    is : IsFunctionOf p f
     is = of_program n f at
 
-    pub one_body : HasIntMain p → IsProperBody (around p f) whole.types (length (texts_of p)) so_far whole.functions core
+    pub one_body : HasIntMain p → IsProperBody (around p f) whole.types (length (texts_of p)) whole.functions core
     one_body mains =
         let begun_so = as_begun n f at core w in
         let setting =
-        setting_of whole.types whole.functions f core n at (front n f at core w) (gives_from so_far p f w.before whole.types core is begun_so (int_at p p.functions n f mains at)) (result_register so_far p f w.before whole.types core is begun_so) callee (shaped n f at core w) in
-        function_proper so_far p f w.before whole.types whole.functions core setting is w.table (as_begun n f at core w) (written_begins n f at core w) (ap (λ (c : Function). c.body) w.is)
+        setting_of whole.types whole.functions f core n at (front n f at core w) (gives_from p f w.before whole.types core is begun_so (int_at p p.functions n f mains at)) (result_register p f w.before whole.types core is begun_so) callee (shaped n f at core w) in
+        function_proper p f w.before whole.types whole.functions core setting is w.table (as_begun n f at core w) (written_begins n f at core w) (ap (λ (c : Function). c.body) w.is)
 
     one_short : AreShort (elements_of whole.types core)
-    one_short = short_function whole.types core (shaped n f at core w) (takes_handed so_far p f w.before whole.types core is (as_begun n f at core w))
+    one_short = short_function whole.types core (shaped n f at core w) (takes_handed p f w.before whole.types core is (as_begun n f at core w))
 
     -- the locals are well formed, and what else stands beside the body
     pub one_head : HasNames p → HasFormedHead whole.types (length p.names) core
     one_head names =
         let g = grows n f at w.before w.table in
         subst (HasFormedHead whole.types (length p.names)) (sym w.is)
-        (head_formed so_far p f w.before whole.types (length p.names) is w.table (front n f at core w) g.locals w.later g.own
+        (head_formed p f w.before whole.types (length p.names) is w.table (front n f at core w) g.locals w.later g.own
         (passed_at (is_function_named (length p.names)) (list_all (is_function_named (length p.names))) (λ g gs. refl) p.functions n f names.named at))
 
   -- ---- what is so of each function is so of all
@@ -271,11 +270,3 @@ module _ (so_far : Bool) (p : ProgramForm) (typed : IsWellTyped p) (built : are_
 
   pub program_short : HaveShortPlaces whole.types whole.functions
   program_short = of_all (λ core. AreShort (elements_of whole.types core)) (HaveShortPlaces whole.types) tt (λ core cores one others. (one, others)) one_short
-
--- ---- of what is reached
-
-pub functions_reached : (p : ProgramForm) → is_reached p ≡ true → are_reached_functions (length (texts_of p)) false p.types p.functions ≡ true
-functions_reached p b = (and_parts (has_no_structs p.structs) (are_reached_functions (length (texts_of p)) false p.types p.functions) b).1
-
-pub reached_short : (p : ProgramForm) → IsWellTyped p → HasResults p → HasTable p → is_reached p ≡ true → HaveShortPlaces (translated p).types (translated p).functions
-reached_short p typed results table b = program_short false p typed (functions_reached p b) results table.chars

@@ -1,5 +1,5 @@
 -- break, continue and return.
-use Rattle.std.proofs.Common.{◌≡◌, Bool, true, false, ◌&&◌, ◌||◌, not, is_none, ℕ, List, [], ◌∷◌, ◌++◌, drop, length, reverse, take, Option, Some, None, refl, sym, ap, ◌∙◌, subst, append_assoc}
+use Rattle.std.proofs.Common.{◌≡◌, arith, inl, Bool, true, false, ◌&&◌, ◌||◌, not, is_none, ℕ, List, [], ◌∷◌, ◌++◌, drop, length, reverse, take, Option, Some, None, refl, sym, ap, ◌∙◌, subst, append_assoc}
 use Rattle.std.proofs.lemmas.Bool.{and_from, false≢true}
 use Rattle.std.proofs.lemmas.Option.{same_Some}
 use Rattle.life_types.specs.TypeTests.{is_unique}
@@ -31,12 +31,13 @@ use Rattle.life_writer.specs.Variables.{end_pending}
 use Rattle.life_writer.specs.Writing.{State, Gives, with_code, write}
 use Rattle.life_elab.specs.Statements.{left}
 use Rattle.life_elab_laws.proofs.Among.{Among, among_drop, reverse_among}
-use Rattle.life_elab_laws.proofs.Doing.{Acting, Does, DoesLevel, ended_then, full_adds, full_code, full_falls, full_fine, full_follows, full_knows, full_state, full_written}
+use Rattle.life_elab_laws.proofs.Doing.{Acting, Does, DoesLevel, ended_then, full_adds, full_apart, full_code, full_falls, full_fine, full_follows, full_knows, full_state, full_written}
 use Rattle.life_elab_laws.proofs.Ending.{blank_beside, end_knows, end_ready, set_blank}
 use Rattle.life_elab_laws.proofs.EndSteps.{IsEnded, ended}
 use Rattle.life_elab_laws.proofs.Exits.{Knows, Leaves, MayKnow, MayLeave, leaves_falling, leaves_may, leaves_then, none_leaves}
 use Rattle.life_elab_laws.proofs.Falling.{Falls, falling, falls_append, flow_append}
 use Rattle.life_elab_laws.proofs.GivingBack.{GivesResult, fine_known, known_append, nowhere_ready}
+use Rattle.life_elab_laws.proofs.GivenApart.{codes_apart, same_apart}
 use Rattle.life_elab_laws.proofs.Growing.{Begins}
 use Rattle.life_elab_laws.proofs.Following.{Follows, IsLiving, IsResultRegister, knows_alive}
 use Rattle.life_elab_laws.proofs.Gifts.{Gift}
@@ -58,7 +59,7 @@ pub back_given : (t : Ty) (result : TyId) (named : Option TypedLocal) (given : B
 back_given (ty.Unique target) result named given plain h = absurd (false≢true (sym plain))
 back_given _ result named given plain h = h
 
-module _ (a : Around) (types : Types) (texts : ℕ) (so_far : Bool) (fs : List Function) (f : Function) (setting : Setting so_far a types fs f) (v : Visible) (in_loop : Bool) where
+module _ (a : Around) (types : Types) (texts : ℕ) (fs : List Function) (f : Function) (setting : Setting a types fs f) (v : Visible) (in_loop : Bool) where
   -- ---- where control returns
 
   -- nothing has to be given back, or it was written
@@ -93,9 +94,9 @@ module _ (a : Around) (types : Types) (texts : ℕ) (so_far : Bool) (fs : List F
   }
 
   module _ (s : State) (h : Follows types f a v s) where
-    pub break_does : in_loop ≡ true → (keyword : Place) → DoesLevel types texts so_far fs f a v in_loop s (left s.outside keyword Breaks s)
+    pub break_does : in_loop ≡ true → (keyword : Place) → DoesLevel types texts fs f a v in_loop s (left s.outside keyword Breaks s)
     break_does e keyword = record {
-      does = left_does types texts so_far fs f a setting v in_loop s h s.outside keyword Breaks (record { statement = refl; tests = refl; breaks = e; given = refl; formed = refl; served = λ so. refl })
+      does = left_does types texts fs f a setting v in_loop s h s.outside keyword Breaks (record { statement = refl; tests = refl; breaks = e; given = refl; formed = refl; served = refl })
           (λ k knows. record {
             fine = refl;
             next = tt;
@@ -104,13 +105,14 @@ module _ (a : Around) (types : Types) (texts : ℕ) (so_far : Bool) (fs : List F
             on_true = refl;
             on_false = refl;
           })
+          (same_apart f s s refl refl refl)
           (λ gives o. (tt, tt));
-      level = left_level types texts so_far fs f s s.outside keyword Breaks;
+      level = left_level types texts fs f s s.outside keyword Breaks;
     }
 
-    pub continue_does : in_loop ≡ true → (keyword : Place) → DoesLevel types texts so_far fs f a v in_loop s (left s.outside keyword Continues s)
+    pub continue_does : in_loop ≡ true → (keyword : Place) → DoesLevel types texts fs f a v in_loop s (left s.outside keyword Continues s)
     continue_does e keyword = record {
-      does = left_does types texts so_far fs f a setting v in_loop s h s.outside keyword Continues (record { statement = refl; tests = refl; breaks = e; given = refl; formed = refl; served = λ so. refl })
+      does = left_does types texts fs f a setting v in_loop s h s.outside keyword Continues (record { statement = refl; tests = refl; breaks = e; given = refl; formed = refl; served = refl })
           (λ k knows. record {
             fine = refl;
             next = tt;
@@ -119,19 +121,20 @@ module _ (a : Around) (types : Types) (texts : ℕ) (so_far : Bool) (fs : List F
             on_true = refl;
             on_false = refl;
           })
+          (same_apart f s s refl refl refl)
           (λ gives o. (tt, tt));
-      level = left_level types texts so_far fs f s s.outside keyword Continues;
+      level = left_level types texts fs f s s.outside keyword Continues;
     }
 
     -- control returns where nothing has to be given back
-    pub return_does : (GivesResult a → ⊥) → (keyword : Place) → DoesLevel types texts so_far fs f a v in_loop s (left 0 keyword (Returns keyword) s)
+    pub return_does : (GivesResult a → ⊥) → (keyword : Place) → DoesLevel types texts fs f a v in_loop s (left 0 keyword (Returns keyword) s)
     return_does never keyword = record {
-      does = left_does types texts so_far fs f a setting v in_loop s h 0 keyword (Returns keyword) (record { statement = refl; tests = refl; breaks = refl; given = refl; formed = refl; served = λ so. refl }) (λ k knows. return_leaves s keyword k (unasked_ready never k)) (λ gives o. absurd (never gives));
-      level = left_level types texts so_far fs f s 0 keyword (Returns keyword);
+      does = left_does types texts fs f a setting v in_loop s h 0 keyword (Returns keyword) (record { statement = refl; tests = refl; breaks = refl; given = refl; formed = refl; served = refl }) (λ k knows. return_leaves s keyword k (unasked_ready never k)) (same_apart f s s refl refl refl) (λ gives o. absurd (never gives));
+      level = left_level types texts fs f s 0 keyword (Returns keyword);
     }
 
     -- .. and behind what is given back, in the register of the result
-    module _ (register : IsResultRegister a s) (keyword token : Place) {A : Type 0} (w : Gives A) (Q : Gift types texts so_far fs f A) (made : Makes types texts so_far fs f (Some (result_local a)) s w Q)
+    module _ (register : IsResultRegister a s) (keyword token : Place) {A : Type 0} (w : Gives A) (Q : Gift types texts fs f A) (made : Makes types texts fs f (Some (result_local a)) s w Q)
         (lands : (n : ℕ) (k : List Known) → Q.ready w.given n k → known_at k (result_local a) ≡ known.Ready) where
       can : TemporariesEnd types texts fs f
       can = temporary_ends types texts fs f setting.registers
@@ -141,13 +144,13 @@ module _ (a : Around) (types : Types) (texts : ℕ) (so_far : Bool) (fs : List F
 
       -- where its temporaries have ended
       abbrev r_state : State
-      r_state = full_state types texts so_far fs f a v in_loop into s w Q h can token made
+      r_state = full_state types texts fs f a v in_loop into s w Q h can token made
 
       abbrev all_code : List Tree
-      all_code = full_code types texts so_far fs f a v in_loop into s w Q h can token made
+      all_code = full_code types texts fs f a v in_loop into s w Q h can token made
 
       later : Follows types f a v r_state
-      later = full_follows types texts so_far fs f a v in_loop into s w Q h can token made
+      later = full_follows types texts fs f a v in_loop into s w Q h can token made
 
       -- the register of the result is none of them
       no_temporary : Begins types f w.state → IsTemporary f.locals types.types (result_local a) → ⊥
@@ -171,7 +174,7 @@ module _ (a : Around) (types : Types) (texts : ℕ) (so_far : Bool) (fs : List F
           passing : is_passing register.local ≡ true
           passing = ap (λ (o : Option NameId). is_none o && not (is_object register.local.kind)) register.nameless ∙ ap (λ (k : LocalKind). not (is_object k)) register.kind
 
-      module _ (d : IsEnded types texts so_far fs f ending keyword r_state) where
+      module _ (d : IsEnded types texts fs f ending keyword r_state) where
         abbrev back : List Tree
         back = d.code ++ Returns keyword ∷ []
 
@@ -181,27 +184,27 @@ module _ (a : Around) (types : Types) (texts : ℕ) (so_far : Bool) (fs : List F
         -- ---- one way to where control returns
 
         module _ (b : Begins types f w.state) (k : List Known) (alive : Knows f s.living k) where
-          g : Goes types texts so_far fs f into s w Q made.code k
+          g : Goes types texts fs f into s w Q made.code k
           g = (made.runs b tt).goes k (knows_alive types f a v s h k alive) tt
 
           abbrev middle : List Known
-          middle = ended_then types texts so_far fs f a v in_loop into s w Q h can token made g.after
+          middle = ended_then types texts fs f a v in_loop into s w Q h can token made g.after
 
           abbrev last : List Known
           last = set_blank ending middle
 
           falls_there : Falls types f (all_code ++ d.code) k last
           falls_there =
-              falls_append types f all_code d.code k middle last (full_falls types texts so_far fs f a v in_loop into s w Q h can token made k g)
-              (d.falls middle (end_ready f w.state.living 0 0 later.ascend middle (full_knows types texts so_far fs f a v in_loop into s w Q h can token made k g)))
+              falls_append types f all_code d.code k middle last (full_falls types texts fs f a v in_loop into s w Q h can token made k g)
+              (d.falls middle (end_ready f w.state.living 0 0 later.ascend middle (full_knows types texts fs f a v in_loop into s w Q h can token made k g)))
 
           knows_there : Knows f (take 0 w.state.living) last
-          knows_there = end_knows f w.state.living 0 0 later.ascend middle (full_knows types texts so_far fs f a v in_loop into s w Q h can token made k g)
+          knows_there = end_knows f w.state.living 0 0 later.ascend middle (full_knows types texts fs f a v in_loop into s w Q h can token made k g)
 
           written_there : known_at last (result_local a) ≡ known.Ready
           written_there =
               blank_beside ending middle (result_local a) not_ending
-              ∙ ends_spare types texts so_far fs f s w.state made.grown h.stands.pends token b g.after (result_local a) (no_temporary b)
+              ∙ ends_spare types texts fs f s w.state made.grown h.stands.pends token b g.after (result_local a) (no_temporary b)
               ∙ lands (length w.state.locals) g.after g.gives
 
           leaves_there : Leaves f in_loop w.state.living (take s.outside s.living) (flow types f (trees (all_code ++ back)) (Some k))
@@ -229,47 +232,50 @@ module _ (a : Around) (types : Types) (texts : ℕ) (so_far : Bool) (fs : List F
             nowhere_ready (result_local a) (flow types f (trees d.code) (flow types f (trees all_code) None).next).next
             (nowhere_flows types f (trees d.code) (flow types f (trees all_code) None).next (nowhere_flows types f (trees all_code) None refl).next).next
         known_there b (Some k) known =
-            subst (λ (q : Flow). IsKnownReady (result_local a) (flow types f (trees d.code) q.next).next) (sym (full_falls types texts so_far fs f a v in_loop into s w Q h can token made k (g b k known)))
-            (subst (λ (q : Flow). IsKnownReady (result_local a) q.next) (sym (d.falls (middle b k known) (end_ready f w.state.living 0 0 later.ascend (middle b k known) (full_knows types texts so_far fs f a v in_loop into s w Q h can token made k (g b k known)))))
+            subst (λ (q : Flow). IsKnownReady (result_local a) (flow types f (trees d.code) q.next).next) (sym (full_falls types texts fs f a v in_loop into s w Q h can token made k (g b k known)))
+            (subst (λ (q : Flow). IsKnownReady (result_local a) q.next) (sym (d.falls (middle b k known) (end_ready f w.state.living 0 0 later.ascend (middle b k known) (full_knows types texts fs f a v in_loop into s w Q h can token made k (g b k known)))))
             (written_there b k known))
 
-        returned_from : Does types texts so_far fs f a v in_loop s behind
+        returned_from : Does types texts fs f a v in_loop s behind
         returned_from = record {
-          adds = full_adds types texts so_far fs f a v in_loop into s w Q h can token made;
-          locals = locals_added so_far types a s w.state made.grown.types made.registers;
+          adds = full_adds types texts fs f a v in_loop into s w Q h can token made;
+          locals = locals_added types a s w.state made.grown.types made.registers;
           order = made.registers.1;
           follows = later;
           code = all_code ++ back;
           written =
-              ap (λ (c : List Tree). (c ++ d.code) ++ Returns keyword ∷ []) (full_written types texts so_far fs f a v in_loop into s w Q h can token made)
+              ap (λ (c : List Tree). (c ++ d.code) ++ Returns keyword ∷ []) (full_written types texts fs f a v in_loop into s w Q h can token made)
               ∙ append_assoc (s.code ++ all_code) d.code (Returns keyword ∷ [])
               ∙ append_assoc s.code all_code back;
           acts = acting;
           returns = λ b gives o known.
               let between : Knowing = (flow types f (trees all_code) o).next in
-              known_append types f (result_local a) all_code back o (fine_known types f (result_local a) texts so_far fs all_code (full_fine types texts so_far fs f a v in_loop into s w Q h can token made b) o)
-              (known_append types f (result_local a) d.code (Returns keyword ∷ []) between (fine_known types f (result_local a) texts so_far fs d.code (past_fine types texts so_far fs f a setting v r_state later b 0 keyword d) between)
+              known_append types f (result_local a) all_code back o (fine_known types f (result_local a) texts fs all_code (full_fine types texts fs f a v in_loop into s w Q h can token made b) o)
+              (known_append types f (result_local a) d.code (Returns keyword ∷ []) between (fine_known types f (result_local a) texts fs d.code (past_fine types texts fs f a setting v r_state later b 0 keyword d) between)
               (known_there b o known, tt));
         }
           where
-            acting : Begins types f w.state → Acting types texts so_far fs f in_loop s behind (all_code ++ back)
+            acting : Begins types f w.state → Acting types texts fs f in_loop s behind (all_code ++ back)
             acting b = record {
               stated =
-                  stated_append types texts so_far fs f in_loop all_code back ((full_fine types texts so_far fs f a v in_loop into s w Q h can token made b).stated in_loop)
-                  (stated_append types texts so_far fs f in_loop d.code (Returns keyword ∷ []) ((past_fine types texts so_far fs f a setting v r_state later b 0 keyword d).stated in_loop)
-                  (stated_alone types texts so_far fs f in_loop (Returns keyword) (record { statement = refl; tests = refl; breaks = refl; given = refl; formed = refl; served = λ so. refl })));
+                  stated_append types texts fs f in_loop all_code back ((full_fine types texts fs f a v in_loop into s w Q h can token made b).stated in_loop)
+                  (stated_append types texts fs f in_loop d.code (Returns keyword ∷ []) ((past_fine types texts fs f a setting v r_state later b 0 keyword d).stated in_loop)
+                  (stated_alone types texts fs f in_loop (Returns keyword) (record { statement = refl; tests = refl; breaks = refl; given = refl; formed = refl; served = refl })));
               ways = leaves_may types f in_loop s.living w.state.living (take s.outside s.living) (trees (all_code ++ back)) (λ k known. leaves_there b k known);
+              apart =
+                  codes_apart f s r_state behind all_code back (full_apart types texts fs f a v in_loop into s w Q h can token made b)
+                  (codes_apart f r_state r_state behind d.code (Returns keyword ∷ []) (d.apart r_state r_state (omega arith) (λ x o. inl o)) (same_apart f r_state behind refl refl refl));
             }
 
-      result_left : DoesLevel types texts so_far fs f a v in_loop s (left 0 keyword (Returns keyword) r_state)
+      result_left : DoesLevel types texts fs f a v in_loop s (left 0 keyword (Returns keyword) r_state)
       result_left =
-          let d = ended types texts so_far fs f ending keyword r_state in
+          let d = ended types texts fs f ending keyword r_state in
           record {
-            does = subst (λ (q : State). Does types texts so_far fs f a v in_loop s (write (Returns keyword) q)) (sym d.written) (returned_from d);
-            level = left_level types texts so_far fs f r_state 0 keyword (Returns keyword) ∙ made.grown.living;
+            does = subst (λ (q : State). Does types texts fs f a v in_loop s (write (Returns keyword) q)) (sym d.written) (returned_from d);
+            level = left_level types texts fs f r_state 0 keyword (Returns keyword) ∙ made.grown.living;
           }
 
-      pub result_returned : (x : State) → x ≡ w.state → DoesLevel types texts so_far fs f a v in_loop s (left 0 keyword (Returns keyword) (end_pending (length s.pending) token x))
+      pub result_returned : (x : State) → x ≡ w.state → DoesLevel types texts fs f a v in_loop s (left 0 keyword (Returns keyword) (end_pending (length s.pending) token x))
       result_returned x same =
-          subst (λ (x : State). DoesLevel types texts so_far fs f a v in_loop s (left 0 keyword (Returns keyword) (end_pending (length s.pending) token x))) (sym same)
-          (subst (λ (x : State). DoesLevel types texts so_far fs f a v in_loop s (left 0 keyword (Returns keyword) x)) (sym (behind_is types texts so_far fs f s w.state made.grown h.stands.pends token)) result_left)
+          subst (λ (x : State). DoesLevel types texts fs f a v in_loop s (left 0 keyword (Returns keyword) (end_pending (length s.pending) token x))) (sym same)
+          (subst (λ (x : State). DoesLevel types texts fs f a v in_loop s (left 0 keyword (Returns keyword) x)) (sym (behind_is types texts fs f s w.state made.grown h.stands.pends token)) result_left)

@@ -307,7 +307,7 @@ row_fits operator.Remainder l r t e = multiplied core.Remainder l r t (λ u. ref
 
 -- ---- between two expressions
 
-operand_typed : (form : Form) → operand_type form ≡ (typed_in form).ty
+pub operand_typed : (form : Form) → operand_type form ≡ (typed_in form).ty
 operand_typed (typed place t c form) = refl
 operand_typed _ = refl
 

@@ -1,5 +1,5 @@
 -- A number is saved at a place, or in an object that has just come to life.
-use Rattle.std.proofs.Common.{◌≡◌, ◌<◌, ℕ, Bool, true, false, not, List, [], ◌∷◌, None, length, slice_set, refl, ap, ◌∙◌, arith}
+use Rattle.std.proofs.Common.{◌≡◌, ◌<◌, ℕ, true, false, not, List, [], ◌∷◌, None, length, slice_set, refl, ap, ◌∙◌, arith}
 use Rattle.std.proofs.lemmas.Bool.{and_from}
 use Rattle.life_types.specs.Types.{Types}
 use Rattle.life_types.specs.declared.place.Place.{Place}
@@ -27,19 +27,19 @@ use Rattle.life_elab_laws.proofs.Making.{IsHeld, IsPlace, keeps_all}
 use Rattle.life_elab_laws.proofs.Parts.{Part}
 use Rattle.life_elab_laws.proofs.Shaping.{IsFineStep}
 
-module _ (types : Types) (texts : ℕ) (so_far : Bool) (fs : List Function) (f : Function) where
-  pub saved_fine : (t : Ty) (r : ℕ) (o : Operand) → is_number_of types f t r ≡ true → IsPlaceOf types texts so_far fs f t false o → IsFineStep types texts so_far fs f (Save o r)
+module _ (types : Types) (texts : ℕ) (fs : List Function) (f : Function) where
+  pub saved_fine : (t : Ty) (r : ℕ) (o : Operand) → is_number_of types f t r ≡ true → IsPlaceOf types texts fs f t false o → IsFineStep types texts fs f (Save o r)
   saved_fine t r o number at = record {
     given = refl;
     formed = and_from (is_number_of types f (type_of types f o) r) (not (is_const_place types f o)) (ap (λ (u : Ty). is_number_of types f u r) at.typed ∙ number) at.held;
     served = at.served;
   }
 
-  pub saved_part : {A : Type 0} (P : Gift types texts so_far fs f A) (x : A) (t : Ty) (r : ℕ) (o : Operand) (place : Place) (s : State)
-      → (P.typed x → is_number_of types f t r ≡ true) → (P.typed x → IsPlaceOf types texts so_far fs f t false o) → ((n : ℕ) (k : List Known) → P.ready x n k → IsHeld r n k × IsPlace o n k)
-      → Part types texts so_far fs f P x None s (gives tt (emit place (Save o r) s)) (nothing types texts so_far fs f)
+  pub saved_part : {A : Type 0} (P : Gift types texts fs f A) (x : A) (t : Ty) (r : ℕ) (o : Operand) (place : Place) (s : State)
+      → (P.typed x → is_number_of types f t r ≡ true) → (P.typed x → IsPlaceOf types texts fs f t false o) → ((n : ℕ) (k : List Known) → P.ready x n k → IsHeld r n k × IsPlace o n k)
+      → Part types texts fs f P x None s (gives tt (emit place (Save o r) s)) (nothing types texts fs f)
   saved_part P x t r o place s number at ready =
-      acted_part types texts so_far fs f P x place (Save o r) s
+      acted_part types texts fs f P x place (Save o r) s
       (λ h. saved_fine t r o (number h) (at h))
       (λ n k p. let is = ready n k p in
       uses_ready k (r ∷ place_uses o) [] (and_from (is_known known.Ready k r) (are_known known.Ready k (place_uses o)) (ready_there k r is.0.1) (place_there o n k is.1)))

@@ -1,5 +1,5 @@
--- Where a function is written: in a program that the law reaches, whose core functions take and give what they should.
-use Rattle.std.proofs.Common.{◌≡◌, ℕ, Bool, true, false, List, None, Some, slice_get}
+-- Where a function is written: in a program that is served, whose core functions take and give what they should.
+use Rattle.std.proofs.Common.{◌≡◌, ℕ, true, false, List, None, Some, slice_get}
 use Rattle.life_types.specs.Pointees.{ty_of}
 use Rattle.life_types.specs.TypeTests.{is_void}
 use Rattle.life_types.specs.Types.{Types, class_at}
@@ -7,8 +7,7 @@ use Rattle.life_types.specs.declared.ty.Class.TheVariants.{Value}
 use Rattle.life_types.specs.declared.ty.Ty.{Ty}
 use Rattle.life_types.specs.declared.ty.Ty.TheVariants as ty
 use Rattle.life_types.specs.declared.ty.TyId.{TyId}
-use Rattle.life_served.specs.Served.{is_served_result}
-use Rattle.life_elab_laws.specs.Reached.{are_reached_variables}
+use Rattle.life_served.specs.Served.{are_served_variables, is_served_result}
 use Rattle.life_typed.specs.BaseTypes.{type_at}
 use Rattle.life_typed.specs.Ends.{ends}
 use Rattle.life_typed.specs.Programs.{FunctionForm}
@@ -28,9 +27,9 @@ pub data GivesBack (a : Around) (types : Types) (f : Function) : Type 0 where
   unasked : class_at types f.result ≡ Value → GivesBack a types f
   asked : f.parameters ≡ result_local a → is_void (type_at a.program.types a.function.result) ≡ false → ends a.function.body ≡ true → GivesBack a types f
 
-pub record Setting (so_far : Bool) (a : Around) (types : Types) (fs : List Function) (f : Function) : Type 0 where
+pub record Setting (a : Around) (types : Types) (fs : List Function) (f : Function) : Type 0 where
   pub front : IsFront a.program.types.types types.types
-  pub variables : are_reached_variables so_far a.program.types a.function.locals ≡ true
+  pub variables : are_served_variables a.program.types a.function.locals ≡ true
   -- the table has chars, where views have elements
   pub chars : type_at a.program.types CHAR ≡ ty.Char
   pub returned : (g : ℕ) (of : FunctionForm) → slice_get a.program.functions g ≡ Some of → is_served_result a.program.types of.result ≡ true

@@ -1,20 +1,22 @@
 -- The locals of a function: one without a name is a register or a temporary, and what is no register without a name has the type of a variable that is reached.
 use Rattle.std.proofs.Common.{◌≡◌, inl, inr, ℕ, zero, suc, Bool, true, false, ◌||◌, List, [], ◌∷◌, slice_get, Option, Some, None, refl, ap, ◌∙◌, unwrap_or, ◌&&◌, not, is_none}
 use Rattle.std.proofs.lemmas.Bool.{false≢true}
+use Rattle.life_types.specs.Pointees.{ty_of}
 use Rattle.life_types.specs.TypeTests.{is_value}
 use Rattle.life_types.specs.Types.{Types}
 use Rattle.life_types.specs.declared.ty.NameId.{NameId}
 use Rattle.life_types.specs.declared.ty.Ty.{Ty}
 use Rattle.life_types.specs.declared.ty.Ty.TheVariants as ty
 use Rattle.life_types.specs.declared.ty.TyId.{TyId}
-use Rattle.life_served.specs.Served.{is_pointing}
-use Rattle.life_elab_laws.specs.Reached.{is_owner_of_values, is_reached_variable, is_walker_of_values}
+use Rattle.life_served.specs.Served.{is_owner_of_values, is_pointing, is_served_variable, is_target, is_walker_of_values, is_element, is_inner_owner}
 use Rattle.life_typed.specs.BaseTypes.{type_at}
 use Rattle.life_core.specs.declared.program.Local.{Local}
 use Rattle.life_proper.specs.Knowing.{is_intermediate}
 use Rattle.life_elab_laws.proofs.Fronts.{IsFront, each_at}
-use Rattle.life_elab_laws.proofs.Reaching.{IsReachedType, reaches, type_reached, variable_found}
+use Rattle.life_elab_laws.proofs.ServedTypes.{IsServedType, serves, type_serves, variable_found}
+use Rattle.life_elab_laws.proofs.Targets.{IsTarget, owner_target, target_is, target_type, to_owner, to_value, value_target}
 use Rattle.life_core.specs.Kinds.{is_object}
+use Rattle.life_elab_laws.proofs.Elements.{IsElement, has_value, has_owner, element_is, inner_element, value_element}
 
 -- ---- the type of a variable that is built is one in a table with more types too
 
@@ -26,30 +28,67 @@ module _ (few more : Types) (front : IsFront few.types more.types) where
       go None at w = absurd (false≢true w)
       go (Some t) at w = ap (λ (o : Option Ty). is_value (unwrap_or o ty.Void)) (front id.0 t at) ∙ w
 
-  type_later : (t : Ty) → (is_value t || is_pointing few t) ≡ true → (is_value t || is_pointing more t) ≡ true
-  type_later (ty.Raw target constant) b = value_later target b
-  type_later (ty.Reference target constant) b = value_later target b
-  type_later _ b = b
+  inner_later : (t : Ty) → is_inner_owner few t ≡ true → is_inner_owner more t ≡ true
+  inner_later ty.Text o = refl
+  inner_later (ty.Vector element) o = value_later element o
+  inner_later _ o = absurd (false≢true o)
+
+  pub element_further : (t : Ty) → is_element few t ≡ true → is_element more t ≡ true
+  element_further t h = go (element_is few t h)
+    where
+      go : IsElement few t → is_element more t ≡ true
+      go (has_value v) = value_element more t v
+      go (has_owner o) = inner_element more t (inner_later t o)
+
+  pub element_later : (id : TyId) → is_element few (type_at few id) ≡ true → is_element more (type_at more id) ≡ true
+  element_later id h = go (slice_get few.types id.0) refl h
+    where
+      go : (o : Option Ty) → slice_get few.types id.0 ≡ o → is_element few (unwrap_or o ty.Void) ≡ true → is_element more (type_at more id) ≡ true
+      go None at h = absurd (false≢true h)
+      go (Some t) at h = ap (λ (o : Option Ty). is_element more (unwrap_or o ty.Void)) (front id.0 t at) ∙ element_further t h
 
   pub owner_later : (t : Ty) → is_owner_of_values few t ≡ true → is_owner_of_values more t ≡ true
   owner_later ty.Text o = refl
-  owner_later (ty.Vector element) o = value_later element o
+  owner_later (ty.Vector element) o = element_later element o
   owner_later _ o = absurd (false≢true o)
 
+  pub target_further : (t : Ty) → is_target few t ≡ true → is_target more t ≡ true
+  target_further t h = go (target_is few t h)
+    where
+      go : IsTarget few t → is_target more t ≡ true
+      go (to_value v) = value_target more t v
+      go (to_owner o) = owner_target more t (owner_later t o)
+
+  pub target_later : (id : TyId) → is_target few (type_at few id) ≡ true → is_target more (type_at more id) ≡ true
+  target_later id h = go (slice_get few.types id.0) refl h
+    where
+      go : (o : Option Ty) → slice_get few.types id.0 ≡ o → is_target few (unwrap_or o ty.Void) ≡ true → is_target more (type_at more id) ≡ true
+      go None at h = absurd (false≢true h)
+      go (Some t) at h = ap (λ (o : Option Ty). is_target more (unwrap_or o ty.Void)) (front id.0 t at) ∙ target_further t h
+
+  -- .. there
+  pub target_there : (id : TyId) → is_target few (type_at few id) ≡ true → is_target more (ty_of more id) ≡ true
+  target_there id h = ap (is_target more) (target_type few more front id h) ∙ target_further (type_at few id) h
+
+  type_later : (t : Ty) → (is_value t || is_pointing few t) ≡ true → (is_value t || is_pointing more t) ≡ true
+  type_later (ty.Raw target constant) b = target_later target b
+  type_later (ty.Reference target constant) b = target_later target b
+  type_later _ b = b
+
   pub walker_later : (t : Ty) → is_walker_of_values few t ≡ true → is_walker_of_values more t ≡ true
-  walker_later (ty.Iterator target constant) w = value_later target w
-  walker_later (ty.Span target constant) w = value_later target w
+  walker_later (ty.Iterator target constant) w = element_later target w
+  walker_later (ty.Span target constant) w = element_later target w
   walker_later _ w = absurd (false≢true w)
 
-  reached_later : (so_far : Bool) (t : Ty) → IsReachedType so_far few t → IsReachedType so_far more t
-  reached_later so_far t (inl b) = inl (type_later t b)
-  reached_later so_far t (inr (inl o)) = inr (inl (o.0, owner_later t o.1))
-  reached_later so_far t (inr (inr w)) = inr (inr (w.0, walker_later t w.1))
+  served_later : (t : Ty) → IsServedType few t → IsServedType more t
+  served_later t (inl b) = inl (type_later t b)
+  served_later t (inr (inl o)) = inr (inl (owner_later t o))
+  served_later t (inr (inr w)) = inr (inr (walker_later t w))
 
-  pub variable_later : (so_far : Bool) (id : TyId) → is_reached_variable so_far few id ≡ true → is_reached_variable so_far more id ≡ true
-  variable_later so_far id b =
-      let found = variable_found so_far few id b in
-      ap (λ (o : Option Ty). reaches so_far more (unwrap_or o ty.Void)) (front id.0 found.0 found.1) ∙ type_reached so_far more found.0 (reached_later so_far found.0 found.2)
+  pub variable_later : (id : TyId) → is_served_variable few id ≡ true → is_served_variable more id ≡ true
+  variable_later id b =
+      let found = variable_found few id b in
+      ap (λ (o : Option Ty). serves more (unwrap_or o ty.Void)) (front id.0 found.0 found.1) ∙ type_serves more found.0 (served_later found.0 found.2)
 
 -- ---- locals
 
@@ -63,7 +102,7 @@ named_lasts l name e = ap (λ (o : Option NameId). is_none o && not (is_object l
 -- a variable, a parameter or a temporary
 pub record IsVariable (types : Types) (l : Local) : Type 0 where
   pub lasts : is_passing l ≡ false
-  pub built : is_reached_variable false types l.ty ≡ true
+  pub built : is_served_variable types l.ty ≡ true
 
 abbrev pub IsShaped : Types → Local → Type 0
 IsShaped types l = is_intermediate l ≡ false → IsVariable types l

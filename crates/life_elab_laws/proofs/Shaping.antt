@@ -59,25 +59,25 @@ abbrev pub keeps_its_target : Step → Bool
 keeps_its_target (Call target g xs) = keeps_target target xs
 keeps_its_target _ = true
 
+abbrev pub node_keeps_target : Node → Bool
+node_keeps_target (Action i) = keeps_its_target i
+node_keeps_target _ = true
+
+abbrev pub spot_keeps_target : Spot → Bool
+spot_keeps_target s = node_keeps_target s.node
+
+abbrev pub tree_keeps_target : Tree → Bool
+tree_keeps_target t = list_all spot_keeps_target (spots t)
+
 module _ (types : Types) (f : Function) where
-  -- what a point gives over is no object, and no member of what is given over is written
+  -- what an instruction gives over is no object, and no member of what is given over is written
   abbrev pub is_no_object : ℕ → Bool
   is_no_object x = not (object_at types f x)
 
   abbrev pub gives_values : Step → Bool
   gives_values i = list_all is_no_object (given_step i) && keeps_its_target i
 
-  abbrev pub node_gives_values : Node → Bool
-  node_gives_values (Action i) = gives_values i
-  node_gives_values _ = true
-
-  abbrev pub spot_gives_values : Spot → Bool
-  spot_gives_values s = node_gives_values s.node
-
-  abbrev pub tree_gives_values : Tree → Bool
-  tree_gives_values t = list_all spot_gives_values (spots t)
-
-module _ (types : Types) (texts : ℕ) (so_far : Bool) (fs : List Function) (f : Function) where
+module _ (types : Types) (texts : ℕ) (fs : List Function) (f : Function) where
   abbrev is_formed : Tree → Bool
   is_formed t = is_well_formed_tree types texts fs f t
 
@@ -91,11 +91,11 @@ module _ (types : Types) (texts : ℕ) (so_far : Bool) (fs : List Function) (f :
   served_all : (a b c : Tree) → is_served_tree a ≡ true → is_served_tree b ≡ true → is_served_tree c ≡ true → is_served_tree (Choice a b c) ≡ true
   served_all a b c first second third = three_parts (is_served_spot types f) (spots a) (spots b) (spots c) true true true first second third
 
-  given_both : (a b : Tree) → tree_gives_values types f a ≡ true → tree_gives_values types f b ≡ true → tree_gives_values types f (Then a b) ≡ true
-  given_both a b first second = two_parts (spot_gives_values types f) (spots a) (spots b) true true first second
+  given_both : (a b : Tree) → tree_keeps_target a ≡ true → tree_keeps_target b ≡ true → tree_keeps_target (Then a b) ≡ true
+  given_both a b first second = two_parts (spot_keeps_target) (spots a) (spots b) true true first second
 
-  given_all : (a b c : Tree) → tree_gives_values types f a ≡ true → tree_gives_values types f b ≡ true → tree_gives_values types f c ≡ true → tree_gives_values types f (Choice a b c) ≡ true
-  given_all a b c first second third = three_parts (spot_gives_values types f) (spots a) (spots b) (spots c) true true true first second third
+  given_all : (a b c : Tree) → tree_keeps_target a ≡ true → tree_keeps_target b ≡ true → tree_keeps_target c ≡ true → tree_keeps_target (Choice a b c) ≡ true
+  given_all a b c first second third = three_parts (spot_keeps_target) (spots a) (spots b) (spots c) true true true first second third
 
   -- ---- conditions
 
@@ -103,12 +103,12 @@ module _ (types : Types) (texts : ℕ) (so_far : Bool) (fs : List Function) (f :
     pub condition : is_condition t ≡ true
     pub straight : test_straight t ≡ true
     pub breaks : (in_loop : Bool) → breaks_inside in_loop t ≡ true
-    pub given : tree_gives_values types f t ≡ true
+    pub given : tree_keeps_target t ≡ true
     pub formed : is_well_formed_tree types texts fs f t ≡ true
-    pub served : so_far ≡ true → is_served_tree t ≡ true
+    pub served : is_served_tree t ≡ true
 
-  pub fine_asks : (place : Place) (t : Test) → is_well_formed_test types texts fs f t ≡ true → (so_far ≡ true → is_served_test types f t ≡ true) → IsFineTest (Asks place t)
-  fine_asks place t e g = record { condition = refl; straight = refl; breaks = λ in_loop. refl; given = refl; formed = e; served = λ so. and_from (is_served_test types f t) true (g so) refl }
+  pub fine_asks : (place : Place) (t : Test) → is_well_formed_test types texts fs f t ≡ true → (is_served_test types f t ≡ true) → IsFineTest (Asks place t)
+  fine_asks place t e g = record { condition = refl; straight = refl; breaks = λ in_loop. refl; given = refl; formed = e; served = and_from (is_served_test types f t) true g refl }
 
   pub fine_both : (a b : Tree) → IsFineTest a → IsFineTest b → IsFineTest (Both a b)
   fine_both a b first second = record {
@@ -117,7 +117,7 @@ module _ (types : Types) (texts : ℕ) (so_far : Bool) (fs : List Function) (f :
     breaks = λ in_loop. and_from (breaks_inside in_loop a) (breaks_inside in_loop b) (first.breaks in_loop) (second.breaks in_loop);
     given = given_both a b first.given second.given;
     formed = and_from (is_formed a) (is_formed b) first.formed second.formed;
-    served = λ so. served_both a b (first.served so) (second.served so);
+    served = served_both a b first.served second.served;
   }
 
   pub fine_either : (a b : Tree) → IsFineTest a → IsFineTest b → IsFineTest (Either a b)
@@ -127,7 +127,7 @@ module _ (types : Types) (texts : ℕ) (so_far : Bool) (fs : List Function) (f :
     breaks = λ in_loop. and_from (breaks_inside in_loop a) (breaks_inside in_loop b) (first.breaks in_loop) (second.breaks in_loop);
     given = given_both a b first.given second.given;
     formed = and_from (is_formed a) (is_formed b) first.formed second.formed;
-    served = λ so. served_both a b (first.served so) (second.served so);
+    served = served_both a b first.served second.served;
   }
 
   pub fine_negated : (a : Tree) → IsFineTest a → IsFineTest (Negated a)
@@ -139,12 +139,12 @@ module _ (types : Types) (texts : ℕ) (so_far : Bool) (fs : List Function) (f :
     pub statement : is_statement t ≡ true
     pub tests : tests_straight t ≡ true
     pub breaks : breaks_inside in_loop t ≡ true
-    pub given : tree_gives_values types f t ≡ true
+    pub given : tree_keeps_target t ≡ true
     pub formed : is_well_formed_tree types texts fs f t ≡ true
-    pub served : so_far ≡ true → is_served_tree t ≡ true
+    pub served : is_served_tree t ≡ true
 
   pub stated_none : (in_loop : Bool) → IsStated in_loop Skip
-  stated_none in_loop = record { statement = refl; tests = refl; breaks = refl; given = refl; formed = refl; served = λ so. refl }
+  stated_none in_loop = record { statement = refl; tests = refl; breaks = refl; given = refl; formed = refl; served = refl }
 
   pub stated_alone : (in_loop : Bool) (t : Tree) → IsStated in_loop t → IsStated in_loop (trees (t ∷ []))
   stated_alone in_loop t h = record {
@@ -153,7 +153,7 @@ module _ (types : Types) (texts : ℕ) (so_far : Bool) (fs : List Function) (f :
     breaks = and_from (breaks_inside in_loop t) true h.breaks refl;
     given = given_both t Skip h.given refl;
     formed = and_from (is_formed t) true h.formed refl;
-    served = λ so. served_both t Skip (h.served so) refl;
+    served = served_both t Skip h.served refl;
   }
 
   pub stated_append : (in_loop : Bool) (c d : List Tree) → IsStated in_loop (trees c) → IsStated in_loop (trees d) → IsStated in_loop (trees (c ++ d))
@@ -161,9 +161,9 @@ module _ (types : Types) (texts : ℕ) (so_far : Bool) (fs : List Function) (f :
     statement = all_append is_statement refl (λ a b. refl) c d first.statement second.statement;
     tests = all_append tests_straight refl (λ a b. refl) c d first.tests second.tests;
     breaks = all_append (breaks_inside in_loop) refl (λ a b. refl) c d first.breaks second.breaks;
-    given = all_append (tree_gives_values types f) refl (λ a b. list_all-append (spot_gives_values types f) (spots a) (spots b)) c d first.given second.given;
+    given = all_append (tree_keeps_target) refl (λ a b. list_all-append (spot_keeps_target) (spots a) (spots b)) c d first.given second.given;
     formed = all_append (is_well_formed_tree types texts fs f) refl (λ a b. refl) c d first.formed second.formed;
-    served = λ so. all_append is_served_tree refl (λ a b. list_all-append (is_served_spot types f) (spots a) (spots b)) c d (first.served so) (second.served so);
+    served = all_append is_served_tree refl (λ a b. list_all-append (is_served_spot types f) (spots a) (spots b)) c d first.served second.served;
   }
 
   pub stated_choice : (in_loop : Bool) (t a b : Tree) → IsFineTest t → IsStated in_loop a → IsStated in_loop b → IsStated in_loop (Choice t a b)
@@ -173,7 +173,7 @@ module _ (types : Types) (texts : ℕ) (so_far : Bool) (fs : List Function) (f :
     breaks = and_from (breaks_inside in_loop t) _ (test.breaks in_loop) (and_from (breaks_inside in_loop a) (breaks_inside in_loop b) first.breaks second.breaks);
     given = given_all t a b test.given first.given second.given;
     formed = and_from (is_formed t) _ test.formed (and_from (is_formed a) (is_formed b) first.formed second.formed);
-    served = λ so. served_all t a b (test.served so) (first.served so) (second.served so);
+    served = served_all t a b test.served first.served second.served;
   }
 
   pub stated_turns : (in_loop : Bool) (t body step : Tree) → IsFineTest t → IsStated true body → IsStated false step → IsStated in_loop (Turns t body step)
@@ -184,7 +184,7 @@ module _ (types : Types) (texts : ℕ) (so_far : Bool) (fs : List Function) (f :
         (and_from (breaks_inside true body) (breaks_inside in_loop step) first.breaks (breaks_anywhere in_loop step second.breaks));
     given = given_all t body step test.given first.given second.given;
     formed = and_from (is_formed t) _ test.formed (and_from (is_formed body) (is_formed step) first.formed second.formed);
-    served = λ so. served_all t body step (test.served so) (first.served so) (second.served so);
+    served = served_all t body step test.served first.served second.served;
   }
 
   -- ---- code of an expression
@@ -206,14 +206,18 @@ module _ (types : Types) (texts : ℕ) (so_far : Bool) (fs : List Function) (f :
   pub record IsFineStep (i : Step) : Type 0 where
     pub given : gives_values types f i ≡ true
     pub formed : is_well_formed_step types texts fs f i ≡ true
-    pub served : so_far ≡ true → is_served_step types f i ≡ true
+    pub served : is_served_step types f i ≡ true
 
-  pub fine_acts : (place : Place) (i : Step) → IsFineStep i → IsFine (Acts place i ∷ [])
-  fine_acts place i is = record {
+  -- one that may give over an object too
+  pub fine_gives : (place : Place) (i : Step) → keeps_its_target i ≡ true → is_well_formed_step types texts fs f i ≡ true → is_served_step types f i ≡ true → IsFine (Acts place i ∷ [])
+  fine_gives place i keeps formed served = record {
     straight = refl;
     stated = λ in_loop. stated_alone in_loop (Acts place i)
-        (record { statement = refl; tests = refl; breaks = refl; given = and_from (gives_values types f i) true is.given refl; formed = is.formed; served = λ so. and_from (is_served_step types f i) true (is.served so) refl });
+        (record { statement = refl; tests = refl; breaks = refl; given = and_from (keeps_its_target i) true keeps refl; formed = formed; served = and_from (is_served_step types f i) true served refl });
   }
+
+  pub fine_acts : (place : Place) (i : Step) → IsFineStep i → IsFine (Acts place i ∷ [])
+  fine_acts place i is = fine_gives place i (and_parts (list_all (is_no_object types f) (given_step i)) (keeps_its_target i) is.given).1 is.formed is.served
 
   -- a branch whose branches are straight
   pub fine_choice : (t : Tree) (a b : List Tree) → IsFineTest t → IsFine a → IsFine b → IsFine (Choice t (trees a) (trees b) ∷ [])
@@ -230,5 +234,5 @@ module _ (types : Types) (texts : ℕ) (so_far : Bool) (fs : List Function) (f :
     breaks = λ in_loop. and_from (breaks_inside in_loop (trees c)) (breaks_inside in_loop t) (first.stated in_loop).breaks (second.breaks in_loop);
     given = given_both (trees c) t one.given second.given;
     formed = and_from (is_formed (trees c)) (is_formed t) one.formed second.formed;
-    served = λ so. served_both (trees c) t (one.served so) (second.served so);
+    served = served_both (trees c) t one.served second.served;
   }

@@ -1,7 +1,8 @@
 -- The places of a function that is translated have a step at most: its objects are values and owners of values, and values and characters are behind its parameters.
-use Rattle.std.proofs.Common.{◌≡◌, ◌<◌, ◌+◌, inl, ℕ, zero, suc, Bool, true, false, ◌&&◌, ◌||◌, List, [], ◌∷◌, ◌++◌, if◌then◌else◌, flat_map, map, nat_lt, slice_get, Option, Some, None, is_none, refl, ap, ◌∙◌, subst, sym, unwrap_or, arith}
+use Rattle.std.proofs.Common.{◌≡◌, ◌<◌, ◌+◌, inl, ℕ, zero, suc, Bool, true, false, ◌&&◌, ◌||◌, List, [], ◌∷◌, ◌++◌, if◌then◌else◌, flat_map, map, nat_lt, slice_get, Option, Some, None, is_none, refl, ap, ◌∙◌, subst, sym, unwrap_or, arith, inr}
 use Rattle.std.proofs.lemmas.Bool.{false≢true}
 use Rattle.std.proofs.lemmas.Bool.Decides.{nat_tests}
+use Rattle.life_served.specs.Served.{is_served_variable, is_element, is_inner_owner, is_owner_of_values, is_target}
 use Rattle.life_types.specs.Pointees.{or_void, ty_of}
 use Rattle.life_types.specs.Trees.{tree_at, tree_of, tree_within}
 use Rattle.life_types.specs.TypeTests.{is_pointer, is_value}
@@ -10,7 +11,6 @@ use Rattle.life_types.specs.declared.place.Place.{Place}
 use Rattle.life_types.specs.declared.ty.Ty.{Ty}
 use Rattle.life_types.specs.declared.ty.Ty.TheVariants as ty
 use Rattle.life_types.specs.declared.ty.TyId.{TyId}
-use Rattle.life_elab_laws.specs.Reached.{is_reached_variable}
 use Rattle.life_typed.specs.BaseTypes.{type_at}
 use Rattle.life_core.specs.Function.{Function}
 use Rattle.life_core.specs.Linked.{Linked, code_of}
@@ -21,15 +21,19 @@ use Rattle.life_core.specs.declared.program.LocalKind.{LocalKind}
 use Rattle.life_core.specs.declared.program.LocalKind.TheVariants.{Object, Register, Range}
 use Rattle.life_core.specs.Kinds.{is_register}
 use Rattle.life_pset.specs.Elements.{AreShort, Input, input_at, input_if, input_root, causes_of_end, caused_at, caused_elements, elements_of, end_elements, input_places, inputs_among, inputs_from, inputs_of, local_inputs, local_place, locations_in, node_elements, object_places, objects_from, places_in, pointers_in, step_elements}
-use Rattle.life_pset.specs.Shapes.{has_buffer, is_variable, referred, shape, shape_if, target_of, tree_if, unslotted}
+use Rattle.life_pset.specs.Shapes.{has_buffer, is_variable, shape, shape_if, target_of, tree_if, unslotted}
 use Rattle.life_pset.specs.declared.element.AbsPlace.{AbsPlace}
 use Rattle.life_pset.specs.declared.element.Cause.{Cause}
 use Rattle.life_pset.specs.declared.element.Element.{Element}
 use Rattle.life_pset.specs.declared.element.Element.TheVariants as element
-use Rattle.life_elab_laws.proofs.Reaching.{IsReachedType, reaches, type_reached, value_reached}
+use Rattle.life_elab_laws.proofs.ServedTypes.{IsServedType, serves, type_serves, value_serves}
 use Rattle.life_elab_laws.proofs.Shaped.{AreShaped, IsShaped}
-use Rattle.life_elab_laws.proofs.HandedTypes.{IsHandedType, a_raw, a_reference, a_value, a_view}
+use Rattle.life_elab_laws.proofs.HandedTypes.{IsHandedType, a_raw, a_reference, a_value, a_view, a_walker, an_alias}
 use Rattle.life_pset.specs.Places.{owned_place, root_place}
+use Rattle.life_elab_laws.proofs.Elements.{IsElement, has_owner, has_value, element_is, element_target}
+use Rattle.life_pset.specs.declared.element.Root.{Root}
+use Rattle.life_elab_laws.proofs.Targets.{IsTarget, owner_target, target_is, target_referred, to_owner, to_value, value_target}
+use Rattle.life_elab_laws.proofs.OperandsThere.{type_either}
 
 -- ---- lists
 
@@ -74,8 +78,38 @@ module _ (f : Function) where
 -- ---- types of variables
 
 module _ (types : Types) where
-  -- a value or a pointer has no parts, and an owner has its elements
-  short_parts : (id : TyId) → is_reached_variable false types id ≡ true → (x : ℕ) → AreShort (map element.At (places_in (local_place x) (tree_at types id)))
+  -- a value has no parts
+  value_parts : (n : ℕ) (item : TyId) (at : AbsPlace) → AreShort (element.At at ∷ []) → is_value (type_at types item) ≡ true → AreShort (map element.At (places_in at (tree_within n types item)))
+  value_parts zero item at short v = short
+  value_parts (suc n) item at short v = parts (slice_get types.types item.0) v
+    where
+      parts : (o : Option Ty) → is_value (unwrap_or o ty.Void) ≡ true → AreShort (map element.At (places_in at (tree_of types (tree_within n types) o)))
+      parts (Some ty.Bool) v = short
+      parts (Some ty.Char) v = short
+      parts (Some ty.Int) v = short
+      parts (Some ty.Long) v = short
+      parts (Some ty.Size) v = short
+      parts _ v = absurd (false≢true v)
+
+  -- what a vector has has elements itself, where it is an owner
+  element_parts : (n : ℕ) (item : TyId) (at : AbsPlace) → AreShort (element.At at ∷ []) → AreShort (element.At (owned_place at) ∷ []) → is_element types (type_at types item) ≡ true → AreShort (map element.At (places_in at (tree_within n types item)))
+  element_parts n item at short deeper h = go (element_is types (type_at types item) h)
+    where
+      inner : (n : ℕ) → is_inner_owner types (type_at types item) ≡ true → AreShort (map element.At (places_in at (tree_within n types item)))
+      inner zero o = short
+      inner (suc n) o = parts (slice_get types.types item.0) o
+        where
+          parts : (t : Option Ty) → is_inner_owner types (unwrap_or t ty.Void) ≡ true → AreShort (map element.At (places_in at (tree_of types (tree_within n types) t)))
+          parts (Some ty.Text) o = (short.0, deeper)
+          parts (Some (ty.Vector element)) o = (short.0, value_parts n element (owned_place at) deeper o)
+          parts _ o = absurd (false≢true o)
+
+      go : IsElement types (type_at types item) → AreShort (map element.At (places_in at (tree_within n types item)))
+      go (has_value v) = value_parts n item at short v
+      go (has_owner o) = inner n o
+
+  -- .. nor has a pointer, and an owner has its elements
+  short_parts : (id : TyId) → is_served_variable types id ≡ true → (x : ℕ) → AreShort (map element.At (places_in (local_place x) (tree_at types id)))
   unfolding tree_at
   short_parts id b x = go (slice_get types.types id.0) b
     where
@@ -83,43 +117,24 @@ module _ (types : Types) where
       plain true e = refl
       plain false e = e
 
-      value_parts : (n : ℕ) (item : TyId) → is_value (type_at types item) ≡ true → AreShort (map element.At (places_in (owned_place (local_place x)) (tree_within n types item)))
-      value_parts zero item v = (omega arith, tt)
-      value_parts (suc n) item v = parts (slice_get types.types item.0) v
-        where
-          parts : (o : Option Ty) → is_value (unwrap_or o ty.Void) ≡ true → AreShort (map element.At (places_in (owned_place (local_place x)) (tree_of types (tree_within n types) o)))
-          parts (Some ty.Bool) v = (omega arith, tt)
-          parts (Some ty.Char) v = (omega arith, tt)
-          parts (Some ty.Int) v = (omega arith, tt)
-          parts (Some ty.Long) v = (omega arith, tt)
-          parts (Some ty.Size) v = (omega arith, tt)
-          parts _ v = absurd (false≢true v)
-
-      go : (o : Option Ty) → reaches false types (unwrap_or o ty.Void) ≡ true → AreShort (map element.At (places_in (local_place x) (tree_of types (tree_within id.0 types) o)))
+      go : (o : Option Ty) → serves types (unwrap_or o ty.Void) ≡ true → AreShort (map element.At (places_in (local_place x) (tree_of types (tree_within id.0 types) o)))
       go (Some ty.Text) b = (omega arith, (omega arith, tt))
-      go (Some (ty.Vector item)) b = (omega arith, value_parts id.0 item (plain (is_value (type_at types item)) b))
+      go (Some (ty.Vector item)) b = (omega arith, element_parts id.0 item (owned_place (local_place x)) (omega arith, tt) (omega arith, tt) (plain (is_element types (type_at types item)) b))
       go (Some (ty.Unique target)) b = absurd (false≢true b)
       go (Some (ty.Struct number)) b = absurd (false≢true b)
       go _ b = (omega arith, tt)
 
   -- .. and stands as it is, also where a parameter has it
-  same_shape : (parameter : Bool) (id : TyId) → is_reached_variable false types id ≡ true → shape_if types parameter id ≡ id
+  same_shape : (parameter : Bool) (id : TyId) → is_served_variable types id ≡ true → shape_if types parameter id ≡ id
   same_shape false id b = refl
   same_shape true id b = go (slice_get types.types id.0) b
     where
-      to : (target : TyId) (o : Option Ty) → is_value (unwrap_or o ty.Void) ≡ true → referred id target (or_void o) ≡ id
-      to target (Some (ty.Iterator item constant)) w = absurd (false≢true w)
-      to target (Some (ty.Span item constant)) w = absurd (false≢true w)
-      to target (Some ty.View) w = absurd (false≢true w)
-      to target (Some (ty.Unique item)) w = absurd (false≢true w)
-      to target _ w = refl
-
       plain : (b : Bool) → (b || false) ≡ true → b ≡ true
       plain true e = refl
       plain false e = e
 
-      go : (o : Option Ty) → reaches false types (unwrap_or o ty.Void) ≡ true → unslotted types id (or_void o) ≡ id
-      go (Some (ty.Reference target false)) b = to target (slice_get types.types target.0) (plain (is_value (type_at types target)) b)
+      go : (o : Option Ty) → serves types (unwrap_or o ty.Void) ≡ true → unslotted types id (or_void o) ≡ id
+      go (Some (ty.Reference target false)) b = target_referred types id target (ty_of types target) (ap (is_target types) (type_either types target) ∙ plain (is_target types (type_at types target)) b)
       go _ b = refl
 
   -- ---- objects
@@ -182,9 +197,9 @@ module _ (types : Types) where
       ap (λ (b : Bool). if b then at ∷ [] else pointers_in at (tree_at types id)) (ap (λ (o : Option Ty). is_variable k (or_void o)) found ∙ no_buffer_pointer k t none)
       ∙ ap (λ (o : Option Ty). pointers_in at (tree_of types (tree_within id.0 types) o)) found ∙ one id.0 at
 
-  -- what stands behind it is one place
-  abbrev IsOneBehind : TyId → Type 0
-  IsOneBehind id = (at : AbsPlace) → places_in at (tree_if types (target_of (ty_of types id))) ≡ at ∷ []
+  -- what stands behind it is short: a value is one place, and an owner has its elements too
+  abbrev IsShortBehind : TyId → Type 0
+  IsShortBehind id = (r : Root) → AreShort (map element.At (places_in (root_place r) (tree_if types (target_of (ty_of types id)))))
 
   one_place : (id : TyId) → is_value (type_at types id) ≡ true → (at : AbsPlace) → places_in at (tree_at types id) ≡ at ∷ []
   unfolding tree_at
@@ -197,6 +212,22 @@ module _ (types : Types) where
       go (Some ty.Long) w = refl
       go (Some ty.Size) w = refl
       go _ w = absurd (false≢true w)
+
+  owner_short : (r : Root) (id : TyId) → is_owner_of_values types (type_at types id) ≡ true → AreShort (map element.At (places_in (root_place r) (tree_at types id)))
+  unfolding tree_at
+  owner_short r id o = parts (slice_get types.types id.0) o
+    where
+      parts : (t : Option Ty) → is_owner_of_values types (unwrap_or t ty.Void) ≡ true → AreShort (map element.At (places_in (root_place r) (tree_of types (tree_within id.0 types) t)))
+      parts (Some ty.Text) o = (omega arith, (omega arith, tt))
+      parts (Some (ty.Vector item)) o = (omega arith, element_parts id.0 item (owned_place (root_place r)) (omega arith, tt) (omega arith, tt) o)
+      parts _ o = absurd (false≢true o)
+
+  target_short : (id : TyId) → is_target types (type_at types id) ≡ true → (r : Root) → AreShort (map element.At (places_in (root_place r) (tree_at types id)))
+  target_short id h r = go (target_is types (type_at types id) h)
+    where
+      go : IsTarget types (type_at types id) → AreShort (map element.At (places_in (root_place r) (tree_at types id)))
+      go (to_value w) = subst (λ (xs : List AbsPlace). AreShort (map element.At xs)) (sym (one_place id w (root_place r))) (omega arith, tt)
+      go (to_owner o) = owner_short r id o
 
   -- ---- inputs whose places are short
 
@@ -212,30 +243,43 @@ module _ (types : Types) where
   inputs_places [] h = tt
   inputs_places (i ∷ is) h = short_places (input_places types i) (flat_map (input_places types) is) h.0 (inputs_places is h.1)
 
-  one_input : (x : ℕ) (id : TyId) → IsOneBehind id → AreShortInputs (inputs_among types x id 0 (local_place x ∷ []))
+  one_input : (x : ℕ) (id : TyId) → IsShortBehind id → AreShortInputs (inputs_among types x id 0 (local_place x ∷ []))
   one_input x id one = go (is_pointer (ty_of types id))
     where
       go : (b : Bool) → AreShortInputs (input_if b (input_at x 0 (local_place x) (Some id)) ++ [])
       go false = tt
-      go true = (subst (λ (xs : List AbsPlace). AreShort (map element.At xs)) (sym (one (root_place (input_root x 0 (local_place x))))) (omega arith, tt), tt)
+      go true = (one (input_root x 0 (local_place x)), tt)
 
-  pointer_inputs : (k : LocalKind) (x : ℕ) (id : TyId) (t : Ty) → slice_get types.types id.0 ≡ Some t → IsReachedType false types t → has_buffer t ≡ false → ((n : ℕ) (at : AbsPlace) → pointers_in at (tree_of types (tree_within n types) (Some t)) ≡ at ∷ []) → IsOneBehind id
+  pointer_inputs : (k : LocalKind) (x : ℕ) (id : TyId) (t : Ty) → slice_get types.types id.0 ≡ Some t → IsServedType types t → has_buffer t ≡ false → ((n : ℕ) (at : AbsPlace) → pointers_in at (tree_of types (tree_within n types) (Some t)) ≡ at ∷ []) → IsShortBehind id
       → AreShortInputs (inputs_among types x (shape_if types true id) 0 (locations_in types k (shape_if types true id) (local_place x)))
   pointer_inputs k x id t found reached none alone one =
-      let same = same_shape true id (ap (λ (o : Option Ty). reaches false types (unwrap_or o ty.Void)) found ∙ type_reached false types t reached) in
+      let same = same_shape true id (ap (λ (o : Option Ty). serves types (unwrap_or o ty.Void)) found ∙ type_serves types t reached) in
       subst (λ (i : TyId). AreShortInputs (inputs_among types x i 0 (locations_in types k i (local_place x)))) (sym same)
       (subst (λ (xs : List AbsPlace). AreShortInputs (inputs_among types x id 0 xs)) (sym (itself_alone k id t found none alone (local_place x))) (one_input x id one))
 
+  target_behind : (id : TyId) (t : Ty) (target : TyId) → slice_get types.types id.0 ≡ Some t → target_of t ≡ Some target → is_target types (type_at types target) ≡ true → IsShortBehind id
+  target_behind id t target at has h r =
+      subst (λ (o : Option TyId). AreShort (map element.At (places_in (root_place r) (tree_if types o)))) (sym (ap (λ (o : Option Ty). target_of (or_void o)) at ∙ has)) (target_short target h r)
+
   handed_inputs : (k : LocalKind) (x : ℕ) (id : TyId) → IsHandedType types id → AreShortInputs (inputs_among types x (shape_if types true id) 0 (locations_in types k (shape_if types true id) (local_place x)))
   handed_inputs k x id (a_value w) =
-      let same = same_shape true id (value_reached false types (type_at types id) w) in
+      let same = same_shape true id (value_serves types (type_at types id) w) in
       subst (λ (xs : List AbsPlace). AreShortInputs (inputs_among types x (shape_if types true id) 0 xs)) (sym (ap (λ (i : TyId). locations_in types k i (local_place x)) same ∙ no_locations k id w (local_place x))) tt
   handed_inputs k x id (a_raw target constant at w) =
-      pointer_inputs k x id (ty.Raw target constant) at (inl w) refl (λ n place. refl) (λ place. ap (λ (o : Option Ty). places_in place (tree_if types (target_of (or_void o)))) at ∙ one_place target w place)
+      pointer_inputs k x id (ty.Raw target constant) at (inl w) refl (λ n place. refl) (target_behind id (ty.Raw target constant) target at refl w)
   handed_inputs k x id (a_reference target constant at w) =
-      pointer_inputs k x id (ty.Reference target constant) at (inl w) refl (λ n place. refl) (λ place. ap (λ (o : Option Ty). places_in place (tree_if types (target_of (or_void o)))) at ∙ one_place target w place)
+      let h = value_target types (type_at types target) w in
+      pointer_inputs k x id (ty.Reference target constant) at (inl h) refl (λ n place. refl) (target_behind id (ty.Reference target constant) target at refl h)
+  handed_inputs k x id (an_alias target constant at o) =
+      let h = owner_target types (type_at types target) o in
+      pointer_inputs k x id (ty.Reference target constant) at (inl h) refl (λ n place. refl) (target_behind id (ty.Reference target constant) target at refl h)
   handed_inputs k x id (a_view at) =
-      pointer_inputs k x id ty.View at (inl refl) refl (λ n place. refl) (λ place. ap (λ (o : Option Ty). places_in place (tree_if types (target_of (or_void o)))) at)
+      pointer_inputs k x id ty.View at (inl refl) refl (λ n place. refl) (λ r. subst (λ (o : Option Ty). AreShort (map element.At (places_in (root_place r) (tree_if types (target_of (or_void o)))))) (sym at) (omega arith, tt))
+  handed_inputs k x id (a_walker (ty.Iterator target constant) at w) =
+      pointer_inputs k x id (ty.Iterator target constant) at (inr (inr w)) refl (λ n place. refl) (target_behind id (ty.Iterator target constant) target at refl (element_target types (type_at types target) w))
+  handed_inputs k x id (a_walker (ty.Span target constant) at w) =
+      pointer_inputs k x id (ty.Span target constant) at (inr (inr w)) refl (λ n place. refl) (target_behind id (ty.Span target constant) target at refl (element_target types (type_at types target) w))
+  handed_inputs k x id (a_walker _ at w) = absurd (false≢true w)
 
   local_short : (n x : ℕ) (l : Local) → (x < n → IsHandedType types l.ty) → AreShortInputs (local_inputs types n x l)
   local_short n x l handed = go (nat_lt x n) refl

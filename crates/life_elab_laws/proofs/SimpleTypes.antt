@@ -40,10 +40,10 @@ value_no_owner : (t : Ty) → is_value t ≡ true → typing.is_owner t ≡ fals
 value_no_owner = by_values (λ t. typing.is_owner t ≡ false) refl refl refl refl refl
 
 -- what is assigned to is a place
-pub target_place : (so_far : Bool) (types : Types) (e : Typed) → IsKind so_far types e → is_place e.ty e.category ≡ true → (id : TyId) × (constant : Bool) × (e.category ≡ category.Place id constant)
-target_place so_far types e k h = go e.category refl h
+pub target_place : (types : Types) (e : Typed) → IsKind types e → is_place e.ty e.category ≡ true → (id : TyId) × (constant : Bool) × (e.category ≡ category.Place id constant)
+target_place types e k h = go e.category refl h
   where
-    refused : HasKind so_far types e → is_place e.ty category.Value ≡ true → ⊥
+    refused : HasKind types e → is_place e.ty category.Value ≡ true → ⊥
     refused (a_number t is v) h = false≢true (sym (ap (λ (x : ExprType). is_place x category.Value) is ∙ value_no_owner t v) ∙ h)
     refused (a_pointer target constant is v) h = false≢true (sym (ap (λ (x : ExprType). is_place x category.Value) is) ∙ h)
     refused (a_view is) h = false≢true (sym (ap (λ (x : ExprType). is_place x category.Value) is) ∙ h)
@@ -92,8 +92,8 @@ pub record IsFree (types : Types) (e : Typed) : Type 0 where
   pub place : e.category ≡ category.Place id false
   pub own : own_type e.ty ≡ type_at types id
 
-pub free_place : (so_far : Bool) (types : Types) (e : Typed) → IsKind so_far types e → (is_place e.ty e.category && not (is_constant e.category)) ≡ true → IsFree types e
-free_place so_far types e k h = go (target_place so_far types e k parts.0)
+pub free_place : (types : Types) (e : Typed) → IsKind types e → (is_place e.ty e.category && not (is_constant e.category)) ≡ true → IsFree types e
+free_place types e k h = go (target_place types e k parts.0)
   where
     parts : (is_place e.ty e.category ≡ true) × (not (is_constant e.category) ≡ true)
     parts = and_parts (is_place e.ty e.category) (not (is_constant e.category)) h
@@ -108,13 +108,13 @@ free_place so_far types e k h = go (target_place so_far types e k parts.0)
         record { id = at.0; place = open_place; own = ap own_type (k.place at.0 false open_place) }
 
 -- what is printed is a number, a view, or a literal
-pub printed_type : (so_far : Bool) (types : Types) (e : Typed) → HasKind so_far types e → is_printed e.ty ≡ true → (is_number e.ty ≡ true) ⊎ (is_seen e.ty ≡ true)
-printed_type so_far types e (a_number t is v) h = inl (ap is_number is ∙ v)
-printed_type so_far types e (a_pointer target constant is v) h = absurd (false≢true (sym (ap is_printed is) ∙ h))
-printed_type so_far types e (a_view is) h = inr (ap is_seen is)
-printed_type so_far types e (a_text is v) h = inr (ap is_seen is)
-printed_type so_far types e (no_value is v) h = absurd (false≢true (sym (ap is_printed is) ∙ h))
-printed_type so_far types e (a_null is v) h = absurd (false≢true (sym (ap is_printed is) ∙ h))
+pub printed_type : (types : Types) (e : Typed) → HasKind types e → is_printed e.ty ≡ true → (is_number e.ty ≡ true) ⊎ (is_seen e.ty ≡ true)
+printed_type types e (a_number t is v) h = inl (ap is_number is ∙ v)
+printed_type types e (a_pointer target constant is v) h = absurd (false≢true (sym (ap is_printed is) ∙ h))
+printed_type types e (a_view is) h = inr (ap is_seen is)
+printed_type types e (a_text is v) h = inr (ap is_seen is)
+printed_type types e (no_value is v) h = absurd (false≢true (sym (ap is_printed is) ∙ h))
+printed_type types e (a_null is v) h = absurd (false≢true (sym (ap is_printed is) ∙ h))
 
 -- what computes answers in its operands' type
 pub compound_answer : (o : CompoundOperator) (t : Ty) → answer_of (compound_operator o) t ≡ t

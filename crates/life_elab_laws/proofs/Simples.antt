@@ -11,8 +11,7 @@ use Rattle.life_types.specs.declared.ty.Ty.{Ty}
 use Rattle.life_types.specs.declared.ty.Ty.TheVariants as ty
 use Rattle.life_tree.specs.declared.operator.CompoundOperator.{CompoundOperator}
 use Rattle.life_tree.specs.declared.operator.StepOperator.{StepOperator}
-use Rattle.life_served.specs.Served.{is_call}
-use Rattle.life_elab_laws.specs.Reached.{is_reached_expression, is_reached_simple, is_changing, is_reached_change, is_reached_form, is_reached_object, is_reached_owner, is_reached_append, is_reached_either, is_owner_of_values, is_reached_assigned, is_owner_type, is_reached_walker, is_walker_of_values, is_erased, is_reached_list, is_text_there, is_vector, is_walker_type}
+use Rattle.life_served.specs.Served.{is_call, is_changing, is_erased, is_owner_of_values, is_owner_type, is_served_assigned, is_served_change, is_served_either, is_served_expression, is_served_object, is_served_owner, is_served_simple, is_served_walker, is_text_there, is_vector, is_walker_of_values, is_walker_type, form_type, is_served_any, is_served_target, is_vector_type, is_view_type, is_number_type, is_served_renewed, are_served_elements}
 use Rattle.life_typed.specs.Operators.{promoted}
 use Rattle.life_typed.specs.Statements.{can_step, compounded}
 use Rattle.life_typed.specs.TypedForm.{Form, Typed, call, forms, method, text, typed, whole as whole_form}
@@ -53,9 +52,9 @@ use Rattle.life_elab.specs.Simples.{compound_operator, held, put_back, step_oper
 use Rattle.life_elab_laws.proofs.Aiming.{literal_given, pointed_fine, pointed_keeps, pointed_ready}
 use Rattle.life_elab_laws.proofs.CallParts.{alone_fine}
 use Rattle.life_elab_laws.proofs.Calls.{alone_after, alone_ready}
-use Rattle.life_elab_laws.proofs.ExpressionTypes.{IsAnswered, answers_nothing, answers_place, answers_raw, answers_value, answers_view, own_no_iterator, own_no_text, own_value, seen_kind}
+use Rattle.life_elab_laws.proofs.ExpressionTypes.{IsAnswered, answers_nothing, answers_place, answers_raw, answers_value, answers_view, own_no_iterator, own_no_text, own_value, seen_kind, answers_owner}
 use Rattle.life_elab_laws.proofs.ExpressionForms.{IsCall, IsWhole}
-use Rattle.life_elab_laws.proofs.Expressions.{asked_expression, owner_expression, walker_expression, whole_expression, wholes}
+use Rattle.life_elab_laws.proofs.Expressions.{asked_expression, object_expression, owner_expression, walker_expression, whole_expression, givings}
 use Rattle.life_elab_laws.proofs.PointerForms.{placed_operand, pointer_whole, points_whole, result_later}
 use Rattle.life_elab_laws.proofs.FormedFits.{given_raw, given_seen, given_owner, given_string, given_walker, given_vector}
 use Rattle.life_elab_laws.proofs.Filling.{text_filling}
@@ -68,11 +67,11 @@ use Rattle.life_elab_laws.proofs.Parts.{Makes, Part, and_part, gives_part, keep_
 use Rattle.life_elab_laws.proofs.RowTypes.{promoted_is}
 use Rattle.life_elab_laws.proofs.Setting.{Setting}
 use Rattle.life_elab_laws.proofs.SimpleTypes.{IsFree, compound_answer, compounded_numbers, free_place, own_counts, own_same, step_answer, step_value}
-use Rattle.life_elab_laws.proofs.TypedKinds.{HasKind, a_null, a_number as of_number, a_pointer as of_pointer, a_text, a_view as of_view, no_value, promoted_value, value_place, none_some}
+use Rattle.life_elab_laws.proofs.TypedKinds.{HasKind, a_null, a_number as of_number, a_pointer as of_pointer, a_text, a_view as of_view, no_value, promoted_value, value_place, none_some, kind_no_owner}
 use Rattle.life_elab_laws.proofs.Values.{by_values}
 use Rattle.life_elab_laws.proofs.VariablePlaces.{Stands, stands_later, walker_is}
-use Rattle.life_elab_laws.proofs.ChangeForms.{change_part, object_part}
-use Rattle.life_elab_laws.proofs.ElementForms.{object_expression, either_reached}
+use Rattle.life_elab_laws.proofs.ChangeForms.{change_part}
+use Rattle.life_elab_laws.proofs.ElementForms.{either_served, operand_typed}
 use Rattle.life_elab_laws.proofs.AppendForms.{appended_part, text_gains}
 use Rattle.life_elab_laws.proofs.ComparedForms.{IsEither}
 use Rattle.life_type_stmt.specs.Simples.{is_place}
@@ -81,25 +80,26 @@ use Rattle.life_elab_laws.proofs.ObjectForms.{IsObject, IsOwner}
 use Rattle.life_elab_laws.proofs.JoinedForms.{literal_builds}
 use Rattle.life_elab_laws.proofs.ListForms.{list_builds}
 use Rattle.life_elab_laws.proofs.Saving.{saved_part}
-use Rattle.life_elab_laws.proofs.MadeForms.{Builds, IsOwning, is_made, stands_there, temporary_dead, temporary_made}
+use Rattle.life_elab_laws.proofs.MadeForms.{Builds, BuildsIn, IsOwning, is_made, stands_there, temporary_dead, temporary_made}
 use Rattle.life_elab_laws.proofs.MoveSteps.{moves_part}
 use Rattle.life_elab_laws.proofs.OwnerSteps.{copies_part}
 use Rattle.life_elab_laws.proofs.SeenForms.{string_points}
 use Rattle.life_elab_laws.proofs.WalkerForms.{IsWalker, walker_pointer, walker_points, vector_points}
 use Rattle.life_elab_laws.proofs.WalkerSteps.{advance_filling, advance_given, keeps_itself}
-use Rattle.life_elab_laws.proofs.FormedVariables.{type_later}
-use Rattle.life_elab_laws.proofs.OperandsThere.{value_same}
 use Rattle.life_types.specs.Pointees.{ty_of}
 use Rattle.life_types.specs.declared.ty.TyId.{TyId}
 use Rattle.life_typed.specs.BaseTypes.{type_at}
-use Rattle.life_elab_laws.proofs.ViewForms.{AreWhole, asks_for, gives_as}
+use Rattle.life_elab_laws.proofs.ViewForms.{asks_for, gives_as}
 use Rattle.life_well_typed.specs.Members.{IsCalled}
 use Rattle.life_typed.specs.Conversions.{fits}
+use Rattle.life_elab_laws.proofs.Elements.{one_element}
+use Rattle.life_elab_laws.proofs.PushedElements.{AreGiving}
+use Rattle.life_elab_laws.proofs.FreeObjects.{object_part}
 
 value_class : (t : Ty) → is_value t ≡ true → class (Some t) ≡ classes.Value
 value_class = by_values (λ t. class (Some t) ≡ classes.Value) refl refl refl refl refl
 
-module _ (a : Around) (visible : List ℕ) (types : Types) (texts : ℕ) (so_far : Bool) (fs : List Function) (f : Function) (setting : Setting so_far a types fs f) where
+module _ (a : Around) (visible : List ℕ) (types : Types) (texts : ℕ) (fs : List Function) (f : Function) (setting : Setting a types fs f) where
   abbrev Whole : Typed → Type 0
   Whole e = IsExpression a.program a.function.locals visible (whole_form e)
 
@@ -107,37 +107,37 @@ module _ (a : Around) (visible : List ℕ) (types : Types) (texts : ℕ) (so_far
   Standing s = Stands a visible s
 
   abbrev Giving : Type 0 → Type 1
-  Giving A = Gift types texts so_far fs f A
+  Giving A = Gift types texts fs f A
 
   abbrev no_gift : Giving (Unit {0})
-  no_gift = nothing types texts so_far fs f
+  no_gift = nothing types texts fs f
 
   abbrev a_value : Ty → Giving ℕ
-  a_value t = a_number types texts so_far fs f t
+  a_value t = a_number types texts fs f t
 
   abbrev a_target : Ty → Giving Operand
-  a_target t = a_place types texts so_far fs f t false
+  a_target t = a_place types texts fs f t false
 
   abbrev both_of : {A B : Type 0} → Giving A → Giving B → Giving (A × B)
-  both_of P Q = both types texts so_far fs f P Q
+  both_of P Q = both types texts fs f P Q
 
   -- what is written and gives nothing
   abbrev pub Acts : State → State → Type 0
-  Acts s s' = Makes types texts so_far fs f None s (gives tt s') (nothing types texts so_far fs f)
+  Acts s s' = Makes types texts fs f None s (gives tt s') (nothing types texts fs f)
 
-  abbrev whole : (e : Typed) → is_reached_expression texts so_far e ≡ true → Whole e → IsWhole a visible types texts so_far fs f setting (whole_form e)
-  whole e b h = whole_expression a visible types texts so_far fs f setting (whole_form e) b h
+  abbrev whole : (e : Typed) → is_served_expression texts e ≡ true → Whole e → IsWhole a visible types texts fs f setting (whole_form e)
+  whole e b h = whole_expression a visible types texts fs f setting (whole_form e) b h
 
   -- what is written is a place of its own type that isn't const
-  free_target : (target : Typed) (at : IsFree a.program.types target) → IsWhole a visible types texts so_far fs f setting (whole_form target) → is_value (own_type target.ty) ≡ true → (s : State) → Standing s
-      → Makes types texts so_far fs f None s (operand (uses a (whole_form target)) s) (a_target (own_type target.ty))
+  free_target : (target : Typed) (at : IsFree a.program.types target) → IsWhole a visible types texts fs f setting (whole_form target) → is_value (own_type target.ty) ≡ true → (s : State) → Standing s
+      → Makes types texts fs f None s (operand (uses a (whole_form target)) s) (a_target (own_type target.ty))
   free_target target at is v s stands =
-      subst (λ (w : Gives Operand). Makes types texts so_far fs f None s w (a_target (own_type target.ty))) (sym (placed_operand a visible types texts so_far fs f setting (whole_form target) at.id false s at.place))
-      (subst (λ (t : Ty). Makes types texts so_far fs f None s ((uses a (whole_form target)).at s) (a_target t)) (sym at.own) (is.names at.id false at.place (ap is_value (sym at.own) ∙ v) s stands))
+      subst (λ (w : Gives Operand). Makes types texts fs f None s w (a_target (own_type target.ty))) (sym (placed_operand a visible types texts fs f setting (whole_form target) at.id false s at.place))
+      (subst (λ (t : Ty). Makes types texts fs f None s ((uses a (whole_form target)).at s) (a_target t)) (sym at.own) (is.names at.id false at.place (ap is_value (sym at.own) ∙ v) s stands))
 
   -- ---- assignments: the right side, the place, and what gives it that
 
-  value_assigned_part : (target e : Typed) (equals behind : Place) (s : State) → IsWhole a visible types texts so_far fs f setting (whole_form target) → IsWhole a visible types texts so_far fs f setting (whole_form e) → IsFree a.program.types target → is_number target.ty ≡ true
+  value_assigned_part : (target e : Typed) (equals behind : Place) (s : State) → IsWhole a visible types texts fs f setting (whole_form target) → IsWhole a visible types texts fs f setting (whole_form e) → IsFree a.program.types target → is_number target.ty ≡ true
       → is_given a.program.types (own_type target.ty) e ≡ true → Standing s → Acts s (assigned_by classes.Value (uses a (whole_form e)) (own_type target.ty) (target_of (uses a (whole_form target))) equals behind s)
   value_assigned_part target e equals behind s to from at n given stands =
       let t = own_type target.ty in
@@ -146,41 +146,41 @@ module _ (a : Around) (visible : List ℕ) (types : Types) (texts : ℕ) (so_far
       let u = operand (uses a (whole_form target)) w.state in
       let first = from.valued (given_number a.program.types t e v given) behind t v None s tt stands in
       let second = free_target target at to v w.state (stands_later a visible s w.state first.grown stands) in
-      then_part types texts so_far fs f no_gift tt None s (gives (w.given, u.given) u.state) _ (both_of (a_value t) (a_target t)) no_gift stands.opened
-      (and_part types texts so_far fs f no_gift tt s w u (a_value t) (a_target t) stands.opened first second)
-      (saved_part types texts so_far fs f (both_of (a_value t) (a_target t)) (w.given, u.given) t w.given u.given equals u.state (λ h. h.0) (λ h. h.1) (λ n k p. p))
+      then_part types texts fs f no_gift tt None s (gives (w.given, u.given) u.state) _ (both_of (a_value t) (a_target t)) no_gift stands.opened
+      (and_part types texts fs f no_gift tt s w u (a_value t) (a_target t) stands.opened first second)
+      (saved_part types texts fs f (both_of (a_value t) (a_target t)) (w.given, u.given) t w.given u.given equals u.state (λ h. h.0) (λ h. h.1) (λ n k p. p))
 
   -- a pointer, which is given what an expression gives it as one of a type
-  pointer_given_part : (target e : Typed) (equals behind : Place) (s : State) (u : Ty) (source : ExprType) → is_location u ≡ true → ((s : State) → Standing s → Makes types texts so_far fs f None s (pointer (uses a (whole_form target)) (own (uses a (whole_form target))) s) (a_pointer types texts so_far fs f u))
-      → Makes types texts so_far fs f None s (pointing (uses a (whole_form e)) s) (a_pointing types texts so_far fs f source) → takes_from types u source ≡ true → Standing s
+  pointer_given_part : (target e : Typed) (equals behind : Place) (s : State) (u : Ty) (source : ExprType) → is_location u ≡ true → ((s : State) → Standing s → Makes types texts fs f None s (pointer (uses a (whole_form target)) (own (uses a (whole_form target))) s) (a_pointer types texts fs f u))
+      → Makes types texts fs f None s (pointing (uses a (whole_form e)) s) (a_pointing types texts fs f source) → takes_from types u source ≡ true → Standing s
       → Acts s (assigned_by classes.Pointer (uses a (whole_form e)) (own_type target.ty) (target_of (uses a (whole_form target))) equals behind s)
   pointer_given_part target e equals behind s u source loc lies first taken stands =
       let w = pointing (uses a (whole_form e)) s in
       let l = pointer (uses a (whole_form target)) (own (uses a (whole_form target))) w.state in
-      let P = a_pointing types texts so_far fs f source in
-      let Q = a_pointer types texts so_far fs f u in
+      let P = a_pointing types texts fs f source in
+      let Q = a_pointer types texts fs f u in
       let second = lies w.state (stands_later a visible s w.state first.grown stands) in
-      then_part types texts so_far fs f no_gift tt None s (gives (w.given, l.given) l.state) _ (both_of P Q) no_gift stands.opened
-      (and_part types texts so_far fs f no_gift tt s w l P Q stands.opened first second)
-      (acted_as_part types texts so_far fs f (both_of P Q) (w.given, l.given) e.place (pointed w.given l.given) l.state
-      (λ h. pointed_fine types texts so_far fs f l.given u source w.given loc h.1 taken h.0)
+      then_part types texts fs f no_gift tt None s (gives (w.given, l.given) l.state) _ (both_of P Q) no_gift stands.opened
+      (and_part types texts fs f no_gift tt s w l P Q stands.opened first second)
+      (acted_as_part types texts fs f (both_of P Q) (w.given, l.given) e.place (pointed w.given l.given) l.state
+      (λ h. pointed_fine types texts fs f l.given u source w.given loc h.1 taken h.0)
       (λ h n k p. pointed_ready f l.given n n w.given k p.1 p.0 h.1.kept)
       (λ h n m k p. pointed_keeps f l.given n n m w.given k p.1 p.0 h.1.kept))
 
-  pointer_assigned_part : (target e : Typed) (equals behind : Place) (s : State) (u : Ty) → is_location u ≡ true → IsWhole a visible types texts so_far fs f setting (whole_form target) → IsWhole a visible types texts so_far fs f setting (whole_form e) → target.ty ≡ Of u
+  pointer_assigned_part : (target e : Typed) (equals behind : Place) (s : State) (u : Ty) → is_location u ≡ true → IsWhole a visible types texts fs f setting (whole_form target) → IsWhole a visible types texts fs f setting (whole_form e) → target.ty ≡ Of u
       → is_pointed e.ty ≡ true → takes_from types u e.ty ≡ true → Standing s → Acts s (assigned_by classes.Pointer (uses a (whole_form e)) (own_type target.ty) (target_of (uses a (whole_form target))) equals behind s)
   pointer_assigned_part target e equals behind s u loc at from is pointed_one taken stands =
-      pointer_given_part target e equals behind s u e.ty loc (λ s stands. pointer_whole a visible types texts so_far fs f setting (whole_form target) at u is loc (own (uses a (whole_form target))) s stands) (points_whole a visible types texts so_far fs f setting (whole_form e) from pointed_one s stands) taken stands
+      pointer_given_part target e equals behind s u e.ty loc (λ s stands. pointer_whole a visible types texts fs f setting (whole_form target) at u is loc (own (uses a (whole_form target))) s stands) (points_whole a visible types texts fs f setting (whole_form e) from pointed_one s stands) taken stands
 
-  assigned_part : (target e : Typed) (equals behind : Place) (s : State) → (bt : is_reached_expression texts so_far target ≡ true) → (be : is_reached_expression texts so_far e ≡ true) → IsSimple a.program a.function.locals a.function.result visible (assign target equals (one e)) → Standing s
+  assigned_part : (target e : Typed) (equals behind : Place) (s : State) → (bt : is_served_expression texts target ≡ true) → (be : is_served_expression texts e ≡ true) → IsSimple a.program a.function.locals a.function.result visible (assign target equals (one e)) → Standing s
       → Acts s (assigned a target equals (one e) behind s)
   assigned_part target e equals behind s bt be h stands = go is.kind.kind
     where
-      is : IsWhole a visible types texts so_far fs f setting (whole_form target)
+      is : IsWhole a visible types texts fs f setting (whole_form target)
       is = whole target bt h.0.1
 
       at : IsFree a.program.types target
-      at = free_place so_far a.program.types target is.kind h.0.0
+      at = free_place a.program.types target is.kind h.0.0
 
       given : is_given a.program.types (own_type target.ty) e ≡ true
       given = subst (λ (t : Ty). is_given a.program.types t e ≡ true) (own_same target.ty) h.1.0
@@ -188,7 +188,7 @@ module _ (a : Around) (visible : List ℕ) (types : Types) (texts : ℕ) (so_far
       chosen : (k : Class) → class (Some (own_type target.ty)) ≡ k → Acts s (assigned_by k (uses a (whole_form e)) (own_type target.ty) (target_of (uses a (whole_form target))) equals behind s) → Acts s (assigned a target equals (one e) behind s)
       chosen k is part = subst (λ (x : Class). Acts s (assigned_by x (uses a (whole_form e)) (own_type target.ty) (target_of (uses a (whole_form target))) equals behind s)) (sym is) part
 
-      go : HasKind so_far a.program.types target → Acts s (assigned a target equals (one e) behind s)
+      go : HasKind a.program.types target → Acts s (assigned a target equals (one e) behind s)
       go (of_number t own_is v) =
           chosen classes.Value (ap (λ (x : ExprType). class (Some (own_type x))) own_is ∙ value_class t v) (value_assigned_part target e equals behind s is (whole e be h.1.1) at (ap is_number own_is ∙ v) given stands)
       go (of_pointer to constant own_is v) =
@@ -198,7 +198,7 @@ module _ (a : Around) (visible : List ℕ) (types : Types) (texts : ℕ) (so_far
       go (of_view own_is) =
           chosen classes.Pointer (ap (λ (x : ExprType). class (Some (own_type x))) own_is)
           (let from = whole e be h.1.1 in
-          let seen = seen_kind so_far a.program.types e from.kind.kind (given_view a.program.types e (subst (λ (x : ExprType). is_given a.program.types (own_type x) e ≡ true) own_is given)) in
+          let seen = seen_kind a.program.types e from.kind.kind (given_view a.program.types e (subst (λ (x : ExprType). is_given a.program.types (own_type x) e ≡ true) own_is given)) in
           pointer_assigned_part target e equals behind s ty.View refl is from own_is (seen_pointed e.ty seen) (given_seen types e.ty seen) stands)
       go (a_text own v) = absurd (value_place (sym v ∙ at.place))
       go (no_value own v) = absurd (value_place (sym v ∙ at.place))
@@ -207,30 +207,30 @@ module _ (a : Around) (visible : List ℕ) (types : Types) (texts : ℕ) (so_far
   -- ---- assignments that compute, and steps
 
   -- what a place holds, as a value of a type
-  held_part : (target : Typed) (o : Operand) (t : Ty) (s : State) → is_value (own_type target.ty) ≡ true → is_value t ≡ true → IsOpen s → Part types texts so_far fs f (a_target (own_type target.ty)) o None s (held target o t s) (a_value t)
+  held_part : (target : Typed) (o : Operand) (t : Ty) (s : State) → is_value (own_type target.ty) ≡ true → is_value t ≡ true → IsOpen s → Part types texts fs f (a_target (own_type target.ty)) o None s (held target o t s) (a_value t)
   held_part target o t s v w opened =
-      as_type_part types texts so_far fs f (a_target (own_type target.ty)) o (own_type target.ty) t target.place (read (own_type target.ty) target.place (gives o)) None s w tt opened
-      (λ into wanted. load_part types texts so_far fs f into (own_type target.ty) false target.place o s v wanted)
+      as_type_part types texts fs f (a_target (own_type target.ty)) o (own_type target.ty) t target.place (read (own_type target.ty) target.place (gives o)) None s w tt opened
+      (λ into wanted. load_part types texts fs f into (own_type target.ty) false target.place o s v wanted)
 
   -- the answer goes back
   put_back_part : (target : Typed) (x : (ℕ × ℕ) × Operand) (t : Ty) (place : Place) (o : Operator) (s : State) → is_value (own_type target.ty) ≡ true → is_value t ≡ true → is_promoted t ≡ true → answer_of o t ≡ t → IsOpen s
-      → Part types texts so_far fs f (both_of (both_of (a_value t) (a_value t)) (a_target (own_type target.ty))) x None s (gives tt (put_back target x.1 t place (operation.Binary o x.0.0 x.0.1) s)) no_gift
+      → Part types texts fs f (both_of (both_of (a_value t) (a_value t)) (a_target (own_type target.ty))) x None s (gives tt (put_back target x.1 t place (operation.Binary o x.0.0 x.0.1) s)) no_gift
   put_back_part target x t place o s v w p answers opened =
       let u = own_type target.ty in
       let N = both_of (a_value t) (a_value t) in
       let P = both_of N (a_target u) in
       let y = computed None t place (values.binary o x.0.0 x.0.1) s in
       let z = converted t u place y.given y.state in
-      let one = under_part types texts so_far fs f N x.0 P x None s y (a_value t) (operator_part types texts so_far fs f None t t place o x.0 s p answers w tt) (λ h. h.0) (λ n k h. h.0) in
-      let first = keep_part types texts so_far fs f P x s (gives x s) y P (a_value t) opened (gives_part types texts so_far fs f P x None x s P (λ b h. h) (λ b k alive h. h)) one in
+      let one = under_part types texts fs f N x.0 P x None s y (a_value t) (operator_part types texts fs f None t t place o x.0 s p answers w tt) (λ h. h.0) (λ n k h. h.0) in
+      let first = keep_part types texts fs f P x s (gives x s) y P (a_value t) opened (gives_part types texts fs f P x None x s P (λ b h. h) (λ b k alive h. h)) one in
       let later = opened_later s y.state one.grown opened in
-      let second = under_part types texts so_far fs f (a_value t) y.given (both_of P (a_value t)) (x, y.given) None y.state z (a_value u) (converted_part types texts so_far fs f t u place y.given y.state v later) (λ h. h.1) (λ n k h. h.1) in
-      then_part types texts so_far fs f P x None s (gives ((x, y.given), z.given) z.state) _ (both_of (both_of P (a_value t)) (a_value u)) no_gift opened
-      (keep_part types texts so_far fs f P x s (gives (x, y.given) y.state) z (both_of P (a_value t)) (a_value u) opened first second)
-      (saved_part types texts so_far fs f (both_of (both_of P (a_value t)) (a_value u)) ((x, y.given), z.given) u z.given x.1 place z.state (λ h. h.1) (λ h. h.0.0.1) (λ n k h. (h.1, h.0.0.1)))
+      let second = under_part types texts fs f (a_value t) y.given (both_of P (a_value t)) (x, y.given) None y.state z (a_value u) (converted_part types texts fs f t u place y.given y.state v later) (λ h. h.1) (λ n k h. h.1) in
+      then_part types texts fs f P x None s (gives ((x, y.given), z.given) z.state) _ (both_of (both_of P (a_value t)) (a_value u)) no_gift opened
+      (keep_part types texts fs f P x s (gives (x, y.given) y.state) z (both_of P (a_value t)) (a_value u) opened first second)
+      (saved_part types texts fs f (both_of (both_of P (a_value t)) (a_value u)) ((x, y.given), z.given) u z.given x.1 place z.state (λ h. h.1) (λ h. h.0.0.1) (λ n k h. (h.1, h.0.0.1)))
 
   -- the right side, the place, what it holds, and the operator
-  combined_part : (target e : Typed) (o : CompoundOperator) (place behind : Place) (t : Ty) (s : State) → IsWhole a visible types texts so_far fs f setting (whole_form target) → IsWhole a visible types texts so_far fs f setting (whole_form e) → IsFree a.program.types target
+  combined_part : (target e : Typed) (o : CompoundOperator) (place behind : Place) (t : Ty) (s : State) → IsWhole a visible types texts fs f setting (whole_form target) → IsWhole a visible types texts fs f setting (whole_form e) → IsFree a.program.types target
       → is_number target.ty ≡ true → is_number e.ty ≡ true → is_value t ≡ true → is_promoted t ≡ true → Standing s → Acts s (combined a target o place e behind t s)
   combined_part target e o place behind t s to from at n m w p stands =
       let u = own_type target.ty in
@@ -243,16 +243,16 @@ module _ (a : Around) (visible : List ℕ) (types : Types) (texts : ℕ) (so_far
       let P = both_of (a_value t) (a_target u) in
       let Q = both_of P (a_value t) in
       let R = both_of (both_of (a_value t) (a_value t)) (a_target u) in
-      let pair = and_part types texts so_far fs f no_gift tt s r l (a_value t) (a_target u) stands.opened first second in
+      let pair = and_part types texts fs f no_gift tt s r l (a_value t) (a_target u) stands.opened first second in
       let later = opened_later s l.state pair.grown stands.opened in
-      let third = under_part types texts so_far fs f (a_target u) l.given P (r.given, l.given) None l.state h (a_value t) (held_part target l.given t l.state v w later) (λ q. q.1) (λ n k q. q.1) in
+      let third = under_part types texts fs f (a_target u) l.given P (r.given, l.given) None l.state h (a_value t) (held_part target l.given t l.state v w later) (λ q. q.1) (λ n k q. q.1) in
       let back = put_back_part target ((h.given, r.given), l.given) t place (compound_operator o) h.state v w p (compound_answer o t) (opened_later l.state h.state third.grown later) in
-      then_part types texts so_far fs f no_gift tt None s (gives ((r.given, l.given), h.given) h.state) _ Q no_gift stands.opened
-      (keep_part types texts so_far fs f no_gift tt s (gives (r.given, l.given) l.state) h P (a_value t) stands.opened pair third)
-      (under_part types texts so_far fs f R ((h.given, r.given), l.given) Q ((r.given, l.given), h.given) None h.state _ no_gift back (λ q. ((q.1, q.0.0), q.0.1)) (λ n k q. ((q.1, q.0.0), q.0.1)))
+      then_part types texts fs f no_gift tt None s (gives ((r.given, l.given), h.given) h.state) _ Q no_gift stands.opened
+      (keep_part types texts fs f no_gift tt s (gives (r.given, l.given) l.state) h P (a_value t) stands.opened pair third)
+      (under_part types texts fs f R ((h.given, r.given), l.given) Q ((r.given, l.given), h.given) None h.state _ no_gift back (λ q. ((q.1, q.0.0), q.0.1)) (λ n k q. ((q.1, q.0.0), q.0.1)))
 
   -- the place, what it holds, 1, and the operator
-  stepped_part : (target : Typed) (o : StepOperator) (place : Place) (t : Ty) (s : State) → IsWhole a visible types texts so_far fs f setting (whole_form target) → IsFree a.program.types target → is_number target.ty ≡ true → is_value t ≡ true → is_promoted t ≡ true
+  stepped_part : (target : Typed) (o : StepOperator) (place : Place) (t : Ty) (s : State) → IsWhole a visible types texts fs f setting (whole_form target) → IsFree a.program.types target → is_number target.ty ≡ true → is_value t ≡ true → is_promoted t ≡ true
       → Standing s → Acts s (stepped a target o place t s)
   stepped_part target o place t s to at n w p stands =
       let u = own_type target.ty in
@@ -264,31 +264,31 @@ module _ (a : Around) (visible : List ℕ) (types : Types) (texts : ℕ) (so_far
       let opened = opened_later s l.state first.grown stands.opened in
       let second = held_part target l.given t l.state v w opened in
       let later = opened_later l.state h.state second.grown opened in
-      let third = constant_part types texts so_far fs f None t place (pos 1) h.state w tt in
+      let third = constant_part types texts fs f None t place (pos 1) h.state w tt in
       let P = both_of (a_target u) (a_value t) in
       let Q = both_of P (a_value t) in
       let R = both_of (both_of (a_value t) (a_value t)) (a_target u) in
       let back = put_back_part target ((h.given, r.given), l.given) t place (step_operator o) r.state v w p (step_answer o t) (opened_later h.state r.state third.grown later) in
-      then_part types texts so_far fs f no_gift tt None s (gives ((l.given, h.given), r.given) r.state) _ Q no_gift stands.opened
-      (and_part types texts so_far fs f no_gift tt s (gives (l.given, h.given) h.state) r P (a_value t) stands.opened (keep_part types texts so_far fs f no_gift tt s l h (a_target u) (a_value t) stands.opened first second) third)
-      (under_part types texts so_far fs f R ((h.given, r.given), l.given) Q ((l.given, h.given), r.given) None r.state _ no_gift back (λ q. ((q.0.1, q.1), q.0.0)) (λ n k q. ((q.0.1, q.1), q.0.0)))
+      then_part types texts fs f no_gift tt None s (gives ((l.given, h.given), r.given) r.state) _ Q no_gift stands.opened
+      (and_part types texts fs f no_gift tt s (gives (l.given, h.given) h.state) r P (a_value t) stands.opened (keep_part types texts fs f no_gift tt s l h (a_target u) (a_value t) stands.opened first second) third)
+      (under_part types texts fs f R ((h.given, r.given), l.given) Q ((l.given, h.given), r.given) None r.state _ no_gift back (λ q. ((q.0.1, q.1), q.0.0)) (λ n k q. ((q.0.1, q.1), q.0.0)))
 
   -- ---- calls whose answer is thrown away
 
   -- a value that nothing is done with
-  kept_part : (e : Typed) (behind : Place) (s : State) → IsWhole a visible types texts so_far fs f setting (whole_form e) → is_number e.ty ≡ true → Standing s → Acts s (value (uses a (whole_form e)) behind (own_type e.ty) None s).state
+  kept_part : (e : Typed) (behind : Place) (s : State) → IsWhole a visible types texts fs f setting (whole_form e) → is_number e.ty ≡ true → Standing s → Acts s (value (uses a (whole_form e)) behind (own_type e.ty) None s).state
   kept_part e behind s is n stands =
-      seen_part types texts so_far fs f no_gift tt None s (value (uses a (whole_form e)) behind (own_type e.ty) None s) (a_value (own_type e.ty)) (λ (r : ℕ). tt) no_gift (is.valued n behind (own_type e.ty) (own_value e.ty n) None s tt stands) (λ b h. tt) (λ n k h. tt)
+      seen_part types texts fs f no_gift tt None s (value (uses a (whole_form e)) behind (own_type e.ty) None s) (a_value (own_type e.ty)) (λ (r : ℕ). tt) no_gift (is.valued n behind (own_type e.ty) (own_value e.ty n) None s tt stands) (λ b h. tt) (λ n k h. tt)
 
-  alone_part : (e : Typed) (c : Called) (s : State) → (is : IsCall a visible types texts so_far fs f setting c e.ty e.category) → type_at a.program.types is.of.result ≡ ty.Void → Standing s
+  alone_part : (e : Typed) (c : Called) (s : State) → (is : IsCall a visible types texts fs f setting c e.ty e.category) → type_at a.program.types is.of.result ≡ ty.Void → Standing s
       → Acts s (giving.arguments a (all_uses a c.arguments) c.delimiters (around.parameter_types a c.function) s >> λ given s. emit e.place (called_alone c.function given) s)
   alone_part e c s is void stands =
       let w = giving.arguments a (all_uses a c.arguments) c.delimiters (around.parameter_types a c.function) s in
-      let P = arguments types texts so_far fs f (parameter_types (Some is.of)) in
+      let P = arguments types texts fs f (parameter_types (Some is.of)) in
       let callee = setting.callees c.function is.of is.there in
-      then_part types texts so_far fs f no_gift tt None s w _ P no_gift stands.opened (is.hands s stands)
-      (acted_part types texts so_far fs f P w.given e.place (called_alone c.function w.given) w.state
-      (λ h. alone_fine types texts so_far fs f c.function w.given is.of callee h (result_later a visible types texts so_far fs f setting c.function is.of is.there ∙ void))
+      then_part types texts fs f no_gift tt None s w _ P no_gift stands.opened (is.hands s stands)
+      (acted_part types texts fs f P w.given e.place (called_alone c.function w.given) w.state
+      (λ h. alone_fine types texts fs f c.function w.given is.of callee h (result_later a visible types texts fs f setting c.function is.of is.there ∙ void))
       (λ n k p. alone_ready f c.function (parameter_types (Some is.of)) w.given n k p)
       (λ n m k p. subst (Keeps f m None k) (sym (alone_after f c.function (parameter_types (Some is.of)) w.given n k p)) (keeps_all f m None k)))
 
@@ -299,7 +299,7 @@ module _ (a : Around) (visible : List ℕ) (types : Types) (texts : ℕ) (so_far
       ∙ by_values (λ x. cond (is_void x) (e.alone s) (thrown_by (class (Some x)) e behind s) ≡ (value e behind (own e) None s).state) refl refl refl refl refl t v
 
   -- a number, which is computed, or a place that has one
-  number_thrown : (e : Typed) (behind : Place) (s : State) → IsWhole a visible types texts so_far fs f setting (whole_form e) → is_number e.ty ≡ true → Standing s → Acts s (thrown e.category (uses a (whole_form e)) behind s)
+  number_thrown : (e : Typed) (behind : Place) (s : State) → IsWhole a visible types texts fs f setting (whole_form e) → is_number e.ty ≡ true → Standing s → Acts s (thrown e.category (uses a (whole_form e)) behind s)
   number_thrown e behind s is n stands = go e.category refl
     where
       go : (c : Category) → e.category ≡ c → Acts s (thrown c (uses a (whole_form e)) behind s)
@@ -307,31 +307,31 @@ module _ (a : Around) (visible : List ℕ) (types : Types) (texts : ℕ) (so_far
       go (category.Place id constant) held =
           let t = type_at a.program.types id in
           let worth : is_value t ≡ true = sym (ap is_number (is.kind.place id constant held)) ∙ n in
-          seen_part types texts so_far fs f no_gift tt None s ((uses a (whole_form e)).at s) (a_place types texts so_far fs f t constant) (λ (o : Operand). tt) no_gift (is.names id constant held worth s stands) (λ b h. tt) (λ n k h. tt)
+          seen_part types texts fs f no_gift tt None s ((uses a (whole_form e)).at s) (a_place types texts fs f t constant) (λ (o : Operand). tt) no_gift (is.names id constant held worth s stands) (λ b h. tt) (λ n k h. tt)
 
   -- a pointer that nothing is done with
-  pointer_thrown : (e : Typed) (behind : Place) (s : State) → IsWhole a visible types texts so_far fs f setting (whole_form e) → (target : TyId) (constant : Bool) → e.ty ≡ Of (ty.Raw target constant) → e.category ≡ category.Value → Standing s
+  pointer_thrown : (e : Typed) (behind : Place) (s : State) → IsWhole a visible types texts fs f setting (whole_form e) → (target : TyId) (constant : Bool) → e.ty ≡ Of (ty.Raw target constant) → e.category ≡ category.Value → Standing s
       → Acts s (thrown e.category (uses a (whole_form e)) behind s)
   pointer_thrown e behind s is target constant at held stands =
       let u = uses a (whole_form e) in
       subst (Acts s)
       (sym (ap (λ (k : Category). thrown k u behind s) held ∙ ap (λ (x : ExprType). cond (is_void (own_type x)) (u.alone s) (thrown_by (class (Some (own_type x))) u behind s)) at))
-      (seen_part types texts so_far fs f no_gift tt None s (pointer u (own u) s) (a_pointer types texts so_far fs f (ty.Raw target constant)) (λ (l : Location). tt) no_gift
-      (pointer_whole a visible types texts so_far fs f setting (whole_form e) is (ty.Raw target constant) at refl (own u) s stands) (λ b h. tt) (λ n k h. tt))
+      (seen_part types texts fs f no_gift tt None s (pointer u (own u) s) (a_pointer types texts fs f (ty.Raw target constant)) (λ (l : Location). tt) no_gift
+      (pointer_whole a visible types texts fs f setting (whole_form e) is (ty.Raw target constant) at refl (own u) s stands) (λ b h. tt) (λ n k h. tt))
 
   -- .. or a view
-  view_thrown : (e : Typed) (behind : Place) (s : State) → IsWhole a visible types texts so_far fs f setting (whole_form e) → e.ty ≡ Of ty.View → e.category ≡ category.Value → Standing s → Acts s (thrown e.category (uses a (whole_form e)) behind s)
+  view_thrown : (e : Typed) (behind : Place) (s : State) → IsWhole a visible types texts fs f setting (whole_form e) → e.ty ≡ Of ty.View → e.category ≡ category.Value → Standing s → Acts s (thrown e.category (uses a (whole_form e)) behind s)
   view_thrown e behind s is at held stands =
       let u = uses a (whole_form e) in
       subst (Acts s)
       (sym (ap (λ (k : Category). thrown k u behind s) held ∙ ap (λ (x : ExprType). cond (is_void (own_type x)) (u.alone s) (thrown_by (class (Some (own_type x))) u behind s)) at))
-      (seen_part types texts so_far fs f no_gift tt None s (pointer u (own u) s) (a_pointer types texts so_far fs f ty.View) (λ (l : Location). tt) no_gift
-      (pointer_whole a visible types texts so_far fs f setting (whole_form e) is ty.View at refl (own u) s stands) (λ b h. tt) (λ n k h. tt))
+      (seen_part types texts fs f no_gift tt None s (pointer u (own u) s) (a_pointer types texts fs f ty.View) (λ (l : Location). tt) no_gift
+      (pointer_whole a visible types texts fs f setting (whole_form e) is ty.View at refl (own u) s stands) (λ b h. tt) (λ n k h. tt))
 
-  discarded_part : (form : Form) (e : Typed) (behind : Place) (s : State) → e.form ≡ form → is_reached_expression texts so_far e ≡ true → Whole e → is_call form ≡ true → Standing s → Acts s (thrown e.category (uses a (whole_form e)) behind s)
+  discarded_part : (form : Form) (e : Typed) (behind : Place) (s : State) → e.form ≡ form → is_served_expression texts e ≡ true → Whole e → is_call form ≡ true → Standing s → Acts s (thrown e.category (uses a (whole_form e)) behind s)
   discarded_part (call g given d) e behind s same b h calls stands = by_answer is.answers
     where
-      is : IsCall a visible types texts so_far fs f setting (record { function = g; arguments = given; delimiters = d }) e.ty e.category
+      is : IsCall a visible types texts fs f setting (record { function = g; arguments = given; delimiters = d }) e.ty e.category
       is = (whole e b h).calls (record { function = g; arguments = given; delimiters = d }) (ap form_call same)
 
       alone_is : (uses a (whole_form e)).alone s ≡ (giving.arguments a (all_uses a given) d (around.parameter_types a g) s >> λ given s. emit e.place (called_alone g given) s)
@@ -348,6 +348,7 @@ module _ (a : Around) (visible : List ℕ) (types : Types) (texts : ℕ) (so_far
       by_answer (answers_raw target constant raw w own held) = pointer_thrown e behind s (whole e b h) target constant own held stands
       by_answer (answers_view view own held) = view_thrown e behind s (whole e b h) own held stands
       by_answer (answers_place target constant refers w own held) = number_thrown e behind s (whole e b h) (ap is_number own ∙ w) stands
+      by_answer (answers_owner target constant refers o own held) = absurd (kind_no_owner a.program.types e (whole e b h).kind.kind (type_at a.program.types target) o own)
   discarded_part (method base m given d) e behind s same b h calls stands =
       let made : IsMadeOf a.program a.function.locals visible e (method base m given d) = subst (IsMadeOf a.program a.function.locals visible e) same h in
       elim (asks_for a.program.types m (typed_in base).ty (typed_in base).category given e calls made.0) [
@@ -362,35 +363,35 @@ module _ (a : Around) (visible : List ℕ) (types : Types) (texts : ℕ) (so_far
   not_true false e = refl
   not_true true e = absurd (false≢true e)
 
-  changed_statement : (form : Form) (e : Typed) (behind : Place) (s : State) → e.form ≡ form → is_reached_change texts so_far form ≡ true → Whole e → Standing s → Acts s (thrown e.category (uses a (whole_form e)) behind s)
+  changed_statement : (form : Form) (e : Typed) (behind : Place) (s : State) → e.form ≡ form → is_served_change texts form ≡ true → Whole e → Standing s → Acts s (thrown e.category (uses a (whole_form e)) behind s)
   changed_statement (method base m given d) e behind s same b h stands =
       let one = and_parts (is_changing m) _ b in
-      let two = and_parts (is_owner_type so_far (typed_in base).ty) (is_reached_object base && is_reached_form texts so_far given) one.1 in
-      let three = and_parts (is_reached_object base) (is_reached_form texts so_far given) two.1 in
+      let two = and_parts (is_owner_type (form_type base)) (is_served_object texts base && are_served_elements texts given) one.1 in
+      let three = and_parts (is_served_object texts base) (are_served_elements texts given) two.1 in
       let made : IsMadeOf a.program a.function.locals visible e (method base m given d) = subst (IsMadeOf a.program a.function.locals visible e) same h in
-      change_part a visible types texts so_far fs f setting base m given d e behind s same
-      (object_expression a visible types texts so_far fs f setting base three.0 two.0 made.1)
-      (wholes a visible types texts so_far fs f setting given three.1 made.2) one.0 made.0 stands
+      change_part a visible types texts fs f setting base m given d e behind s same
+      (object_expression a visible types texts fs f setting base three.0 (ap is_owner_type (operand_typed base) ∙ two.0) made.1)
+      (givings a visible types texts fs f setting given three.1 made.2) one.0 made.0 stands
   changed_statement _ e behind s same b h stands = absurd (false≢true b)
 
   -- ---- an element is erased
 
-  erased_statement : (form : Form) (e : Typed) (behind : Place) (s : State) → e.form ≡ form → is_erased texts so_far form ≡ true → is_reached_walker texts so_far (whole_form e) ≡ true → Whole e → Standing s → Acts s (thrown e.category (uses a (whole_form e)) behind s)
+  erased_statement : (form : Form) (e : Typed) (behind : Place) (s : State) → e.form ≡ form → is_erased form ≡ true → is_served_walker texts (whole_form e) ≡ true → Whole e → Standing s → Acts s (thrown e.category (uses a (whole_form e)) behind s)
   erased_statement (method base methods.Erase given d) e behind s same erases b h stands =
-      let is = walker_expression a visible types texts so_far fs f setting (whole_form e) b h in
-      let parts = and_parts (is_walker_type so_far e.ty) (is_reached_walker texts so_far e.form) b in
-      let told : is_reached_walker texts so_far (method base methods.Erase given d) ≡ true = ap (is_reached_walker texts so_far) (sym same) ∙ parts.1 in
-      let one = and_parts (is_owner_type so_far (typed_in base).ty) (is_reached_object base && is_reached_walker texts so_far given) told in
-      let two = and_parts (is_reached_object base) (is_reached_walker texts so_far given) one.1 in
+      let is = walker_expression a visible types texts fs f setting (whole_form e) b h in
+      let parts = and_parts (is_walker_type e.ty) (is_served_walker texts e.form) b in
+      let told : is_served_walker texts (method base methods.Erase given d) ≡ true = ap (is_served_walker texts) (sym same) ∙ parts.1 in
+      let one = and_parts (is_owner_type (form_type base)) (is_served_object texts base && is_served_walker texts given) told in
+      let two = and_parts (is_served_object texts base) (is_served_walker texts given) one.1 in
       let made : IsMadeOf a.program a.function.locals visible e (method base methods.Erase given d) = subst (IsMadeOf a.program a.function.locals visible e) same h in
-      let from = object_expression a visible types texts so_far fs f setting (base) two.0 one.0 made.1 in
+      let from = object_expression a visible types texts fs f setting base two.0 (ap is_owner_type (operand_typed base) ∙ one.0) made.1 in
       let held = erased_value from.ty from.owner (subst (λ (x : ExprType). IsCalled a.program.types x (typed_in base).category methods.Erase given e) from.is made.0) in
       let u = uses a (whole_form e) in
       subst (Acts s)
       (sym (ap (λ (k : Category). thrown k u behind s) held
       ∙ ap (λ (x : Ty). cond (is_void x) (u.alone s) (thrown_by (class (Some x)) u behind s)) (ap own_type is.is)
       ∙ by_walker is.ty is.walker))
-      (seen_part types texts so_far fs f no_gift tt None s (pointer u (own u) s) (a_pointer types texts so_far fs f is.ty) (λ (l : Location). tt) no_gift (walker_pointer a visible types texts so_far fs f setting (whole_form e) is (own u) s stands) (λ b h. tt) (λ n k h. tt))
+      (seen_part types texts fs f no_gift tt None s (pointer u (own u) s) (a_pointer types texts fs f is.ty) (λ (l : Location). tt) no_gift (walker_pointer a visible types texts fs f setting (whole_form e) is (own u) s stands) (λ b h. tt) (λ n k h. tt))
     where
       erased_value : (t : Ty) → is_owner_of_values a.program.types t ≡ true → IsCalled a.program.types (Of t) (typed_in base).category methods.Erase given e → e.category ≡ category.Value
       erased_value ty.Text o c = absurd (none_some c.2)
@@ -415,59 +416,59 @@ module _ (a : Around) (visible : List ℕ) (types : Types) (texts : ℕ) (so_far
   owner_class _ o = absurd (false≢true o)
 
   -- a copy
-  copied_part : (target e : Typed) (equals behind : Place) (s : State) → (to : IsObject a visible types texts so_far fs f setting (whole_form target)) → to.constant ≡ false → (from : IsObject a visible types texts so_far fs f setting (whole_form e)) → from.ty ≡ to.ty → Standing s
+  copied_part : (target e : Typed) (equals behind : Place) (s : State) → (to : IsObject a visible types texts fs f setting (whole_form target)) → to.constant ≡ false → (from : IsObject a visible types texts fs f setting (whole_form e)) → from.ty ≡ to.ty → Standing s
       → Acts s (assigned a target equals (one e) behind s)
   copied_part target e equals behind s to free from alike stands =
       let w = (uses a (whole_form e)).at s in
       let o = operand (uses a (whole_form target)) w.state in
-      let P = a_place types texts so_far fs f to.ty from.constant in
+      let P = a_place types texts fs f to.ty from.constant in
       let Q = a_target to.ty in
-      let first = subst (λ (t : Ty). Makes types texts so_far fs f None s w (a_place types texts so_far fs f t from.constant)) alike (from.names s stands) in
-      let second = object_part a visible types texts so_far fs f setting (whole_form target) to free w.state (stands_later a visible s w.state first.grown stands) in
+      let first = subst (λ (t : Ty). Makes types texts fs f None s w (a_place types texts fs f t from.constant)) alike (from.names s stands) in
+      let second = object_part a visible types texts fs f setting (whole_form target) to free w.state (stands_later a visible s w.state first.grown stands) in
       subst (Acts s)
       (sym (ap (λ (k : Class). assigned_by k (uses a (whole_form e)) (own_type target.ty) (target_of (uses a (whole_form target))) equals behind s) (ap (λ (t : Ty). class (Some t)) (ap own_type to.is) ∙ owner_class to.ty to.owner)
       ∙ ap (λ (c : Category). acted (owner_by c (uses a (whole_form e)) (own_type target.ty) s) (target_of (uses a (whole_form target))) equals) from.place))
-      (then_part types texts so_far fs f no_gift tt None s (gives (w.given, o.given) o.state) _ (both_of P Q) no_gift stands.opened
-      (and_part types texts so_far fs f no_gift tt s w o P Q stands.opened first second)
-      (copies_part types texts so_far fs f (both_of P Q) (w.given, o.given) a.program.types to.ty from.constant o.given w.given equals o.state to.wide to.owner (λ h. (h.1, h.0)) (λ n k q. (q.1, q.0))))
+      (then_part types texts fs f no_gift tt None s (gives (w.given, o.given) o.state) _ (both_of P Q) no_gift stands.opened
+      (and_part types texts fs f no_gift tt s w o P Q stands.opened first second)
+      (copies_part types texts fs f (both_of P Q) (w.given, o.given) a.program.types to.ty from.constant o.given w.given equals o.state to.owner (λ h. (h.1, h.0)) (λ n k q. (q.1, q.0))))
 
   -- one that is made, by way of a temporary
-  made_assigned_part : (target : Typed) (u : Uses) (equals behind : Place) (s : State) → (to : IsObject a visible types texts so_far fs f setting (whole_form target)) → to.constant ≡ false → u.category ≡ category.Value → u.replacing ≡ None
-      → Builds a visible types texts so_far fs f setting to.ty s (u.object s) → Standing s → Acts s (assigned_by (class (Some (own_type target.ty))) u (own_type target.ty) (target_of (uses a (whole_form target))) equals behind s)
+  made_assigned_part : {alone : Bool} (target : Typed) (u : Uses) (equals behind : Place) (s : State) → (to : IsObject a visible types texts fs f setting (whole_form target)) → to.constant ≡ false → u.category ≡ category.Value → u.replacing ≡ None
+      → BuildsIn a visible types texts fs f setting alone to.ty s (u.object s) → Standing s → Acts s (assigned_by (class (Some (own_type target.ty))) u (own_type target.ty) (target_of (uses a (whole_form target))) equals behind s)
   made_assigned_part target u equals behind s to free held plain builds stands =
       let w = temporary_of u to.ty s in
       let o = operand (uses a (whole_form target)) w.state in
-      let P = a_place types texts so_far fs f to.ty false in
-      let first = temporary_made a visible types texts so_far fs f setting to.ty u.place s (u.object s) to.wide to.owner builds stands in
+      let P = a_place types texts fs f to.ty false in
+      let first = temporary_made a visible types texts fs f setting to.ty u.place s (u.object s) to.owner builds stands in
       let later = stands_later a visible s w.state first.grown stands in
-      let second = object_part a visible types texts so_far fs f setting (whole_form target) to free w.state later in
+      let second = object_part a visible types texts fs f setting (whole_form target) to free w.state later in
       let apart =
-      ap (λ (g : Gives Operand). is_itself types texts fs f w.given g.given) (placed_operand a visible types texts so_far fs f setting (whole_form target) to.id to.constant w.state to.place)
-      ∙ to.apart w.state later w.given (temporary_dead a visible types texts so_far fs f setting to.ty u.place s (u.object s) to.wide to.owner builds stands) in
+      ap (λ (g : Gives Operand). is_itself types texts fs f w.given g.given) (placed_operand a visible types texts fs f setting (whole_form target) to.id to.constant w.state to.place)
+      ∙ to.apart w.state later w.given (temporary_dead a visible types texts fs f setting to.ty u.place s (u.object s) to.owner builds stands) in
       subst (Acts s)
       (sym (ap (λ (k : Class). assigned_by k u (own_type target.ty) (target_of (uses a (whole_form target))) equals behind s) (ap (λ (t : Ty). class (Some t)) (ap own_type to.is) ∙ owner_class to.ty to.owner)
       ∙ ap (λ (t : Ty). acted (owner_by u.category u t s) (target_of (uses a (whole_form target))) equals) (ap own_type to.is)
       ∙ ap (λ (c : Category). acted (owner_by c u to.ty s) (target_of (uses a (whole_form target))) equals) held
       ∙ ap (λ (r : Option (State → Gives Act)). acted (replaced_by r (temporary_of u to.ty) s) (target_of (uses a (whole_form target))) equals) plain))
-      (then_part types texts so_far fs f no_gift tt None s (gives (object_named w.given, o.given) o.state) _ (both_of P P) no_gift stands.opened
-      (and_part types texts so_far fs f no_gift tt s (mapped object_named w) o P P stands.opened first second)
-      (moves_part types texts so_far fs f setting.registers (both_of P P) (object_named w.given, o.given) a.program.types to.ty o.given w.given equals o.state to.wide to.owner (λ h. (h.1, h.0)) (λ n k q. (q.1, q.0)) apart))
+      (then_part types texts fs f no_gift tt None s (gives (object_named w.given, o.given) o.state) _ (both_of P P) no_gift stands.opened
+      (and_part types texts fs f no_gift tt s (mapped object_named w) o P P stands.opened first second)
+      (moves_part types texts fs f setting.registers (both_of P P) (object_named w.given, o.given) a.program.types to.ty o.given w.given equals o.state to.owner (λ h. (h.1, h.0)) (λ n k q. (q.1, q.0)) apart))
 
   -- .. of a literal
-  literal_assigned_part : (target e : Typed) (equals behind : Place) (s : State) → (to : IsObject a visible types texts so_far fs f setting (whole_form target)) → to.constant ≡ false → (form : Form) → e.form ≡ form → is_text_there texts so_far form ≡ true
+  literal_assigned_part : (target e : Typed) (equals behind : Place) (s : State) → (to : IsObject a visible types texts fs f setting (whole_form target)) → to.constant ≡ false → (form : Form) → e.form ≡ form → is_text_there texts form ≡ true
       → is_given a.program.types to.ty e ≡ true → Whole e → Standing s → Acts s (assigned a target equals (one e) behind s)
   literal_assigned_part target e equals behind s to free (text n) same few given h stands =
       let told : IsMadeOf a.program a.function.locals visible e (text n) = subst (IsMadeOf a.program a.function.locals visible e) same h in
       let string = string_only to.ty to.owner (subst (λ (x : ExprType). fits_at_all (fits a.program.types to.ty x e.category) ≡ true) told.0 given) in
       let w = located e.place ty.View (aimed (Text n)) s in
       let made =
-      then_part types texts so_far fs f no_gift tt None s (gives (aimed (Text n)) s) w (a_pointing types texts so_far fs f TextLiteral) (a_pointer types texts so_far fs f ty.View) stands.opened
-      (leaf_part types texts so_far fs f (aimed (Text n)) s (a_pointing types texts so_far fs f TextLiteral) (λ b. literal_given types texts so_far fs f n few) (λ b k alive. text_filling f n (length s.locals) k))
-      (literal_located_part types texts so_far fs f (aimed (Text n)) e.place s) in
+      then_part types texts fs f no_gift tt None s (gives (aimed (Text n)) s) w (a_pointing types texts fs f TextLiteral) (a_pointer types texts fs f ty.View) stands.opened
+      (leaf_part types texts fs f (aimed (Text n)) s (a_pointing types texts fs f TextLiteral) (λ b. literal_given types texts fs f n few) (λ b k alive. text_filling f n (length s.locals) k))
+      (literal_located_part types texts fs f (aimed (Text n)) e.place s) in
       let literal = λ (g : Form). (uses a (typed e.place e.ty e.category g)) in
       made_assigned_part target (uses a (whole_form e)) equals behind s to free told.1 (ap (λ (g : Form). (literal g).replacing) same)
-      (subst (λ (g : Form). Builds a visible types texts so_far fs f setting to.ty s ((literal g).object s)) (sym same)
-      (subst (λ (t : Ty). Builds a visible types texts so_far fs f setting t s ((literal (text n)).object s)) (sym string) (literal_builds a visible types texts so_far fs f setting s w to.wide made))) stands
+      (subst (λ (g : Form). Builds a visible types texts fs f setting to.ty s ((literal g).object s)) (sym same)
+      (subst (λ (t : Ty). Builds a visible types texts fs f setting t s ((literal (text n)).object s)) (sym string) (literal_builds a visible types texts fs f setting s w made))) stands
     where
       string_only : (t : Ty) → is_owner_of_values a.program.types t ≡ true → fits_at_all (fits a.program.types t TextLiteral e.category) ≡ true → t ≡ ty.Text
       string_only ty.Text o fit = refl
@@ -476,13 +477,13 @@ module _ (a : Around) (visible : List ℕ) (types : Types) (texts : ℕ) (so_far
   literal_assigned_part target e equals behind s to free _ same few given h stands = absurd (false≢true few)
 
   -- an iterator or a span
-  walker_assigned_part : (target e : Typed) (equals behind : Place) (s : State) → (to : IsWalker a visible types texts so_far fs f setting (whole_form target)) → (from : IsWalker a visible types texts so_far fs f setting (whole_form e)) → is_given a.program.types to.ty e ≡ true → Standing s
+  walker_assigned_part : (target e : Typed) (equals behind : Place) (s : State) → (to : IsWalker a visible types texts fs f setting (whole_form target)) → (from : IsWalker a visible types texts fs f setting (whole_form e)) → is_given a.program.types to.ty e ≡ true → Standing s
       → Acts s (assigned a target equals (one e) behind s)
   walker_assigned_part target e equals behind s to from given stands =
       subst (λ (k : Class). Acts s (assigned_by k (uses a (whole_form e)) (own_type target.ty) (target_of (uses a (whole_form target))) equals behind s)) (sym (ap (λ (t : Ty). class (Some t)) (ap own_type to.is) ∙ walker_class to.ty to.walker))
       (pointer_given_part target e equals behind s to.ty (Of from.ty) (walker_is a.program.types to.ty to.walker).location
-      (λ s stands. walker_pointer a visible types texts so_far fs f setting (whole_form target) to (own (uses a (whole_form target))) s stands)
-      (walker_points a visible types texts so_far fs f setting (whole_form e) from s stands) (given_walker a.program.types types setting.front to.ty from.ty e to.walker from.walker from.is given) stands)
+      (λ s stands. walker_pointer a visible types texts fs f setting (whole_form target) to (own (uses a (whole_form target))) s stands)
+      (walker_points a visible types texts fs f setting (whole_form e) from s stands) (given_walker a.program.types types setting.front to.ty from.ty e to.walker from.walker from.is given) stands)
     where
       walker_class : (t : Ty) → is_walker_of_values a.program.types t ≡ true → class (Some t) ≡ classes.Pointer
       walker_class (ty.Iterator item constant) w = refl
@@ -490,7 +491,7 @@ module _ (a : Around) (visible : List ℕ) (types : Types) (texts : ℕ) (so_far
       walker_class _ w = absurd (false≢true w)
 
   -- a span of the whole of a vector
-  span_assigned_part : (target e : Typed) (equals behind : Place) (s : State) → (to : IsWalker a visible types texts so_far fs f setting (whole_form target)) → (from : IsOwner a visible types texts so_far fs f setting (whole_form e)) → is_given a.program.types to.ty e ≡ true → Standing s
+  span_assigned_part : (target e : Typed) (equals behind : Place) (s : State) → (to : IsWalker a visible types texts fs f setting (whole_form target)) → (from : IsOwner a visible types texts fs f setting (whole_form e)) → is_given a.program.types to.ty e ≡ true → Standing s
       → Acts s (assigned a target equals (one e) behind s)
   span_assigned_part target e equals behind s to from given stands = go to.ty refl to.walker given
     where
@@ -500,10 +501,10 @@ module _ (a : Around) (visible : List ℕ) (types : Types) (texts : ℕ) (so_far
           let t = ty.Span item constant in
           subst (λ (k : Class). Acts s (assigned_by k (uses a (whole_form e)) (own_type target.ty) (target_of (uses a (whole_form target))) equals behind s)) (sym (ap (λ (t : Ty). class (Some t)) (ap own_type to.is ∙ span)))
           (pointer_given_part target e equals behind s t (Of t) refl
-          (λ s stands. subst (λ (t : Ty). Makes types texts so_far fs f None s (pointer (uses a (whole_form target)) (own (uses a (whole_form target))) s) (a_pointer types texts so_far fs f t)) span
-          (walker_pointer a visible types texts so_far fs f setting (whole_form target) to (own (uses a (whole_form target))) s stands))
-          (vector_points a visible types texts so_far fs f setting (whole_form e) from item constant vector.is vector.kept s stands)
-          (and_from (same (ty_of types item) (ty_of types item)) (keeps_const constant constant) (value_same (ty_of types item) (ap is_value (type_later a.program.types types setting.front item worth) ∙ worth)) (keeps_itself constant)) stands)
+          (λ s stands. subst (λ (t : Ty). Makes types texts fs f None s (pointer (uses a (whole_form target)) (own (uses a (whole_form target))) s) (a_pointer types texts fs f t)) span
+          (walker_pointer a visible types texts fs f setting (whole_form target) to (own (uses a (whole_form target))) s stands))
+          (vector_points a visible types texts fs f setting (whole_form e) from item constant vector.is vector.kept s stands)
+          (and_from (same (ty_of types item) (ty_of types item)) (keeps_const constant constant) (one_element a.program.types types setting.front item worth) (keeps_itself constant)) stands)
       go (ty.Iterator item constant) span worth h = absurd (false≢true (sym (no_iterator from.ty from.owner) ∙ subst (λ (x : ExprType). fits_at_all (fits a.program.types (ty.Iterator item constant) x e.category) ≡ true) from.is h))
         where
           no_iterator : (u : Ty) → is_owner_of_values a.program.types u ≡ true → fits_at_all (fits a.program.types (ty.Iterator item constant) (Of u) e.category) ≡ false
@@ -514,91 +515,99 @@ module _ (a : Around) (visible : List ℕ) (types : Types) (texts : ℕ) (so_far
 
   -- an owner, by a copy of another one, or by one that is made
   owner_assigned_part : (target e : Typed) (equals behind : Place) (s : State)
-      → ((is_owner_type so_far target.ty && is_reached_object (whole_form target)) && ((is_owner_type so_far e.ty && is_reached_owner texts so_far (whole_form e)) || (not so_far && is_text_there texts so_far e.form))) ≡ true
+      → ((is_owner_type target.ty && is_served_object texts (whole_form target)) && ((is_owner_type e.ty && is_served_owner texts (whole_form e)) || (is_text_there texts e.form))) ≡ true
       → IsSimple a.program a.function.locals a.function.result visible (assign target equals (one e)) → Standing s → Acts s (assigned a target equals (one e) behind s)
   owner_assigned_part target e equals behind s b h stands =
-      let both = and_parts (is_owner_type so_far target.ty && is_reached_object (whole_form target)) ((is_owner_type so_far e.ty && is_reached_owner texts so_far (whole_form e)) || (not so_far && is_text_there texts so_far e.form)) b in
-      let goal = and_parts (is_owner_type so_far target.ty) (is_reached_object (whole_form target)) both.0 in
-      let to = object_expression a visible types texts so_far fs f setting (whole_form target) goal.1 goal.0 h.0.1 in
+      let both = and_parts (is_owner_type target.ty && is_served_object texts (whole_form target)) ((is_owner_type e.ty && is_served_owner texts (whole_form e)) || (is_text_there texts e.form)) b in
+      let goal = and_parts (is_owner_type target.ty) (is_served_object texts (whole_form target)) both.0 in
+      let to = object_expression a visible types texts fs f setting (whole_form target) goal.1 goal.0 h.0.1 in
       let free = to_free target.category to.constant (ap is_constant to.place) (and_parts (is_place target.ty target.category) (not (is_constant target.category)) h.0.0).1 in
       let given : is_given a.program.types to.ty e ≡ true = subst (λ (t : Ty). is_given a.program.types t e ≡ true) (own_same target.ty ∙ ap own_type to.is) h.1.0 in
-      elim (or_cases (is_owner_type so_far e.ty && is_reached_owner texts so_far (whole_form e)) (not so_far && is_text_there texts so_far e.form) both.1) [
+      elim (or_cases (is_owner_type e.ty && is_served_owner texts (whole_form e)) (is_text_there texts e.form) both.1) [
         | inl owner ↦
-            let source = and_parts (is_owner_type so_far e.ty) (is_reached_owner texts so_far (whole_form e)) owner in
-            from_owner to free given (owner_expression a visible types texts so_far fs f setting (whole_form e) source.1 source.0 h.1.1)
-        | inr literal ↦ let parts = and_parts (not so_far) (is_text_there texts so_far e.form) literal in literal_assigned_part target e equals behind s to free e.form refl parts.1 given h.1.1 stands
+            let source = and_parts (is_owner_type e.ty) (is_served_owner texts (whole_form e)) owner in
+            from_owner to free given (owner_expression a visible types texts fs f setting (whole_form e) source.1 source.0 h.1.1)
+        | inr literal ↦ literal_assigned_part target e equals behind s to free e.form refl literal given h.1.1 stands
       ]
     where
-      from_owner : (to : IsObject a visible types texts so_far fs f setting (whole_form target)) → to.constant ≡ false → is_given a.program.types to.ty e ≡ true → IsOwning a visible types texts so_far fs f setting (whole_form e) → Acts s (assigned a target equals (one e) behind s)
+      from_owner : (to : IsObject a visible types texts fs f setting (whole_form target)) → to.constant ≡ false → is_given a.program.types to.ty e ≡ true → IsOwning a visible types texts fs f setting (whole_form e) → Acts s (assigned a target equals (one e) behind s)
       from_owner to free given (stands_there from) = copied_part target e equals behind s to free from (given_owner a.program.types to.ty from.ty e to.owner from.owner from.is given) stands
       from_owner to free given (is_made from) =
           made_assigned_part target (uses a (whole_form e)) equals behind s to free from.value from.plain
-          (subst (λ (t : Ty). Builds a visible types texts so_far fs f setting t s ((uses a (whole_form e)).object s)) (given_owner a.program.types to.ty from.ty e to.owner from.owner from.is given) (from.builds s stands)) stands
+          (subst (λ (t : Ty). Builds a visible types texts fs f setting t s ((uses a (whole_form e)).object s)) (given_owner a.program.types to.ty from.ty e to.owner from.owner from.is given) (from.builds s stands)) stands
 
   -- .. of a list of its elements
-  list_assigned_part : (target : Typed) (list : ListForm) (equals behind : Place) (s : State) → is_reached_assigned texts so_far target (several list) ≡ true → IsSimple a.program a.function.locals a.function.result visible (assign target equals (several list)) → Standing s
+  list_assigned_part : (target : Typed) (list : ListForm) (equals behind : Place) (s : State) → is_served_assigned texts target (several list) ≡ true → IsSimple a.program a.function.locals a.function.result visible (assign target equals (several list)) → Standing s
       → Acts s (assigned a target equals (several list) behind s)
   list_assigned_part target list equals behind s b h stands =
-      let both = and_parts (is_owner_type so_far target.ty && is_reached_object (whole_form target)) (is_reached_list texts so_far (own_type target.ty) list) b in
-      let goal = and_parts (is_owner_type so_far target.ty) (is_reached_object (whole_form target)) both.0 in
-      let one = and_parts (is_vector texts so_far (own_type target.ty)) (not so_far && is_reached_form texts so_far (forms list.elements)) both.1 in
-      let two = and_parts (not so_far) (is_reached_form texts so_far (forms list.elements)) one.1 in
-      let to = object_expression a visible types texts so_far fs f setting (whole_form target) goal.1 goal.0 h.0.1 in
+      let both = and_parts (is_owner_type target.ty && is_served_object texts (whole_form target)) (is_vector_type target.ty && are_served_elements texts (forms list.elements)) b in
+      let goal = and_parts (is_owner_type target.ty) (is_served_object texts (whole_form target)) both.0 in
+      let one = and_parts (is_vector_type target.ty) (are_served_elements texts (forms list.elements)) both.1 in
+      let to = object_expression a visible types texts fs f setting (whole_form target) goal.1 goal.0 h.0.1 in
       let free = to_free target.category to.constant (ap is_constant to.place) (and_parts (is_place target.ty target.category) (not (is_constant target.category)) h.0.0).1 in
-      go to free to.ty refl to.owner (ap (is_vector texts so_far) (sym (ap own_type to.is)) ∙ one.0) (wholes a visible types texts so_far fs f setting (forms list.elements) two.1 h.1.1) (subst (λ (t : Ty). is_listed a.program.types t (forms list.elements) ≡ true) (own_same target.ty ∙ ap own_type to.is) h.1.0)
+      go to free to.ty refl to.owner (ap is_vector (sym (ap own_type to.is)) ∙ vector_own target.ty one.0) (givings a visible types texts fs f setting (forms list.elements) one.1 h.1.1) (subst (λ (t : Ty). is_listed a.program.types t (forms list.elements) ≡ true) (own_same target.ty ∙ ap own_type to.is) h.1.0)
     where
-      go : (to : IsObject a visible types texts so_far fs f setting (whole_form target)) → to.constant ≡ false → (t : Ty) → to.ty ≡ t → is_owner_of_values a.program.types t ≡ true → is_vector texts so_far t ≡ true → AreWhole a visible types texts so_far fs f setting (forms list.elements)
+      vector_own : (t : ExprType) → is_vector_type t ≡ true → is_vector (own_type t) ≡ true
+      vector_own (Of t) v = v
+      vector_own _ v = absurd (false≢true v)
+
+      go : (to : IsObject a visible types texts fs f setting (whole_form target)) → to.constant ≡ false → (t : Ty) → to.ty ≡ t → is_owner_of_values a.program.types t ≡ true → is_vector t ≡ true → AreGiving a visible types texts fs f setting (forms list.elements)
           → is_listed a.program.types t (forms list.elements) ≡ true → Acts s (assigned a target equals (several list) behind s)
       go to free (ty.Vector item) at o v elements all =
           let own_is : own_type target.ty ≡ ty.Vector item = ap own_type to.is ∙ at in
           let u = listed a (built_type a (own_type target.ty)) list.opening (all_uses a (forms list.elements)) list.delimiters in
-          let builds = list_builds a visible types texts so_far fs f setting item o to.wide list.opening (forms list.elements) list.delimiters s elements all in
+          let builds = list_builds a visible types texts fs f setting item o list.opening (forms list.elements) list.delimiters s elements all in
           made_assigned_part target u equals behind s to free refl refl
-          (subst (λ (t : Ty). Builds a visible types texts so_far fs f setting t s (u.object s)) (sym at)
-          (subst (λ (t : Ty). Builds a visible types texts so_far fs f setting (ty.Vector item) s (gives (list_object a (built_type a t) list.opening (all_uses a (forms list.elements)) list.delimiters) s)) (sym own_is) builds)) stands
+          (subst (λ (t : Ty). BuildsIn a visible types texts fs f setting false t s (u.object s)) (sym at)
+          (subst (λ (t : Ty). BuildsIn a visible types texts fs f setting false (ty.Vector item) s (gives (list_object a (built_type a t) list.opening (all_uses a (forms list.elements)) list.delimiters) s)) (sym own_is) builds)) stands
       go to free _ at o v elements all = absurd (false≢true v)
 
   -- a view of the whole of a string
   view_assigned_part : (target e : Typed) (equals behind : Place) (s : State)
-      → ((is_view (own_type target.ty) && is_reached_expression texts so_far target) && (is_owner_type so_far e.ty && is_reached_owner texts so_far (whole_form e))) ≡ true → IsSimple a.program a.function.locals a.function.result visible (assign target equals (one e)) → Standing s
+      → ((is_view_type target.ty && is_served_expression texts target) && (is_owner_type e.ty && is_served_owner texts (whole_form e))) ≡ true → IsSimple a.program a.function.locals a.function.result visible (assign target equals (one e)) → Standing s
       → Acts s (assigned a target equals (one e) behind s)
   view_assigned_part target e equals behind s b h stands =
-      let both = and_parts (is_view (own_type target.ty) && is_reached_expression texts so_far target) (is_owner_type so_far e.ty && is_reached_owner texts so_far (whole_form e)) b in
-      let goal = and_parts (is_view (own_type target.ty)) (is_reached_expression texts so_far target) both.0 in
-      let source = and_parts (is_owner_type so_far e.ty) (is_reached_owner texts so_far (whole_form e)) both.1 in
-      let from = asked_expression a visible types texts so_far fs f setting (whole_form e) source.1 source.0 h.1.1 in
+      let both = and_parts (is_view_type target.ty && is_served_expression texts target) (is_owner_type e.ty && is_served_owner texts (whole_form e)) b in
+      let goal = and_parts (is_view_type target.ty) (is_served_expression texts target) both.0 in
+      let seen = view_own target.ty goal.0 in
+      let source = and_parts (is_owner_type e.ty) (is_served_owner texts (whole_form e)) both.1 in
+      let from = asked_expression a visible types texts fs f setting (whole_form e) source.1 source.0 h.1.1 in
       let is = whole target goal.1 h.0.1 in
-      let viewed : own_type target.ty ≡ ty.View = view_is (own_type target.ty) goal.0 in
-      let at : target.ty ≡ Of ty.View = location_is target.ty (view_location (own_type target.ty) goal.0) ∙ ap Of viewed in
+      let viewed : own_type target.ty ≡ ty.View = view_is (own_type target.ty) seen in
+      let at : target.ty ≡ Of ty.View = location_is target.ty (view_location (own_type target.ty) seen) ∙ ap Of viewed in
       subst (λ (k : Class). Acts s (assigned_by k (uses a (whole_form e)) (own_type target.ty) (target_of (uses a (whole_form target))) equals behind s)) (sym (ap (λ (t : Ty). class (Some t)) viewed))
-      (pointer_given_part target e equals behind s ty.View (Of ty.View) refl (λ s stands. pointer_whole a visible types texts so_far fs f setting (whole_form target) is ty.View at refl (own (uses a (whole_form target))) s stands)
-      (string_points a visible types texts so_far fs f setting (whole_form e) from (given_string a.program.types from.ty e from.owner from.is (subst (λ (t : Ty). is_given a.program.types t e ≡ true) (own_same target.ty ∙ viewed) h.1.0)) s stands) refl stands)
+      (pointer_given_part target e equals behind s ty.View (Of ty.View) refl (λ s stands. pointer_whole a visible types texts fs f setting (whole_form target) is ty.View at refl (own (uses a (whole_form target))) s stands)
+      (string_points a visible types texts fs f setting (whole_form e) from (given_string a.program.types from.ty e from.owner from.is (subst (λ (t : Ty). is_given a.program.types t e ≡ true) (own_same target.ty ∙ viewed) h.1.0)) s stands) refl stands)
     where
+      view_own : (t : ExprType) → is_view_type t ≡ true → is_view (own_type t) ≡ true
+      view_own (Of t) v = v
+      view_own _ v = absurd (false≢true v)
+
       view_is : (t : Ty) → is_view t ≡ true → t ≡ ty.View
       view_is ty.View v = refl
       view_is _ v = absurd (false≢true v)
 
   -- an iterator or a span
   walker_reassigned_part : (target e : Typed) (equals behind : Place) (s : State)
-      → (is_reached_walker texts so_far (whole_form target) && (is_reached_walker texts so_far (whole_form e) || (is_owner_type so_far e.ty && is_reached_owner texts so_far (whole_form e)))) ≡ true → IsSimple a.program a.function.locals a.function.result visible (assign target equals (one e)) → Standing s
+      → (is_served_walker texts (whole_form target) && (is_served_walker texts (whole_form e) || (is_owner_type e.ty && is_served_owner texts (whole_form e)))) ≡ true → IsSimple a.program a.function.locals a.function.result visible (assign target equals (one e)) → Standing s
       → Acts s (assigned a target equals (one e) behind s)
   walker_reassigned_part target e equals behind s b h stands =
-      let owned : Bool = is_owner_type so_far e.ty && is_reached_owner texts so_far (whole_form e) in
-      let parts = and_parts (is_reached_walker texts so_far (whole_form target)) (is_reached_walker texts so_far (whole_form e) || owned) b in
-      let to = walker_expression a visible types texts so_far fs f setting (whole_form target) parts.0 h.0.1 in
+      let owned : Bool = is_owner_type e.ty && is_served_owner texts (whole_form e) in
+      let parts = and_parts (is_served_walker texts (whole_form target)) (is_served_walker texts (whole_form e) || owned) b in
+      let to = walker_expression a visible types texts fs f setting (whole_form target) parts.0 h.0.1 in
       let given : is_given a.program.types to.ty e ≡ true = subst (λ (t : Ty). is_given a.program.types t e ≡ true) (own_same target.ty ∙ ap own_type to.is) h.1.0 in
-      elim (or_cases (is_reached_walker texts so_far (whole_form e)) owned parts.1) [
-        | inl walker ↦ walker_assigned_part target e equals behind s to (walker_expression a visible types texts so_far fs f setting (whole_form e) walker h.1.1) given stands
+      elim (or_cases (is_served_walker texts (whole_form e)) owned parts.1) [
+        | inl walker ↦ walker_assigned_part target e equals behind s to (walker_expression a visible types texts fs f setting (whole_form e) walker h.1.1) given stands
         | inr owner ↦
-            let source = and_parts (is_owner_type so_far e.ty) (is_reached_owner texts so_far (whole_form e)) owner in
-            span_assigned_part target e equals behind s to (asked_expression a visible types texts so_far fs f setting (whole_form e) source.1 source.0 h.1.1) given stands
+            let source = and_parts (is_owner_type e.ty) (is_served_owner texts (whole_form e)) owner in
+            span_assigned_part target e equals behind s to (asked_expression a visible types texts fs f setting (whole_form e) source.1 source.0 h.1.1) given stands
       ]
 
-  reassigned_part : (target e : Typed) (equals behind : Place) (s : State) → is_reached_assigned texts so_far target (one e) ≡ true → IsSimple a.program a.function.locals a.function.result visible (assign target equals (one e)) → Standing s
+  reassigned_part : (target e : Typed) (equals behind : Place) (s : State) → is_served_renewed texts target e ≡ true → IsSimple a.program a.function.locals a.function.result visible (assign target equals (one e)) → Standing s
       → Acts s (assigned a target equals (one e) behind s)
-  reassigned_part target e equals behind s b h stands = elim (or_cases ((is_owner_type so_far target.ty && is_reached_object (whole_form target)) && ((is_owner_type so_far e.ty && is_reached_owner texts so_far (whole_form e)) || (not so_far && is_text_there texts so_far e.form))) _ b) [
+  reassigned_part target e equals behind s b h stands = elim (or_cases ((is_owner_type target.ty && is_served_object texts (whole_form target)) && ((is_owner_type e.ty && is_served_owner texts (whole_form e)) || (is_text_there texts e.form))) _ b) [
     | inl owners ↦ owner_assigned_part target e equals behind s owners h stands
-    | inr others ↦ elim (or_cases ((is_view (own_type target.ty) && is_reached_expression texts so_far target) && (is_owner_type so_far e.ty && is_reached_owner texts so_far (whole_form e))) _ others) [
+    | inr others ↦ elim (or_cases ((is_view_type target.ty && is_served_expression texts target) && (is_owner_type e.ty && is_served_owner texts (whole_form e))) _ others) [
       | inl views ↦ view_assigned_part target e equals behind s views h stands
       | inr walks ↦ walker_reassigned_part target e equals behind s walks h stands
     ]
@@ -606,83 +615,81 @@ module _ (a : Around) (visible : List ℕ) (types : Types) (texts : ℕ) (so_far
 
   -- ---- an iterator steps
 
-  advanced_part : (target : Typed) (o : StepOperator) (place : Place) (s : State) → (is : IsWalker a visible types texts so_far fs f setting (whole_form target)) → (item : TyId) (constant : Bool) → is.ty ≡ ty.Iterator item constant → Standing s
+  advanced_part : (target : Typed) (o : StepOperator) (place : Place) (s : State) → (is : IsWalker a visible types texts fs f setting (whole_form target)) → (item : TyId) (constant : Bool) → is.ty ≡ ty.Iterator item constant → Standing s
       → Acts s (advanced (uses a (whole_form target)) o place s)
   advanced_part target o place s is item constant iterator stands =
       let u = uses a (whole_form target) in
       let t = ty.Iterator item constant in
       let l = pointer u (own u) s in
       let r = computed None ty.Int place (constant_step (pos 1)) l.state in
-      let P = a_pointer types texts so_far fs f t in
+      let P = a_pointer types texts fs f t in
       let Q = a_value ty.Int in
       let step = By (λ p. Advance p l.given r.given (direction o)) in
-      let first = subst (λ (x : Ty). Makes types texts so_far fs f None s l (a_pointer types texts so_far fs f x)) iterator (walker_pointer a visible types texts so_far fs f setting (whole_form target) is (own u) s stands) in
-      let second = constant_part types texts so_far fs f None ty.Int place (pos 1) l.state refl tt in
-      then_part types texts so_far fs f no_gift tt None s (gives (l.given, r.given) r.state) _ (both_of P Q) no_gift stands.opened
-      (and_part types texts so_far fs f no_gift tt s l r P Q stands.opened first second)
-      (acted_as_part types texts so_far fs f (both_of P Q) (l.given, r.given) place (Advance l.given l.given r.given (direction o)) r.state
-      (λ h. pointed_fine types texts so_far fs f l.given t (Of t) step refl h.0
-      (and_from (same (ty_of types item) (ty_of types item)) (keeps_const constant constant) (value_same (ty_of types item) worth) (keeps_itself constant))
-      (advance_given types texts so_far fs f item constant ty.Int l.given r.given (direction o) is.wide h.0 worth h.1))
-      (λ h n k p. pointed_ready f l.given n n step k p.0 (advance_filling types texts so_far fs f l.given r.given (direction o) n k p.0 p.1) h.0.kept)
-      (λ h n m k p. pointed_keeps f l.given n n m step k p.0 (advance_filling types texts so_far fs f l.given r.given (direction o) n k p.0 p.1) h.0.kept))
+      let first = subst (λ (x : Ty). Makes types texts fs f None s l (a_pointer types texts fs f x)) iterator (walker_pointer a visible types texts fs f setting (whole_form target) is (own u) s stands) in
+      let second = constant_part types texts fs f None ty.Int place (pos 1) l.state refl tt in
+      then_part types texts fs f no_gift tt None s (gives (l.given, r.given) r.state) _ (both_of P Q) no_gift stands.opened
+      (and_part types texts fs f no_gift tt s l r P Q stands.opened first second)
+      (acted_as_part types texts fs f (both_of P Q) (l.given, r.given) place (Advance l.given l.given r.given (direction o)) r.state
+      (λ h. pointed_fine types texts fs f l.given t (Of t) step refl h.0
+      (and_from (same (ty_of types item) (ty_of types item)) (keeps_const constant constant) worth (keeps_itself constant))
+      (advance_given types texts fs f item constant ty.Int l.given r.given (direction o) h.0 worth h.1))
+      (λ h n k p. pointed_ready f l.given n n step k p.0 (advance_filling types texts fs f l.given r.given (direction o) n k p.0 p.1) h.0.kept)
+      (λ h n m k p. pointed_keeps f l.given n n m step k p.0 (advance_filling types texts fs f l.given r.given (direction o) n k p.0 p.1) h.0.kept))
     where
-      worth : is_value (ty_of types item) ≡ true
-      worth =
-          let v : is_value (type_at a.program.types item) ≡ true = subst (λ (t : Ty). is_walker_of_values a.program.types t ≡ true) iterator is.walker in
-          ap is_value (type_later a.program.types types setting.front item v) ∙ v
+      worth : same (ty_of types item) (ty_of types item) ≡ true
+      worth = one_element a.program.types types setting.front item (subst (λ (t : Ty). is_walker_of_values a.program.types t ≡ true) iterator is.walker)
 
   -- ---- assignments that compute
 
   -- of numbers
-  counted_part : (target : Typed) (o : CompoundOperator) (place : Place) (e : Typed) (behind : Place) (s : State) → (is_reached_expression texts so_far target && is_reached_expression texts so_far e) ≡ true
+  counted_part : (target : Typed) (o : CompoundOperator) (place : Place) (e : Typed) (behind : Place) (s : State) → (is_served_expression texts target && is_served_expression texts e) ≡ true
       → IsSimple a.program a.function.locals a.function.result visible (compound target o place e) → Standing s → Acts s (done a (compound target o place e) behind s)
   counted_part target o place e behind s b h stands =
-      let parts = and_parts (is_reached_expression texts so_far target) (is_reached_expression texts so_far e) b in
+      let parts = and_parts (is_served_expression texts target) (is_served_expression texts e) b in
       let is = whole target parts.0 h.1.1 in
-      let plain = own_no_text so_far a.program.types target is.kind.kind in
+      let plain = own_no_text a.program.types target is.kind.kind in
       let n = compounded_numbers o (own_type target.ty) e.ty plain (subst (λ (t : Ty). fits_at_all (compounded o t e.ty) ≡ true) (own_same target.ty) h.0) in
       subst (λ (b : Bool). Acts s (cond b (appended a target place e s) (combined a target o place e behind (promoted (own_type target.ty) (own_type e.ty)) s))) (sym plain)
-      (combined_part target e o place behind (promoted (own_type target.ty) (own_type e.ty)) s is (whole e parts.1 h.2) (free_place so_far a.program.types target is.kind h.1.0) (own_counts target.ty n.0) n.1
+      (combined_part target e o place behind (promoted (own_type target.ty) (own_type e.ty)) s is (whole e parts.1 h.2) (free_place a.program.types target is.kind h.1.0) (own_counts target.ty n.0) n.1
       (promoted_value (own_type target.ty) (own_type e.ty)) (promoted_is (own_type target.ty) (own_type e.ty)) stands)
 
   -- .. of characters
-  gained_part : (target : Typed) (o : CompoundOperator) (place : Place) (e : Typed) (behind : Place) (s : State) → is_reached_append texts so_far target e ≡ true
+  gained_part : (target : Typed) (o : CompoundOperator) (place : Place) (e : Typed) (behind : Place) (s : State) → (is_served_target texts target && is_served_any texts e) ≡ true
       → IsSimple a.program a.function.locals a.function.result visible (compound target o place e) → Standing s → Acts s (done a (compound target o place e) behind s)
   gained_part target o place e behind s b h stands =
-      let either : Bool = is_reached_either so_far (whole_form e) (is_reached_owner texts so_far (whole_form e)) (is_reached_expression texts so_far e) in
-      let one = and_parts (is_owner_type so_far target.ty) (is_reached_object (whole_form target) && either) b in
-      let two = and_parts (is_reached_object (whole_form target)) either one.1 in
-      let to = object_expression a visible types texts so_far fs f setting (whole_form target) two.0 one.0 h.1.1 in
-      let from : IsEither a visible types texts so_far fs f setting (whole_form e) = elim (either_reached so_far (whole_form e) (is_reached_owner texts so_far (whole_form e)) (is_reached_expression texts so_far e) two.1) [
+      let either : Bool = is_served_either (whole_form e) (is_served_owner texts (whole_form e)) (is_served_expression texts e) in
+      let two = and_parts (is_served_target texts target) either b in
+      let one = and_parts (is_owner_type target.ty) (is_served_object texts (whole_form target)) two.0 in
+      let to = object_expression a visible types texts fs f setting (whole_form target) one.1 one.0 h.1.1 in
+      let from : IsEither a visible types texts fs f setting (whole_form e) = elim (either_served (whole_form e) (is_served_owner texts (whole_form e)) (is_served_expression texts e) two.1) [
         | inl value ↦ inl (whole e value h.2)
-        | inr owner ↦ inr (asked_expression a visible types texts so_far fs f setting (whole_form e) owner.1 owner.0 h.2)
+        | inr owner ↦ inr (asked_expression a visible types texts fs f setting (whole_form e) owner.1 owner.0 h.2)
       ] in
       let own_is : own_type target.ty ≡ to.ty = ap own_type to.is in
       let fits : fits_at_all (compounded o to.ty e.ty) ≡ true = subst (λ (t : Ty). fits_at_all (compounded o t e.ty) ≡ true) own_is (subst (λ (t : Ty). fits_at_all (compounded o t e.ty) ≡ true) (own_same target.ty) h.0) in
       let told = text_gains a.program.types o to.ty e.ty to.owner fits in
       subst (λ (t : Ty). Acts s (cond (is_text t) (appended a target place e s) (combined a target o place e behind (promoted t (own_type e.ty)) s))) (sym (own_is ∙ told.0))
-      (appended_part a visible types texts so_far fs f setting (whole_form target) (whole_form e) place s to told.0 (to_free target.category to.constant (ap is_constant to.place) (and_parts (is_place target.ty target.category) (not (is_constant target.category)) h.1.0).1) from told.1 stands)
+      (appended_part a visible types texts fs f setting (whole_form target) (whole_form e) place s to told.0 (to_free target.category to.constant (ap is_constant to.place) (and_parts (is_place target.ty target.category) (not (is_constant target.category)) h.1.0).1) from told.1 stands)
 
   -- ---- steps
 
-  number_stepped_part : (target : Typed) (o : StepOperator) (place behind : Place) (s : State) → is_reached_expression texts so_far target ≡ true → IsSimple a.program a.function.locals a.function.result visible (step target o place) → Standing s
+  number_stepped_part : (target : Typed) (o : StepOperator) (place behind : Place) (s : State) → is_served_expression texts target ≡ true → IsSimple a.program a.function.locals a.function.result visible (step target o place) → Standing s
       → Acts s (done a (step target o place) behind s)
   number_stepped_part target o place behind s b h stands =
       let is = whole target b h.1.1 in
-      let plain = own_no_iterator so_far a.program.types target is.kind.kind in
+      let plain = own_no_iterator a.program.types target is.kind.kind in
       let n = step_value (own_type target.ty) plain (subst (λ (t : Ty). can_step t ≡ true) (own_same target.ty) h.0) in
       subst (λ (b : Bool). Acts s (cond b (advanced (uses a (whole_form target)) o place s) (stepped a target o place (promoted (own_type target.ty) (own_type target.ty)) s))) (sym plain)
-      (stepped_part target o place (promoted (own_type target.ty) (own_type target.ty)) s is (free_place so_far a.program.types target is.kind h.1.0) (own_counts target.ty n)
+      (stepped_part target o place (promoted (own_type target.ty) (own_type target.ty)) s is (free_place a.program.types target is.kind h.1.0) (own_counts target.ty n)
       (promoted_value (own_type target.ty) (own_type target.ty)) (promoted_is (own_type target.ty) (own_type target.ty)) stands)
 
-  walker_stepped_part : (target : Typed) (o : StepOperator) (place behind : Place) (s : State) → is_reached_walker texts so_far (whole_form target) ≡ true → IsSimple a.program a.function.locals a.function.result visible (step target o place) → Standing s
+  walker_stepped_part : (target : Typed) (o : StepOperator) (place behind : Place) (s : State) → is_served_walker texts (whole_form target) ≡ true → IsSimple a.program a.function.locals a.function.result visible (step target o place) → Standing s
       → Acts s (done a (step target o place) behind s)
   walker_stepped_part target o place behind s b h stands =
-      let is = walker_expression a visible types texts so_far fs f setting (whole_form target) b h.1.1 in
+      let is = walker_expression a visible types texts fs f setting (whole_form target) b h.1.1 in
       go is.ty is is.walker refl (subst (λ (t : Ty). can_step t ≡ true) (own_same target.ty ∙ ap own_type is.is) h.0)
     where
-      go : (t : Ty) → (is : IsWalker a visible types texts so_far fs f setting (whole_form target)) → is_walker_of_values a.program.types t ≡ true → is.ty ≡ t → can_step t ≡ true → Acts s (done a (step target o place) behind s)
+      go : (t : Ty) → (is : IsWalker a visible types texts fs f setting (whole_form target)) → is_walker_of_values a.program.types t ≡ true → is.ty ≡ t → can_step t ≡ true → Acts s (done a (step target o place) behind s)
       go (ty.Iterator item constant) is w at can =
           subst (λ (b : Bool). Acts s (cond b (advanced (uses a (whole_form target)) o place s) (stepped a target o place (promoted (own_type target.ty) (own_type target.ty)) s))) (sym (ap (λ (x : ExprType). is_iterator (own_type x)) is.is ∙ ap is_iterator at))
           (advanced_part target o place s is item constant at stands)
@@ -691,28 +698,28 @@ module _ (a : Around) (visible : List ℕ) (types : Types) (texts : ℕ) (so_far
 
   -- ---- any of these
 
-  pub done_part : (it : SimpleForm) (behind : Place) (s : State) → is_reached_simple texts so_far it ≡ true → IsSimple a.program a.function.locals a.function.result visible it → Standing s → Acts s (done a it behind s)
+  pub done_part : (it : SimpleForm) (behind : Place) (s : State) → is_served_simple texts it ≡ true → IsSimple a.program a.function.locals a.function.result visible it → Standing s → Acts s (done a it behind s)
   done_part (assign target equals (one e)) behind s b h stands =
-      elim (or_cases (is_reached_expression texts so_far target && is_reached_expression texts so_far e) (is_reached_assigned texts so_far target (one e)) b) [
-        | inl values ↦ let parts = and_parts (is_reached_expression texts so_far target) (is_reached_expression texts so_far e) values in assigned_part target e equals behind s parts.0 parts.1 h stands
+      elim (or_cases (is_served_expression texts target && is_served_expression texts e) (is_served_renewed texts target e) b) [
+        | inl values ↦ let parts = and_parts (is_served_expression texts target) (is_served_expression texts e) values in assigned_part target e equals behind s parts.0 parts.1 h stands
         | inr owned ↦ reassigned_part target e equals behind s owned h stands
       ]
-  done_part (assign target equals (several list)) behind s b h stands =
-      elim (or_cases (is_reached_expression texts so_far target && false) (is_reached_assigned texts so_far target (several list)) b) [
-        | inl values ↦ absurd (false≢true (and_parts (is_reached_expression texts so_far target) false values).1)
-        | inr elements ↦ list_assigned_part target list equals behind s elements h stands
-      ]
+  done_part (assign target equals (several list)) behind s b h stands = list_assigned_part target list equals behind s b h stands
   done_part (compound target o place e) behind s b h stands =
-      elim (or_cases (is_reached_expression texts so_far target && is_reached_expression texts so_far e) (is_reached_append texts so_far target e) b) [ inl values ↦ counted_part target o place e behind s values h stands | inr texts_too ↦ gained_part target o place e behind s texts_too h stands ]
-  done_part (step target o place) behind s b h stands = elim (or_cases (is_reached_expression texts so_far target) (is_reached_walker texts so_far (whole_form target)) b) [ inl value ↦ number_stepped_part target o place behind s value h stands | inr walks ↦ walker_stepped_part target o place behind s walks h stands ]
+      elim (or_cases (is_served_expression texts target && is_served_expression texts e) (is_served_target texts target && is_served_any texts e) b) [ inl values ↦ counted_part target o place e behind s values h stands | inr texts_too ↦ gained_part target o place e behind s texts_too h stands ]
+  done_part (step target o place) behind s b h stands = elim (or_cases (is_served_expression texts target) (is_served_walker texts (whole_form target)) b) [ inl value ↦ number_stepped_part target o place behind s value h stands | inr walks ↦ walker_stepped_part target o place behind s walks h stands ]
   done_part (discarded e) behind s b h stands =
-      elim (or_cases (((is_call e.form || is_number e.ty) && is_reached_expression texts so_far e) || is_reached_change texts so_far e.form) (is_erased texts so_far e.form && is_reached_walker texts so_far (whole_form e)) b) [
-        | inl others ↦ elim (or_cases ((is_call e.form || is_number e.ty) && is_reached_expression texts so_far e) (is_reached_change texts so_far e.form) others) [
-          | inl value ↦ let parts = and_parts (is_call e.form || is_number e.ty) (is_reached_expression texts so_far e) value in elim (or_cases (is_call e.form) (is_number e.ty) parts.0) [
+      elim (or_cases (((is_call e.form || is_number_type e.ty) && is_served_expression texts e) || is_served_change texts e.form) (is_erased e.form && is_served_walker texts (whole_form e)) b) [
+        | inl others ↦ elim (or_cases ((is_call e.form || is_number_type e.ty) && is_served_expression texts e) (is_served_change texts e.form) others) [
+          | inl value ↦ let parts = and_parts (is_call e.form || is_number_type e.ty) (is_served_expression texts e) value in elim (or_cases (is_call e.form) (is_number_type e.ty) parts.0) [
             | inl calls ↦ discarded_part e.form e behind s refl parts.1 h calls stands
-            | inr n ↦ number_thrown e behind s (whole e parts.1 h) n stands
+            | inr n ↦ number_thrown e behind s (whole e parts.1 h) (a_number e.ty n) stands
           ]
           | inr changes ↦ changed_statement e.form e behind s refl changes h stands
         ]
-        | inr erases ↦ let parts = and_parts (is_erased texts so_far e.form) (is_reached_walker texts so_far (whole_form e)) erases in erased_statement e.form e behind s refl parts.0 parts.1 h stands
+        | inr erases ↦ let parts = and_parts (is_erased e.form) (is_served_walker texts (whole_form e)) erases in erased_statement e.form e behind s refl parts.0 parts.1 h stands
       ]
+    where
+      a_number : (t : ExprType) → is_number_type t ≡ true → is_number t ≡ true
+      a_number (Of t) n = n
+      a_number _ n = absurd (false≢true n)

@@ -37,8 +37,8 @@ stops_end [] place s h = h
 stops_end (x ∷ xs) place s h = stops_left s.code _ h
 
 -- what is written behind such code
-pub still_stops : (types : Types) (texts : ℕ) (so_far : Bool) (fs : List Function) (f : Function) (a : Around) (v : Visible) (in_loop : Bool) (s s' : State) → Does types texts so_far fs f a v in_loop s s' → stops (trees s.code) ≡ true → stops (trees s'.code) ≡ true
-still_stops types texts so_far fs f a v in_loop s s' does h = subst (λ (c : List Tree). stops (trees c) ≡ true) (sym does.written) (stops_left s.code does.code h)
+pub still_stops : (types : Types) (texts : ℕ) (fs : List Function) (f : Function) (a : Around) (v : Visible) (in_loop : Bool) (s s' : State) → Does types texts fs f a v in_loop s s' → stops (trees s.code) ≡ true → stops (trees s'.code) ≡ true
+still_stops types texts fs f a v in_loop s s' does h = subst (λ (c : List Tree). stops (trees c) ≡ true) (sym does.written) (stops_left s.code does.code h)
 
 module _ (types : Types) (f : Function) where
   -- ---- no way comes to its end

@@ -1,6 +1,7 @@
 -- Expressions that make a string: texts that are joined, and a string of a string, a view or a literal.
 use Rattle.std.proofs.Common.{◌≡◌, ◌⊎◌, inl, inr, ℕ, Bool, true, false, if◌then◌else◌, List, None, Ok, refl, sym, ap, ◌∙◌, subst}
 use Rattle.std.proofs.lemmas.Bool.{false≢true}
+use Rattle.life_served.specs.Served.{is_owner_of_values}
 use Rattle.life_types.specs.Types.{Types}
 use Rattle.life_types.specs.declared.place.Place.{Place}
 use Rattle.life_types.specs.declared.ty.Ty.{Ty}
@@ -25,7 +26,6 @@ use Rattle.life_writer.specs.Using.{pointer}
 use Rattle.life_writer.specs.Writing.{Gives, State}
 use Rattle.life_writer.specs.declared.rows.Row.{Row}
 use Rattle.life_writer.specs.declared.rows.Row.TheVariants.{Concatenated}
-use Rattle.life_elab_laws.specs.Reached.{concatenates, is_owner_of_values}
 use Rattle.life_elab_laws.proofs.AppendForms.{appended_finds}
 use Rattle.life_elab_laws.proofs.ComparedForms.{IsEither}
 use Rattle.life_elab_laws.proofs.ExpressionForms.{IsWhole, Placed, Standing}
@@ -37,6 +37,7 @@ use Rattle.life_elab_laws.proofs.PointerForms.{held_typed, own_typed, view_whole
 use Rattle.life_elab_laws.proofs.RowTypes.{Fits, row_fits_between, sees}
 use Rattle.life_elab_laws.proofs.Setting.{Setting}
 use Rattle.life_elab_laws.proofs.TypedKinds.{IsCombined, err_ok, ok_same}
+use Rattle.life_elab_laws.proofs.EqualityRows.{concatenates}
 
 -- what a string is made of
 record MakesText (inner e : Typed) : Type 0 where
@@ -66,31 +67,30 @@ owner_text types ty.Text o m = refl
 owner_text types (ty.Vector item) o m = absurd (false≢true m)
 owner_text types _ o m = absurd (false≢true o)
 
-module _ (a : Around) (visible : List ℕ) (types : Types) (texts : ℕ) (so_far : Bool) (fs : List Function) (f : Function) (setting : Setting so_far a types fs f) where
+module _ (a : Around) (visible : List ℕ) (types : Types) (texts : ℕ) (fs : List Function) (f : Function) (setting : Setting a types fs f) where
   abbrev Stood : State → Type 0
-  Stood s = Standing a visible types texts so_far fs f setting s
+  Stood s = Standing a visible types texts fs f setting s
 
   abbrev MadeAt : Typed → Uses → Type 0
-  MadeAt e u = IsMadeAt a visible types texts so_far fs f setting e u.object u.replacing
+  MadeAt e u = IsMadeAt a visible types texts fs f setting e u.object u.replacing
 
   abbrev Made : State → Gives Remaining → Type 0
-  Made s w = Builds a visible types texts so_far fs f setting ty.Text s w
+  Made s w = Builds a visible types texts fs f setting ty.Text s w
 
   -- ---- `+`
 
-  pub joined_made : (o : BinaryOperator) (left right : Form) (e : Typed) (place : Place) → IsCombined o (typed_in left) (typed_in right) e → concatenates (row_between o left right) ≡ true → so_far ≡ false
-      → IsEither a visible types texts so_far fs f setting left → IsEither a visible types texts so_far fs f setting right → MadeAt e (form_uses a (binary o left right) place e.ty e.category)
-  joined_made o left right e place c joins wide l r = go (row_between o left right) joins (row_fits_between o left right c.ty c.answer)
+  pub joined_made : (o : BinaryOperator) (left right : Form) (e : Typed) (place : Place) → IsCombined o (typed_in left) (typed_in right) e → concatenates (row_between o left right) ≡ true
+      → IsEither a visible types texts fs f setting left → IsEither a visible types texts fs f setting right → MadeAt e (form_uses a (binary o left right) place e.ty e.category)
+  joined_made o left right e place c joins l r = go (row_between o left right) joins (row_fits_between o left right c.ty c.answer)
     where
       go : (w : Row) → concatenates w ≡ true → Fits w (typed_in left).ty (typed_in right).ty c.ty → MadeAt e (binary_uses w (uses a left) (uses a right) place e.ty e.category)
       go Concatenated joins fit = record {
-        wide = wide;
         ty = ty.Text;
         is = c.is.0 ∙ ap Of fit.answers;
         owner = refl;
         value = c.is.1;
         builds = λ s stands.
-            joined_builds a visible types texts so_far fs f setting left right place s wide (appended_finds a visible types texts so_far fs f setting left l fit.left) (appended_finds a visible types texts so_far fs f setting right r fit.right) stands;
+            joined_builds a visible types texts fs f setting left right place s (appended_finds a visible types texts fs f setting left l fit.left) (appended_finds a visible types texts fs f setting right r fit.right) stands;
         plain = refl;
       }
       go _ joins fit = absurd (false≢true joins)
@@ -110,34 +110,34 @@ module _ (a : Around) (visible : List ℕ) (types : Types) (texts : ℕ) (so_far
     as_own : (t : Ty) → own u ≡ t → m ≡ string_of t u place e.ty e.category
     as_own t own_is = ap (λ (x : Ty). string_of x u place e.ty e.category) own_is
 
-    made : (n : Uses) → m ≡ n → so_far ≡ false → n.replacing ≡ None → ((s : State) → Stood s → Made s (n.object s)) → MadeAt e m
-    made n same wide plain builds = subst (MadeAt e) (sym same) (record { wide = wide; ty = ty.Text; is = told.is; owner = refl; value = told.value; builds = builds; plain = plain })
+    made : (n : Uses) → m ≡ n → n.replacing ≡ None → ((s : State) → Stood s → Made s (n.object s)) → MadeAt e m
+    made n same plain builds = subst (MadeAt e) (sym same) (record { ty = ty.Text; is = told.is; owner = refl; value = told.value; builds = builds; plain = plain })
 
     own_is : (t : ExprType) → (typed_in inner).ty ≡ t → own u ≡ own_type t
-    own_is t at = ap own_type (sym (own_typed a visible types texts so_far fs f setting inner) ∙ at)
+    own_is t at = ap own_type (sym (own_typed a visible types texts fs f setting inner) ∙ at)
 
     -- of a view or a literal
-    pub text_of_view : so_far ≡ false → IsWhole a visible types texts so_far fs f setting inner → MadeAt e m
-    text_of_view wide is =
-        made (string_of ty.View u place e.ty e.category) (go (seen_type (typed_in inner).ty sees_it)) wide refl
-        (λ s stands. view_builds a visible types texts so_far fs f setting place s (pointer u ty.View s) wide (view_whole a visible types texts so_far fs f setting inner is sees_it s stands))
+    pub text_of_view : IsWhole a visible types texts fs f setting inner → MadeAt e m
+    text_of_view is =
+        made (string_of ty.View u place e.ty e.category) (go (seen_type (typed_in inner).ty sees_it)) refl
+        (λ s stands. view_builds a visible types texts fs f setting place s (pointer u ty.View s) (view_whole a visible types texts fs f setting inner is sees_it s stands))
       where
         sees_it : is_seen (typed_in inner).ty ≡ true
-        sees_it = seen_kind so_far a.program.types (typed_in inner) is.kind.kind (text_seen (typed_in inner).ty told.seen)
+        sees_it = seen_kind a.program.types (typed_in inner) is.kind.kind (text_seen (typed_in inner).ty told.seen)
 
         go : ((typed_in inner).ty ≡ Of ty.View) ⊎ ((typed_in inner).ty ≡ TextLiteral) → m ≡ string_of ty.View u place e.ty e.category
         go (inl at) = as_own ty.View (own_is (Of ty.View) at)
         go (inr at) = as_own ty.Void (own_is TextLiteral at)
 
     -- of a string
-    pub text_of_owner : IsOwning a visible types texts so_far fs f setting inner → MadeAt e m
+    pub text_of_owner : IsOwning a visible types texts fs f setting inner → MadeAt e m
     text_of_owner (stands_there is) =
         let text = owner_text a.program.types is.ty is.owner (sym (ap makes_text is.is) ∙ told.seen) in
         made (string_of_string (category.Place is.id is.constant) u place e.ty e.category)
-        (as_own ty.Text (own_is (Of is.ty) is.is ∙ text) ∙ ap (λ (c : Category). string_of_string c u place e.ty e.category) (sym (held_typed a visible types texts so_far fs f setting inner) ∙ is.place)) is.wide refl
-        (λ s stands. copy_builds a visible types texts so_far fs f setting place is.constant s (u.at s) is.wide (subst (λ (t : Ty). Placed a visible types texts so_far fs f setting t is.constant s (u.at s)) text (is.names s stands)))
+        (as_own ty.Text (own_is (Of is.ty) is.is ∙ text) ∙ ap (λ (c : Category). string_of_string c u place e.ty e.category) (sym (held_typed a visible types texts fs f setting inner) ∙ is.place)) refl
+        (λ s stands. copy_builds a visible types texts fs f setting place is.constant s (u.at s) (subst (λ (t : Ty). Placed a visible types texts fs f setting t is.constant s (u.at s)) text (is.names s stands)))
     text_of_owner (is_made is) =
         let text = owner_text a.program.types is.ty is.owner (sym (ap makes_text is.is) ∙ told.seen) in
         made (string_of_string category.Value u place e.ty e.category)
-        (as_own ty.Text (own_is (Of is.ty) is.is ∙ text) ∙ ap (λ (c : Category). string_of_string c u place e.ty e.category) (sym (held_typed a visible types texts so_far fs f setting inner) ∙ is.value)) is.wide is.plain
-        (λ s stands. subst (λ (t : Ty). Builds a visible types texts so_far fs f setting t s (u.object s)) text (is.builds s stands))
+        (as_own ty.Text (own_is (Of is.ty) is.is ∙ text) ∙ ap (λ (c : Category). string_of_string c u place e.ty e.category) (sym (held_typed a visible types texts fs f setting inner) ∙ is.value)) is.plain
+        (λ s stands. subst (λ (t : Ty). Builds a visible types texts fs f setting t s (u.object s)) text (is.builds s stands))

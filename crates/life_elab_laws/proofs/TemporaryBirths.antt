@@ -1,22 +1,23 @@
 -- A temporary comes to life: an object without a name, which is pending from there on.
-use Rattle.std.proofs.Common.{◌≡◌, ◌<◌, ◌⊎◌, inl, inr, ℕ, Bool, true, false, List, [], ◌∷◌, ◌++◌, Contains, length, slice_get, slice_set, Option, Some, None, refl, sym, ap, ◌∙◌, subst, arith, length-append}
-use Rattle.std.proofs.lemmas.Bool.{false≢true, or_left}
+use Rattle.std.proofs.Common.{◌≡◌, ◌<◌, ◌⊎◌, inl, inr, ℕ, true, false, List, [], ◌∷◌, ◌++◌, Contains, length, slice_get, slice_set, Some, None, refl, ◌∙◌, subst, arith, length-append}
+use Rattle.std.proofs.lemmas.Bool.{and_parts, false≢true, or_left}
+use Rattle.std.specs.List.{list_all}
 use Rattle.std.proofs.lemmas.Option.{slice_get_within}
+use Rattle.life_served.specs.Served.{is_owner_of_values}
 use Rattle.life_types.specs.Trees.{HasPartsBelow}
 use Rattle.life_types.specs.TypeTests.{is_pointer, is_reference}
-use Rattle.life_types.specs.Types.{Types, class}
+use Rattle.life_types.specs.Types.{Types}
 use Rattle.life_types.specs.declared.place.Place.{Place}
 use Rattle.life_types.specs.declared.ty.Ty.{Ty}
 use Rattle.life_types.specs.declared.ty.Ty.TheVariants as ty
 use Rattle.life_core.specs.Function.{Function}
-use Rattle.life_core.specs.Holdings.{held_by, held_if, sort_of}
 use Rattle.life_core.specs.Operands.{Operand, object_named}
-use Rattle.life_core_served.specs.Served.{is_served_birth}
 use Rattle.life_core.specs.Step.{Live, Step}
-use Rattle.life_core.specs.Tree.{Acts}
+use Rattle.life_core.specs.Tree.{Acts, trees}
 use Rattle.life_core.specs.declared.instr.Form.{Form}
 use Rattle.life_core.specs.declared.program.Local.{Local}
 use Rattle.life_core.specs.declared.program.LocalKind.TheVariants.{Object}
+use Rattle.life_proper.specs.GivenOver.{given_step}
 use Rattle.life_proper.specs.Knowing.{known_at}
 use Rattle.life_proper.specs.Placed.{object_at}
 use Rattle.life_proper.specs.Placed as placed
@@ -26,13 +27,13 @@ use Rattle.life_proper.specs.declared.known.Known.TheVariants as known
 use Rattle.life_writer.specs.Registers.{type_number, typed_with}
 use Rattle.life_writer.specs.Temporaries.{nameless_of, temporary}
 use Rattle.life_writer.specs.Writing.{Gives, State, emit, gives}
-use Rattle.life_elab_laws.specs.Reached.{is_owner_of_values}
 use Rattle.life_elab_laws.proofs.Among.{Among, among_contains, among_either, among_left, among_right, ascend_more}
 use Rattle.life_elab_laws.proofs.Emitting.{keeps_set}
 use Rattle.life_elab_laws.proofs.Falling.{Fills, falls_filling}
 use Rattle.life_elab_laws.proofs.FormedVariables.{object_place, owner_no_reference}
 use Rattle.life_elab_laws.proofs.Fronts.{front_append, last_there}
 use Rattle.life_elab_laws.proofs.Gifts.{Gift, IsPlaceOf, a_place, nothing}
+use Rattle.life_elab_laws.proofs.GivenApart.{given_of, looked_of, one_pending, step_apart, then_opens}
 use Rattle.life_elab_laws.proofs.Growing.{Begins, Grows}
 use Rattle.life_elab_laws.proofs.Knowledge.{at_set, beside_set, set_length}
 use Rattle.life_elab_laws.proofs.Making.{Alive, IsOpen}
@@ -41,26 +42,26 @@ use Rattle.life_elab_laws.proofs.OrderedTypes.{type_ordered}
 use Rattle.life_elab_laws.proofs.Parts.{Goes, Makes, Part}
 use Rattle.life_elab_laws.proofs.PendingTemporaries.{ArePending, ArePendingIn, IsTemporary, temporary_later}
 use Rattle.life_elab_laws.proofs.Saving.{live_fills}
-use Rattle.life_elab_laws.proofs.Shaping.{IsFineStep, fine_acts}
+use Rattle.life_elab_laws.proofs.Shaping.{IsFineStep, fine_acts, is_no_object, keeps_its_target}
 use Rattle.life_elab_laws.proofs.Types.{type_added, types_before}
 use Rattle.life_elab_laws.proofs.Values.{by_values}
 use Rattle.life_elab_laws.proofs.WrittenLocals.{AddsRegisters, FitsTemporary, register_pushed}
 
 -- a temporary is no pointer
-temporary_plain : (so_far : Bool) (types : Types) (t : Ty) → FitsTemporary so_far types t → is_pointer t ≡ false
-temporary_plain so_far types t (inl value) = by_values (λ u. is_pointer u ≡ false) refl refl refl refl refl t value
-temporary_plain so_far types t (inr owner) = go t owner.1
+temporary_plain : (types : Types) (t : Ty) → FitsTemporary types t → is_pointer t ≡ false
+temporary_plain types t (inl value) = by_values (λ u. is_pointer u ≡ false) refl refl refl refl refl t value
+temporary_plain types t (inr owner) = go t owner
   where
     go : (u : Ty) → is_owner_of_values types u ≡ true → is_pointer u ≡ false
     go ty.Text o = refl
     go (ty.Vector item) o = refl
     go _ o = absurd (false≢true o)
 
-no_reference : (so_far : Bool) (types : Types) (t : Ty) → FitsTemporary so_far types t → is_reference t ≡ false
-no_reference so_far types t (inl value) = value_no_reference t value
-no_reference so_far types t (inr owner) = owner_no_reference types t owner.1
+pub no_reference : (types : Types) (t : Ty) → FitsTemporary types t → is_reference t ≡ false
+no_reference types t (inl value) = value_no_reference t value
+no_reference types t (inr owner) = owner_no_reference types t owner
 
-module _ (types : Types) (texts : ℕ) (so_far : Bool) (fs : List Function) (f : Function) (place : Place) (step : ℕ → Step) (t : Ty) (s : State) (fits : FitsTemporary so_far types t)
+module _ (types : Types) (texts : ℕ) (fs : List Function) (f : Function) (place : Place) (step : ℕ → Step) (t : Ty) (s : State) (fits : FitsTemporary types t)
     (opened : IsOpen s) (before : ArePending s) (within : HasPartsBelow s.types (length s.types.types) t) where
   -- its number, and its local
   abbrev x : ℕ
@@ -87,7 +88,7 @@ module _ (types : Types) (texts : ℕ) (so_far : Bool) (fs : List Function) (f :
     kind = refl;
     ty = t;
     typed = type_added s.types.types t;
-    plain = temporary_plain so_far types t fits;
+    plain = temporary_plain types t fits;
   }
 
   below : (y : ℕ) → Among y s.pending → y < x
@@ -123,9 +124,9 @@ module _ (types : Types) (texts : ℕ) (so_far : Bool) (fs : List Function) (f :
     outside = refl;
   }
 
-  registers : AddsRegisters so_far types s born.state
+  registers : AddsRegisters types s born.state
   registers = (
-    register_pushed so_far types begun.types s.locals l (record { nameless = refl; ty = t; typed = type_added s.types.types t; fits = inr (refl, fits) }),
+    register_pushed types begun.types s.locals l (record { nameless = refl; ty = t; typed = type_added s.types.types t; fits = inr (refl, fits) }),
     type_ordered s.types t within,
   )
 
@@ -139,22 +140,19 @@ module _ (types : Types) (texts : ℕ) (so_far : Bool) (fs : List Function) (f :
     born_object = object_there types f x l there refl
 
     pub born_typed : placed.type_at types f x ≡ t
-    born_typed = type_there types f x l t there (b.table l.ty.0 t (type_added s.types.types t)) (no_reference so_far types t fits)
+    born_typed = type_there types f x l t there (b.table l.ty.0 t (type_added s.types.types t)) (no_reference types t fits)
 
     pub born_lives : can_live types texts fs f x ≡ true
     born_lives = or_left (object_at types f x) _ born_object
 
-    pub born_sort : sort_of types f x ≡ held_if (class (Some t)) Object (Some t)
-    born_sort = ap (held_by types) there ∙ ap (λ (o : Option Ty). held_if (class o) Object o) (b.table l.ty.0 t (type_added s.types.types t))
-
-    pub born_place : IsPlaceOf types texts so_far fs f t false (object_named x)
-    born_place = object_place types texts so_far fs f x t false born_object born_typed
+    pub born_place : IsPlaceOf types texts fs f t false (object_named x)
+    born_place = object_place types texts fs f x t false born_object born_typed
 
   -- behind what gave y
-  module _ {A : Type 0} (P : Gift types texts so_far fs f A) (y : A) (fine : Begins types f born.state → P.typed y → IsFineStep types texts so_far fs f (step x))
+  module _ {A : Type 0} (P : Gift types texts fs f A) (y : A) (fine : Begins types f born.state → P.typed y → IsFineStep types texts fs f (step x))
       (fills : (k : List Known) → P.ready y x k → known_at k x ≡ known.Blank → Fills f k (step x) x) where
-    goes : Begins types f born.state → (k : List Known) → Alive f s k → P.ready y x k → Goes types texts so_far fs f None s born (a_place types texts so_far fs f t false) (Acts place (step x) ∷ []) k
-    goes b k alive q = record {
+    goes : Begins types f born.state → P.typed y → (k : List Known) → Alive f s k → P.ready y x k → Goes types texts fs f None s born (a_place types texts fs f t false) (Acts place (step x) ∷ []) k
+    goes b p k alive q = record {
       after = slice_set k x known.Ready;
       falls = falls_filling types f place (step x) x k (fills k q blank);
       keeps = keeps_set f x None x known.Ready k (λ y lt b e. omega (arith, lt, e));
@@ -167,6 +165,10 @@ module _ (types : Types) (texts : ℕ) (so_far : Bool) (fs : List Function) (f :
             beside_set k x y known.Ready (λ e. no (among_right s.pending (x ∷ []) y (inl e)))
             ∙ alive.blank y z at lasts out (λ m. no (among_left s.pending (x ∷ []) y m));
       };
+      apart = λ under.
+          then_opens f s s born.state (looked_of (trees (Acts place (step x) ∷ []))) (given_of (trees (Acts place (step x) ∷ []))) grows.count
+          (λ y o. one_pending x (length born.state.locals) s.living s.pending y (omega (arith, length-append s.locals (l ∷ []))) o) under
+          (step_apart f types (step x) place s k alive (fills k q blank).ready (and_parts (list_all (is_no_object types f) (given_step (step x))) (keeps_its_target (step x)) (fine b p).given).0 under);
     }
       where
         lt : x < length k
@@ -180,40 +182,32 @@ module _ (types : Types) (texts : ℕ) (so_far : Bool) (fs : List Function) (f :
         pending y (inr (inl e)) = subst (λ (z : ℕ). known_at (slice_set k x known.Ready) z ≡ known.Ready) e (at_set k x known.Ready lt)
         pending y (inr (inr none)) = absurd none
 
-    pub born_part : Part types texts so_far fs f P y None s born (a_place types texts so_far fs f t false)
+    pub born_part : Part types texts fs f P y None s born (a_place types texts fs f t false)
     born_part = record {
       grown = grows;
       registers = registers;
       code = Acts place (step x) ∷ [];
       written = refl;
       runs = λ b p. record {
-        fine = fine_acts types texts so_far fs f place (step x) (fine b p);
+        fine = fine_acts types texts fs f place (step x) (fine b p);
         typed = born_place b;
-        goes = λ k alive q. goes b k alive q;
+        goes = λ k alive q. goes b p k alive q;
       };
     }
 
 -- .. by itself
-module _ (types : Types) (texts : ℕ) (so_far : Bool) (fs : List Function) (f : Function) (place : Place) (form : Form) (t : Ty) (s : State) (fits : FitsTemporary so_far types t)
+module _ (types : Types) (texts : ℕ) (fs : List Function) (f : Function) (place : Place) (form : Form) (t : Ty) (s : State) (fits : FitsTemporary types t)
     (opened : IsOpen s) (before : ArePending s) (within : HasPartsBelow s.types (length s.types.types) t) where
   abbrev lives : ℕ → Step
   lives x = Live x form
 
   abbrev pub lived_there : Gives Operand
-  lived_there = born types texts so_far fs f place lives t s fits opened before within
+  lived_there = born types texts fs f place lives t s fits opened before within
 
-  -- it is served where it is a value
-  born_served : Begins types f lived_there.state → so_far ≡ true → is_served_birth (sort_of types f (length s.locals)) ≡ true
-  born_served b so = ap is_served_birth (born_sort types texts so_far fs f place lives t s fits opened before within b) ∙ go fits
-    where
-      go : FitsTemporary so_far types t → is_served_birth (held_if (class (Some t)) Object (Some t)) ≡ true
-      go (inl value) = by_values (λ u. is_served_birth (held_if (class (Some u)) Object (Some u)) ≡ true) refl refl refl refl refl t value
-      go (inr owner) = absurd (false≢true (sym owner.0 ∙ so))
+  pub lived_fine : Begins types f lived_there.state → IsFineStep types texts fs f (Live (length s.locals) form)
+  lived_fine b = record { given = refl; formed = born_lives types texts fs f place lives t s fits opened before within b; served = refl }
 
-  pub lived_fine : Begins types f lived_there.state → IsFineStep types texts so_far fs f (Live (length s.locals) form)
-  lived_fine b = record { given = refl; formed = born_lives types texts so_far fs f place lives t s fits opened before within b; served = λ so. born_served b so }
-
-  pub lived_part : Makes types texts so_far fs f None s lived_there (a_place types texts so_far fs f t false)
+  pub lived_part : Makes types texts fs f None s lived_there (a_place types texts fs f t false)
   lived_part =
-      born_part types texts so_far fs f place lives t s fits opened before within (nothing types texts so_far fs f) tt
+      born_part types texts fs f place lives t s fits opened before within (nothing types texts fs f) tt
       (λ b p. lived_fine b) (λ k q blank. live_fills types f (length s.locals) form k blank)

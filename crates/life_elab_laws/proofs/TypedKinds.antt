@@ -1,5 +1,5 @@
--- The types that well typed expressions have, where the law reaches them: values, pointers to values, views, literals, nothing, and nullptr.
-use Rattle.std.proofs.Common.{◌≡◌, inl, inr, Bool, true, false, ◌||◌, cond, subst, Option, Some, None, Result, Ok, Err, refl, sym, ap, ◌∙◌, not, ◌&&◌}
+-- The types that well typed expressions have, where they are served: values, pointers to values and to owners, views, literals, nothing, and nullptr.
+use Rattle.std.proofs.Common.{◌≡◌, inl, inr, Bool, true, false, ◌||◌, cond, subst, Option, Some, None, Result, Ok, Err, refl, sym, ap, ◌∙◌}
 use Rattle.std.proofs.lemmas.Bool.{false≢true}
 use Rattle.std.proofs.lemmas.Option.{cond_some}
 use Rattle.life_types.specs.TypeTests.{is_iterator, is_text, is_unique, is_value, is_view}
@@ -8,7 +8,7 @@ use Rattle.life_types.specs.declared.place.Place.{Place}
 use Rattle.life_types.specs.declared.ty.Ty.{Ty}
 use Rattle.life_types.specs.declared.ty.Ty.TheVariants as ty
 use Rattle.life_types.specs.declared.ty.TyId.{TyId}
-use Rattle.life_served.specs.Served.{is_pointing}
+use Rattle.life_served.specs.Served.{is_owner_of_values, is_plain_type, is_pointing, is_target, is_walker_of_values}
 use Rattle.life_typed.specs.BaseTypes.{type_at}
 use Rattle.life_typed.specs.Operators.{answer, answered, given, misfit, promoted}
 use Rattle.life_typed.specs.TypedForm.{Form, Typed}
@@ -17,10 +17,10 @@ use Rattle.life_typed.specs.declared.typed_expr.Category.{Category}
 use Rattle.life_typed.specs.declared.typed_expr.Category.TheVariants as category
 use Rattle.life_typed.specs.declared.typed_expr.ExprType.TheVariants.{Of, NullPointer, TextLiteral}
 use Rattle.life_type_expr.specs.Operands.{answer_of, combination, combined_to, place_of, value, variable_of}
-use Rattle.life_elab_laws.proofs.Reaching.{IsReachedType}
-use Rattle.life_elab_laws.proofs.ResultTypes.{IsResultType, gives_nothing, gives_raw, gives_reference, gives_value, gives_view}
+use Rattle.life_elab_laws.proofs.ServedTypes.{IsServedType}
+use Rattle.life_elab_laws.proofs.ResultTypes.{IsResultType, gives_alias, gives_nothing, gives_raw, gives_reference, gives_value, gives_view}
+use Rattle.life_elab_laws.proofs.Targets.{IsTarget, target_is, to_owner, to_value}
 use Rattle.life_elab_laws.proofs.Values.{by_values}
-use Rattle.life_elab_laws.specs.Reached.{is_owner_of_values, is_reached_type, is_walker_of_values}
 use Rattle.life_typed.specs.declared.typed_expr.ExprType.{ExprType}
 
 -- ---- what equations say
@@ -72,46 +72,88 @@ promoted_value t u = go _ _
 
 -- ---- kinds of expressions
 
-pub data HasKind (so_far : Bool) (types : Types) (e : Typed) : Type 0 where
-  a_number : (t : Ty) → e.ty ≡ Of t → is_value t ≡ true → HasKind so_far types e
-  a_pointer : (target : TyId) (constant : Bool) → e.ty ≡ Of (ty.Raw target constant) → is_value (type_at types target) ≡ true → HasKind so_far types e
-  a_view : e.ty ≡ Of ty.View → HasKind so_far types e
-  a_text : e.ty ≡ TextLiteral → e.category ≡ category.Value → HasKind so_far types e
-  no_value : e.ty ≡ Of ty.Void → e.category ≡ category.Value → HasKind so_far types e
-  a_null : e.ty ≡ NullPointer → e.category ≡ category.Value → HasKind so_far types e
+pub data HasKind (types : Types) (e : Typed) : Type 0 where
+  a_number : (t : Ty) → e.ty ≡ Of t → is_value t ≡ true → HasKind types e
+  a_pointer : (target : TyId) (constant : Bool) → e.ty ≡ Of (ty.Raw target constant) → is_target types (type_at types target) ≡ true → HasKind types e
+  a_view : e.ty ≡ Of ty.View → HasKind types e
+  a_text : e.ty ≡ TextLiteral → e.category ≡ category.Value → HasKind types e
+  no_value : e.ty ≡ Of ty.Void → e.category ≡ category.Value → HasKind types e
+  a_null : e.ty ≡ NullPointer → e.category ≡ category.Value → HasKind types e
 
 -- and a place has the type of its object
-pub record IsKind (so_far : Bool) (types : Types) (e : Typed) : Type 0 where
-  pub kind : HasKind so_far types e
+pub record IsKind (types : Types) (e : Typed) : Type 0 where
+  pub kind : HasKind types e
   pub place : (id : TyId) (constant : Bool) → e.category ≡ category.Place id constant → e.ty ≡ Of (type_at types id)
 
-pub kind_value : (so_far : Bool) (types : Types) (e : Typed) (t : Ty) → e ≡ value e.place t e.form → is_value t ≡ true → IsKind so_far types e
-kind_value so_far types e t is h = record {
+pub kind_value : (types : Types) (e : Typed) (t : Ty) → e ≡ value e.place t e.form → is_value t ≡ true → IsKind types e
+kind_value types e t is h = record {
   kind = a_number t (ap (λ (x : Typed). x.ty) is) h;
   place = λ id c at. absurd (value_place (sym (ap (λ (x : Typed). x.category) is) ∙ at));
 }
 
-pub kind_of_place : (so_far : Bool) (types : Types) (e : Typed) (id : TyId) (c : Bool) (form : Form) → e ≡ place_of types id c e.place form → HasKind so_far types e → IsKind so_far types e
-kind_of_place so_far types e id c form is kind = record {
+pub kind_of_place : (types : Types) (e : Typed) (id : TyId) (c : Bool) (form : Form) → e ≡ place_of types id c e.place form → HasKind types e → IsKind types e
+kind_of_place types e id c form is kind = record {
   kind = kind;
   place = λ target d at.
       ap (λ (x : Typed). x.ty) is
       ∙ ap (λ (i : TyId). Of (type_at types i)) (place_same id target c d (sym (ap (λ (x : Typed). x.category) is) ∙ at));
 }
 
-pub kind_same : (so_far : Bool) (types : Types) (e e' : Typed) → e'.ty ≡ e.ty → e'.category ≡ e.category → IsKind so_far types e → IsKind so_far types e'
-kind_same so_far types e e' t c h = record {
+pub kind_same : (types : Types) (e e' : Typed) → e'.ty ≡ e.ty → e'.category ≡ e.category → IsKind types e → IsKind types e'
+kind_same types e e' t c h = record {
   kind = go h.kind;
   place = λ id d at. t ∙ h.place id d (sym c ∙ at);
 }
   where
-    go : HasKind so_far types e → HasKind so_far types e'
+    go : HasKind types e → HasKind types e'
     go (a_number u is v) = a_number u (t ∙ is) v
     go (a_pointer target constant is v) = a_pointer target constant (t ∙ is) v
     go (a_view is) = a_view (t ∙ is)
     go (a_text is v) = a_text (t ∙ is) (c ∙ v)
     go (no_value is v) = no_value (t ∙ is) (c ∙ v)
     go (a_null is v) = a_null (t ∙ is) (c ∙ v)
+
+-- a literal is a value
+pub text_value : (types : Types) (e : Typed) → HasKind types e → e.ty ≡ TextLiteral → e.category ≡ category.Value
+text_value types e (a_number t is v) at = absurd (not_text t (sym is ∙ at))
+  where
+    not_text : (t : Ty) → Of t ≡ TextLiteral → ⊥
+    not_text t e = cc
+text_value types e (a_pointer target constant is v) at = absurd (not_text (ty.Raw target constant) (sym is ∙ at))
+  where
+    not_text : (t : Ty) → Of t ≡ TextLiteral → ⊥
+    not_text t e = cc
+text_value types e (a_view is) at = absurd (not_text (sym is ∙ at))
+  where
+    not_text : Of ty.View ≡ TextLiteral → ⊥
+    not_text e = cc
+text_value types e (a_text is v) at = v
+text_value types e (no_value is v) at = v
+text_value types e (a_null is v) at = v
+
+-- .. and nothing of these is an owner
+pub kind_no_owner : (types : Types) (e : Typed) → HasKind types e → (t : Ty) → is_owner_of_values types t ≡ true → e.ty ≡ Of t → ⊥
+kind_no_owner types e kind t o at = go kind
+  where
+    same : {u w : Ty} → Of u ≡ Of w → u ≡ w
+    same e = cc
+
+    no_null : NullPointer ≡ Of t → ⊥
+    no_null e = cc
+
+    no_text : TextLiteral ≡ Of t → ⊥
+    no_text e = cc
+
+    as_owner : (u : Ty) → e.ty ≡ Of u → is_owner_of_values types u ≡ true
+    as_owner u is = subst (λ (x : Ty). is_owner_of_values types x ≡ true) (same (sym at ∙ is)) o
+
+    go : HasKind types e → ⊥
+    go (a_number u is v) = false≢true (sym (by_values (λ u. is_owner_of_values types u ≡ false) refl refl refl refl refl u v) ∙ as_owner u is)
+    go (a_pointer target constant is v) = false≢true (as_owner (ty.Raw target constant) is)
+    go (a_view is) = false≢true (as_owner ty.View is)
+    go (a_text is v) = no_text (sym is ∙ at)
+    go (no_value is v) = false≢true (as_owner ty.Void is)
+    go (a_null is v) = no_null (sym is ∙ at)
 
 -- ---- variables and results
 
@@ -122,10 +164,10 @@ owner_named types e id c form (ty.Vector element) o is = is
 owner_named types e id c form _ o is = absurd (false≢true o)
 
 -- .. and no value
-owner_refused : (so_far : Bool) (types : Types) (t : Ty) → so_far ≡ false → is_owner_of_values types t ≡ true → is_reached_type so_far (Of t) ≡ true → ⊥
-owner_refused so_far types ty.Text so o n = false≢true (sym (ap (λ (b : Bool). not ((not b && true) || (not b && false))) so) ∙ n)
-owner_refused so_far types (ty.Vector element) so o n = false≢true (sym (ap (λ (b : Bool). not ((not b && true) || (not b && false))) so) ∙ n)
-owner_refused so_far types _ so o n = false≢true o
+pub owner_refused : (types : Types) (t : Ty) → is_owner_of_values types t ≡ true → is_plain_type (Of t) ≡ true → ⊥
+owner_refused types ty.Text o n = false≢true n
+owner_refused types (ty.Vector element) o n = false≢true n
+owner_refused types _ o n = false≢true o
 
 -- so is an iterator or a span
 pub walker_named : (types : Types) (e : Typed) (id : TyId) (c : Bool) (form : Form) (t : Ty) → is_walker_of_values types t ≡ true → e ≡ variable_of t types id c e.place form → e ≡ place_of types id c e.place form
@@ -133,54 +175,61 @@ walker_named types e id c form (ty.Iterator target constant) w is = is
 walker_named types e id c form (ty.Span target constant) w is = is
 walker_named types e id c form _ w is = absurd (false≢true w)
 
-walker_refused : (so_far : Bool) (types : Types) (t : Ty) → so_far ≡ false → is_walker_of_values types t ≡ true → is_reached_type so_far (Of t) ≡ true → ⊥
-walker_refused so_far types (ty.Iterator target constant) so w n = false≢true (sym (ap (λ (b : Bool). not ((not b && false) || (not b && true))) so) ∙ n)
-walker_refused so_far types (ty.Span target constant) so w n = false≢true (sym (ap (λ (b : Bool). not ((not b && false) || (not b && true))) so) ∙ n)
-walker_refused so_far types _ so w n = false≢true w
+walker_refused : (types : Types) (t : Ty) → is_walker_of_values types t ≡ true → is_plain_type (Of t) ≡ true → ⊥
+walker_refused types (ty.Iterator target constant) w n = false≢true n
+walker_refused types (ty.Span target constant) w n = false≢true n
+walker_refused types _ w n = false≢true w
 
-pub kind_of_variable : (so_far : Bool) (types : Types) (e : Typed) (id : TyId) (c : Bool) (form : Form) (t : Ty) → type_at types id ≡ t → IsReachedType so_far types t
-    → is_reached_type so_far e.ty ≡ true → e ≡ variable_of t types id c e.place form → IsKind so_far types e
-kind_of_variable so_far types e id c form t at (inr (inr w)) n is =
-    absurd (walker_refused so_far types t w.0 w.1 (subst (λ (x : ExprType). is_reached_type so_far x ≡ true) (ap (λ (x : Typed). x.ty) (walker_named types e id c form t w.1 is) ∙ ap Of at) n))
-kind_of_variable so_far types e id c form t at (inr (inl o)) n is =
-    absurd (owner_refused so_far types t o.0 o.1 (subst (λ (x : ExprType). is_reached_type so_far x ≡ true) (ap (λ (x : Typed). x.ty) (owner_named types e id c form t o.1 is) ∙ ap Of at) n))
-kind_of_variable so_far types e id c form t at (inl built) n is = go t at built is
+pub kind_of_variable : (types : Types) (e : Typed) (id : TyId) (c : Bool) (form : Form) (t : Ty) → type_at types id ≡ t → IsServedType types t
+    → is_plain_type e.ty ≡ true → e ≡ variable_of t types id c e.place form → IsKind types e
+kind_of_variable types e id c form t at (inr (inr w)) n is =
+    absurd (walker_refused types t w (subst (λ (x : ExprType). is_plain_type x ≡ true) (ap (λ (x : Typed). x.ty) (walker_named types e id c form t w is) ∙ ap Of at) n))
+kind_of_variable types e id c form t at (inr (inl o)) n is =
+    absurd (owner_refused types t o (subst (λ (x : ExprType). is_plain_type x ≡ true) (ap (λ (x : Typed). x.ty) (owner_named types e id c form t o is) ∙ ap Of at) n))
+kind_of_variable types e id c form t at (inl built) n is = go t at built is
   where
-    go : (t : Ty) → type_at types id ≡ t → (is_value t || is_pointing types t) ≡ true → e ≡ variable_of t types id c e.place form → IsKind so_far types e
-    go (ty.Raw target constant) at built is = kind_of_place so_far types e id c form is (a_pointer target constant (ap (λ (x : Typed). x.ty) is ∙ ap Of at) built)
-    go (ty.Reference target constant) at built is = kind_of_place so_far types e target constant form is (a_number (type_at types target) (ap (λ (x : Typed). x.ty) is) built)
-    go ty.View at built is = kind_of_place so_far types e id c form is (a_view (ap (λ (x : Typed). x.ty) is ∙ ap Of at))
-    go ty.Bool at built is = kind_of_place so_far types e id c form is (a_number ty.Bool (ap (λ (x : Typed). x.ty) is ∙ ap Of at) refl)
-    go ty.Char at built is = kind_of_place so_far types e id c form is (a_number ty.Char (ap (λ (x : Typed). x.ty) is ∙ ap Of at) refl)
-    go ty.Int at built is = kind_of_place so_far types e id c form is (a_number ty.Int (ap (λ (x : Typed). x.ty) is ∙ ap Of at) refl)
-    go ty.Long at built is = kind_of_place so_far types e id c form is (a_number ty.Long (ap (λ (x : Typed). x.ty) is ∙ ap Of at) refl)
-    go ty.Size at built is = kind_of_place so_far types e id c form is (a_number ty.Size (ap (λ (x : Typed). x.ty) is ∙ ap Of at) refl)
+    go : (t : Ty) → type_at types id ≡ t → (is_value t || is_pointing types t) ≡ true → e ≡ variable_of t types id c e.place form → IsKind types e
+    go (ty.Raw target constant) at built is = kind_of_place types e id c form is (a_pointer target constant (ap (λ (x : Typed). x.ty) is ∙ ap Of at) built)
+    go (ty.Reference target constant) at built is = refers (target_is types (type_at types target) built)
+      where
+        refers : IsTarget types (type_at types target) → IsKind types e
+        refers (to_value v) = kind_of_place types e target constant form is (a_number (type_at types target) (ap (λ (x : Typed). x.ty) is) v)
+        refers (to_owner o) = absurd (owner_refused types (type_at types target) o (subst (λ (x : ExprType). is_plain_type x ≡ true) (ap (λ (x : Typed). x.ty) is) n))
+    go ty.View at built is = kind_of_place types e id c form is (a_view (ap (λ (x : Typed). x.ty) is ∙ ap Of at))
+    go ty.Bool at built is = kind_of_place types e id c form is (a_number ty.Bool (ap (λ (x : Typed). x.ty) is ∙ ap Of at) refl)
+    go ty.Char at built is = kind_of_place types e id c form is (a_number ty.Char (ap (λ (x : Typed). x.ty) is ∙ ap Of at) refl)
+    go ty.Int at built is = kind_of_place types e id c form is (a_number ty.Int (ap (λ (x : Typed). x.ty) is ∙ ap Of at) refl)
+    go ty.Long at built is = kind_of_place types e id c form is (a_number ty.Long (ap (λ (x : Typed). x.ty) is ∙ ap Of at) refl)
+    go ty.Size at built is = kind_of_place types e id c form is (a_number ty.Size (ap (λ (x : Typed). x.ty) is ∙ ap Of at) refl)
     go _ at built is = absurd (false≢true built)
 
-pub kind_of_result : (so_far : Bool) (types : Types) (e : Typed) (t : Ty) → IsResultType types t → e ≡ answer_of t types e.place e.form → IsKind so_far types e
-kind_of_result so_far types e t (gives_nothing void) is =
+pub kind_of_result : (types : Types) (e : Typed) (t : Ty) → IsResultType types t → is_plain_type e.ty ≡ true → e ≡ answer_of t types e.place e.form → IsKind types e
+kind_of_result types e t (gives_nothing void) plain is =
     let here = is ∙ ap (λ (u : Ty). answer_of u types e.place e.form) void in
     record {
       kind = no_value (ap (λ (x : Typed). x.ty) here) (ap (λ (x : Typed). x.category) here);
       place = λ id c at. absurd (value_place (sym (ap (λ (x : Typed). x.category) here) ∙ at));
     }
-kind_of_result so_far types e t (gives_value v) is =
-    kind_value so_far types e t (is ∙ by_values (λ u. answer_of u types e.place e.form ≡ value e.place u e.form) refl refl refl refl refl t v) v
-kind_of_result so_far types e t (gives_raw target constant raw w) is =
+kind_of_result types e t (gives_value v) plain is =
+    kind_value types e t (is ∙ by_values (λ u. answer_of u types e.place e.form ≡ value e.place u e.form) refl refl refl refl refl t v) v
+kind_of_result types e t (gives_raw target constant raw w) plain is =
     let here = is ∙ ap (λ (u : Ty). answer_of u types e.place e.form) raw in
     record {
       kind = a_pointer target constant (ap (λ (x : Typed). x.ty) here) w;
       place = λ id c at. absurd (value_place (sym (ap (λ (x : Typed). x.category) here) ∙ at));
     }
-kind_of_result so_far types e t (gives_view view) is =
+kind_of_result types e t (gives_view view) plain is =
     let here = is ∙ ap (λ (u : Ty). answer_of u types e.place e.form) view in
     record {
       kind = a_view (ap (λ (x : Typed). x.ty) here);
       place = λ id c at. absurd (value_place (sym (ap (λ (x : Typed). x.category) here) ∙ at));
     }
-kind_of_result so_far types e t (gives_reference target constant refers w) is =
+kind_of_result types e t (gives_reference target constant refers w) plain is =
     let here = is ∙ ap (λ (u : Ty). answer_of u types e.place e.form) refers in
-    kind_of_place so_far types e target constant e.form here (a_number (type_at types target) (ap (λ (x : Typed). x.ty) here) w)
+    kind_of_place types e target constant e.form here (a_number (type_at types target) (ap (λ (x : Typed). x.ty) here) w)
+kind_of_result types e t (gives_alias target constant refers o) plain is =
+    let here = is ∙ ap (λ (u : Ty). answer_of u types e.place e.form) refers in
+    absurd (owner_refused types (type_at types target) o (subst (λ (x : ExprType). is_plain_type x ≡ true) (ap (λ (x : Typed). x.ty) here) plain))
 
 -- ---- operators
 

@@ -5,10 +5,8 @@ use Rattle.std.proofs.lemmas.Bool.{false≢true}
 use Rattle.life_types.specs.TypeTests.{is_value}
 use Rattle.life_types.specs.Types.{class, with_type}
 use Rattle.life_types.specs.contracts.ty.TyPartialEq.TheImpl.{ghosts as compared}
-use Rattle.life_types.specs.declared.ty.Class.{Class}
 use Rattle.life_types.specs.declared.ty.Class.TheVariants.{Value}
 use Rattle.life_types.specs.declared.ty.Ty.{Ty}
-use Rattle.life_core.specs.Holdings.{AnObject, held_if}
 use Rattle.life_core.specs.declared.program.LocalKind.TheVariants.{Object}
 use Rattle.life_writer.specs.Registers.{number_of}
 use Rattle.life_writer.specs.Variables.{kind}
@@ -61,6 +59,3 @@ value_class = by_values (λ t. class (Some t) ≡ Value) refl refl refl refl ref
 
 pub value_kind : (t : Ty) → is_value t ≡ true → kind (class (Some t)) ≡ Object
 value_kind t e = ap kind (value_class t e)
-
-pub value_held : (t : Ty) → is_value t ≡ true → held_if (class (Some t)) (kind (class (Some t))) (Some t) ≡ AnObject
-value_held t e = ap (λ (c : Class). held_if c (kind c) (Some t)) (value_class t e)

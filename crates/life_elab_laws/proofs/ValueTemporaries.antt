@@ -50,36 +50,36 @@ pub call_seen : (a : Around) (form : Form) → (uses a form).call ≡ calling a 
 call_seen a (typed place t c form) = form_calls a form place t c
 call_seen a _ = refl
 
-module _ (a : Around) (visible : List ℕ) (types : Types) (texts : ℕ) (so_far : Bool) (fs : List Function) (f : Function) (setting : Setting so_far a types fs f) where
+module _ (a : Around) (visible : List ℕ) (types : Types) (texts : ℕ) (fs : List Function) (f : Function) (setting : Setting a types fs f) where
   abbrev Stood : State → Type 0
-  Stood s = Standing a visible types texts so_far fs f setting s
+  Stood s = Standing a visible types texts fs f setting s
 
   module _ (t : Ty) (worth : is_value t ≡ true) (place : Place) where
     abbrev PlacedThere : State → Gives Operand → Type 0
-    PlacedThere s w = Placed a visible types texts so_far fs f setting t false s w
+    PlacedThere s w = Placed a visible types texts fs f setting t false s w
 
     within : (s : State) → HasPartsBelow s.types (length s.types.types) t
-    within s = fits_below so_far s.types s.types (omega arith) t (value_fits so_far s.types t worth)
+    within s = fits_below s.types s.types (omega arith) t (value_fits s.types t worth)
 
     -- a value is saved there
-    saved_there : (s : State) (w : Gives ℕ) → Stood s → Makes types texts so_far fs f None s w (a_number types texts so_far fs f t) → PlacedThere s (mapped object_named (saved w.given (temporary place t) w.state))
+    saved_there : (s : State) (w : Gives ℕ) → Stood s → Makes types texts fs f None s w (a_number types texts fs f t) → PlacedThere s (mapped object_named (saved w.given (temporary place t) w.state))
     saved_there s w stands made =
         let later = stands_later a visible s w.state made.grown stands in
-        let x = lived_there types texts so_far fs f place Plain t w.state (inl worth) later.opened later.pends (within w.state) in
-        let one = lived_part types texts so_far fs f place Plain t w.state (inl worth) later.opened later.pends (within w.state) in
-        let G = no_gift types texts so_far fs f in
-        let N = a_number types texts so_far fs f t in
-        let Q = a_place types texts so_far fs f t false in
-        let B = both types texts so_far fs f N Q in
+        let x = lived_there types texts fs f place Plain t w.state (inl worth) later.opened later.pends (within w.state) in
+        let one = lived_part types texts fs f place Plain t w.state (inl worth) later.opened later.pends (within w.state) in
+        let G = no_gift types texts fs f in
+        let N = a_number types texts fs f t in
+        let Q = a_place types texts fs f t false in
+        let B = both types texts fs f N Q in
         let done = emit place (Save x.given w.given) x.state in
-        let pair = and_part types texts so_far fs f G tt s w x N Q stands.opened made one in
-        let act = saved_part types texts so_far fs f B (w.given, x.given) t w.given x.given place x.state (λ h. h.0) (λ h. h.1) (λ n k h. h) in
-        let all = keep_part types texts so_far fs f G tt s (gives (w.given, x.given) x.state) (gives tt done) B G stands.opened pair act in
-        seen_part types texts so_far fs f G tt None s (gives ((w.given, x.given), tt) done) (both types texts so_far fs f B G) (λ y. y.0.1) Q all (λ b h. h.0.1) (λ n k h. h.0.1)
+        let pair = and_part types texts fs f G tt s w x N Q stands.opened made one in
+        let act = saved_part types texts fs f B (w.given, x.given) t w.given x.given place x.state (λ h. h.0) (λ h. h.1) (λ n k h. h) in
+        let all = keep_part types texts fs f G tt s (gives (w.given, x.given) x.state) (gives tt done) B G stands.opened pair act in
+        seen_part types texts fs f G tt None s (gives ((w.given, x.given), tt) done) (both types texts fs f B G) (λ y. y.0.1) Q all (λ b h. h.0.1) (λ n k h. h.0.1)
 
     -- .. or a call gives its result
     module _ (g : ℕ) (of : FunctionForm) (there : slice_get a.program.functions g ≡ Some of) (same : ty_of types of.result ≡ t) (s : State) (w : Gives (List Argument)) (stands : Stood s)
-        (made : Makes types texts so_far fs f None s w (arguments types texts so_far fs f (parameter_types (Some of)))) where
+        (made : Makes types texts fs f None s w (arguments types texts fs f (parameter_types (Some of)))) where
       abbrev x : ℕ
       x = length w.state.locals
 
@@ -91,20 +91,20 @@ module _ (a : Around) (visible : List ℕ) (types : Types) (texts : ℕ) (so_far
 
       called_there : PlacedThere s (mapped object_named (filled place (called g w.given) (temporary place t) w.state))
       called_there =
-          let P = arguments types texts so_far fs f (parameter_types (Some of)) in
-          then_part types texts so_far fs f (no_gift types texts so_far fs f) tt None s w (born types texts so_far fs f place calls t w.state (inl worth) later.opened later.pends (within w.state)) P (a_place types texts so_far fs f t false) stands.opened made
-          (born_part types texts so_far fs f place calls t w.state (inl worth) later.opened later.pends (within w.state) P w.given
+          let P = arguments types texts fs f (parameter_types (Some of)) in
+          then_part types texts fs f (no_gift types texts fs f) tt None s w (born types texts fs f place calls t w.state (inl worth) later.opened later.pends (within w.state)) P (a_place types texts fs f t false) stands.opened made
+          (born_part types texts fs f place calls t w.state (inl worth) later.opened later.pends (within w.state) P w.given
           (λ b q.
-          called_fine types texts so_far fs f g w.given of x (setting.callees g of there) q
+          called_fine types texts fs f g w.given of x (setting.callees g of there) q
           (ap (λ (u : Ty). goes_to types texts fs f u (Some (whole x))) same
-          ∙ goes_object types texts so_far fs f t x worth
-          (born_typed types texts so_far fs f place calls t w.state (inl worth) later.opened later.pends (within w.state) b)
-          (born_object types texts so_far fs f place calls t w.state (inl worth) later.opened later.pends (within w.state) b)))
+          ∙ goes_object types texts fs f t x worth
+          (born_typed types texts fs f place calls t w.state (inl worth) later.opened later.pends (within w.state) b)
+          (born_object types texts fs f place calls t w.state (inl worth) later.opened later.pends (within w.state) b)))
           (λ k q blank. born_fills f g (parameter_types (Some of)) w.given x k q x blank))
 
   -- ---- what an expression gives it
 
-  module _ (form : Form) (is : IsWhole a visible types texts so_far fs f setting form) (t : Ty) (worth : is_value t ≡ true) (n : is_number (typed_in form).ty ≡ true) (behind : Place) (s : State) (stands : Stood s) where
+  module _ (form : Form) (is : IsWhole a visible types texts fs f setting form) (t : Ty) (worth : is_value t ≡ true) (n : is_number (typed_in form).ty ≡ true) (behind : Place) (s : State) (stands : Stood s) where
     abbrev e : Uses
     e = uses a form
 
@@ -113,7 +113,7 @@ module _ (a : Around) (visible : List ℕ) (types : Types) (texts : ℕ) (so_far
     By o = mapped object_named (value_by o e.place (value e behind t None) s >> λ rest s. rest (temporary e.place t) s)
 
     abbrev Made : Gives Operand → Type 0
-    Made w = Placed a visible types texts so_far fs f setting t false s w
+    Made w = Placed a visible types texts fs f setting t false s w
 
     by_value : Made (By None)
     by_value = saved_there t worth e.place s (value e behind t None s) stands (is.valued n behind t worth None s tt stands)
@@ -122,9 +122,9 @@ module _ (a : Around) (visible : List ℕ) (types : Types) (texts : ℕ) (so_far
     by_call c found same plain =
         let k = is.calls c found in
         called_there t worth e.place c.function k.of k.there
-        (result_later a visible types texts so_far fs f setting c.function k.of k.there
-        ∙ answer_own a.program.types (type_at a.program.types k.of.result) (typed_in form).ty (typed_in form).category k.answers (ap (λ (c : Category). not (is_place c)) (held_typed a visible types texts so_far fs f setting form) ∙ plain)
-        ∙ ap own_type (own_typed a visible types texts so_far fs f setting form) ∙ same_types (own e) t same)
+        (result_later a visible types texts fs f setting c.function k.of k.there
+        ∙ answer_own a.program.types (type_at a.program.types k.of.result) (typed_in form).ty (typed_in form).category k.answers (ap (λ (c : Category). not (is_place c)) (held_typed a visible types texts fs f setting form) ∙ plain)
+        ∙ ap own_type (own_typed a visible types texts fs f setting form) ∙ same_types (own e) t same)
         s (giving.arguments a (all_uses a c.arguments) c.delimiters (around.parameter_types a c.function) s) stands (k.hands s stands)
 
     -- a call is one where it needs no conversion and gives no reference

@@ -2,12 +2,12 @@
 use Rattle.std.proofs.Common.{◌≡◌, ◌<◌, inl, inr, ℕ, Bool, true, false, List, [], ◌∷◌, Contains, length, slice_get, Option, Some, refl, sym, ap, ◌∙◌, subst, unwrap_or, arith}
 use Rattle.std.proofs.lemmas.Bool.{false≢true}
 use Rattle.std.proofs.lemmas.Option.{slice_get_within}
+use Rattle.life_served.specs.Served.{is_owner_of_values, is_served_variable, is_target, is_walker, is_walker_of_values, owns_elements}
 use Rattle.life_types.specs.TypeTests.{is_value, is_pointer, is_reference, is_view}
 use Rattle.life_types.specs.Types.{Types, class, class_at}
 use Rattle.life_types.specs.declared.ty.Ty.{Ty}
 use Rattle.life_types.specs.declared.ty.Ty.TheVariants as ty
 use Rattle.life_types.specs.declared.ty.TyId.{TyId}
-use Rattle.life_elab_laws.specs.Reached.{is_owner_of_values, is_reached_variable, is_walker_of_values, is_walker}
 use Rattle.life_typed.specs.BaseTypes.{type_at}
 use Rattle.life_typed.specs.TypedForm.{Form, Typed}
 use Rattle.life_typed.specs.declared.typed_expr.ExprType.TheVariants.{Of}
@@ -27,29 +27,30 @@ use Rattle.life_elab_laws.proofs.Fronts.{IsFront, front_then}
 use Rattle.life_elab_laws.proofs.Growing.{Grows, bare}
 use Rattle.life_elab_laws.proofs.Locations.{is_location}
 use Rattle.life_elab_laws.proofs.Making.{Alive, IsOpen, IsPlace, IsPointer}
-use Rattle.life_elab_laws.proofs.Reaching.{IsReachedType, variable_found}
+use Rattle.life_elab_laws.proofs.ServedTypes.{IsServedType, variable_found}
+use Rattle.life_elab_laws.proofs.Targets.{IsTarget, target_is, to_owner, to_value}
 use Rattle.life_elab_laws.proofs.Values.{by_values}
 use Rattle.life_elab_laws.proofs.TypedKinds.{owner_named, walker_named}
-use Rattle.life_proper.specs.OperandTypes.{is_owner}
 use Rattle.life_elab_laws.proofs.PendingTemporaries.{ArePending}
 
 -- ---- what a variable is
 
--- a value, or a pointer or reference to one, a view, an iterator or a span, or an owner of values
-pub data IsVariableType (so_far : Bool) (types : Types) (id : TyId) : Type 0 where
-  a_value : (t : Ty) → slice_get types.types id.0 ≡ Some t → is_value t ≡ true → IsVariableType so_far types id
-  a_raw : (target : TyId) (constant : Bool) → slice_get types.types id.0 ≡ Some (ty.Raw target constant) → is_value (type_at types target) ≡ true → IsVariableType so_far types id
-  a_reference : (target : TyId) (constant : Bool) → slice_get types.types id.0 ≡ Some (ty.Reference target constant) → is_value (type_at types target) ≡ true → IsVariableType so_far types id
-  a_view : slice_get types.types id.0 ≡ Some ty.View → IsVariableType so_far types id
-  a_walker : so_far ≡ false → (t : Ty) → slice_get types.types id.0 ≡ Some t → is_walker_of_values types t ≡ true → IsVariableType so_far types id
-  an_owner : so_far ≡ false → (t : Ty) → slice_get types.types id.0 ≡ Some t → is_owner_of_values types t ≡ true → IsVariableType so_far types id
+-- a value, or a pointer or reference to one or to an owner, a view, an iterator or a span, or an owner of values
+pub data IsVariableType (types : Types) (id : TyId) : Type 0 where
+  a_value : (t : Ty) → slice_get types.types id.0 ≡ Some t → is_value t ≡ true → IsVariableType types id
+  a_raw : (target : TyId) (constant : Bool) → slice_get types.types id.0 ≡ Some (ty.Raw target constant) → is_target types (type_at types target) ≡ true → IsVariableType types id
+  a_reference : (target : TyId) (constant : Bool) → slice_get types.types id.0 ≡ Some (ty.Reference target constant) → is_value (type_at types target) ≡ true → IsVariableType types id
+  an_alias : (target : TyId) (constant : Bool) → slice_get types.types id.0 ≡ Some (ty.Reference target constant) → is_owner_of_values types (type_at types target) ≡ true → IsVariableType types id
+  a_view : slice_get types.types id.0 ≡ Some ty.View → IsVariableType types id
+  a_walker : (t : Ty) → slice_get types.types id.0 ≡ Some t → is_walker_of_values types t ≡ true → IsVariableType types id
+  an_owner : (t : Ty) → slice_get types.types id.0 ≡ Some t → is_owner_of_values types t ≡ true → IsVariableType types id
 
-pub variable_type : (so_far : Bool) (types : Types) (id : TyId) → is_reached_variable so_far types id ≡ true → IsVariableType so_far types id
-variable_type so_far types id b = let found = variable_found so_far types id b in go found.0 found.1 found.2
+pub variable_type : (types : Types) (id : TyId) → is_served_variable types id ≡ true → IsVariableType types id
+variable_type types id b = let found = variable_found types id b in go found.0 found.1 found.2
   where
-    go : (t : Ty) → slice_get types.types id.0 ≡ Some t → IsReachedType so_far types t → IsVariableType so_far types id
-    go t at (inr (inl o)) = an_owner o.0 t at o.1
-    go t at (inr (inr w)) = a_walker w.0 t at w.1
+    go : (t : Ty) → slice_get types.types id.0 ≡ Some t → IsServedType types t → IsVariableType types id
+    go t at (inr (inl o)) = an_owner t at o
+    go t at (inr (inr w)) = a_walker t at w
     go ty.View at (inl b) = a_view at
     go ty.Bool at (inl b) = a_value ty.Bool at refl
     go ty.Char at (inl b) = a_value ty.Char at refl
@@ -57,10 +58,14 @@ variable_type so_far types id b = let found = variable_found so_far types id b i
     go ty.Long at (inl b) = a_value ty.Long at refl
     go ty.Size at (inl b) = a_value ty.Size at refl
     go (ty.Raw target constant) at (inl b) = a_raw target constant at b
-    go (ty.Reference target constant) at (inl b) = a_reference target constant at b
+    go (ty.Reference target constant) at (inl b) = refers (target_is types (type_at types target) b)
+      where
+        refers : IsTarget types (type_at types target) → IsVariableType types id
+        refers (to_value v) = a_reference target constant at v
+        refers (to_owner o) = an_alias target constant at o
     go _ at (inl b) = absurd (false≢true b)
 
-pub owner_is : (types : Types) (t : Ty) → is_owner_of_values types t ≡ true → is_owner t ≡ true
+pub owner_is : (types : Types) (t : Ty) → is_owner_of_values types t ≡ true → owns_elements t ≡ true
 owner_is types ty.Text o = refl
 owner_is types (ty.Vector element) o = refl
 owner_is types _ o = absurd (false≢true o)
@@ -70,7 +75,7 @@ pub record IsWalking (types : Types) (t : Ty) : Type 0 where
   pub kind : kind (class (Some t)) ≡ Register
   pub pointer : is_pointer t ≡ true
   pub reference : is_reference t ≡ false
-  pub owner : is_owner t ≡ false
+  pub owner : owns_elements t ≡ false
   pub value : is_value t ≡ false
   pub location : is_location t ≡ true
   pub walker : is_walker t ≡ true
@@ -160,9 +165,9 @@ module _ (a : Around) (s : State) (x : ℕ) (v : TypedLocal) (h : IsVariableAt a
   pointer_there f k alive = record { local = variable s x; is = refl; below = below; held = alive.living (variable s x) h.lives }
 
 -- an expression of the type of a raw pointer or a view that names a variable names one of that type
-pub named_pointer : (so_far : Bool) (types : Types) (e : Typed) (v : TypedLocal) (form : Form) → is_reached_variable so_far types v.ty ≡ true → e ≡ variable_of (type_at types v.ty) types v.ty v.constant e.place form
+pub named_pointer : (types : Types) (e : Typed) (v : TypedLocal) (form : Form) → is_served_variable types v.ty ≡ true → e ≡ variable_of (type_at types v.ty) types v.ty v.constant e.place form
     → (t : Ty) → e.ty ≡ Of t → is_location t ≡ true → slice_get types.types v.ty.0 ≡ Some t
-named_pointer so_far types e v form reached is t of loc = go (variable_type so_far types v.ty reached)
+named_pointer types e v form reached is t of loc = go (variable_type types v.ty reached)
   where
     same : {u w : Ty} → Of u ≡ Of w → u ≡ w
     same e = cc
@@ -184,10 +189,11 @@ named_pointer so_far types e v form reached is t of loc = go (variable_type so_f
     not_owner (ty.Vector element) o at = false≢true (ap is_location (same (sym at ∙ of)) ∙ loc)
     not_owner _ o at = false≢true o
 
-    go : IsVariableType so_far types v.ty → slice_get types.types v.ty.0 ≡ Some t
+    go : IsVariableType types v.ty → slice_get types.types v.ty.0 ≡ Some t
     go (a_value u at w) = absurd (not_value u w (plain u w (found u at) ∙ ap Of (typed u at)))
     go (a_raw target constant at w) = at ∙ ap Some (sym (same (sym of ∙ ap (λ (x : Typed). x.ty) (found (ty.Raw target constant) at) ∙ ap Of (typed (ty.Raw target constant) at))))
     go (a_reference target constant at w) = absurd (not_value (type_at types target) w (ap (λ (x : Typed). x.ty) (found (ty.Reference target constant) at)))
-    go (an_owner so u at o) = absurd (not_owner u o (ap (λ (x : Typed). x.ty) (owner_named types e v.ty v.constant form u o (found u at)) ∙ ap Of (typed u at)))
-    go (a_walker so u at w) = at ∙ ap Some (sym (same (sym of ∙ ap (λ (x : Typed). x.ty) (walker_named types e v.ty v.constant form u w (found u at)) ∙ ap Of (typed u at))))
+    go (an_alias target constant at o) = absurd (not_owner (type_at types target) o (ap (λ (x : Typed). x.ty) (found (ty.Reference target constant) at)))
+    go (an_owner u at o) = absurd (not_owner u o (ap (λ (x : Typed). x.ty) (owner_named types e v.ty v.constant form u o (found u at)) ∙ ap Of (typed u at)))
+    go (a_walker u at w) = at ∙ ap Some (sym (same (sym of ∙ ap (λ (x : Typed). x.ty) (walker_named types e v.ty v.constant form u w (found u at)) ∙ ap Of (typed u at))))
     go (a_view at) = at ∙ ap Some (sym (same (sym of ∙ ap (λ (x : Typed). x.ty) (found ty.View at) ∙ ap Of (typed ty.View at))))

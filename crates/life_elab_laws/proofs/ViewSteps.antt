@@ -1,5 +1,5 @@
 -- The instruction that gives a part of a view.
-use Rattle.std.proofs.Common.{◌≡◌, ◌<◌, ◌≤◌, ℕ, Bool, true, List, [], ◌∷◌, ◌++◌, Option, Some, None, inl, inr, refl, sym, ap, ◌∙◌, subst}
+use Rattle.std.proofs.Common.{◌≡◌, ◌<◌, ◌≤◌, ℕ, true, List, [], ◌∷◌, ◌++◌, Option, Some, None, inl, inr, refl, sym, ap, ◌∙◌, subst}
 use Rattle.std.proofs.lemmas.Bool.{and_from, false≢true}
 use Rattle.life_types.specs.Types.{Types}
 use Rattle.life_types.specs.declared.ty.Ty.{Ty}
@@ -43,19 +43,19 @@ abbrev pub IsCounted : Option ℕ → ℕ → List Known → Type 0
 IsCounted None n k = Unit {0}
 IsCounted (Some r) n k = IsHeld r n k
 
-module _ (types : Types) (texts : ℕ) (so_far : Bool) (fs : List Function) (f : Function) where
+module _ (types : Types) (texts : ℕ) (fs : List Function) (f : Function) where
   pub count_stays : (o : Option ℕ) (n m : ℕ) (k j : List Known) → n ≤ m → IsCounted o n k → Keeps f n None k j → IsCounted o m j
   count_stays None n m k j h p keeps = tt
-  count_stays (Some r) n m k j h p keeps = held_stays types texts so_far fs f r n m k j h p keeps
+  count_stays (Some r) n m k j h p keeps = held_stays types texts fs f r n m k j h p keeps
 
-  abbrev pub a_count : Gift types texts so_far fs f (Option ℕ)
+  abbrev pub a_count : Gift types texts fs f (Option ℕ)
   a_count = record { typed = λ o. is_number_of_if types f ty.Size o ≡ true; ready = IsCounted; stays = count_stays }
 
   -- a part of a view, from an index on
-  abbrev pub Cuts : Gift types texts so_far fs f ((Location × ℕ) × Option ℕ)
-  Cuts = both types texts so_far fs f (both types texts so_far fs f (a_pointer types texts so_far fs f ty.View) (a_number types texts so_far fs f ty.Size)) a_count
+  abbrev pub Cuts : Gift types texts fs f ((Location × ℕ) × Option ℕ)
+  Cuts = both types texts fs f (both types texts fs f (a_pointer types texts fs f ty.View) (a_number types texts fs f ty.Size)) a_count
 
-  pub cut_given : (x : (Location × ℕ) × Option ℕ) → Cuts.typed x → IsGivenAs types texts so_far fs f (Of ty.View) (By (λ p. Cut p x.0.0 x.0.1 x.1))
+  pub cut_given : (x : (Location × ℕ) × Option ℕ) → Cuts.typed x → IsGivenAs types texts fs f (Of ty.View) (By (λ p. Cut p x.0.0 x.0.1 x.1))
   cut_given x h = λ u l loc at taken.
       let view : type_in types f l ≡ ty.View = at.typed ∙ view_taker types u loc taken in
       record {
@@ -64,7 +64,7 @@ module _ (types : Types) (texts : ℕ) (so_far : Bool) (fs : List Function) (f :
             and_from (is_range (type_in types f l)) _ (ap is_range view)
             (and_from (takes types (type_in types f l) (type_in types f x.0.0)) _ (ap (λ (t : Ty). takes types t (type_in types f x.0.0)) view ∙ ap (takes types ty.View) h.0.0.typed)
             (and_from (is_number_of types f ty.Size x.0.1) (is_number_of_if types f ty.Size x.1) h.0.1 h.1));
-        served = λ so. and_from (is_served_location l) (is_served_location x.0.0) (at.served so) (h.0.0.served so);
+        served = and_from (is_served_location l) (is_served_location x.0.0) at.served h.0.0.served;
       }
 
   pub cut_filling : (x : (Location × ℕ) × Option ℕ) (n : ℕ) (k : List Known) → Cuts.ready x n k → IsFilling f (λ p. Cut p x.0.0 x.0.1 x.1) n k

@@ -2,7 +2,7 @@
 use Rattle.std.proofs.Common.{◌≡◌, ◌++◌, inl, inr, ℕ, Bool, true, false, List, [], ◌∷◌, refl, sym, ap, ◌∙◌, subst}
 use Rattle.std.proofs.lemmas.Bool.{and_from, and_parts, false≢true}
 use Rattle.life_types.specs.Pointees.{ty_of}
-use Rattle.life_types.specs.TypeTests.{is_constant, is_iterator, is_value}
+use Rattle.life_types.specs.TypeTests.{is_constant, is_iterator}
 use Rattle.life_types.specs.Types.{Types}
 use Rattle.life_types.specs.declared.ty.Ty.{Ty}
 use Rattle.life_types.specs.declared.ty.Ty.TheVariants as ty
@@ -24,8 +24,9 @@ use Rattle.life_elab_laws.proofs.BaseSteps.{IsBase, IsBaseOf}
 use Rattle.life_elab_laws.proofs.Gifts.{IsAt, IsGivenAs, IsNumberOf, IsPlaceOf, IsTakenBy}
 use Rattle.life_elab_laws.proofs.Locations.{is_location}
 use Rattle.life_elab_laws.proofs.Making.{AreHeld, IsFilling, IsHeld, IsPointer}
-use Rattle.life_elab_laws.proofs.OperandsThere.{number_any, same_is, value_same}
+use Rattle.life_elab_laws.proofs.OperandsThere.{number_any, same_is}
 use Rattle.life_elab_laws.proofs.ViewSteps.{pointer_is_held}
+use Rattle.life_core_served.specs.Served.{is_served_base, is_served_location, is_served_operand}
 
 -- what takes an iterator of a type is one of that type, which is const where that is
 pub record IsIteratorTo (types : Types) (item : TyId) (constant : Bool) (u : Ty) : Type 0 where
@@ -70,21 +71,21 @@ span_taker types item constant ty.View loc (inr e) = absurd (false≢true e)
 span_taker types item constant (ty.Iterator target held) loc (inr e) = absurd (false≢true e)
 span_taker types item constant _ loc (inr e) = absurd (false≢true loc)
 
-module _ (types : Types) (texts : ℕ) (so_far : Bool) (fs : List Function) (f : Function) where
+module _ (types : Types) (texts : ℕ) (fs : List Function) (f : Function) where
   -- ---- an end of a vector
 
-  pub cursor_given : (item : TyId) (constant : Bool) (t : Ty) (b : Base) (end : RangeEnd) → so_far ≡ false → ty_of types item ≡ t → is_value t ≡ true → IsBaseOf types texts so_far fs f t constant b
-      → IsGivenAs types texts so_far fs f (Of (ty.Iterator item constant)) (By (λ p. Cursor p b end))
-  cursor_given item constant t b end wide later v h = λ u l loc at taken.
+  pub cursor_given : (item : TyId) (constant : Bool) (t : Ty) (b : Base) (end : RangeEnd) → ty_of types item ≡ t → same t t ≡ true → IsBaseOf types texts fs f t constant b
+      → IsGivenAs types texts fs f (Of (ty.Iterator item constant)) (By (λ p. Cursor p b end))
+  cursor_given item constant t b end later v h = λ u l loc at taken.
       let to = iterator_taker types item constant u loc taken in
       let typed : type_in types f l ≡ ty.Iterator to.target to.held = at.typed ∙ to.is in
       record {
         given = refl;
         formed =
             and_from (walks types (type_in types f l) (element_of types f b)) (keeps_const (is_constant (type_in types f l)) (is_const_base types f b))
-            (ap (λ (w : Ty). walks types w (element_of types f b)) typed ∙ ap (same (ty_of types to.target)) h.element ∙ ap (λ (w : Ty). same w t) (to.one ∙ later) ∙ value_same t v)
+            (ap (λ (w : Ty). walks types w (element_of types f b)) typed ∙ ap (same (ty_of types to.target)) h.element ∙ ap (λ (w : Ty). same w t) (to.one ∙ later) ∙ v)
             (ap (λ (w : Ty). keeps_const (is_constant w) (is_const_base types f b)) typed ∙ keeps_further to.held constant (is_const_base types f b) to.kept h.held);
-        served = λ so. absurd (false≢true (sym wide ∙ so));
+        served = and_from (is_served_location l) (is_served_base b) at.served h.served;
       }
 
   pub cursor_filling : (b : Base) (end : RangeEnd) (n : ℕ) (k : List Known) → IsBase b n k → IsFilling f (λ p. Cursor p b end) n k
@@ -96,9 +97,9 @@ module _ (types : Types) (texts : ℕ) (so_far : Bool) (fs : List Function) (f :
 
   -- ---- so many elements on
 
-  pub advance_given : (item : TyId) (constant : Bool) (t : Ty) (q : Location) (r : ℕ) (direction : Direction) → so_far ≡ false → IsAt types texts so_far fs f (ty.Iterator item constant) q → is_value (ty_of types item) ≡ true → IsNumberOf types texts so_far fs f t r
-      → IsGivenAs types texts so_far fs f (Of (ty.Iterator item constant)) (By (λ p. Advance p q r direction))
-  advance_given item constant t q r direction wide source v number = λ u l loc at taken.
+  pub advance_given : (item : TyId) (constant : Bool) (t : Ty) (q : Location) (r : ℕ) (direction : Direction) → IsAt types texts fs f (ty.Iterator item constant) q → same (ty_of types item) (ty_of types item) ≡ true → IsNumberOf types texts fs f t r
+      → IsGivenAs types texts fs f (Of (ty.Iterator item constant)) (By (λ p. Advance p q r direction))
+  advance_given item constant t q r direction source v number = λ u l loc at taken.
       let to = iterator_taker types item constant u loc taken in
       let typed : type_in types f l ≡ ty.Iterator to.target to.held = at.typed ∙ to.is in
       record {
@@ -107,9 +108,9 @@ module _ (types : Types) (texts : ℕ) (so_far : Bool) (fs : List Function) (f :
             and_from (is_iterator (type_in types f l)) _ (ap is_iterator typed)
             (and_from (takes types (type_in types f l) (type_in types f q)) (is_number types f r)
             (ap (λ (w : Ty). takes types w (type_in types f q)) typed ∙ ap (takes types (ty.Iterator to.target to.held)) source.typed
-            ∙ and_from (same (ty_of types to.target) (ty_of types item)) (keeps_const to.held constant) (ap (λ (w : Ty). same w (ty_of types item)) to.one ∙ value_same (ty_of types item) v) to.kept)
+            ∙ and_from (same (ty_of types to.target) (ty_of types item)) (keeps_const to.held constant) (ap (λ (w : Ty). same w (ty_of types item)) to.one ∙ v) to.kept)
             (number_any types f t r number));
-        served = λ so. absurd (false≢true (sym wide ∙ so));
+        served = and_from (is_served_location l) (is_served_location q) at.served source.served;
       }
 
   pub advance_filling : (q : Location) (r : ℕ) (direction : Direction) (n : ℕ) (k : List Known) → IsPointer q n k → IsHeld r n k → IsFilling f (λ p. Advance p q r direction) n k
@@ -117,9 +118,9 @@ module _ (types : Types) (texts : ℕ) (so_far : Bool) (fs : List Function) (f :
 
   -- ---- the whole of a vector
 
-  pub span_given : (item : TyId) (constant : Bool) (element : TyId) (o : Operand) → so_far ≡ false → ty_of types element ≡ ty_of types item → is_value (ty_of types item) ≡ true → IsPlaceOf types texts so_far fs f (ty.Vector element) constant o
-      → IsGivenAs types texts so_far fs f (Of (ty.Span item constant)) (aimed (Whole o))
-  span_given item constant element o wide one v h = λ u l loc at taken.
+  pub span_given : (item : TyId) (constant : Bool) (element : TyId) (o : Operand) → ty_of types element ≡ ty_of types item → same (ty_of types item) (ty_of types item) ≡ true → IsPlaceOf types texts fs f (ty.Vector element) constant o
+      → IsGivenAs types texts fs f (Of (ty.Span item constant)) (aimed (Whole o))
+  span_given item constant element o one v h = λ u l loc at taken.
       let to = span_taker types item constant u loc taken in
       let typed : type_in types f l ≡ ty.Span to.target to.held = at.typed ∙ to.is in
       record {
@@ -127,7 +128,7 @@ module _ (types : Types) (texts : ℕ) (so_far : Bool) (fs : List Function) (f :
         formed =
             ap (λ (w : Ty). is_source_of types texts fs f w (Whole o)) typed
             ∙ and_from (spans types (ty.Span to.target to.held) (type_of types f o)) (keeps_const to.held (is_const_place types f o))
-            (ap (spans types (ty.Span to.target to.held)) h.typed ∙ ap (λ (w : Ty). same w (ty_of types element)) to.one ∙ ap (same (ty_of types item)) one ∙ value_same (ty_of types item) v)
+            (ap (spans types (ty.Span to.target to.held)) h.typed ∙ ap (λ (w : Ty). same w (ty_of types element)) to.one ∙ ap (same (ty_of types item)) one ∙ v)
             (keeps_further to.held constant (is_const_place types f o) to.kept h.held);
-        served = λ so. absurd (false≢true (sym wide ∙ so));
+        served = and_from (is_served_location l) (is_served_operand o) at.served h.served;
       }

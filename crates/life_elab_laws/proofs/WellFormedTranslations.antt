@@ -1,19 +1,16 @@
--- The core program of a well typed program that the law reaches is well formed, is served where it is one that is served so far, and leaves alone what is given over.
-use Rattle.std.proofs.Common.{◌≡◌, ◌⊎◌, inl, inr, ℕ, Bool, true, List, [], length, nat_le, slice_get, Option, Some, refl, ap, ◌∙◌, subst, Bool, sym}
+-- The core program of a well typed program that is served is well formed, is served itself, and leaves alone what is given over.
+use Rattle.std.proofs.Common.{◌≡◌, ◌⊎◌, inl, inr, ℕ, true, List, [], length, nat_le, slice_get, Some, refl, ap, ◌∙◌, ◌&&◌, subst}
 use Rattle.std.specs.List.{list_all}
-use Rattle.std.proofs.lemmas.Bool.{and_from, false≢true}
+use Rattle.std.proofs.lemmas.Bool.{and_from}
 use Rattle.life_types.specs.Trees.{IsOrdered}
-use Rattle.life_types.specs.Types.{HasEachOnce, Types, class}
-use Rattle.life_types.specs.declared.ty.Ty.{Ty}
+use Rattle.life_types.specs.Types.{HasEachOnce, Types}
 use Rattle.life_types.specs.declared.ty.TyId.{TyId}
-use Rattle.life_served.specs.Served.{has_no_structs}
-use Rattle.life_elab_laws.specs.Reached.{are_reached_functions}
+use Rattle.life_served.specs.Served.{are_served_functions, has_no_structs}
 use Rattle.life_typed.specs.Programs.{FunctionForm, ProgramForm}
 use Rattle.life_core.specs.Function.{Function}
-use Rattle.life_core_served.specs.Served.{is_served, is_served_local, is_served_program, is_served_spot}
+use Rattle.life_core_served.specs.Served.{is_served, is_served_local, is_served_program, is_served_return, is_served_spot}
 use Rattle.life_core.specs.Tree.{spots}
 use Rattle.life_core.specs.declared.program.Local.{Local}
-use Rattle.life_core.specs.declared.program.LocalKind.TheVariants.{Object, Register}
 use Rattle.life_proper.specs.GivenOver.{all_keep_given, keeps_all_given}
 use Rattle.life_proper.specs.WellFormed.{is_well_formed_tree}
 use Rattle.life_proper.specs.WellFormedPrograms.{IsWellFormedProgram, are_well_formed_locals, is_name, is_result_of, is_well_formed_function, names_parameters}
@@ -21,27 +18,29 @@ use Rattle.life_well_typed.specs.Functions.{IsWellTyped}
 use Rattle.life_well_typed.specs.Mains.{HasIntMain}
 use Rattle.life_well_typed.specs.Names.{HasNames}
 use Rattle.life_well_typed.specs.Results.{HasResults}
-use Rattle.life_writer.specs.Variables.{kind}
 use Rattle.life_elab.specs.ProgramForms.{translated, written}
 use Rattle.life_elab.specs.Programs.{around, texts_of}
 use Rattle.life_elab_laws.proofs.ExpressionKinds.{variable_built}
 use Rattle.life_elab_laws.proofs.Fronts.{IsFront}
-use Rattle.life_elab_laws.proofs.Reaching.{variable_found}
-use Rattle.life_elab_laws.proofs.ServedLocals.{all_pass, local_served, register_served, value_served, variable_served}
+use Rattle.life_elab_laws.proofs.ServedTypes.{variable_found}
+use Rattle.life_elab_laws.proofs.ServedLocals.{all_pass, local_served, return_served}
 use Rattle.life_elab_laws.proofs.KeptGiven.{keeps_all}
 use Rattle.life_elab_laws.proofs.ProgramNames.{no_members, own_names}
-use Rattle.life_elab_laws.proofs.Programs.{IsWritten, each_written, front, grows, of_program, one_body, one_head, passed_by_all, whole, whole_order}
-use Rattle.life_elab_laws.proofs.WrittenLocals.{IsIntermediate, IsOwn, fits_later, fits_register, value_fits}
+use Rattle.life_elab_laws.proofs.Programs.{IsWritten, each_written, front, grows, of_program, one_body, one_head, passed_by_all, whole, whole_order, written_result}
+use Rattle.life_elab_laws.proofs.WrittenLocals.{IsIntermediate, IsOwn, fits_later, local_later, owner_local, register_local, value_fits}
 use Rattle.life_typed.specs.BaseTypes.{type_at}
+use Rattle.life_elab_laws.proofs.FormedLocals.{variable_fits}
+use Rattle.life_elab_laws.proofs.ResultTypes.{result_is}
+use Rattle.life_elab_laws.proofs.Shaped.{owner_later}
 use Rattle.life_typed.specs.declared.basic.TheConstants.{CHAR}
 use Rattle.life_types.specs.declared.ty.Ty.TheVariants as ty
 
-module _ (so_far : Bool) (p : ProgramForm) (typed : IsWellTyped p) (built : are_reached_functions (length (texts_of p)) so_far p.types p.functions ≡ true) (results : HasResults p) (chars : type_at p.types CHAR ≡ ty.Char) (mains : HasIntMain p) where
+module _ (p : ProgramForm) (typed : IsWellTyped p) (built : are_served_functions (length (texts_of p)) p.types p.functions ≡ true) (results : HasResults p) (chars : type_at p.types CHAR ≡ ty.Char) (mains : HasIntMain p) where
   abbrev functions : List Function
-  functions = (whole so_far p typed built results chars).functions
+  functions = (whole p typed built results chars).functions
 
   abbrev types : Types
-  types = (whole so_far p typed built results chars).types
+  types = (whole p typed built results chars).types
 
   abbrev names : ℕ
   names = length p.names
@@ -52,40 +51,38 @@ module _ (so_far : Bool) (p : ProgramForm) (typed : IsWellTyped p) (built : are_
   -- ---- one function
 
   module _ (n : ℕ) (f : FunctionForm) (at : slice_get p.functions n ≡ Some f) (core : Function) (w : IsWritten p types f core) where
-    served_local : so_far ≡ true → (x : ℕ) (l : Local) → slice_get core.locals x ≡ Some l → is_served_local types l ≡ true
-    served_local so x l there = go ((grows so_far p typed built results chars n f at w.before w.table).own x l (subst (λ (c : Function). slice_get c.locals x ≡ Some l) w.is there))
+    served_local : (x : ℕ) (l : Local) → slice_get core.locals x ≡ Some l → is_served_local types l ≡ true
+    served_local x l there = go ((grows p typed built results chars n f at w.before w.table).own x l (subst (λ (c : Function). slice_get c.locals x ≡ Some l) w.is there))
       where
         front_is : IsFront p.types.types types.types
-        front_is = front so_far p typed built results chars n f at core w
+        front_is = front p typed built results chars n f at core w
 
-        go : IsIntermediate so_far p.types (written (around p f) w.before).types l ⊎ IsOwn (around p f) l → is_served_local types l ≡ true
+        go : IsIntermediate p.types (written (around p f) w.before).types l ⊎ IsOwn (around p f) l → is_served_local types l ≡ true
         go (inl is) = elim is.fits [
-          | inl register ↦
-              let fits = fits_later true p.types types front_is is.ty (subst (λ (b : Bool). fits_register b p.types is.ty ≡ true) so register.1) in
-              local_served types l Register is.ty register.0 (w.later l.ty.0 is.ty is.typed) fits (register_served types is.ty fits)
-          | inr temporary ↦ elim temporary.1 [
-            | inl value ↦ local_served types l Object is.ty temporary.0 (w.later l.ty.0 is.ty is.typed) (value_fits true types is.ty value) (value_served types is.ty value)
-            | inr owner ↦ absurd (false≢true (sym owner.0 ∙ so))
-          ]
+          | inl register ↦ local_served types l is.ty (w.later l.ty.0 is.ty is.typed) (register_local types is.ty (fits_later p.types types front_is is.ty register.1))
+          | inr temporary ↦ local_served types l is.ty (w.later l.ty.0 is.ty is.typed) (elim temporary.1 [
+            | inl value ↦ register_local types is.ty (value_fits types is.ty value)
+            | inr owner ↦ owner_local types is.ty (owner_later p.types types front_is is.ty owner)
+          ])
         ]
         go (inr is) =
-            let found = variable_found so_far p.types is.variable.ty (variable_built so_far p.types f.locals is.number is.variable (of_program so_far p typed built results chars n f at).built.variables is.there) in
-            let served = variable_served p.types so_far so found.0 found.2 in
-            local_served types l (kind (class (Some found.0))) found.0 (is.of.kind ∙ ap (λ (o : Option Ty). kind (class o)) found.1)
-            (ap (λ (id : TyId). slice_get types.types id.0) is.of.typed ∙ front_is is.variable.ty.0 found.0 found.1)
-            (fits_later true p.types types front_is found.0 served.1) served.0
+            let found = variable_found p.types is.variable.ty (variable_built p.types f.locals is.number is.variable (of_program p typed built results chars n f at).built.variables is.there) in
+            local_served types l found.0 (ap (λ (id : TyId). slice_get types.types id.0) is.of.typed ∙ front_is is.variable.ty.0 found.0 found.1)
+            (local_later p.types types front_is found.0 (variable_fits p.types found.0 found.2))
 
-    one_served : so_far ≡ true → is_served types core ≡ true
-    one_served so =
-        and_from (list_all (is_served_local types) core.locals) (list_all (is_served_spot types core) (spots core.body)) (all_pass (is_served_local types) core.locals (served_local so))
-        ((one_body so_far p typed built results chars n f at core w mains).stated.served so)
+    one_served : is_served types core ≡ true
+    one_served =
+        and_from (list_all (is_served_local types) core.locals) (list_all (is_served_spot types core) (spots core.body) && is_served_return (slice_get types.types core.result.0)) (all_pass (is_served_local types) core.locals served_local)
+        (and_from (list_all (is_served_spot types core) (spots core.body)) (is_served_return (slice_get types.types core.result.0)) (one_body p typed built results chars n f at core w mains).stated.served
+        (ap is_served_return (written_result p typed built results chars n f at core w)
+        ∙ return_served p.types (type_at p.types f.result) (result_is p.types (type_at p.types f.result) (of_program p typed built results chars n f at).built.result)))
 
     body_formed : is_well_formed_tree types texts functions core core.body ≡ true
-    body_formed = (one_body so_far p typed built results chars n f at core w mains).stated.formed
+    body_formed = (one_body p typed built results chars n f at core w mains).stated.formed
 
     one_formed : HasNames p → is_well_formed_function types names texts functions core ≡ true
     one_formed named =
-        let head = one_head so_far p typed built results chars n f at core w named in
+        let head = one_head p typed built results chars n f at core w named in
         and_from (is_name names core.name) _ head.name
         (and_from (nat_le core.parameters (length core.locals)) _ head.count
         (and_from (names_parameters core.parameters core.promise) _ head.promise
@@ -93,29 +90,30 @@ module _ (so_far : Bool) (p : ProgramForm) (typed : IsWellTyped p) (built : are_
         (and_from (are_well_formed_locals types names core.parameters 0 core.locals) (is_well_formed_tree types texts functions core core.body) head.locals body_formed))))
 
     one_keeps : all_keep_given types core ≡ true
-    one_keeps = keeps_all types core (one_body so_far p typed built results chars n f at core w mains).stated.given
+    one_keeps =
+        let body = one_body p typed built results chars n f at core w mains in keeps_all types core body.apart body.stated.given
 
   -- ---- all of them
 
   pub program_keeps : keeps_all_given (translated p) ≡ true
-  program_keeps = passed_by_all so_far p typed built results chars (all_keep_given types) (list_all (all_keep_given types)) refl (λ core cores. refl) one_keeps
+  program_keeps = passed_by_all p typed built results chars (all_keep_given types) (list_all (all_keep_given types)) refl (λ core cores. refl) one_keeps
 
-  pub program_serves : so_far ≡ true → is_served_program (translated p) ≡ true
-  program_serves so = passed_by_all so_far p typed built results chars (is_served types) (list_all (is_served types)) refl (λ core cores. refl) (λ n f at core w. one_served n f at core w so)
+  pub program_serves : is_served_program (translated p) ≡ true
+  program_serves = passed_by_all p typed built results chars (is_served types) (list_all (is_served types)) refl (λ core cores. refl) one_served
 
   -- no struct is added
   pub program_structs : p.types.structs ≡ [] → types.structs ≡ []
-  program_structs none = (whole_order so_far p typed built results chars).structs ∙ none
+  program_structs none = (whole_order p typed built results chars).structs ∙ none
 
   pub program_formed : HasNames p → IsOrdered p.types → HasEachOnce p.types → p.types.structs ≡ [] → has_no_structs p.structs ≡ true → IsWellFormedProgram (translated p)
   program_formed named ordered once structs none =
-      let order = whole_order so_far p typed built results chars in
+      let order = whole_order p typed built results chars in
       record {
         table = order.ordered ordered;
         once = order.once once;
         members = no_members names types.structs p.structs (program_structs structs) none;
-        own_names = own_names p types p.functions functions (each_written so_far p typed built results chars) ∙ named.own;
+        own_names = own_names p types p.functions functions (each_written p typed built results chars) ∙ named.own;
         functions =
-            passed_by_all so_far p typed built results chars (is_well_formed_function types names texts functions) (list_all (is_well_formed_function types names texts functions)) refl (λ core cores. refl)
+            passed_by_all p typed built results chars (is_well_formed_function types names texts functions) (list_all (is_well_formed_function types names texts functions)) refl (λ core cores. refl)
             (λ n f at core w. one_formed n f at core w named);
       }

@@ -1,12 +1,12 @@
--- The core program of a well typed program that the law reaches writes its results: on every way to a return of a function that gives something back the result was
+-- The core program of a well typed program that is served writes its results: on every way to a return of a function that gives something back the result was
 -- written, but for the int of main.
 use Rattle.std.proofs.Common.{◌≡◌, ℕ, Bool, true, false, length, slice_get, Some, None, refl, sym, ap, ◌∙◌}
 use Rattle.std.proofs.lemmas.Bool.{false≢true}
+use Rattle.life_served.specs.Served.{are_served_functions}
 use Rattle.life_types.specs.TypeTests.{is_void}
 use Rattle.life_types.specs.declared.ty.NameId.{NameId}
 use Rattle.life_types.specs.declared.ty.Ty.{Ty}
 use Rattle.life_types.specs.declared.ty.Ty.TheVariants as ty
-use Rattle.life_elab_laws.specs.Reached.{are_reached_functions}
 use Rattle.life_typed.specs.BaseTypes.{type_at}
 use Rattle.life_typed.specs.Ends.{ends}
 use Rattle.life_typed.specs.Programs.{FunctionForm, ProgramForm, is_main}
@@ -39,24 +39,24 @@ needs main t over int e w = let some = written_some main t w in (some, past_end 
 
 -- ---- each function
 
-module _ (so_far : Bool) (p : ProgramForm) (typed : IsWellTyped p) (built : are_reached_functions (length (texts_of p)) so_far p.types p.functions ≡ true) (results : HasResults p) (chars : type_at p.types CHAR ≡ ty.Char) (mains : HasIntMain p) where
-  module _ (n : ℕ) (f : FunctionForm) (at : slice_get p.functions n ≡ Some f) (core : Function) (w : IsWritten p (whole so_far p typed built results chars).types f core) where
-    gives : writes_result p.names (whole so_far p typed built results chars).types core ≡ true → GivesResult (around p f)
+module _ (p : ProgramForm) (typed : IsWellTyped p) (built : are_served_functions (length (texts_of p)) p.types p.functions ≡ true) (results : HasResults p) (chars : type_at p.types CHAR ≡ ty.Char) (mains : HasIntMain p) where
+  module _ (n : ℕ) (f : FunctionForm) (at : slice_get p.functions n ≡ Some f) (core : Function) (w : IsWritten p (whole p typed built results chars).types f core) where
+    gives : writes_result p.names (whole p typed built results chars).types core ≡ true → GivesResult (around p f)
     gives must =
-        let of = of_program so_far p typed built results chars n f at in
+        let of = of_program p typed built results chars n f at in
         needs (is_main p.names f.name) (type_at p.types f.result) (ends f.body) (int_at p p.functions n f mains at) of.typed.ending
         (ap (λ (x : NameId). is_written_by (is_main p.names x) (Some (type_at p.types f.result))) (sym (ap (λ (c : Function). c.name) w.is))
-        ∙ ap (is_written_by (is_main p.names core.name)) (sym (written_result so_far p typed built results chars n f at core w))
+        ∙ ap (is_written_by (is_main p.names core.name)) (sym (written_result p typed built results chars n f at core w))
         ∙ must)
 
-    one_result : HasResultWritten p.names (whole so_far p typed built results chars).types core
+    one_result : HasResultWritten p.names (whole p typed built results chars).types core
     one_result must = λ q bits l way here is.
         let g = gives must in
-        let body = one_body so_far p typed built results chars n f at core w mains in
-        results_found (whole so_far p typed built results chars).types core body.checked core.parameters (body.returns g) q bits l way here is
+        let body = one_body p typed built results chars n f at core w mains in
+        results_found (whole p typed built results chars).types core body.checked core.parameters (body.returns g) q bits l way here is
 
   pub program_writes_results : WritesResults (translated p)
   program_writes_results =
       let names = p.names in
-      let types = (whole so_far p typed built results chars).types in
-      of_all so_far p typed built results chars (HasResultWritten names types) (HaveResultsWritten names types) tt (λ core cores one others. (one, others)) one_result
+      let types = (whole p typed built results chars).types in
+      of_all p typed built results chars (HasResultWritten names types) (HaveResultsWritten names types) tt (λ core cores one others. (one, others)) one_result

@@ -1,9 +1,7 @@
-// What is translated is proper, and has short places. Of more programs than are served this is said of all parts of that but what isn't proved of every program yet.
+// What is translated is proper, and has short places.
 ghost use Rattle.life_served.specs.Served.{is_served};
 ghost use Rattle.life_elab.specs.Bounds.{HaveShortPlaces};
 ghost use Rattle.life_elab.specs.ProgramForms.{translated};
-ghost use Rattle.life_elab_laws.specs.ProperParts.{HasProperParts};
-ghost use Rattle.life_elab_laws.specs.Reached.{is_reached};
 ghost use Rattle.life_core_served.specs.ProperPrograms.{IsProperProgram};
 ghost use Rattle.life_pset.specs.Limits.{IsProgramWithinLimits};
 ghost use Rattle.life_typed.specs.Programs.{ProgramForm};
@@ -22,15 +20,4 @@ pub fn translations_are_proper()
 /// Its places are short, as the rules ask: each has at most eight steps.
 pub fn translations_have_short_places()
     ensures { (p : ProgramForm) → IsWellTyped p → HasResults p → HasTable p → IsTrue (is_served p) → HaveShortPlaces (translated p).types (translated p).functions }
-{}
-
-/// The core program of a well typed program that the laws reach has all that makes it proper but what is served so far, where it passes no limit.
-pub fn translations_have_proper_parts()
-    ensures { (p : ProgramForm) → IsWellTyped p → HasResults p → HasTable p → HasNames p → HasIntMain p → IsTrue (is_reached p)
-        → IsProgramWithinLimits (translated p) → HasProperParts (translated p) }
-{}
-
-/// Its places are short.
-pub fn reached_translations_have_short_places()
-    ensures { (p : ProgramForm) → IsWellTyped p → HasResults p → HasTable p → IsTrue (is_reached p) → HaveShortPlaces (translated p).types (translated p).functions }
 {}

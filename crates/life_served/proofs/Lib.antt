@@ -1,2 +1,4 @@
+pub mod Arms
 pub mod Inside
 pub mod Tables
+pub mod Tellings

@@ -6,7 +6,7 @@ use Rattle.std.proofs.lemmas.List.{drop_all, drop_more}
 use Rattle.std.proofs.lemmas.Bool.{lt-ltb, le-ltb}
 use Rattle.life_types.specs.Types.{Types}
 use Rattle.life_types.specs.declared.ty.Ty.{Ty}
-use Rattle.life_served.specs.Served.{all_point, has_served_types, is_pointing}
+use Rattle.life_served.specs.Served.{are_served_types, has_served_types, is_served_type}
 
 -- what is left from a type on begins with it
 rest_from : {X : Type 0} (xs : List X) (i : ℕ) (x : X) → slice_get xs i ≡ Some x → drop i xs ≡ x ∷ drop (i + 1) xs
@@ -19,30 +19,30 @@ none_past {X = X} xs i e = go (slice_get_cases xs i).1
     go (inl h) = absurd (let both : None ≡ Some h.0 = e ∙ h.2 in cc)
     go (inr h) = h.0
 
--- a type that points is passed
-pub passed : (types : Types) (i : ℕ) (t : Ty) (b : Bool) → Some t ≡ slice_get types.types i → b ≡ true → b ≡ is_pointing types t
-    → all_point types (drop i types.types) ≡ all_point types (drop 8 types.types)
-    → all_point types (drop (i + 1) types.types) ≡ all_point types (drop 8 types.types)
+-- a type that is served is passed
+pub passed : (types : Types) (i : ℕ) (t : Ty) (b : Bool) → Some t ≡ slice_get types.types i → b ≡ true → b ≡ is_served_type types t
+    → are_served_types types (drop i types.types) ≡ are_served_types types (drop 8 types.types)
+    → are_served_types types (drop (i + 1) types.types) ≡ are_served_types types (drop 8 types.types)
 passed types i t b e is found rest =
-    let points : is_pointing types t ≡ true = sym found ∙ is in
-    let here : all_point types (drop i types.types) ≡ is_pointing types t && all_point types (drop (i + 1) types.types) = ap (all_point types) (rest_from types.types i t (sym e)) in
-    sym (here ∙ ap (λ x. x && all_point types (drop (i + 1) types.types)) points) ∙ rest
+    let points : is_served_type types t ≡ true = sym found ∙ is in
+    let here : are_served_types types (drop i types.types) ≡ is_served_type types t && are_served_types types (drop (i + 1) types.types) = ap (are_served_types types) (rest_from types.types i t (sym e)) in
+    sym (here ∙ ap (λ x. x && are_served_types types (drop (i + 1) types.types)) points) ∙ rest
 
--- one that doesn't decides
-pub refused : (types : Types) (i : ℕ) (t : Ty) (b : Bool) → Some t ≡ slice_get types.types i → b ≡ false → b ≡ is_pointing types t
-    → all_point types (drop i types.types) ≡ all_point types (drop 8 types.types) → false ≡ has_served_types types
+-- one that isn't decides
+pub refused : (types : Types) (i : ℕ) (t : Ty) (b : Bool) → Some t ≡ slice_get types.types i → b ≡ false → b ≡ is_served_type types t
+    → are_served_types types (drop i types.types) ≡ are_served_types types (drop 8 types.types) → false ≡ has_served_types types
 refused types i t b e is found rest =
-    let points : is_pointing types t ≡ false = sym found ∙ is in
-    let here : all_point types (drop i types.types) ≡ is_pointing types t && all_point types (drop (i + 1) types.types) = ap (all_point types) (rest_from types.types i t (sym e)) in
-    let none : false ≡ all_point types (drop 8 types.types) = sym (here ∙ ap (λ x. x && all_point types (drop (i + 1) types.types)) points) ∙ rest in
+    let points : is_served_type types t ≡ false = sym found ∙ is in
+    let here : are_served_types types (drop i types.types) ≡ is_served_type types t && are_served_types types (drop (i + 1) types.types) = ap (are_served_types types) (rest_from types.types i t (sym e)) in
+    let none : false ≡ are_served_types types (drop 8 types.types) = sym (here ∙ ap (λ x. x && are_served_types types (drop (i + 1) types.types)) points) ∙ rest in
     ap (λ x. x && nat_lt (length types.types) (2 ^ 32 - 1)) none
 
 -- no type is left, and there are few
 pub all_passed : (types : Types) (i : ℕ) → None ≡ slice_get types.types i → i < 2 ^ 32 - 1
-    → all_point types (drop i types.types) ≡ all_point types (drop 8 types.types) → true ≡ has_served_types types
+    → are_served_types types (drop i types.types) ≡ are_served_types types (drop 8 types.types) → true ≡ has_served_types types
 all_passed types i e few rest =
     let past : length types.types ≤ i = none_past types.types i e in
-    let done : all_point types (drop 8 types.types) ≡ true = sym rest ∙ ap (all_point types) (drop_all i types.types past) in
+    let done : are_served_types types (drop 8 types.types) ≡ true = sym rest ∙ ap (are_served_types types) (drop_all i types.types past) in
     let room : nat_lt (length types.types) (2 ^ 32 - 1) ≡ true = lt-ltb (length types.types) (2 ^ 32 - 1) (omega arith) in
     sym (ap (λ x. x && nat_lt (length types.types) (2 ^ 32 - 1)) done ∙ room)
 
@@ -54,4 +54,4 @@ and_false false = refl
 pub too_many : (types : Types) → 2 ^ 32 - 1 ≤ length types.types → false ≡ has_served_types types
 too_many types many =
     let full : nat_lt (length types.types) (2 ^ 32 - 1) ≡ false = le-ltb (length types.types) (2 ^ 32 - 1) many in
-    sym (ap (λ x. all_point types (drop 8 types.types) && x) full ∙ and_false (all_point types (drop 8 types.types)))
+    sym (ap (λ x. are_served_types types (drop 8 types.types) && x) full ∙ and_false (are_served_types types (drop 8 types.types)))

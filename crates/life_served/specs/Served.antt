@@ -1,45 +1,195 @@
--- Which programs are served so far: values, raw pointers and references to them, views of characters, and literals.
-use Rattle.std.specs.Prelude.{ℕ, ◌-◌, ◌^◌, Bool, true, false, ◌&&◌, ◌||◌, List, [], ◌∷◌, drop, length, nat_lt, Option, Some, None}
-use Rattle.life_types.specs.TypeTests.{is_value, is_void}
+-- Which programs are served so far: values, strings, vectors of values, raw pointers and references to these, views of characters, literals, and iterators and spans.
+use Rattle.std.specs.Prelude.{ℕ, ◌+◌, ◌-◌, ◌^◌, Bool, true, false, ◌&&◌, ◌||◌, not, if◌then◌else◌, List, [], ◌∷◌, drop, take, length, nat_lt, Option, Some, None, slice_get}
+use Rattle.life_types.specs.TypeTests.{is_reference, is_value, is_view, is_void}
 use Rattle.life_types.specs.Types.{Types}
 use Rattle.life_types.specs.declared.ty.Ty.{Ty}
 use Rattle.life_types.specs.declared.ty.Ty.TheVariants as ty
 use Rattle.life_types.specs.declared.ty.TyId.{TyId}
 use Rattle.life_typed.specs.BaseTypes.{type_at}
-use Rattle.life_typed.specs.TypedForm.{Form, Typed, number, character, boolean, text, null, local, call, paren, input, dereference, index, method, negate, not as negation, address_of, binary, typed, nothing, ◌⨟◌, whole}
+use Rattle.life_typed.specs.TypedForm.{Form, Typed, number, character, boolean, text, null, local, call, paren, input, dereference, index, method, negate, not as negation, address_of, binary, text_of, typed, nothing, ◌⨟◌, whole, forms}
 use Rattle.life_typed.specs.TypedStatement.{StmtForm, DeclarationForm, ForStartForm, InitialForm, ItemForm, SimpleForm, one, several, assign, compound, step, discarded, declared_first, done_first, printed, line_end, block, empty, sentence, branching, while_loop, for_loop, range_loop, loop_break, loop_continue, returned, print, assertion, branch, declaration, no_more, chain}
+use Rattle.life_typed.specs.declared.typed_expr.BinaryOperator.{BinaryOperator}
+use Rattle.life_typed.specs.declared.typed_expr.BinaryOperator.TheVariants.{Equal, NotEqual}
+use Rattle.life_typed.specs.declared.typed_expr.ExprType.{ExprType}
+use Rattle.life_typed.specs.declared.typed_expr.ExprType.TheVariants.{NullPointer, Of}
 use Rattle.life_typed.specs.declared.typed_expr.Method.{Method}
-use Rattle.life_typed.specs.declared.typed_expr.Method.TheVariants.{Empty, Size, Substr}
+use Rattle.life_typed.specs.declared.typed_expr.Method.TheVariants.{Back, Begin, Clear, Empty, End, Erase, Front, PopBack, PushBack, Reserve, Size, Subspan, Substr}
 use Rattle.life_typed.specs.declared.typed_program.TypedLocal.{TypedLocal}
 use Rattle.life_typed.specs.Programs.{FunctionForm, ProgramForm, StructForm}
 
 -- ---- types
 
--- a raw pointer or a reference to a value, or a view of characters
+-- a string, or a vector of values
+abbrev pub is_inner_owner : Types → Ty → Bool
+is_inner_owner types ty.Text = true
+is_inner_owner types (ty.Vector element) = is_value (type_at types element)
+is_inner_owner types _ = false
+
+-- what a vector has: values, or such owners
+abbrev pub is_element : Types → Ty → Bool
+is_element types t = is_value t || is_inner_owner types t
+
+-- a string, or a vector
+abbrev pub is_owner_of_values : Types → Ty → Bool
+is_owner_of_values types ty.Text = true
+is_owner_of_values types (ty.Vector element) = is_element types (type_at types element)
+is_owner_of_values types _ = false
+
+-- what a raw pointer or a reference is to
+abbrev pub is_target : Types → Ty → Bool
+is_target types t = is_value t || is_owner_of_values types t
+
+-- a raw pointer or a reference to a value or an owner, or a view of characters
 abbrev pub is_pointing : Types → Ty → Bool
-is_pointing types (ty.Raw target constant) = is_value (type_at types target)
-is_pointing types (ty.Reference target constant) = is_value (type_at types target)
+is_pointing types (ty.Raw target constant) = is_target types (type_at types target)
+is_pointing types (ty.Reference target constant) = is_target types (type_at types target)
 is_pointing types ty.View = true
 is_pointing types _ = false
 
-abbrev pub all_point : Types → List Ty → Bool
-all_point types [] = true
-all_point types (t ∷ ts) = is_pointing types t && all_point types ts
+-- an iterator or a span of what a vector has
+abbrev pub is_walker_of_values : Types → Ty → Bool
+is_walker_of_values types (ty.Iterator target constant) = is_element types (type_at types target)
+is_walker_of_values types (ty.Span target constant) = is_element types (type_at types target)
+is_walker_of_values types _ = false
+
+-- one that isn't among those that each table begins with
+abbrev pub is_served_type : Types → Ty → Bool
+is_served_type types t = is_pointing types t || (is_owner_of_values types t || is_walker_of_values types t)
+
+abbrev pub are_served_types : Types → List Ty → Bool
+are_served_types types [] = true
+are_served_types types (t ∷ ts) = is_served_type types t && are_served_types types ts
 
 -- beside the eight types that each table begins with, where numbers are left for more
 abbrev pub has_served_types : Types → Bool
-has_served_types types = all_point types (drop 8 types.types) && nat_lt (length types.types) (2 ^ 32 - 1)
+has_served_types types = are_served_types types (drop 8 types.types) && nat_lt (length types.types) (2 ^ 32 - 1)
 
+-- what a parameter may hold
+abbrev pub is_served_parameter : Types → TyId → Bool
+is_served_parameter types id = is_value (type_at types id) || (is_pointing types (type_at types id) || is_walker_of_values types (type_at types id))
+
+abbrev pub are_served_parameters : Types → List TypedLocal → Bool
+are_served_parameters types [] = true
+are_served_parameters types (v ∷ vs) = is_served_parameter types v.ty && are_served_parameters types vs
+
+-- .. and any variable
 abbrev pub is_served_variable : Types → TyId → Bool
-is_served_variable types id = is_value (type_at types id) || is_pointing types (type_at types id)
+is_served_variable types id = is_value (type_at types id) || is_served_type types (type_at types id)
 
--- what is given back: what a variable or a parameter may hold, or nothing
+abbrev pub are_served_variables : Types → List TypedLocal → Bool
+are_served_variables types [] = true
+are_served_variables types (v ∷ vs) = is_served_variable types v.ty && are_served_variables types vs
+
+-- what is given back: a value, or what points to one, or nothing
 abbrev pub is_served_result : Types → TyId → Bool
-is_served_result types id = is_void (type_at types id) || is_served_variable types id
+is_served_result types id = is_void (type_at types id) || (is_value (type_at types id) || is_pointing types (type_at types id))
+
+-- ---- kinds of types
+
+-- a string or a vector
+abbrev pub owns_elements : Ty → Bool
+owns_elements ty.Text = true
+owns_elements (ty.Vector element) = true
+owns_elements _ = false
+
+-- an iterator or a span
+abbrev pub is_walker : Ty → Bool
+is_walker (ty.Iterator target constant) = true
+is_walker (ty.Span target constant) = true
+is_walker _ = false
+
+abbrev pub is_owner_type : ExprType → Bool
+is_owner_type (Of t) = owns_elements t
+is_owner_type _ = false
+
+abbrev pub is_walker_type : ExprType → Bool
+is_walker_type (Of t) = is_walker t
+is_walker_type _ = false
+
+-- neither of these: they are served where something is asked of them, or they are changed
+abbrev pub is_plain_type : ExprType → Bool
+is_plain_type t = not (is_owner_type t || is_walker_type t)
+
+-- a view
+abbrev pub is_view_type : ExprType → Bool
+is_view_type (Of t) = is_view t
+is_view_type _ = false
+
+-- a span sees a vector, and a view a string
+abbrev pub is_span : Ty → Bool
+is_span (ty.Span target constant) = true
+is_span _ = false
+
+-- what is given an owner as such: another owner, a view, a span, or a reference
+abbrev pub takes_owner : Ty → Bool
+takes_owner t = owns_elements t || (is_view t || (is_span t || is_reference t))
+
+-- a vector is built of elements
+abbrev pub is_vector : Ty → Bool
+is_vector (ty.Vector element) = true
+is_vector _ = false
+
+abbrev pub is_vector_type : ExprType → Bool
+is_vector_type (Of t) = is_vector t
+is_vector_type _ = false
+
+-- the type of an operand
+abbrev pub form_type : Form → ExprType
+form_type (typed place t category form) = t
+form_type _ = NullPointer
+
+abbrev pub is_number_type : ExprType → Bool
+is_number_type (Of t) = is_value t
+is_number_type _ = false
+
+-- ---- members and operators
+
+-- what only asks, and gives no iterator
+abbrev pub is_asking : Method → Bool
+is_asking Size = true
+is_asking Empty = true
+is_asking Front = true
+is_asking Back = true
+is_asking Substr = true
+is_asking _ = false
+
+-- the first or the last element
+abbrev pub is_edge : Method → Bool
+is_edge Front = true
+is_edge Back = true
+is_edge _ = false
+
+-- what changes its object, and gives nothing
+abbrev pub is_changing : Method → Bool
+is_changing PushBack = true
+is_changing PopBack = true
+is_changing Clear = true
+is_changing Reserve = true
+is_changing _ = false
+
+-- the first or the end of a vector
+abbrev pub is_end : Method → Bool
+is_end Begin = true
+is_end End = true
+is_end _ = false
+
+abbrev pub is_subspan : Method → Bool
+is_subspan Subspan = true
+is_subspan _ = false
+
+abbrev pub is_erase : Method → Bool
+is_erase Erase = true
+is_erase _ = false
+
+-- whether two are equal
+abbrev pub is_equality : BinaryOperator → Bool
+is_equality Equal = true
+is_equality NotEqual = true
+is_equality _ = false
 
 -- ---- expressions
 
--- a member that only asks
+-- one that gives a number or a view
 abbrev pub is_served_method : Method → Bool
 is_served_method Size = true
 is_served_method Empty = true
@@ -52,30 +202,98 @@ is_call (call f arguments delimiters) = true
 is_call (method base called arguments delimiters) = is_served_method called
 is_call _ = false
 
+-- an element is erased
+abbrev pub is_erased : Form → Bool
+is_erased (method base called arguments delimiters) = is_erase called
+is_erased _ = false
+
+-- what is asked is an owner, which is served or not, or has a value, which is
+abbrev pub is_served_either : (base : Form) (owner value : Bool) → Bool
+is_served_either base owner value = if is_owner_type (form_type base) then owner else value
+
 -- in a program with so many texts
 module _ (texts : ℕ) where
-  -- an expression, or several
-  abbrev pub is_served_form : Form → Bool
-  is_served_form (number n) = true
-  is_served_form (character c) = true
-  is_served_form (boolean b) = true
-  is_served_form (text n) = nat_lt n texts
-  is_served_form null = true
-  is_served_form (local x) = true
-  is_served_form (call f arguments delimiters) = is_served_form arguments
-  is_served_form (paren inner closing) = is_served_form inner
-  is_served_form input = true
-  is_served_form (dereference e) = is_served_form e
-  is_served_form (index base position closing) = is_served_form base && is_served_form position
-  is_served_form (method base called arguments delimiters) = is_served_method called && (is_served_form base && is_served_form arguments)
-  is_served_form (negate e) = is_served_form e
-  is_served_form (negation e) = is_served_form e
-  is_served_form (address_of e) = is_served_form e
-  is_served_form (binary operator left right) = is_served_form left && is_served_form right
-  is_served_form (typed place t category form) = is_served_form form
-  is_served_form nothing = true
-  is_served_form (e ⨟ es) = is_served_form e && is_served_form es
-  is_served_form _ = false
+  abbrev mutual
+    -- an expression that is neither an owner nor an iterator or a span, or several
+    pub is_served_form : Form → Bool
+    is_served_form (number n) = true
+    is_served_form (character c) = true
+    is_served_form (boolean b) = true
+    is_served_form (text n) = nat_lt n texts
+    is_served_form null = true
+    is_served_form (local x) = true
+    is_served_form (call f arguments delimiters) = are_served_arguments arguments
+    is_served_form (paren inner closing) = is_served_form inner
+    is_served_form input = true
+    is_served_form (dereference e) = is_served_form e || is_served_walker e
+    is_served_form (index base position closing) =
+        (is_served_either base (is_served_owner base) (is_served_form base) || is_served_walker base) && is_served_form position
+    is_served_form (method base called arguments delimiters) =
+        is_asking called && ((is_served_either base (is_served_owner base) (is_served_form base) || is_served_walker base) && is_served_form arguments)
+    is_served_form (negate e) = is_served_form e
+    is_served_form (negation e) = is_served_form e
+    is_served_form (address_of e) = is_served_either e (is_served_object e) (is_served_form e)
+    is_served_form (binary operator left right) =
+        (is_served_form left && is_served_form right)
+        || (is_equality operator
+        && ((is_served_either left (is_served_owner left) (is_served_form left) && is_served_either right (is_served_owner right) (is_served_form right))
+        || (is_served_walker left && is_served_walker right)))
+    is_served_form (typed place t category form) = is_plain_type t && is_served_form form
+    is_served_form nothing = true
+    is_served_form (e ⨟ es) = is_served_form e && is_served_form es
+    is_served_form _ = false
+
+    -- .. that a function is called with: of any type
+    pub are_served_arguments : Form → Bool
+    are_served_arguments nothing = true
+    are_served_arguments (e ⨟ es) = (is_served_either e (is_served_owner e) (is_served_form e) || is_served_walker e) && are_served_arguments es
+    are_served_arguments _ = false
+
+    -- an owner at a place: one that is named, that a call refers to, that is behind a pointer or an iterator, or that is an element
+    pub is_served_object : Form → Bool
+    is_served_object (local x) = true
+    is_served_object (call f arguments delimiters) = are_served_arguments arguments
+    is_served_object (paren inner closing) = is_served_object inner
+    is_served_object (dereference e) = is_served_form e || is_served_walker e
+    is_served_object (index base position closing) =
+        (is_served_either base (is_served_owner base) (is_served_form base) || is_served_walker base) && is_served_form position
+    is_served_object (method base called arguments delimiters) = is_edge called && (is_owner_type (form_type base) && is_served_owner base)
+    is_served_object (typed place t category form) = is_served_object form
+    is_served_object _ = false
+
+    -- an owner: one at a place, or a string that is made
+    pub is_served_owner : Form → Bool
+    is_served_owner (local x) = true
+    is_served_owner (call f arguments delimiters) = are_served_arguments arguments
+    is_served_owner (paren inner closing) = is_served_owner inner
+    is_served_owner (dereference e) = is_served_form e || is_served_walker e
+    is_served_owner (index base position closing) =
+        (is_served_either base (is_served_owner base) (is_served_form base) || is_served_walker base) && is_served_form position
+    is_served_owner (method base called arguments delimiters) = is_edge called && (is_owner_type (form_type base) && is_served_owner base)
+    is_served_owner (binary operator left right) =
+        is_served_either left (is_served_owner left) (is_served_form left) && is_served_either right (is_served_owner right) (is_served_form right)
+    is_served_owner (text_of inner closing) = is_served_either inner (is_served_owner inner) (is_served_form inner)
+    is_served_owner (typed place t category form) = is_served_owner form
+    is_served_owner _ = false
+
+    -- an iterator or a span
+    pub is_served_walker : Form → Bool
+    is_served_walker (local x) = true
+    is_served_walker (paren inner closing) = is_served_walker inner
+    is_served_walker (method base called arguments delimiters) =
+        (is_end called && (is_owner_type (form_type base) && is_served_owner base))
+        || ((is_subspan called && (is_served_walker base && is_served_form arguments))
+        || (is_erase called && (is_owner_type (form_type base) && (is_served_object base && is_served_walker arguments))))
+    is_served_walker (e ⨟ es) = is_served_walker e
+    is_served_walker (binary operator left right) = is_served_walker left && is_served_form right
+    is_served_walker (typed place t category form) = is_walker_type t && is_served_walker form
+    is_served_walker _ = false
+
+  -- what a vector is given: values and owners
+  abbrev pub are_served_elements : Form → Bool
+  are_served_elements nothing = true
+  are_served_elements (e ⨟ es) = is_served_either e (is_served_owner e) (is_served_form e) && are_served_elements es
+  are_served_elements _ = false
 
   abbrev pub is_served_expression : Typed → Bool
   is_served_expression e = is_served_form (whole e)
@@ -84,38 +302,88 @@ module _ (texts : ℕ) where
   is_served_if_any None = true
   is_served_if_any (Some e) = is_served_expression e
 
+  -- an expression that is an owner
+  abbrev pub is_served_owning : Typed → Bool
+  is_served_owning e = is_owner_type e.ty && is_served_owner (whole e)
+
+  -- a literal that is there
+  abbrev pub is_text_there : Form → Bool
+  is_text_there (text n) = nat_lt n texts
+  is_text_there _ = false
+
   -- ---- declarations and simple statements
 
-  abbrev pub is_served_value : InitialForm → Bool
-  is_served_value (one e) = is_served_expression e
-  is_served_value (several list) = false
+  -- an owner, a view, a span or a reference is given an owner, an owner a literal, or an iterator or a span another one
+  abbrev pub is_served_owned : Ty → Typed → Bool
+  is_served_owned t e =
+      (takes_owner t && is_served_owning e)
+      || ((owns_elements t && is_text_there e.form) || (is_walker t && is_served_walker (whole e)))
 
-  abbrev pub is_served_initial : Option InitialForm → Bool
-  is_served_initial None = true
-  is_served_initial (Some value) = is_served_value value
+  abbrev pub is_served_given : Ty → Typed → Bool
+  is_served_given t e = (not (owns_elements t || is_walker t) && is_served_expression e) || is_served_owned t e
 
-  abbrev pub is_served_declaration : DeclarationForm → Bool
-  is_served_declaration d = is_served_initial d.value
+  abbrev pub is_served_initial : Ty → Option InitialForm → Bool
+  is_served_initial t None = true
+  is_served_initial t (Some (one e)) = is_served_given t e
+  is_served_initial t (Some (several list)) = is_vector t && are_served_elements (forms list.elements)
+
+  abbrev pub is_served_declared : Types → Option TypedLocal → Option InitialForm → Bool
+  is_served_declared types None value = true
+  is_served_declared types (Some v) value = is_served_initial (type_at types v.ty) value
+
+  -- an owner at a place
+  abbrev pub is_served_target : Typed → Bool
+  is_served_target e = is_owner_type e.ty && is_served_object (whole e)
+
+  -- an owner is copied or made, also of a literal, a view sees a string, a span a vector, or an iterator or a span becomes another one
+  abbrev pub is_served_renewed : (target e : Typed) → Bool
+  is_served_renewed target e =
+      (is_served_target target && (is_served_owning e || is_text_there e.form))
+      || (((is_view_type target.ty && is_served_expression target) && is_served_owning e)
+      || (is_served_walker (whole target) && (is_served_walker (whole e) || is_served_owning e)))
+
+  -- .. or anything else a value, or a vector elements
+  abbrev pub is_served_assigned : Typed → InitialForm → Bool
+  is_served_assigned target (one e) = (is_served_expression target && is_served_expression e) || is_served_renewed target e
+  is_served_assigned target (several list) = is_served_target target && (is_vector_type target.ty && are_served_elements (forms list.elements))
+
+  -- an owner is changed, which stands alone
+  abbrev pub is_served_change : Form → Bool
+  is_served_change (method base called arguments delimiters) = is_changing called && (is_owner_type (form_type base) && (is_served_object base && are_served_elements arguments))
+  is_served_change _ = false
+
+  -- an expression with a value, or an owner
+  abbrev pub is_served_any : Typed → Bool
+  is_served_any e = is_served_either (whole e) (is_served_owner (whole e)) (is_served_expression e)
+
+  -- what is given back
+  abbrev pub is_served_returned : Option Typed → Bool
+  is_served_returned None = true
+  is_served_returned (Some e) = is_served_any e
+
+  -- of numbers, or a string gains characters
+  abbrev pub is_served_compound : (target e : Typed) → Bool
+  is_served_compound target e = (is_served_expression target && is_served_expression e) || (is_served_target target && is_served_any e)
+
+  abbrev pub is_served_stepped : Typed → Bool
+  is_served_stepped target = is_served_expression target || is_served_walker (whole target)
+
+  -- a call, a number that is left, a change of an owner, or an element that is erased
+  abbrev pub is_served_alone : Typed → Bool
+  is_served_alone e = (((is_call e.form || is_number_type e.ty) && is_served_expression e) || is_served_change e.form) || (is_erased e.form && is_served_walker (whole e))
 
   abbrev pub is_served_simple : SimpleForm → Bool
-  is_served_simple (assign target equals initial) = is_served_expression target && is_served_value initial
-  is_served_simple (compound target operator place e) = is_served_expression target && is_served_expression e
-  is_served_simple (step target operator place) = is_served_expression target
-  is_served_simple (discarded e) = is_call e.form && is_served_expression e
+  is_served_simple (assign target equals initial) = is_served_assigned target initial
+  is_served_simple (compound target operator place e) = is_served_compound target e
+  is_served_simple (step target operator place) = is_served_stepped target
+  is_served_simple (discarded e) = is_served_alone e
 
   abbrev pub is_served_step : Option SimpleForm → Bool
   is_served_step None = true
   is_served_step (Some it) = is_served_simple it
 
-  abbrev pub is_served_start : Option ForStartForm → Bool
-  is_served_start None = true
-  is_served_start (Some (declared_first d)) = is_served_declaration d
-  is_served_start (Some (done_first it)) = is_served_simple it
-
-  -- ---- what is printed
-
   abbrev pub is_served_item : ItemForm → Bool
-  is_served_item (printed e) = is_served_expression e
+  is_served_item (printed e) = is_served_any e
   is_served_item (line_end place) = true
 
   abbrev pub are_served_items : List ItemForm → Bool
@@ -124,34 +392,41 @@ module _ (texts : ℕ) where
 
   -- ---- statements
 
-  abbrev pub is_served_statement : StmtForm → Bool
-  is_served_statement (block items closing) = is_served_statement items
-  is_served_statement (empty place) = true
-  is_served_statement (sentence it semicolon) = is_served_simple it
-  is_served_statement (branching branches last) = is_served_statement branches && is_served_statement last
-  is_served_statement (while_loop keyword decides closing body) = is_served_expression decides && is_served_statement body
-  is_served_statement (for_loop keyword start first decides second stepping closing body) =
-      is_served_start start && (is_served_if_any decides && (is_served_step stepping && is_served_statement body))
-  is_served_statement (range_loop keyword x name colon range closing body) = false
-  is_served_statement (loop_break keyword semicolon) = true
-  is_served_statement (loop_continue keyword semicolon) = true
-  is_served_statement (returned keyword value semicolon) = is_served_if_any value
-  is_served_statement (print items semicolon) = are_served_items items
-  is_served_statement (assertion keyword decides closing semicolon) = is_served_expression decides
-  is_served_statement (branch keyword decides closing body) = is_served_expression decides && is_served_statement body
-  is_served_statement (declaration d semicolon) = is_served_declaration d
-  is_served_statement no_more = true
-  is_served_statement (chain first others) = is_served_statement first && is_served_statement others
+  -- in a function with these parameters and variables
+  module _ (types : Types) (locals : List TypedLocal) where
+    abbrev pub is_served_declaration : DeclarationForm → Bool
+    is_served_declaration d = is_served_declared types (slice_get locals d.local) d.value
+
+    abbrev pub is_served_start : Option ForStartForm → Bool
+    is_served_start None = true
+    is_served_start (Some (declared_first d)) = is_served_declaration d
+    is_served_start (Some (done_first it)) = is_served_simple it
+
+    abbrev pub is_served_statement : StmtForm → Bool
+    is_served_statement (block items closing) = is_served_statement items
+    is_served_statement (empty place) = true
+    is_served_statement (sentence it semicolon) = is_served_simple it
+    is_served_statement (branching branches last) = is_served_statement branches && is_served_statement last
+    is_served_statement (while_loop keyword decides closing body) = is_served_expression decides && is_served_statement body
+    is_served_statement (for_loop keyword start first decides second stepping closing body) =
+        is_served_start start && (is_served_if_any decides && (is_served_step stepping && is_served_statement body))
+    is_served_statement (range_loop keyword x name colon range closing body) = false
+    is_served_statement (loop_break keyword semicolon) = true
+    is_served_statement (loop_continue keyword semicolon) = true
+    is_served_statement (returned keyword value semicolon) = is_served_returned value
+    is_served_statement (print items semicolon) = are_served_items items
+    is_served_statement (assertion keyword decides closing semicolon) = is_served_expression decides
+    is_served_statement (branch keyword decides closing body) = is_served_expression decides && is_served_statement body
+    is_served_statement (declaration d semicolon) = is_served_declaration d
+    is_served_statement no_more = true
+    is_served_statement (chain first others) = is_served_statement first && is_served_statement others
 
 -- ---- functions and programs
 
-abbrev pub are_served_variables : Types → List TypedLocal → Bool
-are_served_variables types [] = true
-are_served_variables types (v ∷ vs) = is_served_variable types v.ty && are_served_variables types vs
-
 abbrev pub is_served_function : (texts : ℕ) → Types → FunctionForm → Bool
 is_served_function texts types f =
-    is_served_result types f.result && (are_served_variables types f.locals && is_served_statement texts f.body)
+    is_served_result types f.result
+    && (are_served_parameters types (take (length f.parameters) f.locals) && (are_served_variables types f.locals && is_served_statement texts types f.locals f.body))
 
 abbrev pub are_served_functions : (texts : ℕ) → Types → List FunctionForm → Bool
 are_served_functions texts types [] = true
@@ -161,5 +436,6 @@ abbrev pub has_no_structs : List StructForm → Bool
 has_no_structs [] = true
 has_no_structs (s ∷ ss) = false
 
+-- with the text that ends a line there is one more than the file has
 abbrev pub is_served : ProgramForm → Bool
-is_served p = has_served_types p.types && (has_no_structs p.structs && are_served_functions (length p.texts) p.types p.functions)
+is_served p = has_served_types p.types && (has_no_structs p.structs && are_served_functions (length p.texts + 1) p.types p.functions)

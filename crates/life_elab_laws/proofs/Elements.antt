@@ -1,0 +1,78 @@
+-- What a vector has: values, strings and vectors of values.
+use Rattle.std.proofs.Common.{◌≡◌, inl, inr, true, false, refl, sym, ◌∙◌}
+use Rattle.std.proofs.lemmas.Bool.{false≢true, or_cases, or_left, or_right}
+use Rattle.life_types.specs.Pointees.{ty_of}
+use Rattle.life_types.specs.TypeTests.{is_value}
+use Rattle.life_types.specs.Types.{Types}
+use Rattle.life_types.specs.declared.ty.Ty.{Ty}
+use Rattle.life_types.specs.declared.ty.Ty.TheVariants as ty
+use Rattle.life_types.specs.declared.ty.TyId.{TyId}
+use Rattle.life_served.specs.Served.{is_element, is_inner_owner, is_owner_of_values, is_plain_type, is_target, owns_elements}
+use Rattle.life_typed.specs.BaseTypes.{type_at}
+use Rattle.life_typed.specs.Members.{element_type}
+use Rattle.life_typed.specs.declared.typed_expr.ExprType.TheVariants.{Of}
+use Rattle.life_proper.specs.OperandTypes.{same}
+use Rattle.life_elab_laws.proofs.Fronts.{IsFront}
+use Rattle.life_elab_laws.proofs.Targets.{one_target, owner_target, target_type, value_target}
+use Rattle.life_elab_laws.proofs.Values.{by_values}
+
+pub data IsElement (types : Types) (t : Ty) : Type 0 where
+  has_value : is_value t ≡ true → IsElement types t
+  has_owner : is_inner_owner types t ≡ true → IsElement types t
+
+pub element_is : (types : Types) (t : Ty) → is_element types t ≡ true → IsElement types t
+element_is types t h = elim (or_cases (is_value t) (is_inner_owner types t) h) [ inl v ↦ has_value v | inr o ↦ has_owner o ]
+
+pub value_element : (types : Types) (t : Ty) → is_value t ≡ true → is_element types t ≡ true
+value_element types t v = or_left (is_value t) (is_inner_owner types t) v
+
+pub inner_element : (types : Types) (t : Ty) → is_inner_owner types t ≡ true → is_element types t ≡ true
+inner_element types t o = or_right (is_value t) (is_inner_owner types t) o
+
+-- an owner is one
+pub inner_owner : (types : Types) (t : Ty) → is_inner_owner types t ≡ true → is_owner_of_values types t ≡ true
+inner_owner types ty.Text o = refl
+inner_owner types (ty.Vector element) o = value_element types (type_at types element) o
+inner_owner types _ o = absurd (false≢true o)
+
+-- pointers are to each
+pub element_target : (types : Types) (t : Ty) → is_element types t ≡ true → is_target types t ≡ true
+element_target types t h = go (element_is types t h)
+  where
+    go : IsElement types t → is_target types t ≡ true
+    go (has_value v) = value_target types t v
+    go (has_owner o) = owner_target types t (inner_owner types t o)
+
+-- one that is no owner is a value, and one that isn't one is an owner
+pub plain_element : (types : Types) (t : Ty) → is_element types t ≡ true → is_plain_type (Of t) ≡ true → is_value t ≡ true
+plain_element types t h q = go (element_is types t h)
+  where
+    refused : (u : Ty) → is_inner_owner types u ≡ true → is_plain_type (Of u) ≡ true → ⊥
+    refused ty.Text o q = false≢true q
+    refused (ty.Vector element) o q = false≢true q
+    refused _ o q = false≢true o
+
+    go : IsElement types t → is_value t ≡ true
+    go (has_value v) = v
+    go (has_owner o) = absurd (refused t o q)
+
+pub owner_element : (types : Types) (t : Ty) → is_element types t ≡ true → owns_elements t ≡ true → is_owner_of_values types t ≡ true
+owner_element types t h n = go (element_is types t h)
+  where
+    go : IsElement types t → is_owner_of_values types t ≡ true
+    go (has_value v) = absurd (false≢true (sym (by_values (λ u. owns_elements u ≡ false) refl refl refl refl refl t v) ∙ n))
+    go (has_owner o) = inner_owner types t o
+
+-- .. of an owner
+pub element_held : (types : Types) (t : Ty) → is_owner_of_values types t ≡ true → is_element types (element_type types t) ≡ true
+element_held types ty.Text o = refl
+element_held types (ty.Vector item) o = o
+element_held types _ o = absurd (false≢true o)
+
+-- its type is the same in a table with more types
+module _ (few more : Types) (front : IsFront few.types more.types) (id : TyId) (h : is_element few (type_at few id) ≡ true) where
+  pub element_there : ty_of more id ≡ type_at few id
+  element_there = target_type few more front id (element_target few (type_at few id) h)
+
+  pub one_element : same (ty_of more id) (ty_of more id) ≡ true
+  one_element = one_target few more front id (element_target few (type_at few id) h)

@@ -1,0 +1,125 @@
+-- What a vector is given: a number is pushed as it is, and an owner is built and given over.
+use Rattle.std.proofs.Common.{◌≡◌, ◌⊎◌, inl, inr, ℕ, Bool, true, false, cond, List, [], ◌∷◌, None, Some, refl, sym, ap, ◌∙◌, subst}
+use Rattle.std.proofs.lemmas.Bool.{false≢true}
+use Rattle.life_served.specs.Served.{is_element, is_owner_of_values}
+use Rattle.life_types.specs.Pointees.{ty_of}
+use Rattle.life_types.specs.TypeTests.{is_value}
+use Rattle.life_types.specs.Types.{Types}
+use Rattle.life_types.specs.declared.place.Place.{Place}
+use Rattle.life_types.specs.declared.ty.Ty.{Ty}
+use Rattle.life_types.specs.declared.ty.Ty.TheVariants as ty
+use Rattle.life_types.specs.declared.ty.TyId.{TyId}
+use Rattle.life_typed.specs.BaseTypes.{type_at}
+use Rattle.life_typed.specs.TypedForm.{Form, nothing, ◌⨟◌}
+use Rattle.life_typed.specs.declared.typed_expr.ExprType.{ExprType}
+use Rattle.life_type_expr.specs.Lists.{is_taken}
+use Rattle.life_core.specs.Function.{Function}
+use Rattle.life_core.specs.Operands.{Operand}
+use Rattle.life_core.specs.Step.{Change, Changes, PushBack}
+use Rattle.life_proper.specs.Placed.{is_given, is_number_of}
+use Rattle.life_proper.specs.WellFormed.{is_change_of}
+use Rattle.life_proper.specs.declared.known.Known.{Known}
+use Rattle.life_well_typed.specs.Expressions.{typed_in}
+use Rattle.life_well_typed.specs.Given.{is_number}
+use Rattle.life_writer.specs.Around.{Around}
+use Rattle.life_writer.specs.ExpressionForms.{uses}
+use Rattle.life_writer.specs.Giving as giving
+use Rattle.life_writer.specs.Giving.{given_over}
+use Rattle.life_writer.specs.Temporaries.{consumed}
+use Rattle.life_writer.specs.Using.{value}
+use Rattle.life_writer.specs.Writing.{Gives, State, ◌>>◌, emit, gives}
+use Rattle.life_elab_laws.proofs.AliasForms.{owning_builds, value_builds}
+use Rattle.life_elab_laws.proofs.ChangeSteps.{Takes, changes_part, push_takes}
+use Rattle.life_elab_laws.proofs.Elements.{IsElement, element_is, element_there, has_owner, has_value, inner_owner}
+use Rattle.life_elab_laws.proofs.ExpressionForms.{IsWhole, Standing}
+use Rattle.life_elab_laws.proofs.FormedVariables.{owner_no_value}
+use Rattle.life_elab_laws.proofs.Gifts.{Gift, IsPlaceOf, a_number, both, nothing as no_gift}
+use Rattle.life_elab_laws.proofs.GivenKinds.{taken_number}
+use Rattle.life_elab_laws.proofs.MadeForms.{Builds, IsOwning, owning_owner}
+use Rattle.life_elab_laws.proofs.Making.{IsOpen, IsPlace}
+use Rattle.life_elab_laws.proofs.Parts.{Makes, Part, gives_part, keep_part, then_part, under_part}
+use Rattle.life_elab_laws.proofs.PushedOwners.{pushed_part}
+use Rattle.life_elab_laws.proofs.Setting.{Setting}
+use Rattle.life_elab_laws.proofs.Values.{by_values}
+
+module _ (a : Around) (visible : List ℕ) (types : Types) (texts : ℕ) (fs : List Function) (f : Function) (setting : Setting a types fs f) where
+  -- ---- what is given
+
+  -- it has a value, or is an owner
+  abbrev pub IsGiving : Form → Type 0
+  IsGiving form = IsWhole a visible types texts fs f setting form ⊎ IsOwning a visible types texts fs f setting form
+
+  abbrev pub AreGiving : Form → Type 0
+  AreGiving (e ⨟ es) = IsGiving e × AreGiving es
+  AreGiving nothing = Unit {0}
+  AreGiving _ = ⊥
+
+  -- a number is no owner
+  pub giving_number : (form : Form) → IsGiving form → is_number (typed_in form).ty ≡ true → IsWhole a visible types texts fs f setting form
+  giving_number form (inl whole) n = whole
+  giving_number form (inr owner) n =
+      let o = owning_owner a visible types texts fs f setting form owner in
+      absurd (owner_no_value a.program.types o.ty o.owner (subst (λ (x : ExprType). is_number x ≡ true) o.is n))
+
+  -- ---- behind what gave the vector
+
+  module _ {A : Type 0} (P : Gift types texts fs f A) (x : A) (to : Operand) (ready : (n : ℕ) (k : List Known) → P.ready x n k → IsPlace to n k) where
+    abbrev G : Gift types texts fs f (Unit {0})
+    G = no_gift types texts fs f
+
+    -- a change that takes a number
+    pub taking_part : (vector : Ty) → (P.typed x → IsPlaceOf types texts fs f vector false to) → (place : Place) (t : Ty) (number : State → Gives ℕ) (change : ℕ → Change) (s : State) → IsOpen s
+        → Makes types texts fs f None s (number s) (a_number types texts fs f t)
+        → ((r : ℕ) → is_number_of types f t r ≡ true → (is_change_of types texts fs f vector (change r) ≡ true) × Takes types f (change r) (r ∷ []))
+        → Part types texts fs f P x None s (gives tt (number s >> λ y r. emit place (Changes to (change y)) r)) G
+    taking_part vector typed place t number change s opened made formed =
+        let w = number s in
+        let Q = a_number types texts fs f t in
+        let D = both types texts fs f P Q in
+        then_part types texts fs f P x None s (gives (x, w.given) w.state) _ D G opened
+        (keep_part types texts fs f P x s (gives x s) w P Q opened (gives_part types texts fs f P x None x s P (λ b h. h) (λ b k alive h. h)) (under_part types texts fs f G tt P x None s w Q made (λ h. tt) (λ n k h. tt)))
+        (changes_part types texts fs f D (x, w.given) vector to (change w.given) (w.given ∷ []) place w.state (λ p. let c = formed w.given p.1 in (typed p.0, c.0, c.1)) (λ m k q. (ready m k q.0, (q.1, tt))))
+
+    -- an element
+    module _ (item : TyId) (typed : P.typed x → IsPlaceOf types texts fs f (ty.Vector item) false to) (worth : is_element a.program.types (type_at a.program.types item) ≡ true) (e : Form) (behind at : Place) (s : State) (is : IsGiving e)
+        (taken : is_taken a.program.types (Some (type_at a.program.types item)) (typed_in e) ≡ true) (stands : Standing a visible types texts fs f setting s) where
+      abbrev t : Ty
+      t = type_at a.program.types item
+
+      abbrev Pushes : Gives ℕ → Type 0
+      Pushes g = Part types texts fs f P x None s (gives tt (g >> λ y r. emit at (Changes to (PushBack y)) r)) G
+
+      holds : ty_of types item ≡ t
+      holds = element_there a.program.types types setting.front item worth
+
+      -- a number
+      over_value : (t : Ty) → is_value t ≡ true → given_over (uses a e) t behind s ≡ value (uses a e) behind t None s
+      over_value = by_values (λ t. given_over (uses a e) t behind s ≡ value (uses a e) behind t None s) refl refl refl refl refl
+
+      pushes : is_value t ≡ true → (r : ℕ) → is_number_of types f t r ≡ true → is_change_of types texts fs f (ty.Vector item) (PushBack r) ≡ true
+      pushes v r number =
+          ap (λ (b : Bool). cond b (is_number_of types f (ty_of types item) r) (is_given types f (ty_of types item) r)) (ap is_value holds ∙ v) ∙ ap (λ (w : Ty). is_number_of types f w r) holds ∙ number
+
+      -- an owner
+      over_owner : (t : Ty) → is_owner_of_values a.program.types t ≡ true → given_over (uses a e) t behind s ≡ (giving.given (uses a e) t behind s >> λ rest r. rest (consumed (uses a e).place t) r)
+      over_owner ty.Text o = refl
+      over_owner (ty.Vector element) o = refl
+      over_owner _ o = absurd (false≢true o)
+
+      built : is_owner_of_values a.program.types t ≡ true → IsGiving e → Builds a visible types texts fs f setting t s (giving.given (uses a e) t behind s)
+      built o (inl whole) = value_builds a visible types texts fs f setting e whole t o taken behind s stands
+      built o (inr owner) = owning_builds a visible types texts fs f setting e owner t o taken behind s stands
+
+      pub given_pushed : Pushes (given_over (uses a e) t behind s)
+      given_pushed = go (element_is a.program.types t worth)
+        where
+          go : IsElement a.program.types t → Pushes (given_over (uses a e) t behind s)
+          go (has_value v) =
+              let number = taken_number a.program.types t (typed_in e) v taken in
+              subst Pushes (sym (over_value t v))
+              (taking_part (ty.Vector item) typed at t (λ r. value (uses a e) behind t None r) PushBack s stands.opened ((giving_number e is number).valued number behind t v None s tt stands)
+              (λ r n. (pushes v r n, push_takes types f t r n)))
+          go (has_owner inner) =
+              let o = inner_owner a.program.types t inner in
+              subst Pushes (sym (over_owner t o))
+              (pushed_part a visible types texts fs f setting t (uses a e).place s (giving.given (uses a e) t behind s) o (built o is) stands P x to item at typed ready holds)

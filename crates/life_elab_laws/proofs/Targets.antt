@@ -1,0 +1,80 @@
+-- What a raw pointer or a reference is to: a value, or an owner of values.
+use Rattle.std.proofs.Common.{◌≡◌, ◌<◌, inl, inr, Bool, true, false, not, length, slice_get, Option, Some, None, refl, sym, ap, ◌∙◌, unwrap_or}
+use Rattle.std.proofs.lemmas.Bool.{false≢true, or_cases, or_left, or_right}
+use Rattle.std.proofs.lemmas.Option.{slice_get_within}
+use Rattle.life_types.specs.Pointees.{or_void, ty_of}
+use Rattle.life_types.specs.TypeTests.{is_value, is_void}
+use Rattle.life_types.specs.Types.{Types, is_slot_target, is_slot_type}
+use Rattle.life_types.specs.declared.ty.Ty.{Ty}
+use Rattle.life_types.specs.declared.ty.Ty.TheVariants as ty
+use Rattle.life_types.specs.declared.ty.TyId.{TyId}
+use Rattle.life_served.specs.Served.{is_owner_of_values, is_target}
+use Rattle.life_typed.specs.BaseTypes.{type_at}
+use Rattle.life_proper.specs.OperandTypes.{same}
+use Rattle.life_pset.specs.Shapes.{referred}
+use Rattle.life_elab_laws.proofs.Fronts.{IsFront}
+use Rattle.life_elab_laws.proofs.Types.{same_type}
+
+pub data IsTarget (types : Types) (t : Ty) : Type 0 where
+  to_value : is_value t ≡ true → IsTarget types t
+  to_owner : is_owner_of_values types t ≡ true → IsTarget types t
+
+pub target_is : (types : Types) (t : Ty) → is_target types t ≡ true → IsTarget types t
+target_is types t h = elim (or_cases (is_value t) (is_owner_of_values types t) h) [ inl v ↦ to_value v | inr o ↦ to_owner o ]
+
+pub value_target : (types : Types) (t : Ty) → is_value t ≡ true → is_target types t ≡ true
+value_target types t v = or_left (is_value t) (is_owner_of_values types t) v
+
+pub owner_target : (types : Types) (t : Ty) → is_owner_of_values types t ≡ true → is_target types t ≡ true
+owner_target types t o = or_right (is_value t) (is_owner_of_values types t) o
+
+-- ---- its type
+
+pub target_no_void : (types : Types) (t : Ty) → is_target types t ≡ true → not (is_void t) ≡ true
+target_no_void types ty.Void h = absurd (false≢true h)
+target_no_void types _ h = refl
+
+pub target_same : (types : Types) (t : Ty) → is_target types t ≡ true → same t t ≡ true
+target_same types ty.Void h = absurd (false≢true h)
+target_same types t h = same_type t
+
+-- ---- it is in the table, and in one with more types too
+
+module _ (few more : Types) (front : IsFront few.types more.types) (id : TyId) (h : is_target few (type_at few id) ≡ true) where
+  pub target_found : slice_get more.types id.0 ≡ Some (type_at few id)
+  target_found = go (slice_get few.types id.0) refl h
+    where
+      go : (o : Option Ty) → slice_get few.types id.0 ≡ o → is_target few (unwrap_or o ty.Void) ≡ true → slice_get more.types id.0 ≡ Some (type_at few id)
+      go None at h = absurd (false≢true h)
+      go (Some t) at h = front id.0 t at ∙ ap Some (sym (ap (λ (o : Option Ty). unwrap_or o ty.Void) at))
+
+  pub target_type : ty_of more id ≡ type_at few id
+  target_type = ap or_void target_found
+
+  -- two pointers to it have one target
+  pub one_target : same (ty_of more id) (ty_of more id) ≡ true
+  one_target = ap (λ (t : Ty). same t t) target_type ∙ target_same few (type_at few id) h
+
+pub target_within : (types : Types) (id : TyId) → is_target types (type_at types id) ≡ true → id.0 < length types.types
+target_within types id h = slice_get_within types.types id.0 (type_at types id) (target_found types types (λ n x e. e) id h)
+
+-- ---- a reference to it is no slot
+
+target_no_slot : (types : Types) (t : Ty) → is_target types t ≡ true → is_slot_target (Some t) ≡ false
+target_no_slot types (ty.Iterator item constant) h = absurd (false≢true h)
+target_no_slot types (ty.Span item constant) h = absurd (false≢true h)
+target_no_slot types ty.View h = absurd (false≢true h)
+target_no_slot types (ty.Unique item) h = absurd (false≢true h)
+target_no_slot types _ h = refl
+
+pub reference_no_slot : (types : Types) (target : TyId) (constant : Bool) → is_target types (type_at types target) ≡ true → is_slot_type types (Some (ty.Reference target constant)) ≡ false
+reference_no_slot types target true h = refl
+reference_no_slot types target false h = ap is_slot_target (target_found types types (λ n x e. e) target h) ∙ target_no_slot types (type_at types target) h
+
+-- .. and stands as it is, also where a parameter has it
+pub target_referred : (types : Types) (id target : TyId) (t : Ty) → is_target types t ≡ true → referred id target t ≡ id
+target_referred types id target (ty.Iterator item constant) h = absurd (false≢true h)
+target_referred types id target (ty.Span item constant) h = absurd (false≢true h)
+target_referred types id target ty.View h = absurd (false≢true h)
+target_referred types id target (ty.Unique item) h = absurd (false≢true h)
+target_referred types id target _ h = refl

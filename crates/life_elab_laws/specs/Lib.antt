@@ -1,2 +1,0 @@
-pub mod ProperParts
-pub mod Reached

@@ -1,0 +1,45 @@
+-- What is told of each form, by what is told of its operand.
+use Rattle.std.proofs.Common.{◌≡◌, ℕ, Box, Vec, refl, sym, ap, ◌∙◌}
+use Rattle.std.specs.declared.alloc.Global.{Global}
+use Rattle.life_types.specs.declared.place.Place.{Place}
+use Rattle.life_typed.specs.TypedForm.{Form, form_view, forms, typed_view, typed_views, whole}
+use Rattle.life_typed.specs.declared.typed_expr.BinaryOperator.{BinaryOperator}
+use Rattle.life_typed.specs.declared.delimiters.Delimiters.{Delimiters}
+use Rattle.life_typed.specs.declared.typed_expr.ExprForm.{ExprForm}
+use Rattle.life_typed.specs.declared.typed_expr.ExprForm.TheFolds.{fold-roll-ExprForm}
+use Rattle.life_typed.specs.declared.typed_expr.ExprForm.TheVariants as form
+use Rattle.life_typed.specs.declared.typed_expr.Method.{Method}
+use Rattle.life_typed.specs.declared.typed_expr.TypedExpr.{TypedExpr}
+use Rattle.life_served.specs.Served.{are_served_arguments, is_served_form, is_served_walker}
+use Rattle.life_served.specs.Told.{answered, called, combined, dereferenced, indexed, made_text, named, parenthesised, told}
+use Rattle.life_served.specs.declared.told.Told.{Told}
+
+module _ (texts : ℕ) (f : Form) where
+  abbrev seen : ExprForm → Told
+  seen e = told texts (form_view e f)
+
+  pub seen_local : (x : ℕ) → seen (form.Local x) ≡ named
+  seen_local x = ap seen (sym (form.rolls-Local x)) ∙ rw fold-roll-ExprForm
+
+  pub seen_paren : (closing : Place) → seen (form.Paren closing) ≡ parenthesised (told texts f)
+  seen_paren closing = ap seen (sym (form.rolls-Paren closing)) ∙ rw fold-roll-ExprForm
+
+  pub seen_text : (closing : Place) → seen (form.TextOf closing) ≡ made_text (told texts f)
+  seen_text closing = ap seen (sym (form.rolls-TextOf closing)) ∙ rw fold-roll-ExprForm
+
+  pub seen_dereference : seen form.Dereference ≡ dereferenced (told texts f)
+  seen_dereference = ap seen (sym form.rolls-Dereference) ∙ rw fold-roll-ExprForm
+
+  pub seen_call : (g : ℕ) (arguments : Vec TypedExpr Global) (delimiters : Box Delimiters Global) → seen (form.Call g arguments delimiters) ≡ answered (are_served_arguments texts (forms (typed_views arguments.items)))
+  seen_call g arguments delimiters = ap seen (sym (form.rolls-Call g arguments delimiters)) ∙ rw fold-roll-ExprForm
+
+  pub seen_index : (index : Box TypedExpr Global) (closing : Place) → seen (form.Index index closing) ≡ indexed (told texts f) (told texts (whole (typed_view index.value))).value
+  seen_index index closing = ap seen (sym (form.rolls-Index index closing)) ∙ rw fold-roll-ExprForm
+
+  pub seen_method : (m : Method) (arguments : Vec TypedExpr Global) (delimiters : Box Delimiters Global)
+      → seen (form.Method m arguments delimiters) ≡ called m (told texts f) (is_served_form texts (forms (typed_views arguments.items))) (is_served_walker texts (forms (typed_views arguments.items)))
+  seen_method m arguments delimiters = ap seen (sym (form.rolls-Method m arguments delimiters)) ∙ rw fold-roll-ExprForm
+
+  pub seen_binary : (operator : BinaryOperator) (right : Box TypedExpr Global)
+      → seen (form.Binary operator right) ≡ combined operator (told texts f) (told texts (whole (typed_view right.value)))
+  seen_binary operator right = ap seen (sym (form.rolls-Binary operator right)) ∙ rw fold-roll-ExprForm

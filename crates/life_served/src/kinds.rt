@@ -1,0 +1,328 @@
+// Kinds of types, of members and of operators.
+ghost use Rattle.std.specs.Prelude.{◌≡◌};
+ghost use Rattle.life_types.specs.TypeTests.{is_reference as refers};
+ghost use Rattle.life_typed.specs.BaseTypes.{type_at as type_there};
+ghost use Rattle.life_served.specs.Served as spec;
+
+use life_typed::{BinaryOperator, ExprType, Method};
+use life_types::{Ty, TyId, TypeTable, is_value, is_view, is_void};
+
+// How many types each table begins with.
+const BASE_TYPES: u32 = 8;
+
+pub fn type_at(types: &TypeTable, id: TyId) -> Ty
+    ensures { result ≡ type_there types.now id }
+{
+    match types.get(id) {
+        Some(ty) => ty,
+        None => Ty::Void,
+    }
+}
+
+// ---- types that are served
+
+// A string, or a vector of values.
+fn is_inner_owner(types: &TypeTable, ty: Ty) -> bool
+    ensures { result ≡ spec.is_inner_owner types.now ty }
+{
+    match ty {
+        Ty::Text => true,
+        Ty::Vector(element) => is_value(type_at(types, element)),
+        _ => false,
+    }
+}
+
+// What a vector has: values, or such owners.
+fn is_element(types: &TypeTable, ty: Ty) -> bool
+    ensures { result ≡ spec.is_element types.now ty }
+{
+    is_value(ty) || is_inner_owner(types, ty)
+}
+
+// A string, or a vector.
+fn is_owner_of_values(types: &TypeTable, ty: Ty) -> bool
+    ensures { result ≡ spec.is_owner_of_values types.now ty }
+{
+    match ty {
+        Ty::Text => true,
+        Ty::Vector(element) => is_element(types, type_at(types, element)),
+        _ => false,
+    }
+}
+
+// What a raw pointer or a reference is to.
+fn is_target(types: &TypeTable, ty: Ty) -> bool
+    ensures { result ≡ spec.is_target types.now ty }
+{
+    is_value(ty) || is_owner_of_values(types, ty)
+}
+
+// A raw pointer or a reference to a value or an owner, or a view of characters.
+fn is_pointing(types: &TypeTable, ty: Ty) -> bool
+    ensures { result ≡ spec.is_pointing types.now ty }
+{
+    match ty {
+        Ty::Raw { target, .. } => is_target(types, type_at(types, target)),
+        Ty::Reference { target, .. } => is_target(types, type_at(types, target)),
+        Ty::View => true,
+        _ => false,
+    }
+}
+
+// An iterator or a span of what a vector has.
+fn is_walker_of_values(types: &TypeTable, ty: Ty) -> bool
+    ensures { result ≡ spec.is_walker_of_values types.now ty }
+{
+    match ty {
+        Ty::Iterator { target, .. } => is_element(types, type_at(types, target)),
+        Ty::Span { target, .. } => is_element(types, type_at(types, target)),
+        _ => false,
+    }
+}
+
+fn is_served_type(types: &TypeTable, ty: Ty) -> bool
+    ensures { result ≡ spec.is_served_type types.now ty }
+{
+    is_pointing(types, ty) || (is_owner_of_values(types, ty) || is_walker_of_values(types, ty))
+}
+
+/// All types beside those that each table begins with. A table that is full counts as not served.
+pub fn has_served_types(types: &TypeTable) -> bool
+    ensures { result ≡ spec.has_served_types types.now }
+{
+    'types: for number in BASE_TYPES..u32::MAX {
+        match types.get(TyId(number)) {
+            Some(ty) if is_served_type(types, ty) => {}
+            Some(_) => return false,
+            None => return true,
+        }
+    }
+    false
+}
+
+/// What a parameter may hold.
+pub fn is_served_parameter(types: &TypeTable, id: TyId) -> bool
+    ensures { result ≡ spec.is_served_parameter types.now id }
+{
+    let ty = type_at(types, id);
+    is_value(ty) || (is_pointing(types, ty) || is_walker_of_values(types, ty))
+}
+
+/// What any variable may hold.
+pub fn is_served_variable(types: &TypeTable, id: TyId) -> bool
+    ensures { result ≡ spec.is_served_variable types.now id }
+{
+    let ty = type_at(types, id);
+    is_value(ty) || is_served_type(types, ty)
+}
+
+/// What is given back: a value, or what points to one, or nothing.
+pub fn is_served_result(types: &TypeTable, id: TyId) -> bool
+    ensures { result ≡ spec.is_served_result types.now id }
+{
+    let ty = type_at(types, id);
+    is_void(ty) || (is_value(ty) || is_pointing(types, ty))
+}
+
+// ---- kinds of types
+
+/// A string or a vector.
+pub fn owns_elements(ty: Ty) -> bool
+    ensures { result ≡ spec.owns_elements ty }
+{
+    match ty {
+        Ty::Text => true,
+        Ty::Vector(_) => true,
+        _ => false,
+    }
+}
+
+/// An iterator or a span.
+pub fn is_walker(ty: Ty) -> bool
+    ensures { result ≡ spec.is_walker ty }
+{
+    match ty {
+        Ty::Iterator { .. } => true,
+        Ty::Span { .. } => true,
+        _ => false,
+    }
+}
+
+// A reference.
+fn is_reference(ty: Ty) -> bool
+    ensures { result ≡ refers ty }
+{
+    match ty {
+        Ty::Reference { .. } => true,
+        _ => false,
+    }
+}
+
+/// What is given an owner as such: another owner, a view, a span, or a reference.
+pub fn takes_owner(ty: Ty) -> bool
+    ensures { result ≡ spec.takes_owner ty }
+{
+    owns_elements(ty) || (is_view(ty) || (is_span(ty) || is_reference(ty)))
+}
+
+pub fn is_vector(ty: Ty) -> bool
+    ensures { result ≡ spec.is_vector ty }
+{
+    match ty {
+        Ty::Vector(_) => true,
+        _ => false,
+    }
+}
+
+pub fn is_span(ty: Ty) -> bool
+    ensures { result ≡ spec.is_span ty }
+{
+    match ty {
+        Ty::Span { .. } => true,
+        _ => false,
+    }
+}
+
+pub fn is_owner_type(ty: ExprType) -> bool
+    ensures { result ≡ spec.is_owner_type ty }
+{
+    match ty {
+        ExprType::Of(ty) => owns_elements(ty),
+        _ => false,
+    }
+}
+
+pub fn is_walker_type(ty: ExprType) -> bool
+    ensures { result ≡ spec.is_walker_type ty }
+{
+    match ty {
+        ExprType::Of(ty) => is_walker(ty),
+        _ => false,
+    }
+}
+
+/// Neither of these.
+pub fn is_plain_type(ty: ExprType) -> bool
+    ensures { result ≡ spec.is_plain_type ty }
+{
+    !(is_owner_type(ty) || is_walker_type(ty))
+}
+
+pub fn is_view_type(ty: ExprType) -> bool
+    ensures { result ≡ spec.is_view_type ty }
+{
+    match ty {
+        ExprType::Of(ty) => is_view(ty),
+        _ => false,
+    }
+}
+
+pub fn is_vector_type(ty: ExprType) -> bool
+    ensures { result ≡ spec.is_vector_type ty }
+{
+    match ty {
+        ExprType::Of(ty) => is_vector(ty),
+        _ => false,
+    }
+}
+
+pub fn is_number_type(ty: ExprType) -> bool
+    ensures { result ≡ spec.is_number_type ty }
+{
+    match ty {
+        ExprType::Of(ty) => is_value(ty),
+        _ => false,
+    }
+}
+
+// ---- members and operators
+
+/// What only asks, and gives no iterator.
+pub fn is_asking(method: Method) -> bool
+    ensures { result ≡ spec.is_asking method }
+{
+    match method {
+        Method::Size => true,
+        Method::Empty => true,
+        Method::Front => true,
+        Method::Back => true,
+        Method::Substr => true,
+        _ => false,
+    }
+}
+
+/// The first or the last element.
+pub fn is_edge(method: Method) -> bool
+    ensures { result ≡ spec.is_edge method }
+{
+    match method {
+        Method::Front => true,
+        Method::Back => true,
+        _ => false,
+    }
+}
+
+/// What gives a number or a view.
+pub fn is_served_method(method: Method) -> bool
+    ensures { result ≡ spec.is_served_method method }
+{
+    match method {
+        Method::Size => true,
+        Method::Empty => true,
+        Method::Substr => true,
+        _ => false,
+    }
+}
+
+/// What changes its object, and gives nothing.
+pub fn is_changing(method: Method) -> bool
+    ensures { result ≡ spec.is_changing method }
+{
+    match method {
+        Method::PushBack => true,
+        Method::PopBack => true,
+        Method::Clear => true,
+        Method::Reserve => true,
+        _ => false,
+    }
+}
+
+/// The first or the end of a vector.
+pub fn is_end(method: Method) -> bool
+    ensures { result ≡ spec.is_end method }
+{
+    match method {
+        Method::Begin => true,
+        Method::End => true,
+        _ => false,
+    }
+}
+
+pub fn is_subspan(method: Method) -> bool
+    ensures { result ≡ spec.is_subspan method }
+{
+    match method {
+        Method::Subspan => true,
+        _ => false,
+    }
+}
+
+pub fn is_erase(method: Method) -> bool
+    ensures { result ≡ spec.is_erase method }
+{
+    match method {
+        Method::Erase => true,
+        _ => false,
+    }
+}
+
+/// Whether two are equal.
+pub fn is_equality(operator: BinaryOperator) -> bool
+    ensures { result ≡ spec.is_equality operator }
+{
+    match operator {
+        BinaryOperator::Equal => true,
+        BinaryOperator::NotEqual => true,
+        _ => false,
+    }
+}

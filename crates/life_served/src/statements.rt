@@ -1,0 +1,305 @@
+// Which statements are served.
+ghost use Rattle.std.specs.Prelude.{◌≡◌, ◌&&◌, map};
+ghost use Rattle.life_typed.specs.TypedForm.{typed_view};
+ghost use Rattle.life_typed.specs.TypedStatement.{block_item_view, block_view, branch_view, declaration_view, for_start_view, initial_view, item_view, one, optional_view, simple_view, stmt_forms, stmt_view};
+ghost use Rattle.life_served.specs.Served as spec;
+
+use crate::expressions::{
+    are_served_elements, is_call, is_erased, is_served_change, is_served_expression,
+    is_served_if_any, is_text_there, told_of,
+};
+use crate::kinds::{
+    is_number_type, is_vector, is_vector_type, is_view_type, is_walker, owns_elements, takes_owner,
+    type_at,
+};
+use crate::told::{Told, either};
+use life_typed::{
+    TypedBlock, TypedBlockItem, TypedBranch, TypedDeclaration, TypedExpr, TypedForStart,
+    TypedInitial, TypedItem, TypedLocal, TypedSimple, TypedStmt,
+};
+use life_types::{Ty, TypeTable};
+
+// ---- declarations
+
+// By one expression.
+fn is_served_given(texts: usize, ty: Ty, value: &TypedExpr) -> bool
+    ensures { result ≡ spec.is_served_given texts ty (typed_view value.now) }
+{
+    let told = told_of(texts, value);
+    let owns = owns_elements(ty);
+    let walks = is_walker(ty);
+    (!(owns | walks) & told.value)
+        | ((takes_owner(ty) & (told.owns & told.owner))
+            | ((owns & is_text_there(texts, &value.form)) | (walks & told.walker)))
+}
+
+fn is_served_initial(texts: usize, ty: Ty, value: &Option<TypedInitial>) -> bool
+    ensures { result ≡ spec.is_served_initial texts ty (optional_view initial_view value.now) }
+{
+    match value {
+        None => true,
+        Some(TypedInitial::Expr(value)) => is_served_given(texts, ty, value),
+        Some(TypedInitial::List(list)) => {
+            is_vector(ty) && are_served_elements(texts, &list.elements)
+        }
+    }
+}
+
+fn is_served_declaration(
+    texts: usize,
+    types: &TypeTable,
+    locals: &[TypedLocal],
+    declaration: &TypedDeclaration,
+) -> bool
+    ensures { result ≡ spec.is_served_declaration texts types.now locals.now (declaration_view declaration.now) }
+{
+    match locals.get(declaration.local as usize) {
+        Some(local) => is_served_initial(texts, type_at(types, local.ty), &declaration.value),
+        None => true,
+    }
+}
+
+// ---- simple statements
+
+// An owner at a place.
+fn is_target(told: Told) -> bool
+    ensures { result ≡ told.owns && told.object }
+{
+    told.owns & told.object
+}
+
+// An expression that is an owner.
+fn is_owning(told: Told) -> bool
+    ensures { result ≡ told.owns && told.owner }
+{
+    told.owns & told.owner
+}
+
+fn is_served_by_one(texts: usize, target: &TypedExpr, value: &TypedExpr) -> bool
+    ensures { result ≡ spec.is_served_assigned texts (typed_view target.now) (one (typed_view value.now)) }
+{
+    let to = told_of(texts, target);
+    let from = told_of(texts, value);
+    let owning = is_owning(from);
+    (to.value & from.value)
+        | ((is_target(to) & (owning | is_text_there(texts, &value.form)))
+            | (((is_view_type(target.ty) & to.value) & owning)
+                | (to.walker & (from.walker | owning))))
+}
+
+fn is_served_assigned(texts: usize, target: &TypedExpr, value: &TypedInitial) -> bool
+    ensures { result ≡ spec.is_served_assigned texts (typed_view target.now) (initial_view value.now) }
+{
+    match value {
+        TypedInitial::Expr(value) => is_served_by_one(texts, target, value),
+        TypedInitial::List(list) => {
+            is_target(told_of(texts, target))
+                && (is_vector_type(target.ty) && are_served_elements(texts, &list.elements))
+        }
+    }
+}
+
+// Of a number, or a string gains characters.
+fn is_served_compound(texts: usize, target: &TypedExpr, value: &TypedExpr) -> bool
+    ensures { result ≡ spec.is_served_compound texts (typed_view target.now) (typed_view value.now) }
+{
+    let to = told_of(texts, target);
+    let from = told_of(texts, value);
+    (to.value & from.value) | (is_target(to) & either(from))
+}
+
+// Of a number, or of an iterator.
+fn is_served_stepped(texts: usize, target: &TypedExpr) -> bool
+    ensures { result ≡ spec.is_served_stepped texts (typed_view target.now) }
+{
+    let told = told_of(texts, target);
+    told.value | told.walker
+}
+
+// A call, a number that is left, a change of an owner, or an element that is erased.
+fn is_served_alone(texts: usize, expression: &TypedExpr) -> bool
+    ensures { result ≡ spec.is_served_alone texts (typed_view expression.now) }
+{
+    let told = told_of(texts, expression);
+    let stands = is_call(&expression.form) | is_number_type(expression.ty);
+    ((stands & told.value) | is_served_change(texts, expression))
+        | (is_erased(&expression.form) & told.walker)
+}
+
+fn is_served_simple(texts: usize, simple: &TypedSimple) -> bool
+    ensures { result ≡ spec.is_served_simple texts (simple_view simple.now) }
+{
+    match simple {
+        TypedSimple::Assign { target, value, .. } => is_served_assigned(texts, target, value),
+        TypedSimple::Compound { target, value, .. } => is_served_compound(texts, target, value),
+        TypedSimple::Step { target, .. } => is_served_stepped(texts, target),
+        TypedSimple::Call(expression) => is_served_alone(texts, expression),
+    }
+}
+
+fn is_served_step(texts: usize, step: &Option<TypedSimple>) -> bool
+    ensures { result ≡ spec.is_served_step texts (optional_view simple_view step.now) }
+{
+    match step {
+        Some(simple) => is_served_simple(texts, simple),
+        None => true,
+    }
+}
+
+// ---- what is printed
+
+fn is_served_item(texts: usize, item: &TypedItem) -> bool
+    ensures { result ≡ spec.is_served_item texts (item_view item.now) }
+{
+    match item {
+        TypedItem::Value(value) => either(told_of(texts, value)),
+        TypedItem::EndLine(_) => true,
+    }
+}
+
+fn are_served_items(texts: usize, items: &[TypedItem]) -> bool
+    ensures { result ≡ spec.are_served_items texts (map item_view items.now) }
+{
+    'items: for item in items {
+        if !is_served_item(texts, item) {
+            return false;
+        }
+    }
+    true
+}
+
+// ---- statements
+
+// What is given back.
+fn is_served_returned(texts: usize, value: &Option<TypedExpr>) -> bool
+    ensures { result ≡ spec.is_served_returned texts (optional_view typed_view value.now) }
+{
+    match value {
+        Some(value) => either(told_of(texts, value)),
+        None => true,
+    }
+}
+
+fn is_served_start(
+    texts: usize,
+    types: &TypeTable,
+    locals: &[TypedLocal],
+    start: &Option<TypedForStart>,
+) -> bool
+    ensures { result ≡ spec.is_served_start texts types.now locals.now (optional_view for_start_view start.now) }
+{
+    match start {
+        Some(TypedForStart::Declaration(declaration)) => {
+            is_served_declaration(texts, types, locals, declaration)
+        }
+        Some(TypedForStart::Simple(simple)) => is_served_simple(texts, simple),
+        None => true,
+    }
+}
+
+#[cycle(statements)]
+fn is_served_statement(
+    statement: &TypedStmt,
+    texts: usize,
+    types: &TypeTable,
+    locals: &[TypedLocal],
+) -> bool
+    ensures { result ≡ spec.is_served_statement texts types.now locals.now (stmt_view statement.now) }
+{
+    match statement {
+        TypedStmt::Block(block) => is_served_block(block, texts, types, locals),
+        TypedStmt::Empty(_) => true,
+        TypedStmt::Simple { simple, .. } => is_served_simple(texts, simple),
+        TypedStmt::If { branches, last } => {
+            are_served_branches(branches, texts, types, locals)
+                && match last {
+                    Some(last) => is_served_statement(last, texts, types, locals),
+                    None => true,
+                }
+        }
+        TypedStmt::While {
+            condition,
+            body,
+            ..
+        } => {
+            is_served_expression(texts, condition)
+                && is_served_statement(body, texts, types, locals)
+        }
+        TypedStmt::For { head, body, .. } => {
+            is_served_start(texts, types, locals, &head.start)
+                && (is_served_if_any(texts, &head.condition)
+                    && (is_served_step(texts, &head.step)
+                        && is_served_statement(body, texts, types, locals)))
+        }
+        TypedStmt::RangeFor { .. } => false,
+        TypedStmt::Break { .. } => true,
+        TypedStmt::Continue { .. } => true,
+        TypedStmt::Return { value, .. } => is_served_returned(texts, value),
+        TypedStmt::Print { items, .. } => are_served_items(texts, items),
+        TypedStmt::Assert { condition, .. } => is_served_expression(texts, condition),
+    }
+}
+
+#[cycle(statements)]
+pub fn is_served_block(
+    block: &TypedBlock,
+    texts: usize,
+    types: &TypeTable,
+    locals: &[TypedLocal],
+) -> bool
+    ensures { result ≡ spec.is_served_statement texts types.now locals.now (block_view block.now) }
+{
+    'items: for item in &block.items {
+        if !is_served_block_item(item, texts, types, locals) {
+            return false;
+        }
+    }
+    true
+}
+
+#[cycle(statements)]
+fn is_served_block_item(
+    item: &TypedBlockItem,
+    texts: usize,
+    types: &TypeTable,
+    locals: &[TypedLocal],
+) -> bool
+    ensures { result ≡ spec.is_served_statement texts types.now locals.now (block_item_view item.now) }
+{
+    match item {
+        TypedBlockItem::Declare { declaration, .. } => {
+            is_served_declaration(texts, types, locals, declaration)
+        }
+        TypedBlockItem::Stmt(statement) => is_served_statement(statement, texts, types, locals),
+    }
+}
+
+#[cycle(statements)]
+fn are_served_branches(
+    branches: &[TypedBranch],
+    texts: usize,
+    types: &TypeTable,
+    locals: &[TypedLocal],
+) -> bool
+    ensures { result ≡ spec.is_served_statement texts types.now locals.now (stmt_forms (map branch_view branches.now)) }
+{
+    'branches: for branch in branches {
+        if !is_served_branch(branch, texts, types, locals) {
+            return false;
+        }
+    }
+    true
+}
+
+#[cycle(statements)]
+fn is_served_branch(
+    branch: &TypedBranch,
+    texts: usize,
+    types: &TypeTable,
+    locals: &[TypedLocal],
+) -> bool
+    ensures { result ≡ spec.is_served_statement texts types.now locals.now (branch_view branch.now) }
+{
+    is_served_expression(texts, &branch.condition)
+        && is_served_statement(&branch.body, texts, types, locals)
+}

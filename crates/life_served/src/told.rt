@@ -1,0 +1,178 @@
+// What is told of an expression by what is told of its operands.
+ghost use Rattle.std.specs.Prelude.{◌≡◌};
+ghost use Rattle.life_served.specs.Told as spec;
+
+use crate::kinds::{
+    is_asking, is_edge, is_end, is_equality, is_owner_type, is_plain_type, is_subspan,
+    is_walker_type,
+};
+use life_typed::{BinaryOperator, ExprType, Method};
+
+/// Whether an expression is served, as each of the things that it may be used as.
+#[derive(Clone, Copy)]
+pub struct Told {
+    /// As one that is neither an owner nor an iterator or a span.
+    pub value: bool,
+    /// As an owner.
+    pub owner: bool,
+    /// As an iterator or a span.
+    pub walker: bool,
+    /// As an owner that is named.
+    pub object: bool,
+    /// And whether it is an owner.
+    pub owns: bool,
+}
+
+pub fn value_alone(value: bool) -> Told
+    ensures { result ≡ spec.value_alone value }
+{
+    Told {
+        value,
+        owner: false,
+        walker: false,
+        object: false,
+        owns: false,
+    }
+}
+
+/// An owner as such, and anything else as what has a value.
+pub fn either(told: Told) -> bool
+    ensures { result ≡ spec.either told }
+{
+    if told.owns { told.owner } else { told.value }
+}
+
+/// A variable.
+pub fn named() -> Told
+    ensures { result ≡ spec.named }
+{
+    Told {
+        value: true,
+        owner: true,
+        walker: true,
+        object: true,
+        owns: false,
+    }
+}
+
+/// What is in parentheses, whatever type that has.
+pub fn parenthesised(inner: Told) -> Told
+    ensures { result ≡ spec.parenthesised inner }
+{
+    Told {
+        value: inner.value,
+        owner: inner.owner,
+        walker: inner.walker,
+        object: inner.object,
+        owns: false,
+    }
+}
+
+/// A form with its type.
+pub fn typed_as(ty: ExprType, form: Told) -> Told
+    ensures { result ≡ spec.typed_as ty form }
+{
+    Told {
+        value: is_plain_type(ty) & form.value,
+        owner: form.owner,
+        walker: is_walker_type(ty) & form.walker,
+        object: form.object,
+        owns: is_owner_type(ty),
+    }
+}
+
+/// What stands at a place may be an owner.
+fn placed(there: bool) -> Told
+    ensures { result ≡ spec.placed there }
+{
+    Told {
+        value: there,
+        owner: there,
+        walker: false,
+        object: there,
+        owns: false,
+    }
+}
+
+pub fn dereferenced(inner: Told) -> Told
+    ensures { result ≡ spec.dereferenced inner }
+{
+    placed(inner.value | inner.walker)
+}
+
+pub fn addressed(inner: Told) -> Told
+    ensures { result ≡ spec.addressed inner }
+{
+    value_alone(if inner.owns {
+        inner.object
+    } else {
+        inner.value
+    })
+}
+
+/// A call answers a value, or the owner that a reference refers to.
+pub fn answered(given: bool) -> Told
+    ensures { result ≡ spec.answered given }
+{
+    placed(given)
+}
+
+pub fn indexed(base: Told, position: bool) -> Told
+    ensures { result ≡ spec.indexed base position }
+{
+    placed((either(base) | base.walker) & position)
+}
+
+/// A member function but `erase`.
+pub fn asked(method: Method, base: Told, arguments: bool) -> Told
+    ensures { result ≡ spec.asked method base arguments }
+{
+    let owning = base.owns & base.owner;
+    Told {
+        value: is_asking(method) & ((either(base) | base.walker) & arguments),
+        owner: is_edge(method) & owning,
+        walker: (is_end(method) & owning) | (is_subspan(method) & (base.walker & arguments)),
+        object: is_edge(method) & owning,
+        owns: false,
+    }
+}
+
+/// `erase` of what stands at an iterator.
+pub fn erased(base: Told, walks: bool) -> Told
+    ensures { result ≡ spec.erased base walks }
+{
+    Told {
+        value: false,
+        owner: false,
+        walker: base.owns & (base.object & walks),
+        object: false,
+        owns: false,
+    }
+}
+
+pub fn combined(operator: BinaryOperator, left: Told, right: Told) -> Told
+    ensures { result ≡ spec.combined operator left right }
+{
+    let either_of_both = either(left) & either(right);
+    Told {
+        value: (left.value & right.value)
+            | (is_equality(operator) & (either_of_both | (left.walker & right.walker))),
+        owner: either_of_both,
+        walker: left.walker & right.value,
+        object: false,
+        owns: false,
+    }
+}
+
+/// `std::string(e)`.
+pub fn made_text(inner: Told) -> Told
+    ensures { result ≡ spec.made_text inner }
+{
+    Told {
+        value: false,
+        owner: either(inner),
+        walker: false,
+        object: false,
+        owns: false,
+    }
+}
