@@ -153,6 +153,7 @@ fn part_name(part: Part) -> &'static str {
         Part::Served => "served",
         Part::Structs => "structs",
         Part::WellFormed => "well-formed",
+        Part::Given => "given",
         Part::Breaks => "breaks",
         Part::Limits => "limits",
         Part::Ready => "ready",
