@@ -11,7 +11,7 @@ use Rattle.life_rules.specs.Callees.{callee_at}
 abbrev pub CallsAlike : (these those : List Signature) → Function → Type 0
 CallsAlike these those f = (point : Point) (s : Spot) → spot_of f point ≡ Some s → callee_at these s.node ≡ callee_at those s.node
 
--- both programs have the function with this number, the types that it names, and the signatures that it calls
+-- both programs have the function with this number, the same types, and the signatures that it calls
 pub record AreAlikeAt (p q : Program) (n : ℕ) (f : Function) : Type 0 where
   pub types : p.types ≡ q.types
   pub one : slice_get p.functions n ≡ Some f
