@@ -1,10 +1,10 @@
 -- What an object's layout says of its slots and words.
-use Rattle.std.proofs.Common.{◌≡◌, ◌≢◌, ℕ, suc, ◌+◌, ◌-◌, ◌*◌, ◌<◌, length, Option, Some, None, true, false, cond, refl, sym, ap, ◌∙◌, arith, ⊎_elim}
+use Rattle.std.proofs.Common.{◌≡◌, ◌≢◌, ℕ, ◌+◌, ◌*◌, ◌<◌, length, Option, Some, None, false, cond, refl, sym, ap, ◌∙◌, arith, ⊎_elim}
 use Rattle.std.proofs.lemmas.Bool.Decides.{eqb_tells}
 use Rattle.std.proofs.lemmas.Nat.{mul-add-lt}
 use Rattle.std.proofs.lemmas.Option.{none-some, same_Some, slice_get_past, slice_get_within}
-use Rattle.std.specs.Prelude.{slice_get, nat_eq, nat_le, option_map, ◌&&◌}
-use Rattle.life_store.specs.Content.{Object, Slot, is_since, is_settled, are_settled}
+use Rattle.std.specs.Prelude.{slice_get, nat_eq, nat_le, option_map}
+use Rattle.life_store.specs.Content.{Slot, is_since, is_settled}
 use Rattle.life_store.specs.Layout.{object_in, IsLaidOut}
 use Rattle.life_store.specs.References.{HasWord}
 use Rattle.life_store.specs.declared.plain_object.PlainObject.TheInside.{Inside}
@@ -49,9 +49,3 @@ pub settled_past : (a : Inside) (p moment : ℕ) → length a.stamps.items < p �
 settled_past a p moment lt =
     ap (λ t. cond t (nat_le a.end moment) (is_since moment (slice_get (object_in a).slots p))) (not_end a p (λ same. absurd (omega (arith, lt, same))))
     ∙ since_none moment (slice_get (object_in a).slots p) (slot_stamp a.width a.words.items a.stamps.items p ∙ slice_get_past a.stamps.items p (omega (arith, lt)))
-
--- one position more
-pub settled_more : (o : Object) (p n moment : ℕ) → p < n → is_settled o p moment ≡ true → are_settled o p (n - p) moment ≡ are_settled o (p + 1) (n - (p + 1)) moment
-settled_more o p n moment lt e =
-    let k : n - p ≡ suc (n - (p + 1)) = omega (arith, lt) in
-    ap (λ c. are_settled o p c moment) k ∙ ap (λ t. t && are_settled o (p + 1) (n - (p + 1)) moment) e

@@ -1,3 +1,4 @@
+pub mod Ascending
 pub mod Bodies
 pub mod CellLemmas
 pub mod CodeLemmas
@@ -8,6 +9,7 @@ pub mod Housing
 pub mod LaidOut
 pub mod MapLemmas
 pub mod Onward
+pub mod Past
 pub mod RowLemmas
 pub mod SlotLemmas
 pub mod StoreLemmas

@@ -17,9 +17,16 @@ object_in a = record {
   end = a.end;
 }
 
--- each slot has its words, and memory for all slots is there
+-- each stamp is at most the next one, and the last one at most the end's
+abbrev pub Ascend : List ℕ → ℕ → Type 0
+Ascend [] end = Unit {0}
+Ascend (s ∷ []) end = s ≤ end
+Ascend (s ∷ t ∷ stamps) end = (s ≤ t) × Ascend (t ∷ stamps) end
+
+-- each slot has its words, no position has an earlier stamp than one before it, and memory for all slots is there
 pub record IsLaidOut (a : Inside) : Type 0 where
   pub words : length a.words.items ≡ length a.stamps.items * a.width
+  pub ascend : Ascend a.stamps.items a.end
   pub fits : length a.stamps.items ≤ a.capacity
   pub wide : 1 ≤ a.width
   pub word_room : a.capacity * a.width ≤ vec_capacity a.words

@@ -1,5 +1,5 @@
 -- The rows of the plain store, and the content that lies in them.
-use Rattle.std.specs.Prelude.{◌≢◌, ℕ, zero, suc, ◌+◌, ◌<◌, nat_eq, cond, List, [], ◌∷◌, Option, Some, None, slice_get}
+use Rattle.std.specs.Prelude.{◌≢◌, ℕ, zero, suc, ◌+◌, ◌<◌, ◌≤◌, nat_eq, cond, List, [], ◌∷◌, Option, Some, None, slice_get}
 use Rattle.life_store.specs.Cells.{Cells, none, set}
 use Rattle.life_store.specs.Content.{Object, Content, cost}
 use Rattle.life_store.specs.References.{Rows}
@@ -46,6 +46,12 @@ AreTaken zero rows = Unit {0}
 AreTaken (suc n) [] = ⊥
 AreTaken (suc n) (None ∷ rows) = ⊥
 AreTaken (suc n) (Some e ∷ rows) = AreTaken n rows
+
+-- no object was changed after the moment
+abbrev pub ArePast : ℕ → List Row → Type 0
+ArePast moment [] = Unit {0}
+ArePast moment (None ∷ rows) = ArePast moment rows
+ArePast moment (Some e ∷ rows) = (e.object.end ≤ moment) × ArePast moment rows
 
 abbrev pub entry_if : ℕ → Option Row → Option Entry
 entry_if n None = None

@@ -1,6 +1,6 @@
 // One object of the plain store.
 ghost use Rattle.std.specs.Prelude.{◌≡◌, ◌≤◌, ◌+◌, ◌*◌, ◌^◌, ◌-◌, ◌++◌, IfOk, length, replicate, take, vec_capacity};
-ghost use Rattle.life_store.specs.Content.{are_settled, cost, is_settled, newborn, resized, with_word, word_at};
+ghost use Rattle.life_store.specs.Content.{are_settled, cost, newborn, resized, with_word, word_at};
 ghost use Rattle.life_store.specs.References.{shape_of, CanResize, HasWord};
 
 use crate::object::Shape;
@@ -79,7 +79,8 @@ impl PlainObject {
 
     /// Gives it so many slots, and stamps the positions from `since` on.
     pub(crate) fn resize(&mut self, length: u32, since: u32, moment: u64)
-        requires { CanResize length since self.old }
+        requires fits { CanResize length since self.old }
+        requires later { self.old.end ≤ moment }
         ensures { self.new ≡ resized moment length since self.old }
     {
         let total = length as usize * self.width as usize;
@@ -106,31 +107,22 @@ impl PlainObject {
         self.words[at] = value;
     }
 
-    /// Whether the position is there, the end being one, and has stood there since the moment.
-    fn is_settled(&self, position: u64, moment: u64) -> bool
-        ensures { result ≡ is_settled self.now position moment }
-    {
-        let position = position as usize;
-        if position == self.stamps.len() {
-            self.end <= moment
-        } else if position < self.stamps.len() {
-            self.stamps[position] <= moment
-        } else {
-            false
-        }
-    }
-
-    /// The same of `count` positions from `first` on.
+    /// Whether the `count` positions from `first` on are there, the end being one, and have stood there since the moment.
     pub(crate) fn are_settled(&self, first: u32, count: u32, moment: u64) -> bool
         ensures { result ≡ are_settled self.now first count moment }
     {
-        let first = first as u64;
-        for position in first..first + count as u64 {
-            if !self.is_settled(position, moment) {
-                return false;
-            }
+        if count == 0 {
+            return true;
         }
-        true
+        // No position has an earlier stamp than one before it, so the last one tells of all.
+        let last = first as usize + (count as usize - 1);
+        if last == self.stamps.len() {
+            self.end <= moment
+        } else if last < self.stamps.len() {
+            self.stamps[last] <= moment
+        } else {
+            false
+        }
     }
 }
 

@@ -1,9 +1,10 @@
-use Rattle.std.proofs.Common.{◌+◌, ap, subst, refl, rules, ◌∙◌, arith}
+use Rattle.std.proofs.Common.{◌+◌, ◌≤◌, List, length, ap, subst, sym, refl, rules, ◌∙◌, arith}
 use Rattle.std.proofs.lemmas.Result.{err_from_is_err_and}
 use Rattle.life_store.specs.Cells.{Cells, set}
 use Rattle.life_store.specs.Content.{Object, Content, cost}
-use Rattle.life_store.specs.PlainRows.{Table, objects_in, rows_of}
+use Rattle.life_store.specs.PlainRows.{Row, Table, objects_in, rows_of}
 use Rattle.life_store.specs.References.{IsFreeRow}
+use Rattle.life_store.proofs.Past.{past_born}
 use Rattle.life_store.proofs.StoreLemmas.{live_words_are, filled_seen, row_small}
 use Rattle.life_store.proofs.plain.PlainStoreStore.birth.Goals as goal
 
@@ -39,6 +40,7 @@ invariant_of-self-2 c =
     let born = ap (λ (o : Object). cost o) c.in_ok-object.ensures in
     record {
       numbered = f.numbered;
+      past = past_born c.self.inside.clock (record { birth = c.self.inside.births; object = c.in_ok-object.object }) (subst (λ (o : Object). o.end ≤ c.self.inside.clock) (sym c.in_ok-object.ensures) (omega arith)) c.self.inside.rows.items c.fill_row.new.rows.items c.vacant_row-row.result (subst (λ (rows : List Row). c.vacant_row-row.result ≤ length rows) c.deref.ensures.value t.within) c.self.invariant.past c.in_ok-fill_row.ensures.filled c.in_ok-fill_row.ensures.grown;
       live = omega (arith, f.costs, born, c.in-Some.ensures.0, c.self.invariant.live);
       within = c.in-Some.ensures.1;
       small = c.self.invariant.small;

@@ -1,7 +1,8 @@
 use Rattle.std.proofs.Common.{Option, IsSome, ap, subst, refl, sym, ◌∙◌, arith}
 use Rattle.life_store.specs.Cells.{Cells, unset}
 use Rattle.life_store.specs.Content.{Object, Content, without}
-use Rattle.life_store.specs.PlainRows.{Table, content_of, rows_of}
+use Rattle.life_store.specs.PlainRows.{Table, ArePast, content_of, rows_of}
+use Rattle.life_store.proofs.Past.{past_emptied}
 use Rattle.life_store.proofs.StoreLemmas.{found, missing, emptied_now}
 use Rattle.life_store.proofs.plain.PlainStoreStore.finish.Goals as goal
 
@@ -18,6 +19,7 @@ invariant_of-self-2 c =
     let gone = emptied_now c.self.inside c.args.object c.in-Some.entry c.take_entry.new.rows.items c.self.invariant c.in-Some.ensures.0 c.in-Some.ensures.1 in
     record {
       numbered = gone.numbered;
+      past = subst (ArePast c.self.inside.clock) (sym c.in-Some.ensures.1) (past_emptied c.self.inside.clock c.self.inside.rows.items c.args.object.row c.self.invariant.past);
       live = omega (arith, gone.costs, c.cost.ensures.cost, c.self.invariant.live);
       within = omega (arith, c.self.invariant.within);
       small = c.self.invariant.small;

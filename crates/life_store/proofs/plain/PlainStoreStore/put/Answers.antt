@@ -1,7 +1,8 @@
-use Rattle.std.proofs.Common.{Option, IsSome, ap, subst, refl, sym, ◌∙◌, arith}
+use Rattle.std.proofs.Common.{◌≤◌, Option, IsSome, ap, subst, refl, sym, ◌∙◌, arith}
 use Rattle.life_store.specs.Cells.{Cells, set}
 use Rattle.life_store.specs.Content.{Object, Content, cost, with_object, with_word}
 use Rattle.life_store.specs.PlainRows.{Table, objects_in, content_of, rows_of}
+use Rattle.life_store.proofs.Past.{past_changed, past_entry}
 use Rattle.life_store.proofs.StoreLemmas.{found, missing, row_stays, changed_now}
 use Rattle.life_store.proofs.plain.PlainStoreStore.put.Goals as goal
 
@@ -20,6 +21,7 @@ invariant_of-self-2 c =
     let same = ap (λ (o : Object). cost o) c.put.ensures in
     record {
       numbered = ch.numbered;
+      past = past_changed c.self.inside.clock (record { birth = c.in-Some.entry.birth; object = c.put.new.self }) (subst (λ (o : Object). o.end ≤ c.self.inside.clock) (sym c.put.ensures) (past_entry c.self.inside.clock c.self.inside.rows.items c.args.object c.in-Some.entry c.self.invariant.past c.in-Some.ensures.0)) c.self.inside.rows.items c.take_entry.new.rows.items c.put_entry.new.rows.items c.args.object c.self.invariant.past c.in-Some.ensures.1 c.put_entry.ensures;
       live = omega (arith, ch.costs, same, c.self.invariant.live);
       within = c.self.invariant.within;
       small = c.self.invariant.small;

@@ -3,6 +3,7 @@ use Rattle.life_store.specs.Cells.{Cells, set, unset}
 use Rattle.life_store.specs.Content.{Object, Content, with_rename}
 use Rattle.life_store.specs.PlainRows.{Table, content_of, rows_of}
 use Rattle.life_store.specs.References.{IsFreeRow}
+use Rattle.life_store.proofs.Past.{past_changed, past_entry}
 use Rattle.life_store.proofs.StoreLemmas.{found, missing, row_stays, emptied_free, renamed_now}
 use Rattle.life_store.proofs.plain.PlainStoreStore.rename.Goals as goal
 
@@ -17,6 +18,7 @@ invariant_of-self-2 c =
     let ex = renamed_now c.self.inside c.args.object c.in-Some.entry c.in-Some.entry.object c.take_entry.new.rows.items c.put_entry.new.rows.items c.self.invariant c.in-Some.ensures.0 c.in-Some.ensures.1 c.put_entry.ensures in
     record {
       numbered = ex.numbered;
+      past = past_changed c.self.inside.clock (record { birth = c.self.inside.births; object = c.in-Some.entry.object }) (past_entry c.self.inside.clock c.self.inside.rows.items c.args.object c.in-Some.entry c.self.invariant.past c.in-Some.ensures.0) c.self.inside.rows.items c.take_entry.new.rows.items c.put_entry.new.rows.items c.args.object c.self.invariant.past c.in-Some.ensures.1 c.put_entry.ensures;
       live = omega (arith, ex.costs, c.self.invariant.live);
       within = c.self.invariant.within;
       small = c.self.invariant.small;
