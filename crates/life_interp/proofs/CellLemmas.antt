@@ -2,14 +2,14 @@
 use Rattle.std.proofs.Common.{◌≡◌, zero, suc, true, false, List, [], ◌∷◌, Option, Some, None, refl, sym, ap}
 use Rattle.std.proofs.lemmas.Bool.{false≢true}
 use Rattle.std.proofs.lemmas.Option.{none-some, same_Some}
-use Rattle.std.specs.Prelude.{ℕ, ℤ, cond, option_map, pos, slice_get}
-use Rattle.life_types.specs.Types.{Types, is_slot_at}
+use Rattle.std.specs.Prelude.{ℕ, ℤ, option_map, pos, slice_get}
+use Rattle.life_types.specs.Types.{Types}
 use Rattle.life_types.specs.declared.ty.TyId.{TyId}
 use Rattle.life_core.specs.Holdings.{Holding, sort_of}
 use Rattle.life_core.specs.declared.instr.Form.{Form}
 use Rattle.life_core.specs.declared.program.Local.{Local}
 use Rattle.life_core.specs.Function.{Function}
-use Rattle.life_store.specs.Calls.{cell_back, given_to, number_handed, object_handed, pointer_handed, slot_born}
+use Rattle.life_store.specs.Calls.{cell_back, given_to, number_handed, object_handed, pointer_handed}
 use Rattle.life_store.specs.Doing.{Setting, Next, Strays, cell, end_cell, live_local, live_over, put_cell}
 use Rattle.life_store.specs.Meaning.{value_in}
 use Rattle.life_store.specs.Parts.{Parts}
@@ -75,21 +75,18 @@ object_handed_none (Some (Named n)) e = absurd (none-some n e)
 object_handed_none (Some (Number z)) e = refl
 object_handed_none (Some (Points p)) e = refl
 
--- a local that is no slot
-module _ (s : Setting) (types : Types) (sort : Holding) (ty : TyId) (plain : is_slot_at types ty ≡ false) (x : ℕ) (st : State) where
-  -- .. is given nothing
-  pub given_nothing : (v : Cell) → is_vacant v ≡ true → given_to s types sort ty v x st ≡ Strays
-  given_nothing Empty e = ap (λ b. cond b (slot_born s types ty None x st) Strays) plain
-  given_nothing (Named n) e = absurd (false≢true e)
-  given_nothing (Number z) e = absurd (false≢true e)
-  given_nothing (Points p) e = absurd (false≢true e)
+pub vacant_is : (v : Cell) → is_vacant v ≡ true → v ≡ Empty
+vacant_is Empty e = refl
+vacant_is (Named n) e = absurd (false≢true e)
+vacant_is (Number z) e = absurd (false≢true e)
+vacant_is (Points p) e = absurd (false≢true e)
 
-  -- .. or an object or a pointer as it is
-  pub given_as : (v : Cell) → None ≡ number_in (Some v) → is_vacant v ≡ false → given_to s types sort ty v x st ≡ Next (put_cell x v st)
-  given_as Empty e k = absurd (true_false k)
-  given_as (Named n) e k = ap (λ b. cond b (slot_born s types ty (Some n) x st) (Next (put_cell x (Named n) st))) plain
-  given_as (Number z) e k = absurd (none-some z e)
-  given_as (Points p) e k = refl
+-- a local is given a pointer as it is
+pub given_as : (s : Setting) (types : Types) (sort : Holding) (ty : TyId) (x : ℕ) (st : State) (v : Cell) → None ≡ number_in (Some v) → None ≡ object_in (Some v) → is_vacant v ≡ false → given_to s types sort ty v x st ≡ Next (put_cell x v st)
+given_as s types sort ty x st Empty e o k = absurd (true_false k)
+given_as s types sort ty x st (Named n) e o k = absurd (none-some n o)
+given_as s types sort ty x st (Number z) e o k = absurd (none-some z e)
+given_as s types sort ty x st (Points p) e o k = refl
 
 -- ---- the value that is told
 

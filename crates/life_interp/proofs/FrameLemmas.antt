@@ -105,23 +105,23 @@ frame_is f c cells n output input e k =
 -- ---- control enters a function
 
 module _ (s : Setting) (p : Program) (g : ℕ) (f : Function) (values : List state.Cell) (place : Place) (c : Content) (there : slice_get p.functions g ≡ Some f) where
-  pub enter_halts : (e : Ending) → ((output : List ℕ) (input : List ℤ) → TellsEnd (parameters_given s p.types f 0 values (frame f (world_of c output input))) e) → (ws : List walk.Waiting) (ins : List ℤ)
-      → Halts (λ go n output. entered_in s p go ws place (world_of c output ins) (world_of c output ins) (slice_get p.functions g) values) c ins (barred_of place e)
-  enter_halts (ending.Trap kind) h ws ins = λ go n output.
-      ap (λ o. entered_in s p go ws place (world_of c output ins) (world_of c output ins) o values) there ∙ ap (let_in (go ws f (enter f.body 1 no_exits)) place (world_of c output ins)) (h output ins)
-  enter_halts (ending.Fault kind) h ws ins = λ go n output.
-      ap (λ o. entered_in s p go ws place (world_of c output ins) (world_of c output ins) o values) there ∙ ap (let_in (go ws f (enter f.body 1 no_exits)) place (world_of c output ins)) (h output ins)
-  enter_halts ending.Stray h ws ins = λ go n output.
-      ap (λ o. entered_in s p go ws place (world_of c output ins) (world_of c output ins) o values) there ∙ ap (let_in (go ws f (enter f.body 1 no_exits)) place (world_of c output ins)) (h output ins)
-  enter_halts ending.NoMemory h ws ins = tt
-  enter_halts ending.WriteFault h ws ins = h [] []
+  pub enter_halts : (e : Ending) → ((output : List ℕ) (input : List ℤ) → TellsEnd (parameters_given s p.types f 0 values (frame f (world_of c output input))) e) → (ws : List walk.Waiting) (before : Content) (ins : List ℤ)
+      → Halts (λ go n output. entered_in s p go ws place (world_of before output ins) (world_of c output ins) (slice_get p.functions g) values) before ins (barred_of place e)
+  enter_halts (ending.Trap kind) h ws before ins = λ go n output.
+      ap (λ o. entered_in s p go ws place (world_of before output ins) (world_of c output ins) o values) there ∙ ap (let_in (go ws f (enter f.body 1 no_exits)) place (world_of before output ins)) (h output ins)
+  enter_halts (ending.Fault kind) h ws before ins = λ go n output.
+      ap (λ o. entered_in s p go ws place (world_of before output ins) (world_of c output ins) o values) there ∙ ap (let_in (go ws f (enter f.body 1 no_exits)) place (world_of before output ins)) (h output ins)
+  enter_halts ending.Stray h ws before ins = λ go n output.
+      ap (λ o. entered_in s p go ws place (world_of before output ins) (world_of c output ins) o values) there ∙ ap (let_in (go ws f (enter f.body 1 no_exits)) place (world_of before output ins)) (h output ins)
+  enter_halts ending.NoMemory h ws before ins = tt
+  enter_halts ending.WriteFault h ws before ins = h [] []
 
   pub enter_goes : (d : Content) (cells : List Cell) → ((output : List ℕ) (input : List ℤ) → parameters_given s p.types f 0 values (frame f (world_of c output input)) ≡ Next (state_of d cells output input))
-      → (go : Go) (ws : List walk.Waiting) (output : List ℕ) (ins : List ℤ)
-      → entered_in s p go ws place (world_of c output ins) (world_of c output ins) (slice_get p.functions g) values ≡ go ws (function_at p.functions g) (enter (function_at p.functions g).body 1 no_exits) (state_of d cells output ins)
-  enter_goes d cells h go ws output ins =
-      ap (λ o. entered_in s p go ws place (world_of c output ins) (world_of c output ins) o values) there
-      ∙ ap (let_in (go ws f (enter f.body 1 no_exits)) place (world_of c output ins)) (h output ins)
+      → (go : Go) (ws : List walk.Waiting) (before : Content) (output : List ℕ) (ins : List ℤ)
+      → entered_in s p go ws place (world_of before output ins) (world_of c output ins) (slice_get p.functions g) values ≡ go ws (function_at p.functions g) (enter (function_at p.functions g).body 1 no_exits) (state_of d cells output ins)
+  enter_goes d cells h go ws before output ins =
+      ap (λ o. entered_in s p go ws place (world_of before output ins) (world_of c output ins) o values) there
+      ∙ ap (let_in (go ws f (enter f.body 1 no_exits)) place (world_of before output ins)) (h output ins)
       ∙ ap (λ (k : Function). go ws k (enter k.body 1 no_exits) (state_of d cells output ins)) (sym (function_there p.functions g f there))
 
 -- ---- arguments one after the other

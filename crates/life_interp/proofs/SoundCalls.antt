@@ -15,7 +15,6 @@ use Rattle.life_core.specs.Ready.{entry_ready}
 use Rattle.life_core.specs.Step.{Call}
 use Rattle.life_core.specs.Tree.{Node, Action, Return}
 use Rattle.life_proper.specs.WellFormed.{are_arguments_for, goes_to, have_own_slots, is_call, is_well_formed_node, types_taken}
-use Rattle.life_core_served.proofs.PointsAsked.{point_served}
 use Rattle.life_proper.proofs.SortedNodes.{formed_parts}
 use Rattle.life_store.specs.Calls.{all_handed, lent, parameters_given, results, taken_back}
 use Rattle.life_store.specs.Doing.{Setting, Next}
@@ -37,12 +36,10 @@ use Rattle.life_forest.proofs.Keeping.{keeps_more, keeps_self, keeps_then}
 use Rattle.life_forest.proofs.SettledPoints.{formed_at, kinds_fit}
 use Rattle.life_forest.proofs.Shaped.{locals_shaped}
 use Rattle.life_forest.proofs.Slots.{slots_stay}
-use Rattle.life_interp.specs.Done.{AreDone, IsDoneTarget}
 use Rattle.life_interp.specs.Sound.{AreSound, ComesTo, WaitsFor, in_waiting}
 use Rattle.life_interp.specs.Walk.{Waiting, first_way}
 use Rattle.life_interp.proofs.Leads.{action_here}
-use Rattle.life_interp.proofs.ServedSteps.{served_done}
-use Rattle.life_interp.proofs.SoundPrograms.{functions, goes_well, members}
+use Rattle.life_interp.proofs.SoundPrograms.{goes_well, members}
 use Rattle.life_interp.proofs.SoundSteps.{reached_so, waiting_on}
 
 -- a state with the locals that are there at the entry comes to the first point
@@ -77,7 +74,7 @@ module _ (p : Program) (ws : List Waiting) (f : Function) (q : ℕ) (st : State)
       args = (and_parts (are_arguments_for p.types (length p.texts) p.functions f (types_taken gf) xs) _ formed_call).0
 
       -- the function that is called begins in the world that was lent
-      module _ (values : List Cell) (handed_are : all_handed p.types f st xs ≡ Some values) (st' : State) (begins : parameters_given s p.types gf 0 values (frame gf (lent p.types f xs st).world) ≡ Next st') where
+      module _ (values : List Cell) (handed_are : all_handed p.types f st xs ≡ Some values) where
         abbrev waits : Waiting
         waits = record { function = f; cells = (lent p.types f xs st).cells; place = l.spot.place; to = first_way l.leads; target = target; arguments = xs }
 
@@ -102,46 +99,51 @@ module _ (p : Program) (ws : List Waiting) (f : Function) (q : ℕ) (st : State)
               keeps,
             )
 
-        next : IsNext p.types gf (in_waiting (record { function = f; cells = (lent p.types f xs st).cells; place = l.spot.place; to = first_way l.leads; target = target; arguments = xs } ∷ ws)) (lent p.types f xs st).world.content (entry_ready gf) st'
-        next =
-            let names = length p.names in
-            let texts = length p.texts in
-            let table = sound.proper.well_formed.table in
-            let some = members p sound.proper in
-            let two = goes_well p sound.proper g.0 gf called in
-            let shaped = locals_shaped p.types table names gf (formed_parts p.types names texts p.functions gf two.formed).locals in
-            subst (GivesOn p.types gf (in_waiting (waits ∷ ws)) begun.world.content (entry_ready gf)) begins
-            (entry_gives p.types table gf shaped (kinds_fit p.types table sound.proper.well_formed.once some names texts p.functions gf two.formed two.points two.ready) (in_waiting (waits ∷ ws)) s values begun.world
-            (parameters_all p.types names gf shaped (formed_at p.types table sound.proper.well_formed.once some names texts p.functions gf two.formed two.points two.ready)) loaned.1 loaned.0)
+        -- each value is what its parameter takes
+        pub given_taken : AreTaken p.types (lent p.types f xs st).world.content (types_taken gf) values
+        given_taken = loaned.0
 
-        pub call_sound : AreSound p (record { function = f; cells = (lent p.types f xs st).cells; place = l.spot.place; to = first_way l.leads; target = target; arguments = xs } ∷ ws) gf (enter gf.body 1 no_exits) st'
-        call_sound =
-            let two = goes_well p sound.proper g.0 gf called in
-            record {
-              proper = sound.proper;
-              own = g.0;
-              there = called;
-              sound = next.sound;
-              reached = first_reached p.types gf st' (enter gf.body 1 no_exits) refl two.ready.begins next.bits;
-              waiting = (
-                record {
-                  own = sound.own;
-                  there = sound.there;
-                  point = q;
-                  number = g;
-                  here = action_here f q l here (Call target g xs) is;
-                  called = called;
-                  before = st;
-                  sound = sound.sound;
-                  left = refl;
-                  keeps = next.waits;
-                  reached = sound.reached;
-                },
-                waiting_on p f ws st.world.content st'.world.content
-                    (keeps_then p.types (λ n. in_waiting ws n ≡ 0) st.world.content begun.world.content st'.world.content loaned.2
-                    (keeps_more p.types (λ n. in_waiting (waits ∷ ws) n ≡ 0) (λ n. in_waiting ws n ≡ 0) begun.world.content st'.world.content (λ n z. omega (arith, z)) next.waits)) sound.waiting,
-              );
-            }
+        module _ (st' : State) (begins : parameters_given s p.types gf 0 values (frame gf (lent p.types f xs st).world) ≡ Next st') where
+          next : IsNext p.types gf (in_waiting (record { function = f; cells = (lent p.types f xs st).cells; place = l.spot.place; to = first_way l.leads; target = target; arguments = xs } ∷ ws)) (lent p.types f xs st).world.content (entry_ready gf) st'
+          next =
+              let names = length p.names in
+              let texts = length p.texts in
+              let table = sound.proper.well_formed.table in
+              let some = members p sound.proper in
+              let two = goes_well p sound.proper g.0 gf called in
+              let shaped = locals_shaped p.types table names gf (formed_parts p.types names texts p.functions gf two.formed).locals in
+              subst (GivesOn p.types gf (in_waiting (waits ∷ ws)) begun.world.content (entry_ready gf)) begins
+              (entry_gives p.types table gf shaped (kinds_fit p.types table sound.proper.well_formed.once some names texts p.functions gf two.formed two.points two.ready) (in_waiting (waits ∷ ws)) s values begun.world
+              (parameters_all p.types names gf shaped (formed_at p.types table sound.proper.well_formed.once some names texts p.functions gf two.formed two.points two.ready)) loaned.1 loaned.0)
+
+          pub call_sound : AreSound p (record { function = f; cells = (lent p.types f xs st).cells; place = l.spot.place; to = first_way l.leads; target = target; arguments = xs } ∷ ws) gf (enter gf.body 1 no_exits) st'
+          call_sound =
+              let two = goes_well p sound.proper g.0 gf called in
+              record {
+                proper = sound.proper;
+                own = g.0;
+                there = called;
+                sound = next.sound;
+                reached = first_reached p.types gf st' (enter gf.body 1 no_exits) refl two.ready.begins next.bits;
+                waiting = (
+                  record {
+                    own = sound.own;
+                    there = sound.there;
+                    point = q;
+                    number = g;
+                    here = action_here f q l here (Call target g xs) is;
+                    called = called;
+                    before = st;
+                    sound = sound.sound;
+                    left = refl;
+                    keeps = next.waits;
+                    reached = sound.reached;
+                  },
+                  waiting_on p f ws st.world.content st'.world.content
+                      (keeps_then p.types (λ n. in_waiting ws n ≡ 0) st.world.content begun.world.content st'.world.content loaned.2
+                      (keeps_more p.types (λ n. in_waiting (waits ∷ ws) n ≡ 0) (λ n. in_waiting ws n ≡ 0) begun.world.content st'.world.content (λ n z. omega (arith, z)) next.waits)) sound.waiting,
+                );
+              }
 
 -- ---- a function is left
 
@@ -150,15 +152,10 @@ module _ (p : Program) (v : Waiting) (vs : List Waiting) (f : Function) (q : ℕ
   caller = sound.waiting.0
 
   -- what the call asked
-  waiting_formed : is_call p.types (length p.texts) p.functions v.function (Some f) v.target v.arguments ≡ true
+  pub waiting_formed : is_call p.types (length p.texts) p.functions v.function (Some f) v.target v.arguments ≡ true
   waiting_formed =
       subst (λ (o : Option Function). is_call p.types (length p.texts) p.functions v.function o v.target v.arguments ≡ true) caller.called
       ((goes_well p sound.proper caller.own v.function caller.there).points caller.point _ caller.here)
-
-  -- .. is what the machine does
-  pub waiting_done : IsDoneTarget v.target × AreDone v.arguments
-  waiting_done =
-      served_done p.types v.function (Call v.target caller.number v.arguments) (point_served p.types (length p.texts) p.functions v.function (functions p sound.proper caller.own v.function caller.there) caller.point _ caller.here)
 
   -- the frame that waits has what comes back
   module _ (s : Setting) where

@@ -5,7 +5,6 @@ use Rattle.life_core.specs.Function.{Function, Program}
 use Rattle.life_core.specs.Step.{Step, Call}
 use Rattle.life_core_served.specs.ProperFunctions.{AreProperFunctions}
 use Rattle.life_core_served.specs.ProperPrograms.{IsProperProgram}
-use Rattle.life_core_served.proofs.ServedLocals.{served_locals}
 use Rattle.life_proper.specs.WellFormedPrograms.{is_well_formed_function}
 use Rattle.life_core_served.proofs.PointsAsked.{proper_functions}
 use Rattle.life_proper.proofs.SpotTests.{all_at}
@@ -15,9 +14,7 @@ use Rattle.life_forest.proofs.CallsGo.{GoesWell}
 use Rattle.life_forest.proofs.NeverStrays.{have_members, never_strays, points_formed}
 use Rattle.life_forest.proofs.SettledSteps.{IsOneFrame}
 use Rattle.life_forest.proofs.SettlingLives.{HaveMembers}
-use Rattle.life_interp.specs.Done.{HaveNoSlots}
 use Rattle.life_interp.specs.Walking.{IsOwn}
-use Rattle.life_interp.proofs.Slotless.{served_no_slots}
 
 -- ---- what is no call
 
@@ -49,7 +46,3 @@ module _ (p : Program) (proper : IsProperProgram p) where
 pub never_lost : (p : Program) (given : Given) (entry : ℕ) (f : Function) (input : List ℤ) (n : ℕ) → IsProperProgram p → slice_get p.functions entry ≡ Some f → IsAdmitted p f input
     → IsFound (run_of given p entry f input n).outcome
 never_lost p given entry f input n proper is admitted = never_strays p given entry f input n proper.well_formed proper.ready proper.given is admitted
-
--- no function of it has a slot so far
-pub have_no_slots : (p : Program) → IsProperProgram p → HaveNoSlots p
-have_no_slots p proper n g there = served_no_slots p.types g (served_locals p.types g (functions p proper n g there).served)

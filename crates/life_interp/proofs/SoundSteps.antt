@@ -6,11 +6,9 @@ use Rattle.life_types.specs.Types.{Types}
 use Rattle.life_core.specs.Function.{Function, Program}
 use Rattle.life_core.specs.Linked.{Lead, Linked, code_of, numbered, parts, spot_at}
 use Rattle.life_core.specs.Proper.{bits_past, goes_on}
-use Rattle.life_core_served.specs.Served.{is_served_node, is_served_step}
 use Rattle.life_core.specs.Step.{Step, Test}
 use Rattle.life_core.specs.Tree.{Node, Action, Question}
 use Rattle.life_proper.specs.WellFormed.{is_well_formed_node, is_well_formed_step}
-use Rattle.life_core_served.proofs.PointsAsked.{point_served}
 use Rattle.life_store.specs.Calls.{lent}
 use Rattle.life_store.specs.Content.{Content}
 use Rattle.life_store.specs.Doing.{Setting, Next, does}
@@ -22,13 +20,11 @@ use Rattle.life_forest.proofs.BodiesGo.{IsSoundAt, leads}
 use Rattle.life_forest.proofs.HeldPoints.{GoesOn, IsNext, IsSound, held_goes}
 use Rattle.life_forest.proofs.Holding.{KeepsWaiting}
 use Rattle.life_forest.proofs.Keeping.{keeps_more, keeps_then}
-use Rattle.life_interp.specs.Done.{IsDone}
-use Rattle.life_interp.specs.Sound.{AreSound, AreWaiting, ComesTo, IsAt, in_waiting}
+use Rattle.life_interp.specs.Sound.{AreSound, AreWaiting, ComesTo, in_waiting}
 use Rattle.life_interp.specs.Walk.{Waiting, first_way, second_way}
 use Rattle.life_interp.specs.Walking.{IsOwn}
 use Rattle.life_interp.proofs.Leads.{action_here, question_here}
-use Rattle.life_interp.proofs.ServedSteps.{served_done}
-use Rattle.life_interp.proofs.SoundPrograms.{functions, goes_well, members, own_one}
+use Rattle.life_interp.proofs.SoundPrograms.{goes_well, members, own_one}
 
 -- ---- what was written and what is to be read doesn't matter
 
@@ -82,14 +78,7 @@ module _ (p : Program) (ws : List Waiting) (f : Function) (q : ℕ) (st : State)
   abbrev types : Types
   types = p.types
 
-  -- the instruction that stands there is served, and well formed
-  pub served_here : (i : Step) → l.spot.node ≡ Action i → is_served_step p.types f i ≡ true
-  served_here i is = subst (λ (n : Node). is_served_node types f n ≡ true) is (point_served types (length p.texts) p.functions f (functions p sound.proper sound.own f sound.there) q l here)
-
-  -- .. so it is one that the machine does
-  pub done_here : (i : Step) → l.spot.node ≡ Action i → IsDone i
-  done_here i is = served_done p.types f i (served_here i is)
-
+  -- the instruction that stands there is well formed
   pub formed_here : (i : Step) → l.spot.node ≡ Action i → is_well_formed_step p.types (length p.texts) p.functions f i ≡ true
   formed_here i is = subst (λ (n : Node). is_well_formed_node types (length p.texts) p.functions f n ≡ true) is ((goes_well p sound.proper sound.own f sound.there).points q l here)
 
@@ -134,7 +123,3 @@ module _ (p : Program) (ws : List Waiting) (f : Function) (q : ℕ) (st : State)
         (λ h. subst (λ (x : Option ℕ). AreSound p ws f x st) (sym h) (led (first_way l.leads) (lead_reached (record { branch = Some true; to = first_way l.leads }) (0, omega arith, refl) (first_way l.leads) refl on.0)))
         (λ h. subst (λ (x : Option ℕ). AreSound p ws f x st) (sym h) (led (second_way l.leads) (lead_reached (record { branch = Some false; to = second_way l.leads }) (1, omega arith, refl) (second_way l.leads) refl on.1.0)))
         e
-
--- the instruction at a point is one that the machine does
-pub is_done : (p : Program) (f : Function) (i : Step) (st : State) → IsAt p f i st → IsDone i
-is_done p f i st at = done_here p at.behind f at.point st at.sound at.linked at.here i at.is

@@ -56,3 +56,8 @@ ok_settled (Err e) P h = tt
 pub ok_holds : {A E : Type 0} (r : Result A E) (P : Type 0) → P → OnOk r P
 ok_holds (Ok a) P h = h
 ok_holds (Err e) P h = tt
+
+-- .. and what holds with it
+pub ok_so : {A E : Type 0} (r : Result A E) (P Q : Type 0) → (P → Q) → OnOk r P → OnOk r Q
+ok_so (Ok a) P Q go h = go h
+ok_so (Err e) P Q go h = tt

@@ -1,12 +1,13 @@
 pub mod Accessed
 pub mod Births
+pub mod CallOperands
 pub mod Carried
 pub mod Cells
-pub mod Done
 pub mod Fits
 pub mod Frames
 pub mod Layouts
 pub mod Near
+pub mod Returning
 pub mod Runs
 pub mod Sound
 pub mod Steps

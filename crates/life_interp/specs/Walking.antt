@@ -150,9 +150,9 @@ Moves at fs c new d ins result = MatchResult result (λ _. (go : Go) (n : ℕ) (
 abbrev pub Enters : Setting → Program → ℕ → List state.Cell → Place → Content → Content → Result (Vec Cell Global) Halt → Type 0
 Enters s p g values place c d result =
     MatchResult result
-    (λ (cells : Vec Cell Global). (go : Go) (ws : List walk.Waiting) (output : List ℕ) (ins : List ℤ) → entered_in s p go ws place (world_of c output ins) (world_of c output ins) (slice_get p.functions g) values
+    (λ (cells : Vec Cell Global). (go : Go) (ws : List walk.Waiting) (before : Content) (output : List ℕ) (ins : List ℤ) → entered_in s p go ws place (world_of before output ins) (world_of c output ins) (slice_get p.functions g) values
     ≡ go ws (function_at p.functions g) (enter (function_at p.functions g).body 1 no_exits) (state_of d cells.items output ins))
-    (λ h. (ws : List walk.Waiting) (ins : List ℤ) → Halts (λ go n output. entered_in s p go ws place (world_of c output ins) (world_of c output ins) (slice_get p.functions g) values) c ins h)
+    (λ h. (ws : List walk.Waiting) (before : Content) (ins : List ℤ) → Halts (λ go n output. entered_in s p go ws place (world_of before output ins) (world_of c output ins) (slice_get p.functions g) values) before ins h)
 
 -- .. and any point
 abbrev pub PointEnds : Doing → List Function → Content → List ℤ → Sunk → Halt → Type 0

@@ -135,8 +135,8 @@ fn fresh_object<S: Store>(
     }
 }
 
-// Why nothing came to life.
-fn unborn(fault: BirthFault) -> Ending
+/// Why nothing came to life.
+pub(crate) fn unborn(fault: BirthFault) -> Ending
     ensures { result ≡ unborn fault }
 {
     match fault {

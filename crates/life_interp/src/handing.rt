@@ -1,15 +1,16 @@
 // What calls hand over and give back.
 ghost use Rattle.std.specs.Prelude.{◌≡◌, ◌∷◌, [], map, option_map, slice_get, IfOk, IfSome, List, ℕ, ℤ};
-ghost use Rattle.life_types.specs.Types.{Types};
-ghost use Rattle.life_core.specs.Function.{function_of, Function};
+ghost use Rattle.life_core.specs.Function.{function_of};
 ghost use Rattle.life_core.specs.Holdings.{result_sort};
 ghost use Rattle.life_core.specs.Operands.{argument_of};
-ghost use Rattle.life_cells.specs.Cells.{cell_seen, cells_seen, state_of};
+ghost use Rattle.life_core.specs.declared.operand.Argument.{Argument as AnyArgument};
+ghost use Rattle.life_cells.specs.Cells.{cell_seen, cells_seen, state_in, state_of};
 ghost use Rattle.life_interp.specs.Cells.{one_seen};
-ghost use Rattle.life_cells.specs.Fits.{CellFits, CellsFit};
+ghost use Rattle.life_cells.specs.Fits.{meant, CellFits, CellsFit, IsFit, Keeps};
+ghost use Rattle.life_cells.specs.Scopes.{function_in, types_in};
+ghost use Rattle.life_interp.specs.CallOperands.{AreArgumentPlaces, AreLentPlaces, IsArgumentPlace, IsLentPlace};
 ghost use Rattle.life_interp.specs.Steps.{Hands};
-ghost use Rattle.life_interp.specs.Done.{left_by, AreDone, IsDoneArgument};
-ghost use Rattle.life_store.specs.Calls.{all_handed, cell_back, given_back, handed, number_handed, object_handed, other_back, pointer_handed};
+ghost use Rattle.life_store.specs.Calls.{all_handed, cell_back, given_back, handed, lent, number_handed, object_handed, other_back, pointer_handed};
 ghost use Rattle.life_store.specs.Content.{Content};
 ghost use Rattle.life_store.specs.Meaning.{value_in};
 ghost use Rattle.life_store.specs.References.{Rows};
@@ -17,24 +18,30 @@ ghost use Rattle.life_store.specs.References.{Rows};
 use crate::ending::Ending;
 use crate::frame::number_of;
 use crate::sort::{Sort, result_sort};
-use life_cells::{Cell, holding, number_at, object_at, own_pointer, put_cell};
+use life_cells::{Cell, Scope, holding, number_at, object_at, own_pointer, put_cell};
 use life_core::{Argument, CoreFn};
+use life_slots::{lend_slot, pointer_cell, slot_handed};
+use life_store::Store;
 use life_types::{Ty, TypeTable};
 use std::alloc::Global;
 
 /// The values of the arguments, from left to right.
-pub(crate) fn all_handed(
+pub(crate) fn all_handed<S: Store>(
     alloc: Global,
+    scope: &Scope<'_>,
+    store: &S,
     cells: &[Cell],
     arguments: &[Argument],
 ) -> Result<Vec<Cell>, Ending>
-    requires done { AreDone (map argument_of arguments.now) }
-    ensures step { (types : Types) (f : Function) (c : Content) (output : List ℕ) (input : List ℤ) → Hands (all_handed types f (state_of c cells.now output input) (map argument_of arguments.now)) result }
-    ensures fits { (c : Content) (rows : Rows) → CellsFit c rows cells.now → IfOk result (λ values. CellsFit c rows values.items) }
+    requires fits { IsFit (types_in scope.now) (S.content store.now) (S.rows store.now) cells.now }
+    requires places { AreArgumentPlaces (types_in scope.now) (function_in scope.now) (state_in (meant (types_in scope.now) (S.content store.now) (S.rows store.now)) cells.now) (map argument_of arguments.now) }
+    ensures step { (output : List ℕ) (input : List ℤ)
+        → Hands (all_handed (types_in scope.now) (function_in scope.now) (state_of (meant (types_in scope.now) (S.content store.now) (S.rows store.now)) cells.now output input) (map argument_of arguments.now)) result }
+    ensures fits { IfOk result (λ values. CellsFit (S.content store.now) (S.rows store.now) values.items) }
 {
     let mut values = Vec::new(alloc);
     for argument in arguments {
-        match handed(cells, argument) {
+        match handed(scope, store, cells, argument) {
             None => return Err(Ending::Stray),
             Some(value) => match values.push(value) {
                 Err(_) => return Err(Ending::NoMemory),
@@ -46,17 +53,23 @@ pub(crate) fn all_handed(
 }
 
 // The value of an argument, if it is there.
-fn handed(cells: &[Cell], argument: &Argument) -> Option<Cell>
-    requires done { IsDoneArgument (argument_of argument.now) }
-    ensures step { (types : Types) (f : Function) (c : Content) (output : List ℕ) (input : List ℤ) → option_map cell_seen result ≡ handed types f (state_of c cells.now output input) (argument_of argument.now) }
-    ensures fits { (c : Content) (rows : Rows) → CellsFit c rows cells.now → IfSome result (CellFits c rows) }
+fn handed<S: Store>(
+    scope: &Scope<'_>,
+    store: &S,
+    cells: &[Cell],
+    argument: &Argument,
+) -> Option<Cell>
+    requires fits { IsFit (types_in scope.now) (S.content store.now) (S.rows store.now) cells.now }
+    requires place { IsArgumentPlace (types_in scope.now) (function_in scope.now) (state_in (meant (types_in scope.now) (S.content store.now) (S.rows store.now)) cells.now) (argument_of argument.now) }
+    ensures step { (output : List ℕ) (input : List ℤ)
+        → option_map cell_seen result ≡ handed (types_in scope.now) (function_in scope.now) (state_of (meant (types_in scope.now) (S.content store.now) (S.rows store.now)) cells.now output input) (argument_of argument.now) }
+    ensures fits { IfSome result (CellFits (S.content store.now) (S.rows store.now)) }
 {
     match argument {
         Argument::Value(register) => number_cell(cells, *register),
-        Argument::Pointer(location) => pointer_cell(cells, location.local),
         Argument::Given(local) => object_cell(cells, *local),
-        // No program that is served so far has one.
-        Argument::Slot(_) => unreachable!(),
+        Argument::Pointer(location) => pointer_cell(scope, store, cells, location),
+        Argument::Slot(location) => slot_handed(scope, store, cells, location),
     }
 }
 
@@ -71,26 +84,45 @@ fn object_cell(cells: &[Cell], local: u32) -> Option<Cell>
     }
 }
 
-/// Takes from the frame what it gave over.
-pub(crate) fn lend(cells: &mut Vec<Cell>, arguments: &[Argument])
-    ensures seen { cells_seen cells.new.items ≡ left_by (map argument_of arguments.now) (cells_seen cells.old.items) }
-    ensures fits { (c : Content) (rows : Rows) → CellsFit c rows cells.old.items → CellsFit c rows cells.new.items }
+/// Takes from the frame what it gave over, and what its slots lend.
+pub(crate) fn lend<S: Store>(
+    scope: &Scope<'_>,
+    store: &mut S,
+    cells: &mut Vec<Cell>,
+    arguments: &[Argument],
+)
+    requires fits { IsFit (types_in scope.now) (S.content store.old) (S.rows store.old) cells.old.items }
+    requires places { AreLentPlaces (types_in scope.now) (function_in scope.now) (state_in (meant (types_in scope.now) (S.content store.old) (S.rows store.old)) cells.old.items) (map argument_of arguments.now) }
+    ensures lent { (output : List ℕ) (input : List ℤ)
+        → lent (types_in scope.now) (function_in scope.now) (map argument_of arguments.now) (state_of (meant (types_in scope.now) (S.content store.old) (S.rows store.old)) cells.old.items output input)
+        ≡ state_of (meant (types_in scope.now) (S.content store.new) (S.rows store.new)) cells.new.items output input }
+    ensures fits { IsFit (types_in scope.now) (S.content store.new) (S.rows store.new) cells.new.items }
+    ensures keeps { Keeps (S.content store.old) (S.content store.new) (S.rows store.old) (S.rows store.new) }
+    ensures limit { S.limit store.new ≡ S.limit store.old }
 {
     for argument in arguments {
-        lend_one(cells, argument);
+        lend_one(scope, store, cells, argument);
     }
 }
 
 // .. by one argument.
-fn lend_one(cells: &mut Vec<Cell>, argument: &Argument)
-    ensures seen { cells_seen cells.new.items ≡ left_by (argument_of argument.now ∷ []) (cells_seen cells.old.items) }
-    ensures fits { (c : Content) (rows : Rows) → CellsFit c rows cells.old.items → CellsFit c rows cells.new.items }
+fn lend_one<S: Store>(scope: &Scope<'_>, store: &mut S, cells: &mut Vec<Cell>, argument: &Argument)
+    requires fits { IsFit (types_in scope.now) (S.content store.old) (S.rows store.old) cells.old.items }
+    requires place { IsLentPlace (types_in scope.now) (function_in scope.now) (state_in (meant (types_in scope.now) (S.content store.old) (S.rows store.old)) cells.old.items) (argument_of argument.now) }
+    ensures lent { (output : List ℕ) (input : List ℤ)
+        → lent (types_in scope.now) (function_in scope.now) (argument_of argument.now ∷ []) (state_of (meant (types_in scope.now) (S.content store.old) (S.rows store.old)) cells.old.items output input)
+        ≡ state_of (meant (types_in scope.now) (S.content store.new) (S.rows store.new)) cells.new.items output input }
+    ensures fits { IsFit (types_in scope.now) (S.content store.new) (S.rows store.new) cells.new.items }
+    ensures places { (xs : List AnyArgument) → AreLentPlaces (types_in scope.now) (function_in scope.now) (state_in (meant (types_in scope.now) (S.content store.old) (S.rows store.old)) cells.old.items) (map argument_of xs)
+        → AreLentPlaces (types_in scope.now) (function_in scope.now) (state_in (meant (types_in scope.now) (S.content store.new) (S.rows store.new)) cells.new.items) (map argument_of xs) }
+    ensures keeps { Keeps (S.content store.old) (S.content store.new) (S.rows store.old) (S.rows store.new) }
+    ensures limit { S.limit store.new ≡ S.limit store.old }
 {
     match argument {
         Argument::Given(local) => put_cell(cells, *local, Cell::Empty),
         Argument::Value(_) => {}
         Argument::Pointer(_) => {}
-        Argument::Slot(_) => {}
+        Argument::Slot(location) => lend_slot(scope, store, cells, location),
     }
 }
 
@@ -106,7 +138,7 @@ fn number_cell(cells: &[Cell], local: u32) -> Option<Cell>
 }
 
 // The pointer that the local holds, if it holds one.
-fn pointer_cell(cells: &[Cell], local: u32) -> Option<Cell>
+fn own_cell(cells: &[Cell], local: u32) -> Option<Cell>
     ensures seen { option_map cell_seen result ≡ pointer_handed (slice_get (cells_seen cells.now) local) }
     ensures fits { (c : Content) (rows : Rows) → CellsFit c rows cells.now → IfSome result (CellFits c rows) }
 {
@@ -126,8 +158,8 @@ pub(crate) fn result_of(types: &TypeTable, f: &CoreFn, cells: &[Cell]) -> Option
             None => Some(Cell::Number(0)),
             Some(number) => Some(Cell::Number(number)),
         },
-        Sort::Pointer => pointer_cell(cells, f.parameters),
-        Sort::View => pointer_cell(cells, f.parameters),
+        Sort::Pointer => own_cell(cells, f.parameters),
+        Sort::View => own_cell(cells, f.parameters),
         Sort::Blank => other_back(types.get(f.result), cells, f.parameters),
         Sort::Object => None,
     }
@@ -150,7 +182,7 @@ fn cell_back(cells: &[Cell], local: u32) -> Option<Cell>
     ensures fits { (c : Content) (rows : Rows) → CellsFit c rows cells.now → IfSome result (CellFits c rows) }
 {
     match object_cell(cells, local) {
-        None => pointer_cell(cells, local),
+        None => own_cell(cells, local),
         Some(object) => Some(object),
     }
 }

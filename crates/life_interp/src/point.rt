@@ -84,7 +84,7 @@ pub(crate) fn pass<'p, S: Store, O: Sink>(
                 out,
             ),
             NodeRef::Question(test) => choose(program, layouts, store, test, link.leads, frames),
-            NodeRef::Return => back(program, store, frames),
+            NodeRef::Return => back(program, layouts, store, frames),
             NodeRef::Stop => Err(Halt::Trap(TrapKind::Assert, link.spot.place)),
         },
     }
@@ -132,7 +132,7 @@ fn act<'p, S: Store, O: Sink>(
             function,
             arguments,
         } => call(
-            alloc, program, depth, place, to, target, *function, arguments, store, frames,
+            alloc, program, layouts, depth, place, to, target, *function, arguments, store, frames,
         ),
         _ => {
             let f = &program.functions[frames.function as usize];

@@ -5,7 +5,6 @@ ghost use Rattle.life_core.specs.Linked.{code_of};
 ghost use Rattle.life_core_served.specs.ProperPrograms.{IsProperProgram};
 ghost use Rattle.life_cells.specs.Cells.{cell_seen, cells_seen};
 ghost use Rattle.life_cells.specs.Fits.{meant, CellFits, CellsFit, IsFit};
-ghost use Rattle.life_interp.specs.Done.{HasNoSlots};
 ghost use Rattle.life_interp.specs.Fits.{most_births, CanStep, Grows};
 ghost use Rattle.life_interp.specs.Layouts.{AreReady};
 ghost use Rattle.life_interp.specs.Runs.{barred_as, links_seen, IsBarred, RunEnds};
@@ -127,7 +126,6 @@ fn first_cells<S: Store>(
     store: &mut S,
 ) -> Result<Vec<Cell>, Ending>
     requires fits { IsFit (program_of program.now).types (S.content store.old) (S.rows store.old) [] }
-    requires plain { HasNoSlots (program_of program.now).types (function_of f.now) }
     requires countable { CanStep (S.content store.old) }
     requires room { S.limit store.old < most_births }
     requires enough { f.now.parameters ≤ length input.now }

@@ -13,8 +13,8 @@ use Rattle.life_interp.proofs.calls.given_cells.Goals as goal
 pub give_all-requires-clause-fits : goal.give_all-requires-clause-fits
 give_all-requires-clause-fits g c = rw c.in-Ok.ensures (other_cells _ _ _ c.args.values.now _ c.requires.fits (blank_fits _ _ _))
 
-pub give_all-requires-clause-plain : goal.give_all-requires-clause-plain
-give_all-requires-clause-plain g c = c.requires.plain
+pub give_all-requires-clause-slots : goal.give_all-requires-clause-slots
+give_all-requires-clause-slots g c = c.requires.slots
 
 pub give_all-requires-clause-values : goal.give_all-requires-clause-values
 give_all-requires-clause-values g c = c.requires.fits.held

@@ -21,6 +21,7 @@ use Rattle.life_cells.proofs.FitLemmas.{cells_later, set_fits}
 use Rattle.life_interp.proofs.FitLemmas.{later_rows}
 use Rattle.life_interp.proofs.GiveLemmas.{born_with_is, given_gives, shows_given}
 use Rattle.life_interp.proofs.LocalLemmas.{birth_fails, on_next_ends}
+use Rattle.life_interp.proofs.RowsStaying.{given_stay}
 use Rattle.life_interp.proofs.NumberLemmas.{new_has_word, new_value, ref_placed}
 use Rattle.life_cells.proofs.LocationLemmas.{put_now}
 use Rattle.life_interp.proofs.giving.born_with.Goals as goal
@@ -82,5 +83,6 @@ returns-in-Ok g c =
           });
       later = later;
       gives = given_gives kinds content e rows after c.args.number c.args.ty (g.S.Store.limit c.args.store.now) housed q.room shows.is;
+      stay = given_stay kinds content e rows after c.args.number c.args.ty housed shows later;
       limit = c.put_number.ensures.limit ∙ c.new_object.ensures.limit;
     }

@@ -1,5 +1,5 @@
-use Rattle.std.proofs.Common.{◌+◌, List, drop, ap, subst, sym, ◌∙◌, arith}
-use Rattle.std.specs.Prelude.{slice_index_or}
+use Rattle.std.proofs.Common.{◌≡◌, ◌+◌, List, drop, ap, subst, sym, ◌∙◌, arith}
+use Rattle.std.specs.Prelude.{slice_get, slice_index_or}
 use Rattle.life_core.specs.Function.{function_of}
 use Rattle.life_store.specs.Doing.{on_next}
 use Rattle.life_store.specs.Calls.{given, parameters_given}
@@ -13,10 +13,14 @@ use Rattle.life_cells.proofs.FitLemmas.{cell_later}
 use Rattle.life_interp.proofs.FrameLemmas.{index_fits, more_seen, none_seen}
 use Rattle.life_interp.proofs.GiveLemmas.{gives_on}
 use Rattle.life_interp.proofs.LocalLemmas.{on_next_ends}
+use Rattle.life_interp.proofs.SlotBirths.{suits_index, suits_later}
 use Rattle.life_interp.proofs.giving.give_all.Goals as goal
 
-pub give-requires-clause-plain : goal.give-requires-clause-plain
-give-requires-clause-plain g c = c.requires.plain
+pub give-requires-clause-slot : goal.give-requires-clause-slot
+give-requires-clause-slot g c = λ l there.
+    suits_later c.args.types.now (g.S.Store.rows c.args.store.now) (g.S.Store.rows c.loop-local.store) l.ty _ c.loop-local.invariant.stay
+    (suits_index c.args.types.now (g.S.Store.rows c.args.store.now) (function_of c.args.f.now) 0 c.args.values.now c.loop-local.local c.loop-local-test.true c.requires.slots l
+    (let k : 0 + c.loop-local.local ≡ c.loop-local.local = omega arith in ap (slice_get (function_of c.args.f.now).locals) k ∙ there))
 
 pub give-requires-clause-value : goal.give-requires-clause-value
 give-requires-clause-value g c =
@@ -51,6 +55,7 @@ loop-local-preserved g c =
       fits = q.fits;
       later = later_then _ _ _ _ _ _ was.later q.later;
       gives = gives_on _ _ _ _ _ was.limit was.gives q.gives;
+      stay = λ n k e. q.stay n k (was.stay n k e);
       limit = c.give.ensures.limit ∙ was.limit;
     }
 

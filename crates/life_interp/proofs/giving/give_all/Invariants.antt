@@ -6,6 +6,7 @@ use Rattle.life_store.specs.Calls.{parameters_given}
 use Rattle.life_cells.specs.Cells.{cells_seen, state_of}
 use Rattle.life_seen.specs.Housed.{Later}
 use Rattle.life_cells.specs.Fits.{meant, IsFit}
+use Rattle.life_interp.specs.CallOperands.{RowsStay}
 use Rattle.life_interp.specs.Fits.{Gives}
 use Rattle.life_interp.proofs.giving.give_all.Given as goal
 
@@ -21,5 +22,6 @@ invariant-loop-local g l =
       fits : IsFit l.types (content l.store) (rows l.store) l.cells.items;
       later : Later (content l.initial.store) (content l.store) (rows l.initial.store) (rows l.store);
       gives : Gives (g.S.Store.limit l.initial.store) (content l.initial.store) (content l.store);
+      stay : RowsStay (rows l.initial.store) (rows l.store);
       limit : g.S.Store.limit l.store ≡ g.S.Store.limit l.initial.store;
     }

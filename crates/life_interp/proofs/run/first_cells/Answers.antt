@@ -5,10 +5,13 @@ use Rattle.life_cells.specs.Cells.{cells_seen}
 use Rattle.life_cells.specs.Fits.{meant, CellsFit}
 use Rattle.life_cells.proofs.FitLemmas.{other_cells}
 use Rattle.life_interp.specs.Steps.{Begins}
+use Rattle.life_interp.proofs.SlotBirths.{entry_suits}
 use Rattle.life_interp.proofs.run.first_cells.Goals as goal
 
-pub given_cells-requires-clause-plain : goal.given_cells-requires-clause-plain
-given_cells-requires-clause-plain g c = c.requires.plain
+pub given_cells-requires-clause-slots : goal.given_cells-requires-clause-slots
+given_cells-requires-clause-slots g c =
+    let f = function_of c.args.f.now in
+    entry_suits (program_of c.args.program.now).types (g.S.Store.rows c.args.store.now) f 0 f.parameters c.args.input.now c.deref.result.now (ap cells_seen c.deref.ensures.value ∙ c.in-Ok.ensures.values)
 
 pub given_cells-requires-clause-fits : goal.given_cells-requires-clause-fits
 given_cells-requires-clause-fits g c =

@@ -24,7 +24,7 @@ use Rattle.life_interp.specs.declared.frames.Waiting.{Waiting}
 use Rattle.life_interp.specs.declared.outcome.Outcome.TheVariants as outcome
 use Rattle.life_interp.proofs.BoundedSteps.{empty_bounded, given_bounded}
 use Rattle.life_interp.proofs.EmptyStore.{housed_nothing, meant_empty, rowed_nothing}
-use Rattle.life_interp.proofs.SoundPrograms.{have_no_slots, never_lost}
+use Rattle.life_interp.proofs.SoundPrograms.{never_lost}
 use Rattle.life_interp.proofs.RunLemmas.{all_begin, barred_ends, begins_sound, can_be_barred, fault_ends, front_ends, if_there, not_lost, of_there, part_ends, run_from_frames, steps_end, trap_ends, value_ends}
 use Rattle.life_interp.proofs.WalkLemmas.{untouched}
 use Rattle.life_interp.proofs.run.run_on.Goals as goal
@@ -46,7 +46,6 @@ first_cells-requires g c =
         countable = subst CanCount (sym c.requires.empty) (record { births = omega arith; clock = omega arith });
         held = tt;
       };
-      plain = have_no_slots p c.requires.proper entry f there;
       countable = subst CanStep (sym c.requires.empty) (record { births = omega arith; clock = omega arith });
       room = omega (arith, c.requires.limit);
       enough = admitted.enough;

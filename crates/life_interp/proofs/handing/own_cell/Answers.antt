@@ -6,7 +6,7 @@ use Rattle.life_cells.specs.Cells.{cells_seen}
 use Rattle.life_pointers.specs.Pointers.{pointer_seen}
 use Rattle.life_cells.proofs.CellLemmas.{points}
 use Rattle.life_interp.proofs.CellLemmas.{pointer_handed_none}
-use Rattle.life_interp.proofs.handing.pointer_cell.Goals as goal
+use Rattle.life_interp.proofs.handing.own_cell.Goals as goal
 
 pub returns-in-None-clause-seen : goal.returns-in-None-clause-seen
 returns-in-None-clause-seen c = pointer_handed_none (slice_get (cells_seen c.args.cells.now) c.args.local) c.in-None.ensures.is
