@@ -4,7 +4,7 @@ ghost use Rattle.life_core.specs.Function.{program_of};
 ghost use Rattle.life_served.specs.Served.{is_served};
 ghost use Rattle.life_elab.specs.Bounds.{HaveNumberedLocals};
 ghost use Rattle.life_elab.specs.Elaborated.{Elaborates};
-ghost use Rattle.life_core_served.specs.ProperPrograms.{IsProperProgram};
+ghost use Rattle.life_core_served.specs.ProperPrograms.{IsProperProgram, IsServedProgram};
 ghost use Rattle.life_rules.specs.Listing.{AreProgramDiagnostics, HaveLines, listed_diag, program_line};
 ghost use Rattle.life_typed.specs.Programs.{program_view};
 ghost use Rattle.life_typing.specs.Answers.{Answers};
@@ -108,14 +108,15 @@ fn core_of(alloc: Global, typed: Typed) -> Result<CoreProgram, ElabFault>
     elaborate(alloc, &typed)
 }
 
-// A proper core program: what is diagnosed in it decides.
+// A proper core program that is served: what is diagnosed in it decides.
 #[tactic(auto, using(crate::proofs::PassedLimits::proper_within))]
 fn check_program<L: Ledger>(
     alloc: Global,
     program: CoreProgram,
     steps: &mut Steps<L>,
 ) -> Result<Checked, CheckFault>
-    requires { IsProperProgram (program_of program) }
+    requires proper { IsProperProgram (program_of program) }
+    requires served { IsServedProgram (program_of program) }
     ensures finds { Finds (IsListed (program_of program)) result }
     ensures ticks { TakesFew (IsListed (program_of program)) steps.old steps.new }
 {
@@ -126,6 +127,7 @@ fn check_program<L: Ledger>(
 // The program is accepted where the list is empty.
 fn decided(program: CoreProgram, diagnostics: Vec<ListedDiag>) -> Checked
     requires proper { IsProperProgram (program_of program) }
+    requires served { IsServedProgram (program_of program) }
     requires listed { AreProgramDiagnostics (program_of program) (map listed_diag diagnostics.items) }
     requires lines { HaveLines (program_line (program_of program)) diagnostics.items }
     ensures finding { finding_of result ≡ Listed (program_of program) (map listed_diag diagnostics.items) }

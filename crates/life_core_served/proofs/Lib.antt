@@ -1,3 +1,3 @@
+pub mod PlainCalls
 pub mod PointsAsked
 pub mod ServedLocals
-pub mod ServedResults

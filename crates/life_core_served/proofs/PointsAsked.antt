@@ -1,17 +1,14 @@
 -- What is asked of a proper program, at each of its functions and at each of their points.
-use Rattle.std.proofs.Common.{◌≡◌, ℕ, zero, suc, true, ◌&&◌, List, [], ◌∷◌, Some, length, slice_get, ◌∙◌, subst}
-use Rattle.std.proofs.lemmas.Bool.{and_parts}
+use Rattle.std.proofs.Common.{◌≡◌, ℕ, zero, suc, true, List, [], ◌∷◌, Some, length, slice_get, ◌∙◌, subst}
 use Rattle.std.proofs.lemmas.Option.{none-some, same_Some}
-use Rattle.std.specs.List.{list_all}
 use Rattle.life_types.specs.Types.{Types}
 use Rattle.life_core.specs.Function.{Function, Program}
 use Rattle.life_core.specs.Linked.{Linked, code_of, numbered}
 use Rattle.life_core.specs.Proper.{HasReadyWays, HaveReadyWays}
-use Rattle.life_core_served.specs.Served.{is_served, is_served_local, is_served_node, is_served_return, is_served_spot}
-use Rattle.life_core.specs.Tree.{spots}
+use Rattle.life_core_served.specs.Served.{is_served}
 use Rattle.life_proper.specs.GivenOver.{all_keep_given}
 use Rattle.life_core_served.specs.ProperFunctions.{AreProperFunctions, IsProperFunction}
-use Rattle.life_core_served.specs.ProperPrograms.{IsProperProgram}
+use Rattle.life_core_served.specs.ProperPrograms.{IsProperProgram, IsServedProgram}
 use Rattle.life_proper.specs.WellFormed.{is_well_formed_node, is_well_formed_spot}
 use Rattle.life_proper.specs.WellFormedPrograms.{is_well_formed_function}
 use Rattle.life_proper.proofs.FormedSpots.{formed_spots}
@@ -31,8 +28,11 @@ proper_functions p proper n f at = record {
   formed = all_at (is_well_formed_function p.types (length p.names) (length p.texts) p.functions) p.functions n f proper.well_formed.functions at;
   ready = ways_at p.types p.functions n f proper.ready at;
   given = all_at (all_keep_given p.types) p.functions n f proper.given at;
-  served = all_at (is_served p.types) p.functions n f proper.so_far.serves at;
 }
+
+-- .. and of one that is served
+pub served_functions : (p : Program) → IsServedProgram p → (n : ℕ) (f : Function) → slice_get p.functions n ≡ Some f → is_served p.types f ≡ true
+served_functions p served n f at = all_at (is_served p.types) p.functions n f served.serves at
 
 -- ---- each point of a proper function
 
@@ -40,8 +40,3 @@ module _ (types : Types) (texts : ℕ) (fs : List Function) (f : Function) where
   pub point_formed : IsProperFunction types texts fs f → (p : ℕ) (l : Linked) → numbered (code_of f) p ≡ Some l → is_well_formed_node types texts fs f l.spot.node ≡ true
   point_formed proper p l at =
       point_tested (is_well_formed_spot types texts fs f) f p l (formed_spots types texts fs f f.body ∙ (formed_parts types proper.names texts fs f proper.formed).body) at
-
-  pub point_served : IsProperFunction types texts fs f → (p : ℕ) (l : Linked) → numbered (code_of f) p ≡ Some l → is_served_node types f l.spot.node ≡ true
-  point_served proper p l at =
-      let back = (and_parts (list_all (is_served_local types) f.locals) (list_all (is_served_spot types f) (spots f.body) && is_served_return (slice_get types.types f.result.0)) proper.served).1 in
-      point_tested (is_served_spot types f) f p l (and_parts (list_all (is_served_spot types f) (spots f.body)) (is_served_return (slice_get types.types f.result.0)) back).0 at

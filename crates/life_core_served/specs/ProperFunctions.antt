@@ -3,7 +3,6 @@ use Rattle.std.specs.Prelude.{◌≡◌, ℕ, true, List, Some, slice_get}
 use Rattle.life_types.specs.Types.{Types}
 use Rattle.life_core.specs.Function.{Function}
 use Rattle.life_core.specs.Proper.{HasReadyWays}
-use Rattle.life_core_served.specs.Served.{is_served}
 use Rattle.life_proper.specs.GivenOver.{all_keep_given}
 use Rattle.life_proper.specs.WellFormedPrograms.{is_well_formed_function}
 
@@ -14,7 +13,6 @@ pub record IsProperFunction (types : Types) (texts : ℕ) (fs : List Function) (
   pub formed : is_well_formed_function types names texts fs f ≡ true
   pub ready : HasReadyWays types f
   pub given : all_keep_given types f ≡ true
-  pub served : is_served types f ≡ true
 
 -- .. and so is each of them
 abbrev pub AreProperFunctions : Types → ℕ → List Function → Type 0

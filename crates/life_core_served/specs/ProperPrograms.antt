@@ -1,4 +1,4 @@
--- Proper programs: what each translation is, and what is asked of a program whose diagnostics are trusted or that is run.
+-- Proper programs: what each translation is, and what is asked of a program that is run. Of one whose diagnostics are trusted it is asked that it is served too.
 use Rattle.std.specs.Prelude.{◌≡◌, Bool, true, false, []}
 use Rattle.std.specs.List.{list_all}
 use Rattle.life_core.specs.Function.{Function, Program}
@@ -17,11 +17,6 @@ has_own_breaks f = breaks_inside false f.body
 abbrev pub have_own_breaks : Program → Bool
 have_own_breaks p = list_all has_own_breaks p.functions
 
--- what isn't proved for every program so far: no struct is there, and no step is one that is served later
-pub record IsBuiltSoFar (p : Program) : Type 0 where
-  pub structs : p.types.structs ≡ []
-  pub serves : is_served_program p ≡ true
-
 pub record IsProperProgram (p : Program) : Type 0 where
   -- each number names something that is there, each operand has a type that its instruction takes, and const stays const
   pub well_formed : IsWellFormedProgram p
@@ -36,4 +31,8 @@ pub record IsProperProgram (p : Program) : Type 0 where
   pub given : keeps_all_given p ≡ true
   -- no limit is passed
   pub limits : IsProgramWithinLimits p
-  pub so_far : IsBuiltSoFar p
+
+-- of which programs it is proved so far that no run of theirs faults where nothing is diagnosed: of those without structs, none of whose locals is a slot
+pub record IsServedProgram (p : Program) : Type 0 where
+  pub structs : p.types.structs ≡ []
+  pub serves : is_served_program p ≡ true

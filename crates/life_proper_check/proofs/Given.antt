@@ -6,7 +6,7 @@ use Rattle.std.specs.Prelude.{nat_eq}
 use Rattle.life_core.specs.Operands.{Argument, Location}
 use Rattle.life_core.specs.Touched.{by_members}
 use Rattle.life_core.specs.Tree.{Spot}
-use Rattle.life_core_served.specs.Served.{is_empty}
+use Rattle.life_proper.specs.WellFormed.{is_whole}
 use Rattle.life_proper.specs.GivenOver.{given_argument, given_spot, is_handed_in, keeps_target}
 
 or_false : (b : Bool) → b ≡ (b || false)
@@ -26,9 +26,9 @@ given_next x s ss = list_any-append (nat_eq x) (given_spot s) (flat_map given_sp
 
 -- ---- where a result goes
 
-pub target_kept : (xs : List Argument) (l : Location) → keeps_target (Some l) xs ≡ (is_empty l.members || not (is_handed_in xs l.local))
+pub target_kept : (xs : List Argument) (l : Location) → keeps_target (Some l) xs ≡ (is_whole l || not (is_handed_in xs l.local))
 target_kept xs l = go l.members
   where
-    go : (ms : List ℕ) → not (list_any (is_handed_in xs) (by_members ms [] (l.local ∷ []))) ≡ (is_empty ms || not (is_handed_in xs l.local))
+    go : (ms : List ℕ) → not (list_any (is_handed_in xs) (by_members ms [] (l.local ∷ []))) ≡ (is_whole (record { local = l.local; members = ms }) || not (is_handed_in xs l.local))
     go [] = refl
     go (m ∷ ms) = ap not (sym (or_false (is_handed_in xs l.local)))

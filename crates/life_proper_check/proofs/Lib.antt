@@ -3,8 +3,11 @@ pub mod Formed
 pub mod Functions
 pub mod Given
 pub mod Handed
+pub mod Named
+pub mod OwnSlots
 pub mod Parts
 pub mod Points
+pub mod StructMembers
 pub mod Tables
 pub mod Within
 pub mod Written

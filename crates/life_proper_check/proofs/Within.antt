@@ -9,7 +9,7 @@ use Rattle.life_core.specs.declared.program.CoreProgram.{CoreProgram}
 use Rattle.life_core.specs.Function.{Function, function_of, program_of}
 use Rattle.life_pset.specs.Elements.{IsWithinLimits}
 use Rattle.life_pset.specs.Limits.{IsProgramWithinLimits}
-use Rattle.life_proper_check.specs.ServedForms.{AreWithin}
+use Rattle.life_proper_check.specs.Deciding.{AreWithin}
 
 all_within : (types : Types) (fs : List Function) → AreWithin types fs → (i : ℕ) (f : Function) → slice_get fs i ≡ Some f → IsWithinLimits types f
 all_within types [] within i f e = absurd (none-some f e)

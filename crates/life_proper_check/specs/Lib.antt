@@ -1,2 +1,3 @@
+pub mod Deciding
+pub mod OwnSlots
 pub mod Results
-pub mod ServedForms

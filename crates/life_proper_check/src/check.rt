@@ -3,23 +3,22 @@ ghost use Rattle.std.specs.Prelude.{◌≡◌, ◌≤◌, IfOk, IsTrue, None, le
 ghost use Rattle.std.specs.List.{list_all};
 ghost use Rattle.life_core.specs.Function.{function_of, program_of};
 ghost use Rattle.life_core.specs.Node.{spot_seen};
-ghost use Rattle.life_core_served.specs.Served.{is_served, is_served_local, is_served_program, is_served_spot};
 ghost use Rattle.life_types.specs.Trees.{IsOrdered};
 ghost use Rattle.life_types.specs.Types.{HasEachOnce};
 ghost use Rattle.life_pset.specs.Limits.{IsProgramWithinLimits};
 ghost use Rattle.life_core_served.specs.ProperPrograms.{IsProperProgram, has_own_breaks};
 ghost use Rattle.life_proper.specs.ResultsWritten.{WritesResults};
-ghost use Rattle.life_proper_check.specs.ServedForms.{AreWithin, has_no_structs, is_formed_function, is_formed_header, is_formed_program, is_formed_spot};
+ghost use Rattle.life_proper.specs.WellFormed.{is_well_formed_spot};
+ghost use Rattle.life_proper_check.specs.Deciding.{AreWithin, is_formed_function, is_formed_header, is_formed_program};
 
 use crate::breaks::breaks_inside;
 use crate::forms::is_formed;
 use crate::headers::{
-    are_formed_locals, have_own_names, is_formed_result, is_name, names_parameters,
+    are_formed_locals, have_names, have_own_names, is_formed_result, is_name, names_parameters,
 };
 use crate::kept::keeps_all_given;
 use crate::results::{are_results_written, both};
 use crate::scope::Scope;
-use crate::served::{is_served_local, is_served_node, is_served_return};
 use life_core::{CoreFn, CoreProgram, SpotRef, spots};
 use life_proper::is_proper;
 use life_pset::is_within_limits;
@@ -29,10 +28,6 @@ use std::alloc::Global;
 /// A part of what is asked of a proper program.
 #[derive(Clone, Copy)]
 pub enum Part {
-    /// It has a step or a local that is served later.
-    Served,
-    /// It has a struct.
-    Structs,
     /// A number names nothing, a type doesn't fit, or what is const is written.
     WellFormed,
     /// Something else takes what is given over, or points into it.
@@ -49,9 +44,9 @@ pub enum Part {
 
 /// The first part of what is asked of a proper program that this one isn't found to meet; a program with none is
 /// proper. It is for programs that are made by hand, as those of tests: a translation is proper by a law. That a
-/// part isn't met is no proof that the program isn't proper, since what isn't served is looked at no further, and
-/// some type of the table must be a pointer. Meanwhile results are given another type, so the program is borrowed
-/// to be written, but it is as before. `NoMemory` says that memory was wanted.
+/// part isn't met is no proof that the program isn't proper, since some type of the table must be a pointer, and
+/// there must be room for one more. Meanwhile results are given another type, so the program is borrowed to be
+/// written, but it is as before. `NoMemory` says that memory was wanted.
 pub fn unmet_part(alloc: Global, p: &mut CoreProgram) -> Result<Option<Part>, NoMemory>
     ensures same { program_of p.new ≡ program_of p.old }
     ensures proper { IfOk result (λ part. part ≡ None → IsProperProgram (program_of p.new)) }
@@ -80,15 +75,12 @@ fn unmet_results(alloc: Global, p: &mut CoreProgram) -> Result<Option<Part>, NoM
 fn first_unmet(alloc: Global, p: &CoreProgram) -> Result<Option<Part>, NoMemory>
     ensures { IfOk result (λ part. part ≡ None → WritesResults (program_of p.now) → IsProperProgram (program_of p.now)) }
 {
-    let served = is_served(alloc, p)?;
     let formed = is_formed_program(alloc, p)?;
     let given = keeps_all_given(alloc, p)?;
     let limits = is_within(alloc, p)?;
     let ready = is_proper(alloc, p)?;
     let once = has_each_once(alloc, &p.types)?;
     Ok(first_of(Met {
-        served,
-        no_structs: has_no_structs(p),
         typed: has_types(&p.types),
         once,
         formed,
@@ -102,8 +94,6 @@ fn first_unmet(alloc: Global, p: &CoreProgram) -> Result<Option<Part>, NoMemory>
 // Which parts are met.
 #[derive(Clone, Copy)]
 struct Met {
-    served: bool,
-    no_structs: bool,
     typed: bool,
     once: bool,
     formed: bool,
@@ -114,13 +104,9 @@ struct Met {
 }
 
 fn first_of(met: Met) -> Option<Part>
-    ensures { result ≡ None → (met.served ≡ true) × ((met.no_structs ≡ true) × ((met.typed ≡ true) × ((met.once ≡ true) × ((met.formed ≡ true) × ((met.given ≡ true) × ((met.breaks ≡ true) × ((met.limits ≡ true) × (met.ready ≡ true)))))))) }
+    ensures { result ≡ None → (met.typed ≡ true) × ((met.once ≡ true) × ((met.formed ≡ true) × ((met.given ≡ true) × ((met.breaks ≡ true) × ((met.limits ≡ true) × (met.ready ≡ true)))))) }
 {
-    if !met.served {
-        Some(Part::Served)
-    } else if !met.no_structs {
-        Some(Part::Structs)
-    } else if !met.typed || !met.once || !met.formed {
+    if !met.typed || !met.once || !met.formed {
         Some(Part::WellFormed)
     } else if !met.given {
         Some(Part::Given)
@@ -133,52 +119,6 @@ fn first_of(met: Met) -> Option<Part>
     } else {
         None
     }
-}
-
-// ---- what is served
-
-fn is_served(alloc: Global, p: &CoreProgram) -> Result<bool, NoMemory>
-    ensures { IfOk result (λ answer. answer ≡ is_served_program (program_of p.now)) }
-{
-    for f in &p.functions {
-        if !is_served_function(alloc, &p.types, f)? {
-            return Ok(false);
-        }
-    }
-    Ok(true)
-}
-
-fn is_served_function(alloc: Global, types: &TypeTable, f: &CoreFn) -> Result<bool, NoMemory>
-    ensures { IfOk result (λ answer. answer ≡ is_served types.now (function_of f.now)) }
-{
-    let points = spots(alloc, f)?;
-    let inside = both(
-        are_served(types, f, &points),
-        is_served_return(types.get(f.result)),
-    );
-    Ok(both(are_served_locals(types, f), inside))
-}
-
-fn are_served_locals(types: &TypeTable, f: &CoreFn) -> bool
-    ensures { result ≡ list_all (is_served_local types.now) f.now.locals.items }
-{
-    for local in &f.locals {
-        if !is_served_local(types, local) {
-            return false;
-        }
-    }
-    true
-}
-
-fn are_served(types: &TypeTable, f: &CoreFn, points: &[SpotRef]) -> bool
-    ensures { result ≡ list_all (is_served_spot types.now (function_of f.now)) (map spot_seen points.now) }
-{
-    for point in points {
-        if !is_served_node(types, f, point.node) {
-            return false;
-        }
-    }
-    true
 }
 
 // ---- what is well formed
@@ -212,16 +152,10 @@ fn has_each_once(alloc: Global, types: &TypeTable) -> Result<bool, NoMemory>
     }
 }
 
-fn has_no_structs(p: &CoreProgram) -> bool
-    ensures { result ≡ has_no_structs (program_of p.now) }
-{
-    p.types.struct_count() == 0 && p.names.members.len() == 0
-}
-
 fn is_formed_program(alloc: Global, p: &CoreProgram) -> Result<bool, NoMemory>
-    ensures { IfOk result (λ answer. answer ≡ is_formed_program (program_of p.now)) }
+    ensures { IfOk result (λ answer. IsTrue answer → is_formed_program (program_of p.now) ≡ true) }
 {
-    if !have_own_names(&p.functions) {
+    if !have_names(p) || !have_own_names(&p.functions) {
         return Ok(false);
     }
     are_formed(alloc, p)
@@ -263,7 +197,7 @@ fn is_formed_header(at: &Scope, names: usize) -> bool
 }
 
 fn are_formed_points(at: &Scope, points: &[SpotRef]) -> bool
-    ensures { result ≡ list_all (is_formed_spot at.now.types.now at.now.texts (map function_of at.now.functions.now) (function_of at.now.function.now)) (map spot_seen points.now) }
+    ensures { result ≡ list_all (is_well_formed_spot at.now.types.now at.now.texts (map function_of at.now.functions.now) (function_of at.now.function.now)) (map spot_seen points.now) }
 {
     for point in points {
         if !is_formed(at, point.node) {

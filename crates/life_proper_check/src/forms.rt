@@ -1,12 +1,13 @@
-// Instructions and tests that are well formed, of the kinds that are served.
-ghost use Rattle.std.specs.Prelude.{◌≡◌, map, option_map, slice_get};
-ghost use Rattle.std.specs.List.{list_all};
+// Instructions and tests that are well formed.
+ghost use Rattle.std.specs.Prelude.{◌≡◌, ◌&&◌, map, option_map, slice_get};
+ghost use Rattle.std.specs.List.{list_all, list_any};
+ghost use Rattle.life_types.specs.Pointees.{ty_of};
 ghost use Rattle.life_core.specs.Function.{function_of};
 ghost use Rattle.life_core.specs.Node.{node_seen};
 ghost use Rattle.life_core.specs.Operands.{argument_of, location_of, source_of};
 ghost use Rattle.life_core.specs.Step.{asked_of, port_of, step_of};
-ghost use Rattle.life_proper.specs.WellFormed.{answer_of, can_end, can_live, goes_to, is_operation_of, is_port, is_source_of, is_well_formed_test, is_whole, local_type, types_taken};
-ghost use Rattle.life_proper_check.specs.ServedForms.{are_served_for, is_formed_node, is_formed_step, is_served_call, is_served_for};
+ghost use Rattle.life_proper.specs.WellFormed.{answer_of, are_arguments_for, are_one, can_end, can_live, goes_to, is_argument_for, is_call, is_operation_of, is_port, is_source_of, is_well_formed_node, is_well_formed_step, is_well_formed_test, is_whole, local_type, types_taken};
+ghost use Rattle.life_proper_check.specs.OwnSlots.{are_own_slots, is_handed_as, is_own_slot};
 
 use crate::owners::{is_change_of, is_copy, is_made_for, is_move};
 use crate::placed::{
@@ -17,7 +18,7 @@ use crate::placed::{
 use crate::scope::Scope;
 use crate::types::{
     aims_at, are_compared, gets, is_composed, is_promoted, is_range, is_reference, keeps_const,
-    owned_target, same, spans, takes, walks,
+    owned_target, pointee, same, spans, takes, walks,
 };
 use life_core::{
     Argument, CoreFn, FnId, Instr, Local, Location, NodeRef, Operation, Operator, Port, Source,
@@ -130,7 +131,7 @@ fn is_port(at: &Scope, port: &Port) -> bool
 
 // Whether a parameter of the type is handed this.
 fn is_argument_for(at: &Scope, id: TyId, argument: &Argument) -> bool
-    ensures { result ≡ is_served_for at.now.types.now at.now.texts (map function_of at.now.functions.now) (function_of at.now.function.now) id (argument_of argument.now) }
+    ensures { result ≡ is_argument_for at.now.types.now at.now.texts (map function_of at.now.functions.now) (function_of at.now.function.now) id (argument_of argument.now) }
 {
     match argument {
         Argument::Value(r) => is_number_of(at.types, at.function, ty_at(at.types, id), *r),
@@ -144,13 +145,17 @@ fn is_argument_for(at: &Scope, id: TyId, argument: &Argument) -> bool
                 ty_at(at.types, id),
                 type_in(at.types, at.function, l),
             ),
-        Argument::Slot(_) => false,
+        Argument::Slot(l) => is_slot(at.types, id)
+            && same(
+                pointee(at.types, ty_at(at.types, id)),
+                type_in(at.types, at.function, l),
+            ),
     }
 }
 
 // Whether as many are handed over as there are parameters.
 fn are_arguments_for(at: &Scope, taken: &[Local], arguments: &[Argument]) -> bool
-    ensures { result ≡ are_served_for at.now.types.now at.now.texts (map function_of at.now.functions.now) (function_of at.now.function.now) (map local_type taken.now) (map argument_of arguments.now) }
+    ensures { result ≡ are_arguments_for at.now.types.now at.now.texts (map function_of at.now.functions.now) (function_of at.now.function.now) (map local_type taken.now) (map argument_of arguments.now) }
 {
     let mut next: usize = 0;
     for argument in arguments {
@@ -174,6 +179,57 @@ pub(crate) fn is_whole(l: &Location) -> bool
     let none: &[u32] = &[];
     none.starts_with(&l.members)
 }
+
+// ---- slots
+
+fn are_one(a: &Location, b: &Location) -> bool
+    ensures { result ≡ are_one (location_of a.now) (location_of b.now) }
+{
+    a.local == b.local && a.members.starts_with(&b.members) && b.members.starts_with(&a.members)
+}
+
+fn is_handed_as(l: &Location, argument: &Argument) -> bool
+    ensures { result ≡ is_handed_as (location_of l.now) (argument_of argument.now) }
+{
+    match argument {
+        Argument::Slot(m) => are_one(l, m),
+        _ => false,
+    }
+}
+
+fn is_among(l: &Location, arguments: &[Argument]) -> bool
+    ensures { result ≡ list_any (is_handed_as (location_of l.now)) (map argument_of arguments.now) }
+{
+    for argument in arguments {
+        if is_handed_as(l, argument) {
+            return true;
+        }
+    }
+    false
+}
+
+fn is_own_slot(argument: &Argument, others: &[Argument]) -> bool
+    ensures { result ≡ is_own_slot (argument_of argument.now) (map argument_of others.now) }
+{
+    match argument {
+        Argument::Slot(l) => !is_among(l, others),
+        _ => true,
+    }
+}
+
+// Whether no two slots are handed one local.
+fn are_own_slots(arguments: &[Argument]) -> bool
+    ensures { result ≡ are_own_slots (map argument_of arguments.now) }
+{
+    for (number, argument) in arguments.iter().enumerate() {
+        if !is_own_slot(argument, &arguments[number + 1..]) {
+            return false;
+        }
+    }
+    true
+}
+
+// ---- results
 
 // Whether a result of the type goes there.
 fn goes_to(at: &Scope, ty: Ty, target: &Option<Location>) -> bool
@@ -207,21 +263,31 @@ fn parameters_of(g: &CoreFn) -> &[Local]
     }
 }
 
+// Whether the function is handed what it takes, and its result goes there.
+fn is_call_of(at: &Scope, g: &CoreFn, target: &Option<Location>, arguments: &[Argument]) -> bool
+    ensures { result ≡ (are_arguments_for at.now.types.now at.now.texts (map function_of at.now.functions.now) (function_of at.now.function.now) (types_taken (function_of g.now)) (map argument_of arguments.now)
+        && (are_own_slots (map argument_of arguments.now)
+        && goes_to at.now.types.now at.now.texts (map function_of at.now.functions.now) (function_of at.now.function.now) (ty_of at.now.types.now (function_of g.now).result) (option_map location_of target.now))) }
+{
+    are_arguments_for(at, parameters_of(g), arguments)
+        && are_own_slots(arguments)
+        && goes_to(at, ty_at(at.types, g.result), target)
+}
+
 #[tactic(auto, using(crate::proofs::Functions::function_at))]
 fn is_call(at: &Scope, function: FnId, target: &Option<Location>, arguments: &[Argument]) -> bool
-    ensures { result ≡ is_served_call at.now.types.now at.now.texts (map function_of at.now.functions.now) (function_of at.now.function.now) (slice_get (map function_of at.now.functions.now) function.0) (option_map location_of target.now) (map argument_of arguments.now) }
+    ensures { result ≡ is_call at.now.types.now at.now.texts (map function_of at.now.functions.now) (function_of at.now.function.now) (slice_get (map function_of at.now.functions.now) function.0) (option_map location_of target.now) (map argument_of arguments.now) }
 {
     match at.functions.get(function.0 as usize) {
         None => false,
-        Some(g) => are_arguments_for(at, parameters_of(g), arguments)
-            && goes_to(at, ty_at(at.types, g.result), target),
+        Some(g) => is_call_of(at, g, target, arguments),
     }
 }
 
 // ---- points
 
 fn is_formed_step(at: &Scope, instr: &Instr) -> bool
-    ensures { result ≡ is_formed_step at.now.types.now at.now.texts (map function_of at.now.functions.now) (function_of at.now.function.now) (step_of instr.now) }
+    ensures { result ≡ is_well_formed_step at.now.types.now at.now.texts (map function_of at.now.functions.now) (function_of at.now.function.now) (step_of instr.now) }
 {
     let types = at.types;
     let f = at.function;
@@ -317,7 +383,7 @@ fn is_test(at: &Scope, test: &Test) -> bool
 
 /// Whether what stands at a point is well formed.
 pub(crate) fn is_formed(at: &Scope, node: NodeRef) -> bool
-    ensures { result ≡ is_formed_node at.now.types.now at.now.texts (map function_of at.now.functions.now) (function_of at.now.function.now) (node_seen node.entry) }
+    ensures { result ≡ is_well_formed_node at.now.types.now at.now.texts (map function_of at.now.functions.now) (function_of at.now.function.now) (node_seen node.entry) }
 {
     match node {
         NodeRef::Action(instr) => is_formed_step(at, instr),

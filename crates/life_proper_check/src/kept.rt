@@ -8,9 +8,9 @@ ghost use Rattle.life_core.specs.Step.{change_of, step_of};
 ghost use Rattle.life_core.specs.Tree.{spots};
 ghost use Rattle.life_proper.specs.GivenOver.{all_keep_given, given_argument, given_change, given_made, given_node, given_spot, given_step, is_handed_in, is_kept, is_kept_argument, is_kept_base, is_kept_change, is_kept_place, is_kept_source, keeps_all_given, keeps_given, keeps_target, node_keeps_given, spot_keeps_given};
 
+use crate::forms::is_whole;
 use crate::placed::is_object_at;
 use crate::scope::Scope;
-use crate::served::has_none;
 use life_core::{
     Argument, Base, Change, CoreProgram, Instr, Location, Made, NodeRef, Operand, Source, SpotRef,
     spots,
@@ -163,7 +163,7 @@ fn are_kept_arguments(at: &Scope, points: &[SpotRef], arguments: &[Argument]) ->
 fn is_kept_location(l: &Location, arguments: &[Argument]) -> bool
     ensures { result ≡ keeps_target (Some (location_of l.now)) (map argument_of arguments.now) }
 {
-    has_none(&l.members) || !is_handed(arguments, l.local)
+    is_whole(l) || !is_handed(arguments, l.local)
 }
 
 fn is_kept_target(target: &Option<Location>, arguments: &[Argument]) -> bool

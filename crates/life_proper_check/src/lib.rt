@@ -1,5 +1,5 @@
 //! A checker of programs that are made by hand: whether all that is asked of a proper program is met, or which part
-//! isn't, for what is served so far.
+//! isn't, and whether its verdict is proved.
 #![tactic(auto)]
 
 mod breaks;
@@ -12,6 +12,8 @@ mod placed;
 mod results;
 mod scope;
 mod served;
+mod standing;
 mod types;
 
 pub use check::{Part, unmet_part};
+pub use served::is_served;

@@ -1,21 +1,22 @@
 -- No run of a proper program of which nothing is diagnosed ends in a fault.
 use Rattle.std.proofs.Common.{◌≡◌, List, [], ◌∷◌, length, refl, subst, arith}
 use Rattle.life_core.specs.Function.{Program}
-use Rattle.life_core_served.specs.ProperPrograms.{IsProperProgram}
-use Rattle.life_core_served.proofs.PointsAsked.{proper_functions}
+use Rattle.life_core_served.specs.ProperPrograms.{IsProperProgram, IsServedProgram}
+use Rattle.life_core_served.proofs.PointsAsked.{proper_functions, served_functions}
 use Rattle.life_rules.specs.Listing.{IsProgramDiagnosed, AreProgramDiagnostics}
 use Rattle.life_rules.specs.declared.diag.Diag.{Diag}
 use Rattle.life_rules.proofs.Unique.{nothing_wrong}
 use Rattle.life_store.specs.NoFault.{NoFault}
+use Rattle.life_cover.proofs.InertParts.{none_inert}
 use Rattle.life_cover.proofs.SafeRuns.{safe_runs}
 use Rattle.life_sound.proofs.Spoken.{body_spoken, hands_no_slots}
 
-pub soundness : (p : Program) → IsProperProgram p → ((d : Diag) → IsProgramDiagnosed p d → ⊥) → NoFault p
-soundness p proper none given entry f input n is admitted =
-    safe_runs p given entry f input n proper.well_formed (λ k g at. (proper_functions p proper k g at).ready) proper.given (hands_no_slots p proper) proper.so_far.structs
+pub soundness : (p : Program) → IsProperProgram p → IsServedProgram p → ((d : Diag) → IsProgramDiagnosed p d → ⊥) → NoFault p
+soundness p proper served none given entry f input n is admitted =
+    safe_runs p given entry f input n proper.well_formed (λ k g at. (proper_functions p proper k g at).ready) proper.given (hands_no_slots p served) (none_inert p.types served.structs)
     (λ k g at. (
       (proper.limits.each k g at).steps,
-      body_spoken p.types (length p.texts) p.functions g (proper_functions p proper k g at),
+      body_spoken p.types served.structs (length p.texts) p.functions (served_functions p served) g (served_functions p served k g at) (proper_functions p proper k g at),
     ))
     none is admitted
 
@@ -24,5 +25,5 @@ no_items : {A : Type 0} (xs : List A) → length xs ≡ 0 → xs ≡ []
 no_items [] e = refl
 no_items (x ∷ xs) e = absurd (omega (arith, e))
 
-pub sound_if_empty : (p : Program) (ds : List Diag) → IsProperProgram p → AreProgramDiagnostics p ds → length ds ≡ 0 → NoFault p
-sound_if_empty p ds proper all empty = soundness p proper (nothing_wrong (subst (AreProgramDiagnostics p) (no_items ds empty) all))
+pub sound_if_empty : (p : Program) (ds : List Diag) → IsProperProgram p → IsServedProgram p → AreProgramDiagnostics p ds → length ds ≡ 0 → NoFault p
+sound_if_empty p ds proper served all empty = soundness p proper served (nothing_wrong (subst (AreProgramDiagnostics p) (no_items ds empty) all))

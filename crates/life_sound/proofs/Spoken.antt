@@ -1,27 +1,32 @@
 -- What a program of the kinds that are served has of what the theorem on runs asks.
-use Rattle.std.proofs.Common.{◌≡◌, ℕ, zero, suc, true, false, List, [], ◌∷◌, length, map, take, slice_get, Option, Some, None, refl, sym, subst, ◌∙◌}
+use Rattle.std.proofs.Common.{◌≡◌, ℕ, zero, suc, true, false, List, [], ◌∷◌, map, take, slice_get, Option, Some, None, refl, sym, subst, ◌∙◌}
 use Rattle.std.specs.Prelude.{ℤ}
 use Rattle.std.specs.List.{list_all}
 use Rattle.std.proofs.lemmas.Bool.{and_parts, false≢true}
-use Rattle.life_types.specs.Types.{Types}
+use Rattle.life_types.specs.Pointees.{ty_of}
+use Rattle.life_types.specs.Types.{Types, is_slot_at}
+use Rattle.life_types.specs.declared.ty.Ty.{Ty}
+use Rattle.life_types.specs.declared.ty.TyId.{TyId}
+use Rattle.life_core.specs.declared.program.FnId.{FnId}
 use Rattle.life_core.specs.declared.program.Local.{Local}
 use Rattle.life_core.specs.Function.{Function, Program}
-use Rattle.life_core.specs.Operands.{Argument, GivenOver, Location, PointerOf, Slot, Value}
-use Rattle.life_core_served.specs.Served.{is_served_argument, is_served_local, is_served_location, is_served_node, is_served_step, is_served_target}
+use Rattle.life_core.specs.Operands.{Argument, Location, Slot}
+use Rattle.life_core_served.specs.Served.{is_served, is_served_local}
 use Rattle.life_core.specs.Step.{Call, Step}
 use Rattle.life_core.specs.Tree.{Node}
 use Rattle.life_proper.specs.Placed.{is_slot_local, slot_at}
 use Rattle.life_core_served.specs.ProperFunctions.{IsProperFunction}
-use Rattle.life_core_served.specs.ProperPrograms.{IsProperProgram}
-use Rattle.life_proper.specs.WellFormed.{local_type, types_taken}
-use Rattle.life_core_served.proofs.PointsAsked.{point_served, proper_functions}
-use Rattle.life_core_served.proofs.ServedLocals.{empty_is, not_slot, served_locals}
+use Rattle.life_core_served.specs.ProperPrograms.{IsProperProgram, IsServedProgram}
+use Rattle.life_proper.specs.WellFormed.{are_arguments_for, goes_to, have_own_slots, is_argument_for, is_call, is_well_formed_node, is_well_formed_step, local_type, types_taken}
+use Rattle.life_core_served.proofs.PlainCalls.{slot_handed, target_whole}
+use Rattle.life_core_served.proofs.PointsAsked.{point_formed, served_functions}
+use Rattle.life_core_served.proofs.ServedLocals.{HaveNoSlot, first_served, not_slot}
 use Rattle.life_proper.proofs.SpotTests.{all_at}
 use Rattle.life_forest.proofs.HandedOver.{ArePointerSlots}
 use Rattle.life_forest.proofs.NeverStrays.{never_strays}
 use Rattle.life_store.specs.Doing.{Given}
 use Rattle.life_store.specs.Meaning.{IsAdmitted, IsFound, run_of}
-use Rattle.life_cover.proofs.Arguments.{AreSlotless}
+use Rattle.life_cover.proofs.Arguments.{AreSlotless, IsSlotless}
 use Rattle.life_cover.proofs.CallKinds.{IsPlainTarget}
 use Rattle.life_cover.proofs.SafeBodies.{IsSpokenAction, IsSpokenBody}
 use Rattle.life_cover.proofs.SafeRuns.{HandsPointerSlots}
@@ -38,42 +43,55 @@ no_slots types (suc n) (l ∷ ls) e =
 
 -- ---- each instruction
 
-arguments_spoken : (xs : List Argument) → list_all is_served_argument xs ≡ true → AreSlotless xs
-arguments_spoken [] e = tt
-arguments_spoken (Value r ∷ xs) e = (tt, arguments_spoken xs e)
-arguments_spoken (GivenOver x ∷ xs) e = absurd (false≢true e)
-arguments_spoken (PointerOf l ∷ xs) e = (tt, arguments_spoken xs (and_parts (is_served_location l) (list_all is_served_argument xs) e).1)
-arguments_spoken (Slot l ∷ xs) e = absurd (false≢true e)
+module _ (types : Types) (none : types.structs ≡ []) (texts : ℕ) (fs : List Function) (f : Function) where
+  argument_spoken : (id : TyId) (x : Argument) → is_slot_at types id ≡ false → is_argument_for types texts fs f id x ≡ true → IsSlotless x
+  argument_spoken id (Slot l) slotless e = slot_handed types none texts fs f id l slotless e
+  argument_spoken id _ slotless e = tt
 
-module _ (types : Types) (f : Function) (locals : list_all (is_served_local types) f.locals ≡ true) where
-  no_slot : (x : ℕ) → slot_at types f x ≡ false
-  no_slot x = go (slice_get f.locals x) refl
-    where
-      go : (o : Option Local) → slice_get f.locals x ≡ o → is_slot_local types f o ≡ false
-      go None at = refl
-      go (Some l) at = not_slot types l (all_at (is_served_local types) f.locals x l locals at)
+  arguments_spoken : (ids : List TyId) (xs : List Argument) → HaveNoSlot types ids → are_arguments_for types texts fs f ids xs ≡ true → AreSlotless xs
+  arguments_spoken [] [] slotless e = tt
+  arguments_spoken [] (x ∷ xs) slotless e = absurd (false≢true e)
+  arguments_spoken (id ∷ ids) [] slotless e = absurd (false≢true e)
+  arguments_spoken (id ∷ ids) (x ∷ xs) slotless e =
+      let both = and_parts (is_argument_for types texts fs f id x) (are_arguments_for types texts fs f ids xs) e in
+      (argument_spoken id x slotless.0 both.0, arguments_spoken ids xs slotless.1 both.1)
 
-  target_spoken : (target : Option Location) → is_served_target target ≡ true → IsPlainTarget types f target
-  target_spoken None served = tt
-  target_spoken (Some l) served = (empty_is l.members served, no_slot l.local)
+  module _ (slotless : (n : ℕ) (g : Function) → slice_get fs n ≡ Some g → is_served types g ≡ true) (locals : is_served types f ≡ true) where
+    no_slot : (x : ℕ) → slot_at types f x ≡ false
+    no_slot x = go (slice_get f.locals x) refl
+      where
+        go : (o : Option Local) → slice_get f.locals x ≡ o → is_slot_local types f o ≡ false
+        go None at = refl
+        go (Some l) at = not_slot types l (all_at (is_served_local types) f.locals x l locals at)
 
-  step_spoken : (i : Step) → is_served_step types f i ≡ true → IsSpokenAction types f i
-  step_spoken (Call target g xs) served =
-      let both = and_parts (is_served_target target) (list_all is_served_argument xs) served in
-      (target_spoken target both.0, arguments_spoken xs both.1)
-  step_spoken _ served = tt
+    target_spoken : (t : Ty) (target : Option Location) → goes_to types texts fs f t target ≡ true → IsPlainTarget types f target
+    target_spoken t None e = tt
+    target_spoken t (Some l) e = (target_whole types none texts fs f t l e, no_slot l.local)
+
+    call_spoken : (n : ℕ) (g : Option Function) (number : FnId) (target : Option Location) (xs : List Argument) → slice_get fs n ≡ g → is_call types texts fs f g target xs ≡ true → IsSpokenAction types f (Call target number xs)
+    call_spoken n None number target xs at e = absurd (false≢true e)
+    call_spoken n (Some g) number target xs at e =
+        let handed = and_parts (are_arguments_for types texts fs f (types_taken g) xs) _ e in
+        let goes = and_parts (have_own_slots types texts fs f xs) (goes_to types texts fs f (ty_of types g.result) target) handed.1 in (
+          target_spoken (ty_of types g.result) target goes.1,
+          arguments_spoken (types_taken g) xs (first_served types g.parameters g.locals (slotless n g at)) handed.0,
+        )
+
+    step_spoken : (i : Step) → is_well_formed_step types texts fs f i ≡ true → IsSpokenAction types f i
+    step_spoken (Call target g xs) e = call_spoken g.0 (slice_get fs g.0) g target xs refl e
+    step_spoken _ e = tt
 
 -- ---- each function
 
-module _ (types : Types) (texts : ℕ) (fs : List Function) (f : Function) (proper : IsProperFunction types texts fs f) where
+module _ (types : Types) (none : types.structs ≡ []) (texts : ℕ) (fs : List Function) (slotless : (n : ℕ) (g : Function) → slice_get fs n ≡ Some g → is_served types g ≡ true) (f : Function)
+    (served : is_served types f ≡ true) (proper : IsProperFunction types texts fs f) where
   pub body_spoken : IsSpokenBody types f
-  body_spoken p l i at is = step_spoken types f (served_locals types f proper.served) i (subst (λ (n : Node). is_served_node types f n ≡ true) is (point_served types texts fs f proper p l at))
+  body_spoken p l i at is =
+      step_spoken types none texts fs f slotless served i
+      (subst (λ (n : Node). is_well_formed_node types texts fs f n ≡ true) is (point_formed types texts fs f proper p l at))
 
-  taken_free : ArePointerSlots types (types_taken f)
-  taken_free = no_slots types f.parameters f.locals (served_locals types f proper.served)
-
-pub hands_no_slots : (p : Program) → IsProperProgram p → HandsPointerSlots p
-hands_no_slots p proper = record { free = λ k g at. taken_free p.types (length p.texts) p.functions g (proper_functions p proper k g at) }
+pub hands_no_slots : (p : Program) → IsServedProgram p → HandsPointerSlots p
+hands_no_slots p served = record { free = λ k g at. no_slots p.types g.parameters g.locals (served_functions p served k g at) }
 
 -- .. so no run of it strays
 pub never_lost : (p : Program) (given : Given) (entry : ℕ) (f : Function) (input : List ℤ) (n : ℕ) → IsProperProgram p → slice_get p.functions entry ≡ Some f → IsAdmitted p f input

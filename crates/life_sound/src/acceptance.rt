@@ -1,7 +1,7 @@
 // Programs that are accepted, and programs that are rejected.
 ghost use Rattle.std.specs.Prelude.{◌≡◌, ◌≢◌, [], map, MatchResult};
 ghost use Rattle.life_core.specs.Function.{program_of};
-ghost use Rattle.life_core_served.specs.ProperPrograms.{IsProperProgram};
+ghost use Rattle.life_core_served.specs.ProperPrograms.{IsProperProgram, IsServedProgram};
 ghost use Rattle.life_rules.specs.Listing.{AreProgramDiagnostics, listed_diag};
 ghost use Rattle.life_store.specs.NoFault.{NoFault};
 
@@ -39,10 +39,11 @@ pub struct Rejected {
     pub diagnostics: Vec<ListedDiag>,
 }
 
-/// Accepts a proper program of which nothing is diagnosed. Either way the program, and what was found, come
+/// Accepts a proper program that is served and of which nothing is diagnosed. Either way the program, and what was found, come
 /// back as they were. It takes no memory.
 pub fn accept(program: CoreProgram, diagnostics: Vec<ListedDiag>) -> Result<Accepted, Rejected>
     requires proper { IsProperProgram (program_of program) }
+    requires served { IsServedProgram (program_of program) }
     requires all { AreProgramDiagnostics (program_of program) (map listed_diag diagnostics.items) }
     ensures { MatchResult result
         (λ accepted. (accepted ≡ program) × (diagnostics.items ≡ []))

@@ -1,7 +1,7 @@
 use Rattle.std.proofs.Common.{◌≡◌, drop, length, map}
 use Rattle.std.specs.List.{list_all}
 use Rattle.life_core.specs.Function.{function_of}
-use Rattle.life_proper_check.specs.ServedForms.{is_formed_function}
+use Rattle.life_proper_check.specs.Deciding.{is_formed_function}
 use Rattle.life_proper_check.proofs.check.are_formed.Given as goal
 
 -- what is left decides

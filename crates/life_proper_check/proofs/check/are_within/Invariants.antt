@@ -1,6 +1,6 @@
 use Rattle.std.proofs.Common.{drop, map}
 use Rattle.life_core.specs.Function.{function_of}
-use Rattle.life_proper_check.specs.ServedForms.{AreWithin}
+use Rattle.life_proper_check.specs.Deciding.{AreWithin}
 use Rattle.life_proper_check.proofs.check.are_within.Given as goal
 
 -- what is left decides

@@ -10,5 +10,5 @@ pub returns : goal.returns
 returns c none results =
     let all = c.first_of.ensures none in
     let breaks = ap (λ (fs : List CoreFn). list_all has_own_breaks (map function_of fs)) (sym c.deref.ensures.value) ∙ sym c.have_own_breaks.ensures in
-    parts_proper (program_of c.args.p.now) (sym c.in_ok-served.ensures ∙ all.0) (sym c.has_no_structs.ensures ∙ all.1.0) (c.has_types.ensures all.1.1.0)
-    (c.in_ok-once.ensures all.1.1.1.0) (sym c.in_ok-formed.ensures ∙ all.1.1.1.1.0) (sym c.in_ok-given.ensures ∙ all.1.1.1.1.1.0) (breaks ∙ all.1.1.1.1.1.1.0) (c.in_ok-limits.ensures all.1.1.1.1.1.1.1.0) (sym c.in_ok-ready.ensures ∙ all.1.1.1.1.1.1.1.1) results
+    parts_proper (program_of c.args.p.now) (c.has_types.ensures all.0) (c.in_ok-once.ensures all.1.0) (c.in_ok-formed.ensures all.1.1.0) (sym c.in_ok-given.ensures ∙ all.1.1.1.0) (breaks ∙ all.1.1.1.1.0)
+    (c.in_ok-limits.ensures all.1.1.1.1.1.0) (sym c.in_ok-ready.ensures ∙ all.1.1.1.1.1.1) results

@@ -11,4 +11,4 @@ pub invariant_of-result : goal.invariant_of-result
 invariant_of-result c =
     let none : vec_len c.args.diagnostics ≡ 0 = eqb-true (vec_len c.args.diagnostics) 0 (sym c.is_empty.ensures ∙ c.if-is_empty.true) in
     let empty : length (map listed_diag c.args.diagnostics.items) ≡ 0 = length-map c.args.diagnostics.items listed_diag ∙ sym c.args.diagnostics.ok.0 ∙ none in
-    sound_if_empty (program_of c.args.program) (map listed_diag c.args.diagnostics.items) c.requires.proper c.requires.all empty
+    sound_if_empty (program_of c.args.program) (map listed_diag c.args.diagnostics.items) c.requires.proper c.requires.served c.requires.all empty

@@ -2,7 +2,7 @@ use Rattle.std.proofs.Common.{◌≡◌, drop, map}
 use Rattle.std.specs.List.{list_all}
 use Rattle.life_core.specs.Function.{function_of}
 use Rattle.life_core_served.specs.Served.{is_served}
-use Rattle.life_proper_check.proofs.check.is_served.Given as goal
+use Rattle.life_proper_check.proofs.served.has_no_slots.Given as goal
 
 -- what is left decides
 abbrev pub invariant-loop-f : goal.invariant-loop-f

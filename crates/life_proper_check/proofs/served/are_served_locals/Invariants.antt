@@ -1,7 +1,7 @@
 use Rattle.std.proofs.Common.{◌≡◌, drop}
 use Rattle.std.specs.List.{list_all}
 use Rattle.life_core_served.specs.Served.{is_served_local}
-use Rattle.life_proper_check.proofs.check.are_served_locals.Given as goal
+use Rattle.life_proper_check.proofs.served.are_served_locals.Given as goal
 
 -- what is left decides
 abbrev pub invariant-loop-local : goal.invariant-loop-local
