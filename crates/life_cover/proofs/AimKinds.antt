@@ -1,4 +1,4 @@
--- The kinds of instructions that give a pointer a value, of a whole frame without structs: there is no fault, and the facts behind them cover
+-- The kinds of instructions that give a pointer a value, of a whole frame: there is no fault, and the facts behind them cover
 -- all pointers.
 use Rattle.std.proofs.Common.{◌≡◌, ◌≢◌, ℕ, true, false, List, [], Option, Some, None, refl, sym, ap, subst, ◌∙◌, arith}
 use Rattle.std.specs.Prelude.{Contains}
@@ -105,12 +105,12 @@ module _ (types : Types) (f : Function) (rest : ℕ → ℕ) (inputs : Root → 
     pub place_kind : (s : Setting) → IsRight sigs types n f place (Aim (whole p) (named.Place o)) S S' → is_void (type_of types f o) ≡ false → aims_at types (type_at types f p) (type_of types f o) ≡ true → ((look_at types f p).constant ≡ false → is_const_place types f o ≡ false)
         → OnRight (does s types f (Aim (whole p) (named.Place o)) st) (FrameCovered types f inputs S')
     place_kind s right solid aims const =
-        on_place_right types f st (StandsAt inputs) (may_change types f) S o (reach_at types f rest inputs S st k o solid (λ q used. used_right sigs types n f place i S right.clean q used))
+        on_place_right types f st (StandsAt inputs) (may_change types f) S o (reach_at types f rest inputs S st k right.closed.of o solid (λ q used. used_right sigs types n f place i S right.clean q used))
         (λ m j object. pointed types f (whole p) (pointer_to st.world.content m j (operand_word types f o st)) st) (λ c. on_character s.texts c (λ z. pointed types f (whole p) (at_index 0 c.index (Static c)) st)) (FrameCovered types f inputs S')
         (λ r. given i right (λ e. refl) (λ x ne. other_local p x ne) (pointer_to st.world.content r.region.object r.index (operand_word types f o st))
         (record {
           known = element.At r.place;
-          holds = given_fact types f st (StandsAt inputs) (may_change types f) sigs place i S S' false p o r right.closed refl (λ x. refl) listed (place_known types f rest inputs S st k o r solid right.closed.of);
+          holds = given_fact types f st (StandsAt inputs) (may_change types f) sigs place i S S' false p o r right.closed refl (λ x. refl) listed (place_known types f rest inputs S st k o r);
           covers = record {
             region = r.region;
             lies = r.lies;
@@ -144,14 +144,14 @@ module _ (types : Types) (f : Function) (rest : ℕ → ℕ) (inputs : Root → 
         has : IsOpened types f rest inputs S st k o r u item.item
         has = opened types f rest inputs S st k o r (owner_whole types f rest inputs S st k o r solid_owner sigs n place i S' right uses_it) u is item.item item.type item.buffer
 
-        can : CanOpen types k.ordered k.plain f k.shaped k.short st.world.content st.cells (object_named types f rest inputs S st k) inputs k.given.each r.place
-        can = opens_place types f rest inputs S st k o r solid_owner right.closed.of item.item has.type
+        can : CanOpen types k.ordered f k.shaped k.short st.world.content st.cells (object_named types f rest inputs S st k) inputs k.given.each r.place
+        can = opens_place types f rest inputs S st k o r item.item has.type
 
         into : S' (fact_at (local_place p) (element.At (owned_place r.place)))
         into = given_fact types f st (StandsAt inputs) (may_change types f) sigs place i S S' true p o r right.closed none one listed can.known
 
       reach : (i : Step) → IsRight sigs types n f place i S S' → ((q : Location) → Contains (used_in o) q → Contains (uses i) q) → Reach types f st (StandsAt inputs) (may_change types f) S o
-      reach i right used = reach_at types f rest inputs S st k o solid_owner (λ q h. used_right sigs types n f place i S right.clean q (used q h))
+      reach i right used = reach_at types f rest inputs S st k right.closed.of o solid_owner (λ q h. used_right sigs types n f place i S right.clean q (used q h))
 
       pub whole_aim_kind : (s : Setting) → IsRight sigs types n f place (Aim (whole p) (named.Whole o)) S S' → is_range (type_at types f p) ≡ true → ((look_at types f p).constant ≡ false → is_const_place types f o ≡ false) → OnRight (does s types f (Aim (whole p) (named.Whole o)) st) (FrameCovered types f inputs S')
       whole_aim_kind s right ranged const =

@@ -43,15 +43,16 @@ use Rattle.life_forest.proofs.SettlingPointers.{alike_points}
 use Rattle.life_forest.proofs.Shaped.{IsShaped, no_slot}
 use Rattle.life_cover.specs.Covers.{Covers, Holds, IsCovered, IsSeenAs, PointsTo}
 use Rattle.life_cover.specs.Frames.{RootStands, look_at}
-use Rattle.life_cover.specs.Inputs.{IsAllOf, StandsAt, may_change}
+use Rattle.life_cover.specs.Inputs.{StandsAt, may_change, type_seen}
 use Rattle.life_cover.specs.Passed.{IsPassed, IsPassedTo, parameter_input, takes_null}
-use Rattle.life_cover.specs.Regions.{Region}
+use Rattle.life_cover.specs.Regions.{HasPart, IsPart, Region}
 use Rattle.life_cover.proofs.CalledRight.{not_invalid, null_admitted}
 use Rattle.life_cover.proofs.Fresh.{holds_lives}
 use Rattle.life_cover.proofs.Guarding.{same_region}
 use Rattle.life_cover.proofs.KnownFrames.{IsKnownFrame, IsRight, at_pointer}
 use Rattle.life_cover.proofs.Looks.{TakesAll, takes_across}
-use Rattle.life_cover.proofs.Opening.{place_all}
+use Rattle.life_cover.proofs.ObjectParts.{seen_exact}
+use Rattle.life_cover.proofs.Opening.{place_part}
 use Rattle.life_cover.proofs.PointerInputs.{in_signature, signature_parameter}
 use Rattle.life_cover.proofs.Using.{IsTo, NotInvalid, not_wild, to_place}
 
@@ -130,7 +131,7 @@ pub record IsAimedBy (types : Types) (f : Function) (inputs : Root → Option Re
   pub place : AbsPlace
   pub fact : S (fact_at (local_place from) (element.At place))
   pub points : PointsTo types st.world.content (RootStands types f (StandsAt inputs) st.cells) (may_change types f) (look_at types f from) place t
-  pub object : (o : Object) → at st.world.content.objects t.object ≡ Some o → record { object = t.object; word = t.word; ty = o.ty } ≡ points.region
+  pub object : (o : Object) → at st.world.content.objects t.object ≡ Some o → record { object = t.object; word = t.word; ty = type_seen types (look_at types gf q).target o.ty } ≡ points.region
   pub passed : IsPassedTo types st.world.content (look_at types gf q) t
 
 -- ---- of a frame of which all is known
@@ -209,23 +210,32 @@ module _ (types : Types) (f : Function) (rest : ℕ → ℕ) (inputs : Root → 
     abbrev region : Region
     region = aimed.points.region
 
-    aimed_all : IsAllOf st.world.content region
-    aimed_all = place_all types f rest inputs S st k aimed.place region aimed.points.lies
+    aimed_part : IsPart types st.world.content region
+    aimed_part = place_part types f rest inputs S st k aimed.place region aimed.points.lies
+
+    aimed_seen : IsSeenAs types (look_at types gf q).target region.ty
+    aimed_seen = b.look.target region.ty aimed.points.type
 
     aimed_holds : Holds st.world.content (look_at types gf q).ranged t
     aimed_holds = subst (λ ranged. Holds st.world.content ranged t) b.look.ranged aimed.points.holds
 
-    -- all of the object
-    object_there : (o : Object) → at st.world.content.objects t.object ≡ Some o → record { object = t.object; word = t.word; ty = o.ty } ≡ aimed.points.region
-    object_there o there = same_region (record { object = t.object; word = t.word; ty = o.ty }) region aimed.points.object aimed.points.word (aimed_all.type o (ap (at st.world.content.objects) (sym aimed.points.object) ∙ there))
+    -- a part of the object
+    part_there : (o : Object) → at st.world.content.objects t.object ≡ Some o → HasPart types o.ty region.word region.ty
+    part_there o there = aimed_part o (ap (at st.world.content.objects) (sym aimed.points.object) ∙ there)
+
+    seen_there : (o : Object) → at st.world.content.objects t.object ≡ Some o → type_seen types (look_at types gf q).target o.ty ≡ region.ty
+    seen_there o there = seen_exact types k.ordered (look_at types gf q).target o.ty region.word region.ty (part_there o there) aimed_seen
+
+    object_there : (o : Object) → at st.world.content.objects t.object ≡ Some o → record { object = t.object; word = t.word; ty = type_seen types (look_at types gf q).target o.ty } ≡ aimed.points.region
+    object_there o there = same_region (record { object = t.object; word = t.word; ty = type_seen types (look_at types gf q).target o.ty }) region aimed.points.object aimed.points.word (seen_there o there)
 
     passed_to : IsPassedTo types st.world.content (look_at types gf q) t
     passed_to =
         let o = holds_lives st.world.content (look_at types gf q).ranged t aimed_holds in record {
           object = o.0;
           there = o.1;
-          word = aimed.points.word ∙ aimed_all.word;
-          type = subst (IsSeenAs types (look_at types gf q).target) (sym (ap (λ (r : Region). r.ty) (object_there o.0 o.1))) (b.look.target region.ty aimed.points.type);
+          part = subst (HasPart types o.0.ty t.word) (sym (seen_there o.0 o.1)) (subst (λ w. HasPart types o.0.ty w region.ty) (sym aimed.points.word) (part_there o.0 o.1));
+          type = subst (IsSeenAs types (look_at types gf q).target) (sym (seen_there o.0 o.1)) aimed_seen;
           holds = aimed_holds;
         }
 

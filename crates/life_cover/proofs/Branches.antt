@@ -1,12 +1,8 @@
 -- A test leaves the state as it is, and the facts that its branch passes on cover all pointers: of the one that was tested each fact stays that
 -- may cover its value.
-use Rattle.std.proofs.Common.{◌≡◌, ◌≢◌, ℕ, zero, suc, Bool, true, false, ◌&&◌, ◌||◌, List, [], Option, Some, None, refl, sym, ap, subst, ◌∙◌}
+use Rattle.std.proofs.Common.{◌≡◌, ◌≢◌, ℕ, zero, suc, Bool, true, false, ◌&&◌, List, Option, Some, None, refl, sym, ap, subst, ◌∙◌}
 use Rattle.std.specs.Prelude.{ℤ, cond, pos, negsuc, slice_get}
-use Rattle.std.proofs.lemmas.Bool.{false≢true}
-use Rattle.life_types.specs.TypeTests.{is_raw, is_unique, is_void}
 use Rattle.life_types.specs.Types.{Types}
-use Rattle.life_types.specs.declared.ty.Ty.{Ty}
-use Rattle.life_types.specs.declared.ty.Ty.TheVariants as ty
 use Rattle.life_core.specs.Function.{Function}
 use Rattle.life_core.specs.Operands.{Location, whole}
 use Rattle.life_core.specs.Step.{Test, NonZero, NotNull}
@@ -29,9 +25,11 @@ use Rattle.life_store.proofs.MapLemmas.{one_or_apart}
 use Rattle.life_cover.specs.Covers.{Covers, IsCovered}
 use Rattle.life_cover.specs.Frames.{FrameCovered, RootStands, look_at}
 use Rattle.life_cover.proofs.Edges.{Passes}
+use Rattle.life_cover.proofs.InertParts.{nullable_alone}
 use Rattle.life_cover.proofs.KnownFrames.{whole_location}
 use Rattle.life_cover.proofs.Putting.{other_local}
 use Rattle.life_cover.specs.Inputs.{StandsAt, may_change}
+use Rattle.life_cover.specs.Members.{HaveInertMembers}
 use Rattle.life_cover.specs.Regions.{Region}
 
 -- the pointers of the state are covered by the facts of the branch
@@ -132,12 +130,8 @@ module _ (types : Types) (f : Function) (inputs : Root → Option Region) (S : F
           unlike : (v : Pointer) → Points v ≡ Named m → ⊥
           unlike v h = cc
 
-    nullable_solid : (t : Ty) → (is_raw t || is_unique t) ≡ true → is_void t ≡ false
-    nullable_solid ty.Void e = absurd (false≢true e)
-    nullable_solid _ e = refl
-
-    pub test_covered : types.structs ≡ [] → (texts : ℕ) (fs : List Function) (t : Test) (n : ℕ) → is_well_formed_test types texts fs f t ≡ true → Passes t true S H → Passes t false S F → IsCoveredBy types f inputs H F (test_at types f t n st)
-    test_covered plain texts fs (NonZero r) n e held failed = number_covered r held failed n (cell st r)
-    test_covered plain texts fs (NotNull l) n e held failed =
-        subst (λ (q : Location). Passes (NotNull q) true S H → Passes (NotNull q) false S F → IsCoveredBy types f inputs H F (test_at types f (NotNull q) n st)) (whole_location types plain f l (nullable_solid (type_in types f l) e))
+    pub test_covered : HaveInertMembers types → (texts : ℕ) (fs : List Function) (t : Test) (n : ℕ) → is_well_formed_test types texts fs f t ≡ true → Passes t true S H → Passes t false S F → IsCoveredBy types f inputs H F (test_at types f t n st)
+    test_covered inert texts fs (NonZero r) n e held failed = number_covered r held failed n (cell st r)
+    test_covered inert texts fs (NotNull l) n e held failed =
+        subst (λ (q : Location). Passes (NotNull q) true S H → Passes (NotNull q) false S F → IsCoveredBy types f inputs H F (test_at types f (NotNull q) n st)) (whole_location types inert f l (nullable_alone (type_in types f l) e))
         (λ h g. null_covered l.local h g n (cell st l.local) refl) held failed

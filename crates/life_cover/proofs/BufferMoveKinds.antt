@@ -29,14 +29,13 @@ use Rattle.life_forest.specs.Values.{owned_of}
 use Rattle.life_forest.specs.Within.{LiesWithin}
 use Rattle.life_forest.proofs.Members.{within_self}
 use Rattle.life_forest.proofs.OneNumber.{one_type}
-use Rattle.life_cover.specs.Inputs.{IsAllOf}
 use Rattle.life_cover.specs.Lacking.{MayLack}
-use Rattle.life_cover.specs.Regions.{Region}
+use Rattle.life_cover.specs.Regions.{IsPart, itself, Region}
 use Rattle.life_pset.specs.declared.element.Root.{Root}
 use Rattle.life_cover.proofs.Behind.{behind_content, no_local, tells_none}
 use Rattle.life_cover.proofs.BufferMoves.{IsBufferParts, moved_buffered}
 use Rattle.life_cover.proofs.Buffering.{IsBufferOwner, IsOwnerAt, but_more}
-use Rattle.life_cover.proofs.GivenBuffers.{HasGiven, IsBufferLocal, IsGiven, buffer_local, buffer_other, given_all, given_buffer, given_free, given_is, given_object, given_one, gives, its_buffer, not_given, parts_here}
+use Rattle.life_cover.proofs.GivenBuffers.{HasGiven, IsBufferLocal, IsGiven, buffer_local, buffer_other, given_buffer, given_free, given_is, given_object, given_one, gives, its_buffer, not_given, parts_here, given_part}
 use Rattle.life_cover.proofs.KeptBuffers.{all_some}
 use Rattle.life_cover.proofs.KnownFrames.{IsKnownFrame, IsRight, hand_of, store_of}
 use Rattle.life_cover.proofs.Lacking.{low_whole}
@@ -114,8 +113,8 @@ module _ (types : Types) (f : Function) (rest : ℕ → ℕ) (inputs : Root → 
         (owner_touches types k.ordered (hand_of rest st) st.world.content (store_of types f rest inputs S st k) u.number one m given.object given.there given.within given.slot n 0 0 u.variable.object
         (left_other types k.ordered (hand_of rest st) st.world.content (store_of types f rest inputs S st k) u.number one m given.object given.there given.within given.slot n u.variable.object u.variable.there apart free) within slot)
 
-    x_all : IsAllOf st.world.content (record { object = n; word = 0; ty = u.number })
-    x_all = record { word = refl; type = λ q there. ap (λ (o : Object). o.ty) (some_same (sym there ∙ u.variable.there)) ∙ u.type }
+    x_part : IsPart types st.world.content (record { object = n; word = 0; ty = u.number })
+    x_part q there = itself 0 u.number refl (ap (λ (o : Object). o.ty) (some_same (sym there ∙ u.variable.there)) ∙ u.type)
 
     x_other : IsOther types u.number
     x_other = buffer_other types (type_at types f x) u.number u.there buffer
@@ -129,8 +128,8 @@ module _ (types : Types) (f : Function) (rest : ℕ → ℕ) (inputs : Root → 
           (moved_buffered types (MayLack types f inputs S st) has.held (low_whole types f rest inputs S st k (record { object = m; word = 0; ty = u.number }) has.held has.low) st.world.content k.buffered (parts_at types u.number) is_buffer m n
           ((store_of types f rest inputs S st k).forest.births n u.variable.object u.variable.there) apart not_x owner (λ o there. ap (λ (q : Object). length q.slots) (some_same (sym there ∙ u.variable.there)) ∙ ap length u.variable.one)))
           (moved_spares types f rest inputs S st k sigs number place S' x y right other u.number u.typed typed_y n m named_x named_y behind touch)
-          (λ z j e is_unique. inr (had_beside_both types f rest inputs S st k (record { object = n; word = 0; ty = u.number }) (record { object = m; word = 0; ty = u.number }) x_all x_other
-          (given_all types f rest inputs S st k sigs number place S' (named.Name (whole x)) y right buffer_y m named_y u.number typed_y) x_other behind touch z j e is_unique)),
+          (λ z j e is_unique. inr (had_beside_both types f rest inputs S st k (record { object = n; word = 0; ty = u.number }) (record { object = m; word = 0; ty = u.number }) x_part x_other
+          (given_part types f rest inputs S st k sigs number place S' (named.Name (whole x)) y right buffer_y m named_y u.number typed_y) x_other behind touch z j e is_unique)),
       tells_none types f S' (put_content behind st),
     )
       where

@@ -14,6 +14,7 @@ use Rattle.life_store.proofs.CellLemmas.{cell_cases, none_some, set_cases, some_
 use Rattle.life_store.proofs.MapLemmas.{one_or_apart}
 use Rattle.life_forest.proofs.Coming.{IfGot}
 use Rattle.life_cover.specs.Buffered.{AreBut, HasBuffers}
+use Rattle.life_cover.proofs.InertParts.{AreSingle, single_has}
 use Rattle.life_cover.proofs.OwnersStay.{read_word}
 
 -- ---- slots
@@ -83,6 +84,9 @@ module _ (types : Types) where
   -- values have none
   pub single_have : (o : Object) → parts_at types o.ty ≡ Single → Have o
   single_have o single i s e = subst (λ (p : Parts). HasBuffers p s.words) (sym single) tt
+
+  pub inert_have : (o : Object) → AreSingle (parts_at types o.ty) → Have o
+  inert_have o single i s e = single_has (parts_at types o.ty) single s.words
 
   -- more may be left out
   pub but_more : (out more : ℕ → Type 0) (c : Content) → ((n : ℕ) → out n → more n) → AreBut types out c → AreBut types more c

@@ -67,7 +67,7 @@ module _ (types : Types) (f : Function) (rest : ℕ → ℕ) (inputs : Root → 
     (over : (n : ℕ) → 0 < times (named_in values) n → (x : ℕ) × (cell st x ≡ Some (Named n)) × IsUnnamed S x) where
   -- where the callee may touch owners
   abbrev regions : List Region
-  regions = mutated types gf (entry_inputs st.world.content values)
+  regions = mutated types gf (entry_inputs types gf st.world.content values)
 
   -- ---- what is killed
 
@@ -80,12 +80,12 @@ module _ (types : Types) (f : Function) (rest : ℕ → ℕ) (inputs : Root → 
     pub argument : is_mutating_argument types (signature_of gf) xs (local_place from) ≡ true
     pub own : owning types f at.root ≡ true
 
-  target_at : (b : Region) → Contains (mutated types gf (entry_inputs st.world.content values)) b → IsTarget b
-  target_at b among = of (mutated_from types gf (entry_inputs st.world.content values) b among)
+  target_at : (b : Region) → Contains (mutated types gf (entry_inputs types gf st.world.content values)) b → IsTarget b
+  target_at b among = of (mutated_from types gf (entry_inputs types gf st.world.content values) b among)
     where
-      of : (r : Root) × (StandsAt (entry_inputs st.world.content values) r b) × (owning types gf r ≡ true) → IsTarget b
+      of : (r : Root) × (StandsAt (entry_inputs types gf st.world.content values) r b) × (owning types gf r ≡ true) → IsTarget b
       of m =
-          let e = is_entered st.world.content values m.0 b m.1 in
+          let e = is_entered types gf st.world.content values m.0 b m.1 in
           let aim = aims e.parameter e.target e.handed in record {
             at = aim.place;
             stands = stood types f rest inputs S st k sigs number place S' target g xs right values gf at_g shaped aims over m.0 b m.1;
@@ -115,11 +115,11 @@ module _ (types : Types) (f : Function) (rest : ℕ → ℕ) (inputs : Root → 
       (cons_cases (h z (at_head z bs)).at (places_of bs (λ y m. h y (in_tail z bs y m))) a among)
 
   abbrev killed_places : List AbsPlace
-  killed_places = places_of (mutated types gf (entry_inputs st.world.content values)) target_at
+  killed_places = places_of (mutated types gf (entry_inputs types gf st.world.content values)) target_at
 
   -- it is owned by what a mutating argument points to
   pub killed : AbsPlace → Bool
-  killed p = list_any (λ a. under a p) (places_of (mutated types gf (entry_inputs st.world.content values)) target_at)
+  killed p = list_any (λ a. under a p) (places_of (mutated types gf (entry_inputs types gf st.world.content values)) target_at)
 
   -- ---- the facts that are left
 
@@ -129,7 +129,7 @@ module _ (types : Types) (f : Function) (rest : ℕ → ℕ) (inputs : Root → 
     where
       of : (a : AbsPlace) × Contains killed_places a × (under a p ≡ true) → (cause : Cause) × S' (fact_at l (element.Invalid cause))
       of w =
-          let t = listed_target (mutated types gf (entry_inputs st.world.content values)) target_at w.0 w.1 in
+          let t = listed_target (mutated types gf (entry_inputs types gf st.world.content values)) target_at w.0 w.1 in
           let x : Fact = fact_at l (element.Invalid (called place g.0)) in
           let below : under t.1.at p ≡ true = ap (λ (a : AbsPlace). under a p) t.2 ∙ w.2 in (
             called place g.0,
@@ -151,26 +151,26 @@ module _ (types : Types) (f : Function) (rest : ℕ → ℕ) (inputs : Root → 
 
   -- what the callee may touch
   abbrev callee_foot : Foot
-  callee_foot = foot_with types (mutated types gf (entry_inputs st.world.content values)) (named_in values)
+  callee_foot = foot_with types (mutated types gf (entry_inputs types gf st.world.content values)) (named_in values)
 
   guards : Guards types st.world.content (RootStands types f (StandsAt inputs) st.cells) S killed callee_foot
   unfolding killed
-  guards p r names at_r low = of (is_below types st.world.content (mutated types gf (entry_inputs st.world.content values)) (named_in values) r.object low)
+  guards p r names at_r low = of (is_below types st.world.content (mutated types gf (entry_inputs types gf st.world.content values)) (named_in values) r.object low)
     where
-      of : IsBelow types st.world.content (mutated types gf (entry_inputs st.world.content values)) (named_in values) r.object → killed p ≡ true
+      of : IsBelow types st.world.content (mutated types gf (entry_inputs types gf st.world.content values)) (named_in values) r.object → killed p ≡ true
       of (below_whole n lt under_n) = absurd (not_given_over types f rest inputs S st k sigs number place S' target g xs right values gf at_g shaped aims over p r names at_r n lt under_n)
       of (below_region b among under_b) =
-          let t = target_listed (mutated types gf (entry_inputs st.world.content values)) target_at b among in
+          let t = target_listed (mutated types gf (entry_inputs types gf st.world.content values)) target_at b among in
           some_passes (λ a. under a p) killed_places t.0.at t.1
           (under_place types k.ordered (hand_of rest st) st.world.content (store_of types f rest inputs S st k) (RootStands types f (StandsAt inputs) st.cells) (owning types f) (rooted_of types f rest inputs S st k) t.0.at p b r t.0.own t.0.stands at_r under_b)
 
   -- .. lies beneath what the frame may touch
-  pub call_within : Within (kinds_of types) st.world.content (foot_with types (mutated types gf (entry_inputs st.world.content values)) (named_in values)) (frame_foot types f inputs st.cells)
+  pub call_within : Within (kinds_of types) st.world.content (foot_with types (mutated types gf (entry_inputs types gf st.world.content values)) (named_in values)) (frame_foot types f inputs st.cells)
   call_within =
-      foot_within types st.world.content (frame_foot types f inputs st.cells) (mutated types gf (entry_inputs st.world.content values)) (named_in values) (λ n less lt. let h = over n lt in local_low types f rest inputs S st k h.0 n h.1)
+      foot_within types st.world.content (frame_foot types f inputs st.cells) (mutated types gf (entry_inputs types gf st.world.content values)) (named_in values) (λ n less lt. let h = over n lt in local_low types f rest inputs S st k h.0 n h.1)
       (λ b among. let t = target_at b among in place_within types f rest inputs S st k t.at b t.stands t.own)
 
-  pub call_spares : (d : Content) → Touches (kinds_of types) (foot_with types (mutated types gf (entry_inputs st.world.content values)) (named_in values)) st.world.content d → Touches (kinds_of types) (frame_foot types f inputs st.cells) st.world.content d
+  pub call_spares : (d : Content) → Touches (kinds_of types) (foot_with types (mutated types gf (entry_inputs types gf st.world.content values)) (named_in values)) st.world.content d → Touches (kinds_of types) (frame_foot types f inputs st.cells) st.world.content d
   call_spares d touch = touches_more (kinds_of types) (hand_of rest st) st.world.content (store_of types f rest inputs S st k).forest callee_foot (frame_foot types f inputs st.cells) d touch call_within
 
   -- ---- behind it
@@ -192,7 +192,7 @@ module _ (types : Types) (f : Function) (rest : ℕ → ℕ) (inputs : Root → 
               (λ same. o.2 a names (e ∙ ap (λ z. root.Local z) (sym same)))
               (λ ne. other_free types f rest inputs S st k o.0 r.object o.1 o.2 y r.object ne h.0 (whole r.object (is_positive (times (r.object ∷ []) r.object) (let s = one_same r.object r.object refl in omega (arith, s)))))
 
-  pub call_covered : (after : State) → Touches (kinds_of types) (foot_with types (mutated types gf (entry_inputs st.world.content values)) (named_in values)) st.world.content after.world.content
+  pub call_covered : (after : State) → Touches (kinds_of types) (foot_with types (mutated types gf (entry_inputs types gf st.world.content values)) (named_in values)) st.world.content after.world.content
       → ((y m : ℕ) → cell st y ≡ Some (Named m) → times (named_in values) m ≡ 0 → cell after y ≡ Some (Named m))
       → ((y : ℕ) (p : Pointer) → cell after y ≡ Some (Points p) → ((cell st y ≡ Some (Points p)) × (is_in_target target (local_place y) ≡ false)) ⊎ IsCovered types after.world.content (RootStands types f (StandsAt inputs) after.cells) (may_change types f) S' (local_place y) (look_at types f y) p)
       → FrameCovered types f inputs S' after

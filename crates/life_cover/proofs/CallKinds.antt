@@ -1,4 +1,4 @@
--- A call of a frame without structs that hands over no slot: the facts behind it cover all pointers of the frame, the result among them.
+-- A call of a frame that hands over no slot: the facts behind it cover all pointers of the frame, the result among them.
 use Rattle.std.proofs.Common.{◌≡◌, ◌≢◌, ◌⊎◌, inl, inr, ⊎_elim, ℕ, ◌+◌, ◌≤◌, ◌<◌, true, false, List, [], ◌∷◌, Option, Some, None, refl, sym, ap, subst, ◌∙◌, arith}
 use Rattle.std.specs.Prelude.{Contains, flat_map, slice_get, ◌&&◌}
 use Rattle.std.proofs.lemmas.Bool.{false≢true, ne_eqb}
@@ -168,23 +168,23 @@ module _ (types : Types) (f : Function) (rest : ℕ → ℕ) (inputs : Root → 
 
   -- what the callee may touch
   abbrev pub callee_foot : Foot
-  callee_foot = foot_with types (mutated types gf (entry_inputs st.world.content values)) (named_in values)
+  callee_foot = foot_with types (mutated types gf (entry_inputs types gf st.world.content values)) (named_in values)
 
   -- some cells are empty while it runs, and what is handed over isn't named meanwhile
   module _ (less : (y : ℕ) (v : Cell) → is_there v ≡ true → cell (lent types f xs st) y ≡ Some v → cell st y ≡ Some v) (hand : (j : ℕ) → times (named_in (lent types f xs st).cells) j + times (named_in values) j ≡ times (named_in st.cells) j)
-      (w : World) (touch : Touches (kinds_of types) (foot_with types (mutated types gf (entry_inputs st.world.content values)) (named_in values)) st.world.content w.content) (bare : ℕ → Type 0) (buffered : AreBut types bare w.content) (vs : List Cell) where
+      (w : World) (touch : Touches (kinds_of types) (foot_with types (mutated types gf (entry_inputs types gf st.world.content values)) (named_in values)) st.world.content w.content) (bare : ℕ → Type 0) (buffered : AreBut types bare w.content) (vs : List Cell) where
     -- what nobody comes to then
     abbrev pub LeftLoose : ℕ → Type 0
-    LeftLoose n = IsLoose types (entry_inputs st.world.content values) (named_in vs) w.content n × (times (named_in (lent types f xs st).cells) n ≡ 0) × IsSpared inputs n
+    LeftLoose n = IsLoose types (entry_inputs types gf st.world.content values) (named_in vs) w.content n × (times (named_in (lent types f xs st).cells) n ≡ 0) × IsSpared inputs n
 
     abbrev back : State
     back = record { world = w; cells = (lent types f xs st).cells }
 
-    spares : (d : Content) → Touches (kinds_of types) (foot_with types (mutated types gf (entry_inputs st.world.content values)) (named_in values)) st.world.content d → Touches (kinds_of types) (frame_foot types f inputs st.cells) st.world.content d
+    spares : (d : Content) → Touches (kinds_of types) (foot_with types (mutated types gf (entry_inputs types gf st.world.content values)) (named_in values)) st.world.content d → Touches (kinds_of types) (frame_foot types f inputs st.cells) st.world.content d
     spares = call_spares types f rest inputs S st k sigs number place S' target g xs right values gf at_g shaped aims (given_object types f rest inputs S st k sigs number place S' target g xs right values plain each)
 
     -- .. and of unique_ptrs none that is named then
-    had : (d : Content) → Touches (kinds_of types) (foot_with types (mutated types gf (entry_inputs st.world.content values)) (named_in values)) st.world.content d
+    had : (d : Content) → Touches (kinds_of types) (foot_with types (mutated types gf (entry_inputs types gf st.world.content values)) (named_in values)) st.world.content d
         → (y m : ℕ) → cell (lent types f xs st) y ≡ Some (Named m) → is_unique (type_at types f y) ≡ true → had_by d m ≡ had_by st.world.content m
     had = had_called types f rest inputs S st k gf xs values aims less hand
 
@@ -280,7 +280,7 @@ module _ (types : Types) (f : Function) (rest : ℕ → ℕ) (inputs : Root → 
                 (λ other. ⊎_elim (λ is. let e = among n is in let none = loose.0.unnamed in omega (arith, e, none)) (λ new. let b = loose.0.born in omega (arith, b, new)) other)
                 (h.named y.0 n y.1)
 
-            both : Touches (kinds_of types) (foot_with types (mutated types gf (entry_inputs st.world.content values)) (named_in values)) st.world.content after.world.content
+            both : Touches (kinds_of types) (foot_with types (mutated types gf (entry_inputs types gf st.world.content values)) (named_in values)) st.world.content after.world.content
             both =
                 touches_then (kinds_of types) (hand_of rest st) st.world.content (store_of types f rest inputs S st k).forest callee_foot no_foot callee_foot w.content after.world.content touch h.touch
                 (within_self (kinds_of types) st.world.content callee_foot) (record { whole = λ n lt e. absurd (false≢true e); part = λ m lt. inr (λ u e. absurd (false≢true e)) })
@@ -298,7 +298,7 @@ module _ (types : Types) (f : Function) (rest : ℕ → ℕ) (inputs : Root → 
             each_next _ h = tt
 
       -- a pointer, as the callee promises it
-      module _ (p : Pointer) (pointer : is_pointer (type_at types f l.local) ≡ true) (result : is_pointer (ty_of types gf.result) ≡ true) (look : TakesAll types (look_at types f l.local) (look_at types gf gf.parameters)) (promised : IsPromised types gf (entry_inputs st.world.content values) w.content p) where
+      module _ (p : Pointer) (pointer : is_pointer (type_at types f l.local) ≡ true) (result : is_pointer (ty_of types gf.result) ≡ true) (look : TakesAll types (look_at types f l.local) (look_at types gf gf.parameters)) (promised : IsPromised types gf (entry_inputs types gf st.world.content values) w.content p) where
         abbrev after : State
         after = put_cell l.local (Points p) (record { world = w; cells = (lent types f xs st).cells })
 

@@ -1,6 +1,6 @@
 -- Behind a call each vector and each string has its buffer that had it before: what waits, and what inputs stand for, keeps what it owns, or may be
 -- changed by the callee, which leaves it with its buffer.
-use Rattle.std.proofs.Common.{◌≡◌, ◌⊎◌, inl, inr, ⊎_elim, ℕ, ◌+◌, ◌<◌, Bool, true, false, List, length, Option, Some, None, refl, sym, ap, subst, ◌∙◌, arith, []}
+use Rattle.std.proofs.Common.{◌≡◌, ◌⊎◌, inl, inr, ⊎_elim, ℕ, ◌+◌, ◌<◌, Bool, true, false, List, length, Option, Some, None, refl, sym, ap, subst, ◌∙◌, arith}
 use Rattle.std.specs.Prelude.{Contains, option_map, slice_get, slice_index}
 use Rattle.std.specs.List.{list_any}
 use Rattle.life_types.specs.Types.{Types}
@@ -22,15 +22,17 @@ use Rattle.life_forest.proofs.Steps.{alive_le}
 use Rattle.life_cover.specs.Buffered.{AreBut, HasBuffers}
 use Rattle.life_cover.specs.Inputs.{foot_with}
 use Rattle.life_cover.specs.Lacking.{IsSpared}
+use Rattle.life_cover.specs.Members.{HaveInertMembers}
 use Rattle.life_cover.specs.Regions.{Region, is_in_region}
 use Rattle.life_cover.proofs.Beside.{kept_object, Keeps}
 use Rattle.life_cover.proofs.Copies.{IsWhole, slot_within, whole_parts}
+use Rattle.life_cover.proofs.InertParts.{single_has}
 use Rattle.life_cover.proofs.Inside.{region_within}
 use Rattle.life_cover.proofs.Mutated.{which_passes}
 use Rattle.life_cover.proofs.Opening.{slot_there}
 use Rattle.life_cover.proofs.Remade.{hand_apart}
 
--- ---- a value without structs has its buffers by its first word
+-- ---- a value has its buffers by its first word, as no member of a struct owns anything
 
 module _ (p : Parts) (whole : IsWhole p) where
   first_word : (ws vs : List ℕ) → (is_value (kind_in p 0) ≡ false → slice_index vs 0 ≡ slice_index ws 0) → HasBuffers p ws → HasBuffers p vs
@@ -39,7 +41,7 @@ module _ (p : Parts) (whole : IsWhole p) where
       go : (q : Parts) → IsWhole q → (is_value (kind_in q 0) ≡ false → slice_index vs 0 ≡ slice_index ws 0) → HasBuffers q ws → HasBuffers q vs
       go (Text ty) w same h = (h.0, ap owned_in (same refl) ∙ h.1)
       go (Vector ty element) w same h = (h.0, ap owned_in (same refl) ∙ h.1)
-      go (Member first others) w same h = absurd w
+      go (Member first others) w same h = single_has (Member first others) w vs
       go Single w same h = tt
       go Raw w same h = tt
       go Iterates w same h = tt
@@ -58,7 +60,7 @@ has_or_not p whole ws = go p whole
     go : (q : Parts) → IsWhole q → HasBuffers q ws ⊎ (HasBuffers q ws → ⊥)
     go (Text ty) w = owner (owned_in (slice_index ws 0)) refl
     go (Vector ty element) w = owner (owned_in (slice_index ws 0)) refl
-    go (Member first others) w = absurd w
+    go (Member first others) w = inl (single_has (Member first others) w ws)
     go Single w = inl tt
     go Raw w = inl tt
     go Iterates w = inl tt
@@ -66,7 +68,7 @@ has_or_not p whole ws = go p whole
     go (Unique ty target) w = inl tt
     go NoMember w = inl tt
 
-module _ (types : Types) (plain : types.structs ≡ []) (waiting : ℕ → ℕ) (regions : List Region) (over : List ℕ) (c d : Content) (store : IsStore types (λ j. times over j + waiting j) c) (touch : Touches (kinds_of types) (foot_with types regions over) c d)
+module _ (types : Types) (inert : HaveInertMembers types) (waiting : ℕ → ℕ) (regions : List Region) (over : List ℕ) (c d : Content) (store : IsStore types (λ j. times over j + waiting j) c) (touch : Touches (kinds_of types) (foot_with types regions over) c d)
     (bare loose : ℕ → Type 0) (before : AreBut types bare c) (behind : AreBut types loose d) (seen : (a : Region) → Contains regions a → loose a.object → ⊥) where
   -- what waits isn't beneath what is given over, nor beneath what the callee may change
   waits_apart : (n : ℕ) → 0 < waiting n → Beneath (kinds_of types) c (foot_with types regions over) n → ⊥
@@ -94,7 +96,7 @@ module _ (types : Types) (plain : types.structs ≡ []) (waiting : ℕ → ℕ) 
           let s = slot_there o.slots i (let l = slot_within q.slots i t slot in let e = ap (λ (x : Object). length x.slots) same in let size = k.count in omega (arith, l, e, size)) in
           let ty : o.ty ≡ q.ty = sym k.type ∙ ap (λ (x : Object). x.ty) same in
           subst (λ (id : TyId). HasBuffers (parts_at types id) t.words) ty
-          (first_word (parts_at types o.ty) (whole_parts types plain o.ty) s.0.words t.words
+          (first_word (parts_at types o.ty) (whole_parts types inert o.ty) s.0.words t.words
           (λ value.
           sym (ap (λ (x : Option Slot). word_in x 0) slot)
           ∙ ap (λ (x : Object). word_in (slice_get x.slots i) 0) (sym same)
@@ -129,4 +131,4 @@ module _ (types : Types) (plain : types.structs ≡ []) (waiting : ℕ → ℕ) 
         (λ none. one_or_apart (waiting n) 0
         (λ z. behind n i q t (λ l. free (inr (l, z, λ r a stands same. none (input_buffered n i q t (λ b. free (inl b)) there slot r a stands same)))) there slot)
         (λ nz. waiting_buffered n i q t (omega (arith, nz)) (λ b. free (inl b)) there slot))
-        (has_or_not (parts_at types q.ty) (whole_parts types plain q.ty) t.words)
+        (has_or_not (parts_at types q.ty) (whole_parts types inert q.ty) t.words)

@@ -1,4 +1,4 @@
--- The changes of a vector or a string, named or behind a pointer, of a whole frame without structs: there is no fault, and the facts behind
+-- The changes of a vector or a string, named or behind a pointer, of a whole frame: there is no fault, and the facts behind
 -- them cover all pointers.
 use Rattle.std.proofs.Common.{◌≡◌, ℕ, true, false, List, [], ◌∷◌, Option, Some, None, refl, sym, ap, subst, ◌∙◌}
 use Rattle.std.specs.Prelude.{Contains}
@@ -50,7 +50,7 @@ module _ (types : Types) (f : Function) (rest : ℕ → ℕ) (inputs : Root → 
   owner_reached : (c : Change) → IsRight sigs types n f place (Changes o c) S S' → is_void (type_of types f o) ≡ false → ((r : IsReached types f st (StandsAt inputs) (may_change types f) S o) → (MayLack types f inputs S st r.region.object → ⊥) → OnRight (does s types f (Changes o c) st) (FrameCovered types f inputs S'))
       → OnRight (does s types f (Changes o c) st) (FrameCovered types f inputs S')
   owner_reached c right solid each =
-      by_reach types f st (StandsAt inputs) (may_change types f) S o (reach_at types f rest inputs S st k o solid (λ q h. used_right sigs types n f place (Changes o c) S right.clean q h)) (λ spot. changed s types f (operand_parts types f o) spot c st) (FrameCovered types f inputs S')
+      by_reach types f st (StandsAt inputs) (may_change types f) S o (reach_at types f rest inputs S st k right.closed.of o solid (λ q h. used_right sigs types n f place (Changes o c) S right.clean q h)) (λ spot. changed s types f (operand_parts types f o) spot c st) (FrameCovered types f inputs S')
       (λ r. each r (owner_whole types f rest inputs S st k o r solid sigs n place (Changes o c) S' right (at_head o [])))
 
   -- what is no value isn't added

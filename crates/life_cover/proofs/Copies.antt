@@ -1,6 +1,6 @@
 -- A copy of a vector or a string makes no fault where each vector and each string has its buffer.
 use Rattle.std.proofs.Common.{◌≡◌, ℕ, zero, suc, ◌+◌, ◌*◌, ◌≤◌, ◌<◌, List, [], ◌∷◌, length, Option, Some, None, refl, sym, ap, subst, ◌∙◌, arith}
-use Rattle.std.specs.Prelude.{nat_lt, slice_get, slice_index, unwrap_or}
+use Rattle.std.specs.Prelude.{nat_lt, slice_get, slice_index}
 use Rattle.life_types.specs.Trees.{IsOrdered, members_at}
 use Rattle.life_types.specs.Types.{Types}
 use Rattle.life_types.specs.declared.ty.Ty.{Ty}
@@ -20,8 +20,10 @@ use Rattle.life_forest.specs.Forest.{Beneath}
 use Rattle.life_forest.specs.Kinds.{kinds_of}
 use Rattle.life_forest.proofs.Members.{within_self}
 use Rattle.life_cover.specs.Buffered.{AreBut, HasBuffers}
+use Rattle.life_cover.specs.Members.{HaveInertMembers}
 use Rattle.life_cover.specs.Regions.{Region, foot_of}
 use Rattle.life_cover.proofs.Buffers.{buffer, buffer_parts, buffer_type, low}
+use Rattle.life_cover.proofs.InertParts.{AreSingle, single_copied, struct_within}
 use Rattle.life_cover.proofs.OwnersStay.{owned_is}
 use Rattle.life_cover.proofs.Pointers.{IfRight}
 use Rattle.life_cover.proofs.Walks.{by_test, then_right}
@@ -31,29 +33,37 @@ slot_within [] j u h = absurd (none_some h)
 slot_within (x ∷ ss) zero u h = omega arith
 slot_within (x ∷ ss) (suc j) u h = let r = slot_within ss j u h in omega (arith, r)
 
--- ---- types without structs
+-- ---- owners that are no members
 
--- a value that is no struct
+-- no member of a struct owns anything
 abbrev pub IsWhole : Parts → Type 0
 IsWhole (Vector ty element) = IsWhole element
-IsWhole (Member first others) = ⊥
+IsWhole (Member first others) = AreSingle (Member first others)
 IsWhole _ = Unit {0}
 
-whole_within : (types : Types) → types.structs ≡ [] → (n : ℕ) (id : TyId) → IsWhole (parts_within n types id)
-whole_within types plain zero id = tt
-whole_within types plain (suc n) id = go (λ part. whole_within types plain n part) (slice_get types.types id.0)
+single_whole : (p : Parts) → AreSingle p → IsWhole p
+single_whole (Member first others) is = is
+single_whole (Vector ty element) is = absurd is
+single_whole Single is = tt
+single_whole Raw is = tt
+single_whole Iterates is = tt
+single_whole Views is = tt
+single_whole (Text ty) is = tt
+single_whole (Unique ty target) is = tt
+single_whole NoMember is = tt
+
+whole_within : (types : Types) → HaveInertMembers types → (n : ℕ) (id : TyId) → IsWhole (parts_within n types id)
+whole_within types inert zero id = tt
+whole_within types inert (suc n) id = go (λ part. whole_within types inert n part) (slice_get types.types id.0) refl
   where
-    none : (number : ℕ) → members_at types number ≡ []
-    none number = ap (λ (ss : List (List TyId)). unwrap_or (slice_get ss number) []) plain
+    go : ((part : TyId) → IsWhole (parts_within n types part)) → (o : Option Ty) → slice_get types.types id.0 ≡ o → IsWhole (parts_of types (parts_within n types) o)
+    go each (Some (variant.Vector element)) e = each element
+    go each (Some (variant.Struct number)) e = single_whole (struct_of (parts_within n types) (members_at types number)) (struct_within types inert n id number e)
+    go each None e = tt
+    go each (Some _) e = tt
 
-    go : ((part : TyId) → IsWhole (parts_within n types part)) → (o : Option Ty) → IsWhole (parts_of types (parts_within n types) o)
-    go each (Some (variant.Vector element)) = each element
-    go each (Some (variant.Struct number)) = subst (λ (ids : List TyId). IsWhole (struct_of (parts_within n types) ids)) (sym (none number)) tt
-    go each None = tt
-    go each (Some _) = tt
-
-pub whole_parts : (types : Types) → types.structs ≡ [] → (id : TyId) → IsWhole (parts_at types id)
-whole_parts types plain id = whole_within types plain (suc id.0) id
+pub whole_parts : (types : Types) → HaveInertMembers types → (id : TyId) → IsWhole (parts_at types id)
+whole_parts types inert id = whole_within types inert (suc id.0) id
 
 module _ (types : Types) (ordered : IsOrdered types) (hand : ℕ → ℕ) (c : Content) (store : IsStore types hand c) (bare : ℕ → Type 0) (buffered : AreBut types bare c)
     (clear : (a : Region) (b : ℕ) → Beneath (kinds_of types) c (foot_of types a) b → bare b → ⊥) (s : Setting) where
@@ -122,7 +132,7 @@ module _ (types : Types) (ordered : IsOrdered types) (hand : ℕ → ℕ) (c : C
   copied_right Views is n i o t free typed there slot ws e d later = later
   copied_right (Unique ty target) is n i o t free typed there slot ws e d later = tt
   copied_right NoMember is n i o t free typed there slot ws e d later = later
-  copied_right (Member first others) is n i o t free typed there slot ws e d later = absurd is
+  copied_right (Member first others) is n i o t free typed there slot ws e d later = subst (λ (x : Attempt Words). IfRight x (λ v. IsLater v.1)) (sym (single_copied s (Member first others) is ws d).1) later
   copied_right (Text ty) is n i o t free typed there slot ws e d later =
       let b = subst (λ (p : Parts). HasBuffers p t.words) typed (buffered n i o t free there slot) in
       subst (λ (x : Option ℕ). IfRight (copied_buffer s ty 1 (λ vs g. Got (vs, g)) x d) (λ v. IsLater v.1)) (sym (ap owned_in e ∙ b.1)) (buffer_right ty 1 (λ vs g. Got (vs, g)) b.0 d later (λ j u h g k. k))

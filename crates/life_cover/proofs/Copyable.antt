@@ -1,6 +1,6 @@
--- What a well-formed instruction copies, in a program without structs, is no unique_ptr and no struct.
-use Rattle.std.proofs.Common.{◌≡◌, ℕ, true, false, List, [], Option, Some, refl, sym, ap, ◌∙◌}
-use Rattle.std.specs.Prelude.{not, slice_get}
+-- What a well-formed instruction copies is no unique_ptr.
+use Rattle.std.proofs.Common.{◌≡◌, ℕ, true, false, [], Option, Some, refl, sym, ap, ◌∙◌}
+use Rattle.std.specs.Prelude.{not}
 use Rattle.std.proofs.lemmas.Bool.{false≢true}
 use Rattle.life_types.specs.Trees.{holds_unique, tree_at, tree_of}
 use Rattle.life_types.specs.TypeTests.{is_void}
@@ -18,7 +18,6 @@ use Rattle.life_pset.specs.declared.element.Root.{Root}
 use Rattle.life_proper.specs.Placed.{type_of}
 use Rattle.life_store.specs.Parts.{operand_type}
 use Rattle.life_store.specs.State.{State}
-use Rattle.life_store.proofs.CellLemmas.{none_some}
 use Rattle.life_forest.proofs.OneNumber.{IsOfType}
 use Rattle.life_forest.proofs.TypedSteps.{operand_of, operand_same}
 use Rattle.life_cover.proofs.CopyKinds.{IsCopyable}
@@ -37,10 +36,6 @@ module _ (types : Types) (f : Function) (rest : ℕ → ℕ) (inputs : Root → 
           ap (λ (id : Option TyId). holds_unique (tree_if types id)) (operand_same types k.ordered k.once 0 [] f k.shaped o ∙ (of u is some).is)
           ∙ ap holds_unique (tree_made types k.ordered (of u is some).number ∙ ap (tree_of types (tree_at types)) (of u is some).there)
 
-      no_struct : (number : ℕ) (id : TyId) → slice_get types.types id.0 ≡ Some (ty.Struct number) → ⊥
-      no_struct number id there = none_some (sym (ap (λ (ss : List (List TyId)). slice_get ss number) k.plain) ∙ (k.ordered.parts id.0 (ty.Struct number) there).there)
-
       go : (u : Ty) → type_of types f o ≡ u → is_void u ≡ false → IsCopyable u
       go (ty.Unique target) is some = absurd (false≢true (sym (ap not (holds (ty.Unique target) is some)) ∙ single))
-      go (ty.Struct number) is some = absurd (no_struct number (of (ty.Struct number) is some).number (of (ty.Struct number) is some).there)
       go _ is some = tt

@@ -33,7 +33,7 @@ use Rattle.life_forest.proofs.SlotSorts.{taken_type}
 use Rattle.life_forest.proofs.Shaped.{IsShaped}
 use Rattle.life_cover.specs.Covers.{IsCovered}
 use Rattle.life_cover.specs.Frames.{RootStands, look_at}
-use Rattle.life_cover.specs.Inputs.{AreGiven, StandsAt, entry_inputs, foot_with, may_change, mutated, pointed, test_input}
+use Rattle.life_cover.specs.Inputs.{AreGiven, StandsAt, entry_inputs, foot_with, may_change, mutated, pointed, test_input, type_seen}
 use Rattle.life_cover.specs.Passed.{ArePassed, IsPassed, IsPassedTo, takes_null}
 use Rattle.life_cover.specs.Regions.{Region}
 use Rattle.life_cover.proofs.Beside.{holds_on}
@@ -64,8 +64,8 @@ pointer_parameter types c (suc n) (l ∷ ls) (v ∷ vs) (suc y) p suits here =
 -- ---- the facts at the entry
 
 module _ (types : Types) (ordered : IsOrdered types) (f : Function) (shaped : IsShaped types f) (sigs : List Signature) (hand : ℕ → ℕ) (c : Content) (vs : List Cell) (store : IsStore types hand c)
-    (apart : AreGiven types f (entry_inputs c vs) (foot_with types (mutated types f (entry_inputs c vs)) (named_in vs)) c) (suits : AreHandedTo types c (types_held types f) vs) (passed : ArePassed types f c vs) (d : Content)
-    (touch : Touches (kinds_of types) (foot_with types (mutated types f (entry_inputs c vs)) (named_in vs)) c d) (cells : List Cell) where
+    (apart : AreGiven types f (entry_inputs types f c vs) (foot_with types (mutated types f (entry_inputs types f c vs)) (named_in vs)) c) (suits : AreHandedTo types c (types_held types f) vs) (passed : ArePassed types f c vs) (d : Content)
+    (touch : Touches (kinds_of types) (foot_with types (mutated types f (entry_inputs types f c vs)) (named_in vs)) c d) (cells : List Cell) where
   module _ (y : ℕ) (p : Pointer) (here : slice_get vs y ≡ Some (Points p)) where
     abbrev h : IsPointerParameter types f.parameters f.locals y
     h = pointer_parameter types c f.parameters f.locals vs y p suits here
@@ -96,12 +96,12 @@ module _ (types : Types) (ordered : IsOrdered types) (f : Function) (shaped : Is
 
   module _ (y : ℕ) (t : Target) (here : slice_get vs y ≡ Some (Points (To t))) (to : IsPassedTo types c (look_at types f y) t) where
     abbrev region : Region
-    region = record { object = t.object; word = t.word; ty = to.object.ty }
+    region = record { object = t.object; word = t.word; ty = type_seen types (look_at types f y).target to.object.ty }
 
-    stands : StandsAt (entry_inputs c vs) (root.Input y None) region
-    stands = ap (pointed c) here ∙ ap (option_map (λ (o : Object). record { object = t.object; word = t.word; ty = o.ty })) to.there
+    stands : StandsAt (entry_inputs types f c vs) (root.Input y None) region
+    stands = ap (pointed types (look_at types f y).target c) here ∙ ap (option_map (λ (o : Object). record { object = t.object; word = t.word; ty = type_seen types (look_at types f y).target o.ty })) to.there
 
-    to_covered : IsCovered types d (RootStands types f (StandsAt (entry_inputs c vs)) cells) (may_change types f) (FactsAt sigs types f 1) (local_place y) (look_at types f y) (To t)
+    to_covered : IsCovered types d (RootStands types f (StandsAt (entry_inputs types f c vs)) cells) (may_change types f) (FactsAt sigs types f 1) (local_place y) (look_at types f y) (To t)
     to_covered = record {
       known = element.At (root_place (root.Input y None));
       holds = aimed_fact y (To t) here;
@@ -112,14 +112,14 @@ module _ (types : Types) (ordered : IsOrdered types) (f : Function) (shaped : Is
         word = refl;
         type = to.type;
         change = writable y (To t) here;
-        holds = holds_on types ordered hand c d store (foot_with types (mutated types f (entry_inputs c vs)) (named_in vs)) touch (look_at types f y).ranged t (apart.free (root.Input y None) region stands) to.holds;
+        holds = holds_on types ordered hand c d store (foot_with types (mutated types f (entry_inputs types f c vs)) (named_in vs)) touch (look_at types f y).ranged t (apart.free (root.Input y None) region stands) to.holds;
       };
     }
 
-  pub entered_covered : (y : ℕ) (p : Pointer) → slice_get vs y ≡ Some (Points p) → IsCovered types d (RootStands types f (StandsAt (entry_inputs c vs)) cells) (may_change types f) (FactsAt sigs types f 1) (local_place y) (look_at types f y) p
+  pub entered_covered : (y : ℕ) (p : Pointer) → slice_get vs y ≡ Some (Points p) → IsCovered types d (RootStands types f (StandsAt (entry_inputs types f c vs)) cells) (may_change types f) (FactsAt sigs types f 1) (local_place y) (look_at types f y) p
   entered_covered y p here = by_pointer p here (passed y p here)
     where
-      by_pointer : (u : Pointer) → slice_get vs y ≡ Some (Points u) → IsPassed types f c y u → IsCovered types d (RootStands types f (StandsAt (entry_inputs c vs)) cells) (may_change types f) (FactsAt sigs types f 1) (local_place y) (look_at types f y) u
+      by_pointer : (u : Pointer) → slice_get vs y ≡ Some (Points u) → IsPassed types f c y u → IsCovered types d (RootStands types f (StandsAt (entry_inputs types f c vs)) cells) (may_change types f) (FactsAt sigs types f 1) (local_place y) (look_at types f y) u
       by_pointer (Static s) at_y is = tt
       by_pointer Wild at_y is = absurd is
       by_pointer Null at_y is = record { known = element.Null; holds = null_covered y Null at_y is; covers = tt }

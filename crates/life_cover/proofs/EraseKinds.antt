@@ -178,8 +178,8 @@ module _ (types : Types) (f : Function) (rest : ℕ → ℕ) (inputs : Root → 
         (λ v e. subst (IsCovered types (behind index) (RootStands types f (StandsAt inputs) st.cells) (may_change types f) S' (local_place y) (look_at types f y)) (same_pointer e)
         (record {
           known = element.At (owned_place r.place);
-          holds = given_position o r right.closed (opens_place types f rest inputs S st k o r solid right.closed.of item h.type).known;
-          covers = element_pointed types (behind index) (RootStands types f (StandsAt inputs) st.cells) (may_change types f) r.place r.region r.index h.buffer holder.object item (opens_place types f rest inputs S st k o r solid right.closed.of item h.type).room
+          holds = given_position o r right.closed (opens_place types f rest inputs S st k o r item h.type).known;
+          covers = element_pointed types (behind index) (RootStands types f (StandsAt inputs) st.cells) (may_change types f) r.place r.region r.index h.buffer holder.object item (opens_place types f rest inputs S st k o r item h.type).room
               (at_on types k.ordered (hand_of rest st) st.world.content (behind index) (store_of types f rest inputs S st k) (all_of (h.buffer ∷ [])) touch (RootStands types f (StandsAt inputs) st.cells) (RootStands types f (StandsAt inputs) st.cells) r.place r.region
               ((rooted_of types f rest inputs S st k).fits r.place.root) (λ a stands. stands) r.lies not_beneath)
               h.type holder.there owned (look_at types f y) seen (λ e. r.change free) (kinds_of types) (hand_of rest st) store.forest last.0 last.1 single index
@@ -236,7 +236,7 @@ module _ (types : Types) (f : Function) (rest : ℕ → ℕ) (inputs : Root → 
 
   pub vector_erase : OnRight (does s types f (Changes o (Erase (whole x) (whole y))) st) (FrameCovered types f inputs S')
   vector_erase =
-      by_reach types f st (StandsAt inputs) (may_change types f) S o (reach_at types f rest inputs S st k o solid (λ q h. used_right sigs types number f place (Changes o (Erase (whole x) (whole y))) S right.clean q h)) (λ spot. changed s types f (operand_parts types f o) spot (Erase (whole x) (whole y)) st)
+      by_reach types f st (StandsAt inputs) (may_change types f) S o (reach_at types f rest inputs S st k right.closed.of o solid (λ q h. used_right sigs types number f place (Changes o (Erase (whole x) (whole y))) S right.clean q h)) (λ spot. changed s types f (operand_parts types f o) spot (Erase (whole x) (whole y)) st)
       (FrameCovered types f inputs S')
       (λ r. subst (λ e. OnRight e (FrameCovered types f inputs S')) (sym (spot_is types f st (StandsAt inputs) (may_change types f) S o r (λ spot. changed s types f (operand_parts types f o) spot (Erase (whole x) (whole y)) st)))
       (right_then (iterator st.world.content (cell st x)) (λ v. erases types f (operand_parts types f o) (record { object = r.region.object; index = r.index; word = r.region.word }) v (whole y) st) (λ v. Unit {0}) (FrameCovered types f inputs S')

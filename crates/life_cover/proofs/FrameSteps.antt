@@ -1,4 +1,4 @@
--- An instruction of a frame without structs at which nothing is wrong makes no fault, and the facts behind it cover all pointers of
+-- An instruction of a frame at which nothing is wrong makes no fault, and the facts behind it cover all pointers of
 -- the frame: of values, pointers, vectors, strings, iterators, spans and views, by their types alone.
 use Rattle.std.proofs.Common.{◌≡◌, ◌⊎◌, ◌≢◌, ℕ, Bool, true, false, ◌&&◌, not, List, Some, refl, sym, ap, subst, ◌∙◌, [], Option, inl}
 use Rattle.std.specs.Prelude.{pos}
@@ -51,6 +51,7 @@ use Rattle.life_cover.proofs.ChangeSteps.{change_step}
 use Rattle.life_cover.proofs.CopyKinds.{copy_kind}
 use Rattle.life_cover.proofs.Copyable.{copied_type}
 use Rattle.life_cover.proofs.EndKinds.{end_kind}
+use Rattle.life_cover.proofs.InertParts.{pointer_alone, unique_alone}
 use Rattle.life_cover.proofs.KnownFrames.{at_pointer, IsKnownFrame, IsRight, reach_at, used_right, whole_location, typed}
 use Rattle.life_cover.proofs.LiveKinds.{live_kind}
 use Rattle.life_cover.proofs.MakeKinds.{IsMade}
@@ -160,7 +161,7 @@ module _ (types : Types) (f : Function) (rest : ℕ → ℕ) (inputs : Root → 
       let seen = aims_seen types k.ordered k.once (type_at types f p) (owned_target types (type_in types f u)) (gets_aims types (type_at types f p) (owned_target types (type_in types f u)) e) in
       let unique = target_unique types (type_in types f u) (also_solid (ty_of types seen.target) (owned_target types (type_in types f u)) seen.is) in
       subst (λ (q : Location). Right (Aim (whole p) (named.Get q)) → is_unique (type_in types f q) ≡ true → aims_at types (type_at types f p) (owned_target types (type_in types f q)) ≡ true → Covers (Aim (whole p) (named.Get q)))
-      (whole_location types k.plain f u (unique_solid (type_in types f u) unique))
+      (whole_location types k.inert f u (unique_alone (type_in types f u) unique))
       (λ now is aims. get_kind types f rest inputs S st k sigs n place S' s p seen.pointer (aims_single types (type_at types f p) (owned_target types (type_in types f u)) (gets_aims types (type_at types f p) (owned_target types (type_in types f u)) e)) u.local is k.told (sees_target p u.local is aims) now)
       right unique (gets_aims types (type_at types f p) (owned_target types (type_in types f u)) e)
 
@@ -242,7 +243,7 @@ module _ (types : Types) (f : Function) (rest : ℕ → ℕ) (inputs : Root → 
       by_operand pointer single (named.Name l) now at is =
           let same_type : type_in types f l ≡ type_of types f (named.Name l) = typed types f rest inputs S st k (named.Name l) (unique_solid (type_of types f (named.Name l)) is) in
           subst (λ (q : Location). Right (step.Element (whole p) (named.Owner (named.Name q)) which.Target) → is_unique (type_in types f q) ≡ true → aims_at types (type_at types f p) (owned_target types (type_in types f q)) ≡ true → Covers (step.Element (whole p) (named.Owner (named.Name q)) which.Target))
-          (whole_location types k.plain f l (unique_solid (type_in types f l) (ap is_unique same_type ∙ is)))
+          (whole_location types k.inert f l (unique_alone (type_in types f l) (ap is_unique same_type ∙ is)))
           (λ here unique aims_l. target_kind types f rest inputs S st k sigs n place S' s p pointer single l.local unique k.told (sees_target p l.local unique aims_l) here)
           now (ap is_unique same_type ∙ is) (subst (λ (t : Ty). aims_at types (type_at types f p) (owned_target types t) ≡ true) (sym same_type) at)
 
@@ -281,7 +282,7 @@ module _ (types : Types) (f : Function) (rest : ℕ → ℕ) (inputs : Root → 
 
       with_item : (u : Ty) (item : TyId) → type_of types f o ≡ u → owned_in_type types (Some u) ≡ Some item → has_buffer u ≡ true → is_void u ≡ false → Covers (Size r (named.Owner o))
       with_item u item is owned buffer solid =
-          by_reach types f st (StandsAt inputs) (may_change types f) S o (reach_at types f rest inputs S st k o (ap is_void is ∙ solid) (λ q used. used_right sigs types n f place (Size r (named.Owner o)) S right.clean q used)) go (FrameCovered types f inputs S')
+          by_reach types f st (StandsAt inputs) (may_change types f) S o (reach_at types f rest inputs S st k right.closed.of o (ap is_void is ∙ solid) (λ q used. used_right sigs types n f place (Size r (named.Owner o)) S right.clean q used)) go (FrameCovered types f inputs S')
           (λ h. let have = opened types f rest inputs S st k o h (owner_whole types f rest inputs S st k o h (ap is_void is ∙ solid) sigs n place (Size r (named.Owner o)) S' right (at_head o [])) u is item owned buffer in
           subst (λ z. OnRight z (FrameCovered types f inputs S')) (sym (spot_is types f st (StandsAt inputs) (may_change types f) S o h go))
           (subst (λ w. OnRight (on_got (got_or w (GotFault fault.Moved)) (λ b. Next (put_cell r (Number (pos (size_of st.world.content b))) st))) (FrameCovered types f inputs S')) (sym have.owned)
@@ -302,7 +303,7 @@ module _ (types : Types) (f : Function) (rest : ℕ → ℕ) (inputs : Root → 
   port_whole (Writes r) e = tt
   port_whole (Takes r) e = number_any types f ty.Long r e
   port_whole (WritesView l) e =
-      let is = whole_location types k.plain f l (pointer_solid (type_in types f l) (range_points (type_in types f l) (view_range (type_in types f l) e))) in
+      let is = whole_location types k.inert f l (pointer_alone (type_in types f l) (range_points (type_in types f l) (view_range (type_in types f l) e))) in
       (is, subst (λ (q : Location). is_range (type_in types f q) ≡ true) (sym is) (view_range (type_in types f l) e))
 
   -- ---- each instruction

@@ -42,9 +42,8 @@ use Rattle.life_forest.proofs.OneNumber.{typed_at}
 use Rattle.life_forest.proofs.SeenTypes.{parts_typed}
 use Rattle.life_forest.proofs.Spots.{lies_at}
 use Rattle.life_cover.specs.Buffered.{HasBuffers}
-use Rattle.life_cover.specs.Inputs.{IsAllOf}
 use Rattle.life_cover.specs.Lacking.{MayLack}
-use Rattle.life_cover.specs.Regions.{Region, foot_of}
+use Rattle.life_cover.specs.Regions.{Region, foot_of, IsPart, itself}
 use Rattle.life_cover.proofs.BufferMoves.{IsBufferParts}
 use Rattle.life_cover.proofs.Buffering.{IsBufferOwner}
 use Rattle.life_cover.proofs.Buffers.{buffer_low, foot_covers}
@@ -166,8 +165,8 @@ module _ (types : Types) (f : Function) (rest : ℕ → ℕ) (inputs : Root → 
   pub given_other : IsOther types id
   given_other = buffer_other types (type_at types f y) id given_there buffer
 
-  pub given_all : IsAllOf st.world.content (record { object = m; word = 0; ty = id })
-  given_all = record { word = refl; type = λ q there. ap (λ (o : Object). o.ty) (some_same (sym there ∙ given_object.there)) ∙ given_object.type }
+  pub given_part : IsPart types st.world.content (record { object = m; word = 0; ty = id })
+  given_part q there = itself 0 id refl (ap (λ (o : Object). o.ty) (some_same (sym there ∙ given_object.there)) ∙ given_object.type)
 
   -- it has its buffer
   unmoved : MayLack types f inputs S st m → ⊥

@@ -16,7 +16,7 @@ use Rattle.life_core.specs.Function.{Function}
 use Rattle.life_core.specs.Operands.{Argument, Location}
 use Rattle.life_core.specs.Step.{Call}
 use Rattle.life_pset.specs.Elements.{Input, local_place}
-use Rattle.life_pset.specs.Places.{overlap, path}
+use Rattle.life_pset.specs.Places.{begins, overlap, path}
 use Rattle.life_pset.specs.Shapes.{shape, shape_of, target_of, target_type, tree_if, ty_if}
 use Rattle.life_pset.specs.contracts.element.RootPartialEq.TheImpl.{ghosts as compared}
 use Rattle.life_pset.specs.declared.element.AbsPlace.{AbsPlace}
@@ -28,7 +28,7 @@ use Rattle.life_contract.specs.Signatures.{Signature, signature_of}
 use Rattle.life_store.specs.Cells.{at}
 use Rattle.life_store.specs.Content.{Content, Object}
 use Rattle.life_store.specs.Effects.{cell}
-use Rattle.life_store.specs.Parts.{characters_type}
+use Rattle.life_store.specs.Parts.{characters_type, local_type}
 use Rattle.life_store.specs.State.{Cell, Empty, Named, Null, Number, Points, State, Static, Target, To, Wild}
 use Rattle.life_store.proofs.CellLemmas.{none_some, some_same}
 use Rattle.life_forest.specs.Forest.{Beneath, all_of}
@@ -39,15 +39,17 @@ use Rattle.life_forest.specs.Owned.{times}
 use Rattle.life_forest.proofs.Shaped.{IsShaped}
 use Rattle.life_cover.specs.Covers.{IsSeenAs}
 use Rattle.life_cover.specs.Frames.{RootStands, look_at}
-use Rattle.life_cover.specs.Inputs.{AreGiven, IsInput, StandsAt, entry_inputs, foot_with, input_at, may_change, mutated, owning, pointed, test_input}
+use Rattle.life_cover.specs.Inputs.{AreGiven, IsInput, StandsAt, entry_inputs, foot_with, input_at, may_change, mutated, owning, pointed, test_input, type_seen}
 use Rattle.life_cover.specs.Kills.{IsUnnamed, Names}
 use Rattle.life_cover.specs.Passed.{parameter_input}
-use Rattle.life_cover.specs.Regions.{IsAt, Region, foot_of}
-use Rattle.life_cover.proofs.ApartPlaces.{one_root, place_other, place_over, place_under}
+use Rattle.life_cover.specs.Regions.{IsAt, Region, foot_of, HasPart, IsPart}
+use Rattle.life_cover.specs.Roots.{IsApart}
+use Rattle.life_cover.proofs.ApartPlaces.{places_apart}
 use Rattle.life_cover.proofs.Arguments.{IsAimedBy}
 use Rattle.life_cover.proofs.CalledRight.{argument_unkept, not_overlapping}
 use Rattle.life_cover.proofs.CopyKinds.{seen_holds}
 use Rattle.life_cover.proofs.FootParts.{IsBelow, below_region, below_whole, is_below}
+use Rattle.life_cover.proofs.UniquesStay.{not_true}
 use Rattle.life_cover.proofs.Guarding.{exact_root, root_laws}
 use Rattle.life_cover.proofs.InputPlaces.{holds_up, mutating_input}
 use Rattle.life_cover.proofs.Inside.{not_itself}
@@ -59,25 +61,25 @@ use Rattle.life_cover.proofs.PushKinds.{elsewhere}
 -- ---- what stands at the entry
 
 -- a pointer that was handed over
-pub record IsEntered (c : Content) (vs : List Cell) (r : Root) (a : Region) : Type 0 where
+pub record IsEntered (types : Types) (g : Function) (c : Content) (vs : List Cell) (r : Root) (a : Region) : Type 0 where
   pub parameter : ℕ
   pub target : Target
   pub object : Object
   pub root : r ≡ root.Input parameter None
   pub handed : slice_get vs parameter ≡ Some (Points (To target))
   pub there : at c.objects target.object ≡ Some object
-  pub is : record { object = target.object; word = target.word; ty = object.ty } ≡ a
+  pub is : record { object = target.object; word = target.word; ty = type_seen types (seen_type types (local_type types g parameter)) object.ty } ≡ a
 
-pub is_entered : (c : Content) (vs : List Cell) (r : Root) (a : Region) → StandsAt (entry_inputs c vs) r a → IsEntered c vs r a
-is_entered c vs (root.Local x) a e = absurd (none_some e)
-is_entered c vs (root.Input q (Some m)) a e = absurd (none_some e)
-is_entered c vs (root.Input q None) a e = by_cell (slice_get vs q) refl e
+pub is_entered : (types : Types) (g : Function) (c : Content) (vs : List Cell) (r : Root) (a : Region) → StandsAt (entry_inputs types g c vs) r a → IsEntered types g c vs r a
+is_entered types g c vs (root.Local x) a e = absurd (none_some e)
+is_entered types g c vs (root.Input q (Some m)) a e = absurd (none_some e)
+is_entered types g c vs (root.Input q None) a e = by_cell (slice_get vs q) refl e
   where
-    by_object : (t : Target) → slice_get vs q ≡ Some (Points (To t)) → (o : Option Object) → at c.objects t.object ≡ o → option_map (λ (u : Object). record { object = t.object; word = t.word; ty = u.ty }) o ≡ Some a → IsEntered c vs (root.Input q None) a
+    by_object : (t : Target) → slice_get vs q ≡ Some (Points (To t)) → (o : Option Object) → at c.objects t.object ≡ o → option_map (λ (u : Object). record { object = t.object; word = t.word; ty = type_seen types (seen_type types (local_type types g q)) u.ty }) o ≡ Some a → IsEntered types g c vs (root.Input q None) a
     by_object t here None is h = absurd (none_some h)
     by_object t here (Some o) is h = record { parameter = q; target = t; object = o; root = refl; handed = here; there = is; is = some_same h }
 
-    by_cell : (v : Option Cell) → slice_get vs q ≡ v → pointed c v ≡ Some a → IsEntered c vs (root.Input q None) a
+    by_cell : (v : Option Cell) → slice_get vs q ≡ v → pointed types (seen_type types (local_type types g q)) c v ≡ Some a → IsEntered types g c vs (root.Input q None) a
     by_cell (Some (Points (To t))) here h = by_object t here (at c.objects t.object) refl h
     by_cell (Some (Points Null)) here h = absurd (none_some h)
     by_cell (Some (Points Wild)) here h = absurd (none_some h)
@@ -96,6 +98,18 @@ either_less (suc x) (suc y) ne = ⊎_elim (λ l. inl (omega (arith, l))) (λ h. 
 or_right : (a b : Bool) → b ≡ true → (a || b) ≡ true
 or_right true b e = refl
 or_right false b e = e
+
+or_turned : (a b : Bool) → (a || b) ≡ (b || a)
+or_turned true true = refl
+or_turned true false = refl
+or_turned false true = refl
+or_turned false false = refl
+
+overlap_turned : (a b : AbsPlace) → overlap a b ≡ true → overlap b a ≡ true
+overlap_turned a b e =
+    let h = and_parts (compared.eq a.root b.root) (begins (path a) (path b) || begins (path b) (path a)) e in
+    ap (λ t. t && (begins (path b) (path a) || begins (path a) (path b))) (subst (λ (q : Root). compared.eq b.root q ≡ true) (sym (exact_root a.root b.root h.0)) (root_laws.refl b.root))
+    ∙ or_turned (begins (path b) (path a)) (begins (path a) (path b)) ∙ h.1
 
 one_or_other : (r s : Root) → (r ≡ s) ⊎ (r ≢ s)
 one_or_other r s = go (compared.eq r s) refl
@@ -120,13 +134,13 @@ seen_input types (Some (ty.Span target constant)) id (inr e) = inr e.1
 seen_input types _ id e = absurd e
 
 -- what is seen through one behind which there is an owner holds it
-seen_owner : (types : Types) (ordered : IsOrdered types) (plain : types.structs ≡ []) (o : Option Ty) (id : TyId) → IsSeenAs types (seen_in types o) id → holds_owner (tree_if types (target_of (or_void o))) ≡ true → holds_owner (tree_at types id) ≡ true
-seen_owner types ordered plain (Some ty.View) id seen h = absurd (false≢true h)
-seen_owner types ordered plain (Some (ty.Raw target constant)) id seen h = seen_holds types ordered plain (Some target) id seen h
-seen_owner types ordered plain (Some (ty.Reference target constant)) id seen h = seen_holds types ordered plain (Some target) id seen h
-seen_owner types ordered plain (Some (ty.Iterator target constant)) id seen h = seen_holds types ordered plain (Some target) id seen h
-seen_owner types ordered plain (Some (ty.Span target constant)) id seen h = seen_holds types ordered plain (Some target) id seen h
-seen_owner types ordered plain _ id seen h = absurd seen
+seen_owner : (types : Types) (ordered : IsOrdered types) (o : Option Ty) (id : TyId) → IsSeenAs types (seen_in types o) id → holds_owner (tree_if types (target_of (or_void o))) ≡ true → holds_owner (tree_at types id) ≡ true
+seen_owner types ordered (Some ty.View) id seen h = absurd (false≢true h)
+seen_owner types ordered (Some (ty.Raw target constant)) id seen h = seen_holds types ordered (Some target) id seen h
+seen_owner types ordered (Some (ty.Reference target constant)) id seen h = seen_holds types ordered (Some target) id seen h
+seen_owner types ordered (Some (ty.Iterator target constant)) id seen h = seen_holds types ordered (Some target) id seen h
+seen_owner types ordered (Some (ty.Span target constant)) id seen h = seen_holds types ordered (Some target) id seen h
+seen_owner types ordered _ id seen h = absurd seen
 
 -- ---- of a frame of which all is known
 
@@ -136,27 +150,27 @@ module _ (types : Types) (f : Function) (rest : ℕ → ℕ) (inputs : Root → 
   abbrev pub Stood : AbsPlace → Region → Type 0
   Stood a r = IsAt types st.world.content (RootStands types f (StandsAt inputs) st.cells) a r
 
-  module _ (r : Root) (a : Region) (stands : StandsAt (entry_inputs st.world.content values) r a) where
-    abbrev e : IsEntered st.world.content values r a
-    e = is_entered st.world.content values r a stands
+  module _ (r : Root) (a : Region) (stands : StandsAt (entry_inputs types gf st.world.content values) r a) where
+    abbrev e : IsEntered types gf st.world.content values r a
+    e = is_entered types gf st.world.content values r a stands
 
-    abbrev aim : IsAimedBy types f inputs S st xs gf (is_entered st.world.content values r a stands).parameter (is_entered st.world.content values r a stands).target
-    aim = aims (is_entered st.world.content values r a stands).parameter (is_entered st.world.content values r a stands).target (is_entered st.world.content values r a stands).handed
+    abbrev aim : IsAimedBy types f inputs S st xs gf (is_entered types gf st.world.content values r a stands).parameter (is_entered types gf st.world.content values r a stands).target
+    aim = aims (is_entered types gf st.world.content values r a stands).parameter (is_entered types gf st.world.content values r a stands).target (is_entered types gf st.world.content values r a stands).handed
 
     abbrev pub input : Input
-    input = parameter_input types gf.parameters (is_entered st.world.content values r a stands).parameter (aims (is_entered st.world.content values r a stands).parameter (is_entered st.world.content values r a stands).target (is_entered st.world.content values r a stands).handed).local
+    input = parameter_input types gf.parameters (is_entered types gf st.world.content values r a stands).parameter (aims (is_entered types gf st.world.content values r a stands).parameter (is_entered types gf st.world.content values r a stands).target (is_entered types gf st.world.content values r a stands).handed).local
 
     -- it is where the argument points
     region_is : aim.points.region ≡ a
     region_is = sym (aim.object e.object e.there) ∙ e.is
 
-    pub stood : Stood (aims (is_entered st.world.content values r a stands).parameter (is_entered st.world.content values r a stands).target (is_entered st.world.content values r a stands).handed).place a
+    pub stood : Stood (aims (is_entered types gf st.world.content values r a stands).parameter (is_entered types gf st.world.content values r a stands).target (is_entered types gf st.world.content values r a stands).handed).place a
     stood = subst (Stood aim.place) region_is aim.points.lies
 
-    pub object_lives : at st.world.content.objects a.object ≡ Some (is_entered st.world.content values r a stands).object
+    pub object_lives : at st.world.content.objects a.object ≡ Some (is_entered types gf st.world.content values r a stands).object
     object_lives = ap (λ (b : Region). at st.world.content.objects b.object) (sym e.is) ∙ e.there
 
-    object_type : e.object.ty ≡ a.ty
+    object_type : type_seen types (look_at types gf e.parameter).target e.object.ty ≡ a.ty
     object_type = ap (λ (b : Region). b.ty) e.is
 
     passed_object : aim.passed.object ≡ e.object
@@ -165,7 +179,15 @@ module _ (types : Types) (f : Function) (rest : ℕ → ℕ) (inputs : Root → 
     seen_as : IsSeenAs types (seen_in types (slice_get types.types (shape types gf.parameters e.parameter aim.local).0)) a.ty
     seen_as =
         subst (λ (id : Option TyId). IsSeenAs types (seen_type types id) a.ty) (sym (shaped e.parameter) ∙ ap (shape_of types gf.parameters e.parameter) aim.there)
-        (subst (IsSeenAs types (look_at types gf e.parameter).target) (ap (λ (o : Object). o.ty) passed_object ∙ object_type) aim.passed.type)
+        (subst (IsSeenAs types (look_at types gf e.parameter).target) (ap (λ (o : Object). type_seen types (look_at types gf e.parameter).target o.ty) passed_object ∙ object_type) aim.passed.type)
+
+    -- a part of that object
+    pub entered_part : IsPart types st.world.content a
+    entered_part q there =
+        subst (HasPart types q.ty a.word) object_type
+        (subst (λ w. HasPart types q.ty w (type_seen types (look_at types gf e.parameter).target e.object.ty)) (ap (λ (z : Region). z.word) e.is)
+        (subst (λ (o : Object). HasPart types q.ty e.target.word (type_seen types (look_at types gf e.parameter).target o.ty)) passed_object
+        (subst (λ (o : Object). HasPart types o.ty e.target.word (type_seen types (look_at types gf e.parameter).target aim.passed.object.ty)) (passed_object ∙ some_same (sym object_lives ∙ there)) aim.passed.part)))
 
     -- an input of the callee
     pub entered_input : IsInput types gf r a
@@ -194,7 +216,7 @@ module _ (types : Types) (f : Function) (rest : ℕ → ℕ) (inputs : Root → 
 
       holds : holds_owner (tree_at types a.ty) ≡ true
       holds =
-          seen_owner types k.ordered k.plain (slice_get types.types (shape types gf.parameters e.parameter aim.local).0) a.ty seen_as
+          seen_owner types k.ordered (slice_get types.types (shape types gf.parameters e.parameter aim.local).0) a.ty seen_as
           (and_parts (holds_owner (tree_if types (target_type types input.ty))) _ (and_parts (not (is_constant (ty_if types input.ty))) _ mutating).1).0
 
       pub caller_owns : owning types f aim.place.root ≡ true
@@ -205,53 +227,40 @@ module _ (types : Types) (f : Function) (rest : ℕ → ℕ) (inputs : Root → 
           go (root.Input q member) is at_input =
               let i = k.given.each (root.Input q member) stood.start at_input in
               ap (owning types f) is
-              ∙ mutating_input types k.ordered f q member stood.start i (sym (ap (may_change types f) is) ∙ aim.points.change writable) (holds_up types k.ordered k.plain st.world.content (path aim.place) stood.start a stood.lies holds)
+              ∙ mutating_input types k.ordered f q member stood.start i (sym (ap (may_change types f) is) ∙ aim.points.change writable) (holds_up types k.ordered st.world.content (path aim.place) stood.start a stood.lies holds)
               (argument_unkept sigs types number f place S target g xs (signature_of gf) at_g right.clean input aim.among (local_place aim.from) aim.argument mutating aim.place aim.fact q member i.input is i.is)
 
   -- ---- two of them
 
-  module _ (r s : Root) (a b : Region) (own : owning types gf r ≡ true) (ne : r ≢ s) (at_r : StandsAt (entry_inputs st.world.content values) r a) (at_s : StandsAt (entry_inputs st.world.content values) s b) where
-    abbrev e1 : IsEntered st.world.content values r a
-    e1 = is_entered st.world.content values r a at_r
+  module _ (r s : Root) (a b : Region) (own : owning types gf r ≡ true) (ne : r ≢ s) (at_r : StandsAt (entry_inputs types gf st.world.content values) r a) (at_s : StandsAt (entry_inputs types gf st.world.content values) s b) where
+    abbrev e1 : IsEntered types gf st.world.content values r a
+    e1 = is_entered types gf st.world.content values r a at_r
 
-    abbrev e2 : IsEntered st.world.content values s b
-    e2 = is_entered st.world.content values s b at_s
+    abbrev e2 : IsEntered types gf st.world.content values s b
+    e2 = is_entered types gf st.world.content values s b at_s
 
-    abbrev one : IsAimedBy types f inputs S st xs gf (is_entered st.world.content values r a at_r).parameter (is_entered st.world.content values r a at_r).target
-    one = aims (is_entered st.world.content values r a at_r).parameter (is_entered st.world.content values r a at_r).target (is_entered st.world.content values r a at_r).handed
+    abbrev one : IsAimedBy types f inputs S st xs gf (is_entered types gf st.world.content values r a at_r).parameter (is_entered types gf st.world.content values r a at_r).target
+    one = aims (is_entered types gf st.world.content values r a at_r).parameter (is_entered types gf st.world.content values r a at_r).target (is_entered types gf st.world.content values r a at_r).handed
 
-    abbrev two : IsAimedBy types f inputs S st xs gf (is_entered st.world.content values s b at_s).parameter (is_entered st.world.content values s b at_s).target
-    two = aims (is_entered st.world.content values s b at_s).parameter (is_entered st.world.content values s b at_s).target (is_entered st.world.content values s b at_s).handed
+    abbrev two : IsAimedBy types f inputs S st xs gf (is_entered types gf st.world.content values s b at_s).parameter (is_entered types gf st.world.content values s b at_s).target
+    two = aims (is_entered types gf st.world.content values s b at_s).parameter (is_entered types gf st.world.content values s b at_s).target (is_entered types gf st.world.content values s b at_s).handed
 
     apart : e1.parameter ≢ e2.parameter
     apart same = ne (e1.root ∙ ap (λ q. root.Input q None) same ∙ sym e2.root)
 
-    -- their arguments' places have two roots
-    roots_differ : one.place.root ≢ two.place.root
-    roots_differ same = ⊎_elim
+    -- neither of their arguments' places is a part of the other
+    parts : overlap one.place two.place ≡ false
+    parts = not_true (overlap one.place two.place) (λ overlaps. ⊎_elim
         (λ lt. not_overlapping sigs types number f place S target g xs (signature_of gf) at_g right.clean_of_two (input r a at_r) (input s b at_s) (local_place one.from) (local_place two.from) one.place two.place
         (λ h d told. pairs_in_signature types k.ordered gf e1.parameter e2.parameter one.local two.local one.there one.lt one.parameter two.there two.lt two.parameter lt h d told) one.argument two.argument one.fact two.fact
         (ap (λ t. t || is_mutating types (signature_of gf) (input s b at_s)) (mutating r a at_r own)) overlaps)
         (λ lt. not_overlapping sigs types number f place S target g xs (signature_of gf) at_g right.clean_of_two (input s b at_s) (input r a at_r) (local_place two.from) (local_place one.from) two.place one.place
         (λ h d told. pairs_in_signature types k.ordered gf e2.parameter e1.parameter two.local one.local two.there two.lt two.parameter one.there one.lt one.parameter lt h d told) two.argument one.argument two.fact one.fact
-        (or_right (is_mutating types (signature_of gf) (input s b at_s)) (is_mutating types (signature_of gf) (input r a at_r)) (mutating r a at_r own)) turned)
-        (either_less e1.parameter e2.parameter apart)
-      where
-        overlaps : overlap one.place two.place ≡ true
-        overlaps = one_root types f rest inputs S st k one.place two.place a b (stood r a at_r) (stood s b at_s) same
+        (or_right (is_mutating types (signature_of gf) (input s b at_s)) (is_mutating types (signature_of gf) (input r a at_r)) (mutating r a at_r own)) (overlap_turned one.place two.place overlaps))
+        (either_less e1.parameter e2.parameter apart))
 
-        turned : overlap two.place one.place ≡ true
-        turned = one_root types f rest inputs S st k two.place one.place b a (stood s b at_s) (stood r a at_r) (sym same)
-
-    pub inputs_other : a.object ≢ b.object
-    inputs_other = place_other types f rest inputs S st k one.place two.place a b (stood r a at_r) (stood s b at_s) (caller_owns r a at_r own) roots_differ
-
-    pub inputs_over : Beneath (kinds_of types) st.world.content (foot_of types b) a.object → ⊥
-    inputs_over = place_under types f rest inputs S st k one.place two.place a b (stood r a at_r) (stood s b at_s) (caller_owns r a at_r own) roots_differ
-
-    -- .. and the other isn't beneath the mutating one
-    pub inputs_under : Beneath (kinds_of types) st.world.content (foot_of types a) b.object → ⊥
-    inputs_under = place_over types f rest inputs S st k one.place two.place a b (stood r a at_r) (stood s b at_s) (caller_owns r a at_r own) roots_differ
+    pub inputs_apart : IsApart types st.world.content a b
+    inputs_apart = places_apart types f rest inputs S st k one.place two.place a b (stood r a at_r) (stood s b at_s) (caller_owns r a at_r own) parts
 
   -- ---- all of them
 
@@ -259,28 +268,25 @@ module _ (types : Types) (f : Function) (rest : ℕ → ℕ) (inputs : Root → 
   pub not_given_over : (p : AbsPlace) (r : Region) → Names S p → Stood p r → (n : ℕ) → 0 < times (named_in values) n → Beneath (kinds_of types) st.world.content (all_of (n ∷ [])) r.object → ⊥
   not_given_over p r names at_p n lt low = let h = over n lt in elsewhere types f rest inputs S st k h.0 n h.1 h.2 p r names at_p low
 
-  input_free : (r : Root) (a : Region) → StandsAt (entry_inputs st.world.content values) r a → IsBelow types st.world.content (mutated types gf (entry_inputs st.world.content values)) (named_in values) a.object → ⊥
+  input_free : (r : Root) (a : Region) → StandsAt (entry_inputs types gf st.world.content values) r a → IsBelow types st.world.content (mutated types gf (entry_inputs types gf st.world.content values)) (named_in values) a.object → ⊥
   input_free r a at_r (below_whole n lt low) = not_given_over (aim r a at_r).place a (local_place (aim r a at_r).from, (aim r a at_r).fact) (stood r a at_r) n lt low
   input_free r a at_r (below_region b among low) = by_root (one_or_other r m.0)
     where
-      m : (s : Root) × (StandsAt (entry_inputs st.world.content values) s b) × (owning types gf s ≡ true)
-      m = mutated_from types gf (entry_inputs st.world.content values) b among
+      m : (s : Root) × (StandsAt (entry_inputs types gf st.world.content values) s b) × (owning types gf s ≡ true)
+      m = mutated_from types gf (entry_inputs types gf st.world.content values) b among
 
       by_root : (r ≡ m.0) ⊎ (r ≢ m.0) → ⊥
       by_root (inl same) =
-          let is : a ≡ b = some_same (sym at_r ∙ ap (entry_inputs st.world.content values) same ∙ m.1) in
+          let is : a ≡ b = some_same (sym at_r ∙ ap (entry_inputs types gf st.world.content values) same ∙ m.1) in
           not_itself types k.ordered (hand_of rest st) st.world.content (store_of types f rest inputs S st k) a (subst (λ (z : Region). Beneath (kinds_of types) st.world.content (foot_of types z) a.object) (sym is) low)
-      by_root (inr ne) = inputs_under m.0 r b a m.2 (λ same. ne (sym same)) m.1 at_r low
+      by_root (inr ne) = (inputs_apart m.0 r b a m.2 (λ same. ne (sym same)) m.1 at_r).over low
 
-  pub callee_given : AreGiven types gf (entry_inputs st.world.content values) (foot_with types (mutated types gf (entry_inputs st.world.content values)) (named_in values)) st.world.content
+  pub callee_given : AreGiven types gf (entry_inputs types gf st.world.content values) (foot_with types (mutated types gf (entry_inputs types gf st.world.content values)) (named_in values)) st.world.content
   callee_given = record {
     each = entered_input;
-    all = λ r a at_r. record {
-      word = sym (ap (λ (z : Region). z.word) (is_entered st.world.content values r a at_r).is) ∙ (aim r a at_r).passed.word;
-      type = λ q there. ap (λ (o : Object). o.ty) (some_same (sym there ∙ object_lives r a at_r)) ∙ object_type r a at_r;
-    };
-    born = λ r a at_r. (store_of types f rest inputs S st k).forest.births a.object (is_entered st.world.content values r a at_r).object (object_lives r a at_r);
-    free = λ r a at_r low. input_free r a at_r (is_below types st.world.content (mutated types gf (entry_inputs st.world.content values)) (named_in values) a.object low);
-    other = inputs_other;
-    over = inputs_over;
+    part = entered_part;
+    born = λ r a at_r. (store_of types f rest inputs S st k).forest.births a.object (is_entered types gf st.world.content values r a at_r).object (object_lives r a at_r);
+    free = λ r a at_r low. input_free r a at_r (is_below types st.world.content (mutated types gf (entry_inputs types gf st.world.content values)) (named_in values) a.object low);
+    beside = λ r s a b own ne at_r at_s. (inputs_apart r s a b own ne at_r at_s).beside;
+    over = λ r s a b own ne at_r at_s. (inputs_apart r s a b own ne at_r at_s).under;
   }

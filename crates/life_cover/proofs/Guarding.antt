@@ -69,7 +69,7 @@ members_behind types (x ∷ xs) (suc j) (suc k) id less e =
     omega (arith, s, t, r)
 
 -- what owns has no members
-no_members : (types : Types) (o : Option Ty) (j : ℕ) (id item : TyId) → slice_get (members_if types o) j ≡ Some id → owned_in_type types o ≡ Some item → ⊥
+pub no_members : (types : Types) (o : Option Ty) (j : ℕ) (id item : TyId) → slice_get (members_if types o) j ≡ Some id → owned_in_type types o ≡ Some item → ⊥
 no_members types (Some (variant.Struct number)) j id item m e = none_some e
 no_members types None j id item m e = none_some e
 no_members types (Some _) j id item m e = none_some m
@@ -114,7 +114,7 @@ module _ (types : Types) (ordered : IsOrdered types) (hand : ℕ → ℕ) (c : C
   beneath_apart a b x apart low (inl s) = apart.over (subst (Beneath (kinds_of types) c (foot_of types a)) s.object low)
   beneath_apart a b x apart low (inr other) = feet.apart (kinds_of types) hand c store.forest (foot_of types a) (foot_of types b) (feet_apart a b apart) x.object low other
 
-  members_apart : (j k : ℕ) (a b d : Region) → j ≢ k → ToMember types j a b → ToMember types k a d → IsTrue types c a → IsApart types c b d
+  pub members_apart : (j k : ℕ) (a b d : Region) → j ≢ k → ToMember types j a b → ToMember types k a d → IsTrue types c a → IsApart types c b d
   members_apart j k a b d ne one two is = record {
     beside = λ e. order (j_k j k ne);
     over = λ low. not_itself types ordered hand c store a (beneath_inside types ordered hand c store a b (goes_inside types ordered hand c store j a b is (inl one)) a.object (subst (Beneath (kinds_of types) c (foot_of types b)) two.object low));
@@ -139,7 +139,7 @@ module _ (types : Types) (ordered : IsOrdered types) (hand : ℕ → ℕ) (c : C
           let y = two.word in
           inr (omega (arith, s, x, y))
 
-  owned_apart : (j k : ℕ) (a b d : Region) → b.object ≢ d.object → ToOwned types c j a b → ToOwned types c k a d → IsTrue types c a → IsApart types c b d
+  pub owned_apart : (j k : ℕ) (a b d : Region) → b.object ≢ d.object → ToOwned types c j a b → ToOwned types c k a d → IsTrue types c a → IsApart types c b d
   owned_apart j k a b d ne one two is = record {
     beside = λ e. absurd (ne e);
     over = λ low. lesser b d x.0 y.0 x.1 y.1 low (x_ty ∙ same ∙ sym y_ty);

@@ -45,9 +45,9 @@ module _ (types : Types) (f : Function) (rest : ℕ → ℕ) (inputs : Root → 
     (over : (n : ℕ) → 0 < times (named_in values) n → (x : ℕ) × (cell st x ≡ Some (Named n)) × IsUnnamed S x) (slotless : AreSlotless xs) (each : HandEach types f st xs values)
     (hand : (j : ℕ) → times (named_in (lent types f xs st).cells) j + times (named_in values) j ≡ times (named_in st.cells) j) (n : ℕ) where
   -- where an input of the callee stands an argument points
-  module _ (r : Root) (a : Region) (stands : StandsAt (entry_inputs st.world.content values) r a) where
-    abbrev aim : IsAimedBy types f inputs S st xs gf (is_entered st.world.content values r a stands).parameter (is_entered st.world.content values r a stands).target
-    aim = aims (is_entered st.world.content values r a stands).parameter (is_entered st.world.content values r a stands).target (is_entered st.world.content values r a stands).handed
+  module _ (r : Root) (a : Region) (stands : StandsAt (entry_inputs types gf st.world.content values) r a) where
+    abbrev aim : IsAimedBy types f inputs S st xs gf (is_entered types gf st.world.content values r a stands).parameter (is_entered types gf st.world.content values r a stands).target
+    aim = aims (is_entered types gf st.world.content values r a stands).parameter (is_entered types gf st.world.content values r a stands).target (is_entered types gf st.world.content values r a stands).handed
 
     -- which is to nothing that nobody comes to
     loose_elsewhere : IsLoose types inputs (named_in st.cells) st.world.content n → a.object ≢ n
@@ -66,7 +66,7 @@ module _ (types : Types) (f : Function) (rest : ℕ → ℕ) (inputs : Root → 
         here = record { local = moved.local; names = moved.names ∙ ap (λ i. Some (Named i)) (sym same); owner = moved.owner; cause = moved.cause; holds = moved.holds }
 
         its : IsItsPath aim.place
-        its = fact_path types k.ordered k.plain f k.shaped k.short st.world.content st.cells (object_named types f rest inputs S st k) inputs k.given.each (local_place aim.from) aim.place (right.closed.of (fact_at (local_place aim.from) (element.At aim.place)) aim.fact)
+        its = fact_path types k.ordered f k.shaped k.short st.world.content st.cells (object_named types f rest inputs S st k) inputs k.given.each (local_place aim.from) aim.place (right.closed.of (fact_at (local_place aim.from) (element.At aim.place)) aim.fact)
 
         there : aim.place ≡ local_place moved.local
         there = place_moved types f rest inputs S st k aim.place a (stood types f rest inputs S st k sigs number place S' target g xs right values gf at_g shaped aims over r a stands) its here
@@ -81,7 +81,7 @@ module _ (types : Types) (f : Function) (rest : ℕ → ℕ) (inputs : Root → 
       let alive = alive_le (kinds_of types) st.world.content n in
       omega (arith, two, held, alive))
 
-  pub handed_loose : MayLack types f inputs S st n → IsLoose types (entry_inputs st.world.content values) (named_in values) st.world.content n
+  pub handed_loose : MayLack types f inputs S st n → IsLoose types (entry_inputs types gf st.world.content values) (named_in values) st.world.content n
   handed_loose (inl moved) =
       let v = k.stands.frame.objects moved.local n moved.names in record {
         born = k.stands.store.forest.births n v.object v.there;

@@ -1,6 +1,8 @@
--- The elements of a vector that is reached in a frame without structs: its buffer is of their type, and what they have lives and isn't the buffer.
-use Rattle.std.proofs.Common.{◌≡◌, ℕ, ◌<◌, length, Option, Some, refl, sym, ap, subst, ◌∙◌, arith, ◌⊎◌, ⊎_elim}
+-- The elements of a vector that is reached in a frame: its buffer is of their type, and what they have lives and isn't the buffer.
+use Rattle.std.proofs.Common.{◌≡◌, ℕ, ◌<◌, length, Option, Some, refl, sym, ap, subst, ◌∙◌, arith, ◌⊎◌, ⊎_elim, false}
 use Rattle.std.specs.Prelude.{slice_get}
+use Rattle.life_types.specs.declared.ty.Ty.{Ty}
+use Rattle.life_types.specs.Pointees.{or_void}
 use Rattle.life_types.specs.Types.{Types}
 use Rattle.life_types.specs.declared.ty.Ty.TheVariants as ty
 use Rattle.life_types.specs.declared.ty.TyId.{TyId}
@@ -23,6 +25,7 @@ use Rattle.life_forest.proofs.SeenTypes.{parts_typed}
 use Rattle.life_cover.specs.Buffered.{HasBuffers}
 use Rattle.life_cover.specs.Inputs.{may_change, StandsAt}
 use Rattle.life_cover.specs.Lacking.{MayLack}
+use Rattle.life_cover.specs.Members.{is_inert}
 use Rattle.life_cover.specs.Regions.{Region, foot_of}
 use Rattle.life_cover.proofs.Buffers.{buffer, buffer_lives, buffer_low, buffer_type}
 use Rattle.life_cover.proofs.Copies.{slot_within, whole_parts}
@@ -45,6 +48,9 @@ module _ (types : Types) (f : Function) (rest : ℕ → ℕ) (inputs : Root → 
 
   pub vector_operand : operand_parts types f o ≡ Vector element (parts_at types element)
   vector_operand = ap (parts_if types) typed_at.typed ∙ vector_parts
+
+  pub vector_alone : is_inert (or_void (slice_get types.types r.region.ty.0)) ≡ false
+  vector_alone = ap (λ (t : Option Ty). is_inert (or_void t)) typed_at.there
 
   module _ (unmoved : MayLack types f inputs S st r.region.object → ⊥) where
     abbrev vector_at : IsOpened types f rest inputs S st k o r (ty.Vector element) element
@@ -98,7 +104,7 @@ module _ (types : Types) (f : Function) (rest : ℕ → ℕ) (inputs : Root → 
     -- one of them is erased
     pub elements_shut : (index : ℕ) → index < size_of st.world.content vector_at.buffer → IsShut types (MayLack types f inputs S st) vector_at.buffer (length held.0.slots) (erased (parts_at types element) vector_at.buffer index st.world.content)
     elements_shut index small =
-        erased_shut types (MayLack types f inputs S st) (parts_at types element) (whole_parts types k.plain element) vector_at.buffer index st.world.content k.buffered held.0 held.1 (ap (parts_at types) held_type)
+        erased_shut types (MayLack types f inputs S st) (parts_at types element) (whole_parts types k.inert element) vector_at.buffer index st.world.content k.buffered held.0 held.1 (ap (parts_at types) held_type)
         (held_free (λ m. MayLack types f inputs S st m ⊎ (m ≡ vector_at.buffer))
         (λ m q there low out. ⊎_elim (λ lacks. low_whole types f rest inputs S st k elements_region m low lacks) (λ same. not_itself types k.ordered (hand_of rest st) st.world.content (store_of types f rest inputs S st k) elements_region (subst (Beneath (kinds_of types) st.world.content (foot_of types elements_region)) same low)) out))
         (k.stands.store.forest.births vector_at.buffer held.0 held.1)

@@ -1,10 +1,10 @@
 -- The places behind an input that a function has facts of, and that what is reached there through a pointer without const, and isn't kept, is mutating.
 use Rattle.std.proofs.Common.{◌≡◌, ◌⊎◌, inl, inr, ⊎_elim, ℕ, zero, suc, Bool, true, false, List, [], ◌∷◌, Option, Some, None, refl, sym, ap, subst, ◌∙◌}
-use Rattle.std.specs.Prelude.{Contains, map, not, slice_get, take, ◌&&◌, ◌++◌}
+use Rattle.std.specs.Prelude.{Contains, map, not, slice_get, take, ◌&&◌, ◌++◌, ◌||◌}
 use Rattle.std.specs.List.{flat_map}
 use Rattle.std.proofs.lemmas.Bool.{false≢true}
 use Rattle.std.proofs.lemmas.List.Elements.{Contains-append_left, Contains-append_right}
-use Rattle.life_types.specs.Trees.{IsOrdered, holds_owner, tree_at, tree_of}
+use Rattle.life_types.specs.Trees.{IsOrdered, holds_owner, tree_at, tree_of, members_at}
 use Rattle.life_types.specs.Trees as trees
 use Rattle.life_types.proofs.TreeLemmas.{tree_made}
 use Rattle.life_types.specs.TypeTests.{is_constant}
@@ -27,12 +27,12 @@ use Rattle.life_contract.specs.Signatures.{parameter_of, signature_of}
 use Rattle.life_rules.specs.Keeping.{is_kept}
 use Rattle.life_rules.proofs.Giving.{cons_cases, flat_map_into, none_in_empty}
 use Rattle.life_store.specs.Content.{Content}
-use Rattle.life_store.specs.Parts.{characters_type}
-use Rattle.life_store.proofs.CellLemmas.{none_some}
+use Rattle.life_store.specs.Parts.{characters_type, members_if, members_of}
+use Rattle.life_store.proofs.CellLemmas.{none_some, some_same}
 use Rattle.life_forest.proofs.Laying.{none_behind}
 use Rattle.life_cover.specs.Inputs.{IsInput, may_change, owning, test_input}
 use Rattle.life_cover.specs.Regions.{Goes, Lies, Region, owned_in_type}
-use Rattle.life_cover.proofs.Listing.{map_into, no_member, place_itself}
+use Rattle.life_cover.proofs.Listing.{map_into, place_itself}
 
 -- a character of a string has no type in the table
 characters_tree : (types : Types) → IsOrdered types → tree_at types (characters_type types) ≡ trees.Void
@@ -81,13 +81,32 @@ module _ (types : Types) (ordered : IsOrdered types) where
       go None e = absurd (none_some e)
       go (Some _) e = absurd (none_some e)
 
-  pub holds_up : (plain : types.structs ≡ []) (c : Content) (ss : List ℕ) (a b : Region) → Lies types c ss a b → holds_owner (tree_at types b.ty) ≡ true → holds_owner (tree_at types a.ty) ≡ true
-  holds_up plain c [] a b lies h = subst (λ (x : Region). holds_owner (tree_at types x.ty) ≡ true) (sym lies) h
-  holds_up plain c (s ∷ ss) a b lies h = step lies.1
+  -- a struct with a member that has one
+  pub struct_holds : (id : TyId) (m : ℕ) (part : TyId) → slice_get (members_of types id) m ≡ Some part → holds_owner (tree_at types part) ≡ true → holds_owner (tree_at types id) ≡ true
+  struct_holds id m part typed h = ap holds_owner (tree_made types ordered id) ∙ go (slice_get types.types id.0) typed
     where
-      step : Goes types c s a lies.0 → holds_owner (tree_at types a.ty) ≡ true
-      step (inl m) = absurd (none_some (sym (no_member types ordered plain c a.ty s) ∙ m.type))
-      step (inr o) = owner_holds a.ty lies.0.ty o.type
+      either : (a b : Bool) → (a ≡ true) ⊎ (b ≡ true) → (a || b) ≡ true
+      either true b e = refl
+      either false b (inl e) = absurd (false≢true e)
+      either false b (inr e) = e
+
+      among : (ids : List TyId) (j : ℕ) → slice_get ids j ≡ Some part → holds_owner (trees.struct_of (tree_at types) ids) ≡ true
+      among [] j e = absurd (none_some e)
+      among (x ∷ ids) zero e = either (holds_owner (tree_at types x)) (holds_owner (trees.struct_of (tree_at types) ids)) (inl (ap (λ (i : TyId). holds_owner (tree_at types i)) (some_same e) ∙ h))
+      among (x ∷ ids) (suc j) e = either (holds_owner (tree_at types x)) (holds_owner (trees.struct_of (tree_at types) ids)) (inr (among ids j e))
+
+      go : (o : Option Ty) → slice_get (members_if types o) m ≡ Some part → holds_owner (tree_of types (tree_at types) o) ≡ true
+      go (Some (ty.Struct number)) e = among (members_at types number) m e
+      go None e = absurd (none_some e)
+      go (Some _) e = absurd (none_some e)
+
+  pub holds_up : (c : Content) (ss : List ℕ) (a b : Region) → Lies types c ss a b → holds_owner (tree_at types b.ty) ≡ true → holds_owner (tree_at types a.ty) ≡ true
+  holds_up c [] a b lies h = subst (λ (x : Region). holds_owner (tree_at types x.ty) ≡ true) (sym lies) h
+  holds_up c (s ∷ ss) a b lies h = step lies.1 (holds_up c ss lies.0 b lies.2 h)
+    where
+      step : Goes types c s a lies.0 → holds_owner (tree_at types lies.0.ty) ≡ true → holds_owner (tree_at types a.ty) ≡ true
+      step (inl m) inner = struct_holds a.ty s lies.0.ty m.type inner
+      step (inr o) inner = owner_holds a.ty lies.0.ty o.type
 
 -- ---- what is kept
 

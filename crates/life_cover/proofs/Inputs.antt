@@ -2,7 +2,9 @@
 use Rattle.std.proofs.Common.{◌≡◌, ◌≢◌, inl, inr, ⊎_elim, ℕ, ◌+◌, ◌<◌, true, Option, Some, None, refl, sym, ap, subst, ◌∙◌, arith}
 use Rattle.std.specs.Prelude.{option_map, slice_get}
 use Rattle.std.proofs.lemmas.Bool.{false≢true}
+use Rattle.life_types.specs.Trees.{IsOrdered}
 use Rattle.life_types.specs.Types.{Types}
+use Rattle.life_types.specs.declared.ty.TyId.{TyId}
 use Rattle.life_core.specs.Function.{Function}
 use Rattle.life_pset.specs.declared.element.Root.{Root}
 use Rattle.life_pset.specs.declared.element.Root.TheVariants as root
@@ -15,19 +17,18 @@ use Rattle.life_forest.specs.FrameTypes.{IsFrame}
 use Rattle.life_forest.specs.Frames.{HasStore, named_in}
 use Rattle.life_forest.specs.Kinds.{Kinds, kinds_of}
 use Rattle.life_forest.specs.Owned.{every, spared, times}
-use Rattle.life_forest.specs.Within.{LiesWithin}
 use Rattle.life_forest.proofs.Below.{is_positive}
 use Rattle.life_forest.proofs.Following.{in_hand}
 use Rattle.life_forest.proofs.Feet.{within_self}
-use Rattle.life_forest.proofs.Members as members
 use Rattle.life_forest.proofs.Steps.{beneath_back, beneath_more, owner_born, own_all}
 use Rattle.life_cover.specs.Frames.{NoInput, RootStands}
 use Rattle.life_cover.specs.Inputs.{AreGiven, StandsAt, frame_foot, owning}
-use Rattle.life_cover.specs.Regions.{IsTrue, Region, foot_of}
+use Rattle.life_cover.specs.Regions.{HasPart, IsTrue, Region, foot_of}
 use Rattle.life_cover.specs.Roots.{AreRooted, IsApart}
 use Rattle.life_cover.proofs.Inside.{region_owner}
-use Rattle.life_cover.proofs.Locals.{locals_other, locals_rooted, named_free}
+use Rattle.life_cover.proofs.Locals.{locals_rooted, named_free}
 use Rattle.life_cover.proofs.Mutated.{in_mutated}
+use Rattle.life_cover.proofs.ObjectParts.{part_within}
 
 -- ---- what isn't beneath a foot stays beneath what it was
 
@@ -47,22 +48,21 @@ module _ (types : Types) (f : Function) (inputs : Root → Option Region) (hand 
   pub given_on : AreGiven types f inputs foot c → (other : Foot) → Touches (kinds_of types) foot c d → Within (kinds_of types) c other foot → AreGiven types f inputs other d
   given_on given other touch within = record {
     each = given.each;
-    all = λ r a stands. let was = given.all r a stands in record {
-      word = was.word;
-      type = λ q there. same_type a (given.born r a stands) (given.free r a stands) q there was.type;
-    };
+    part = λ r a stands q there.
+        let o = same_type a (given.born r a stands) (given.free r a stands) q there in
+        subst (λ (id : TyId). HasPart types id a.word a.ty) o.2 (given.part r a stands o.0 o.1);
     born = λ r a stands. let b = given.born r a stands in let more = touch.births in omega (arith, b, more);
     free = λ r a stands low. given.free r a stands (beneath_back (kinds_of types) hand c forest foot other foot d a.object touch (within_self (kinds_of types) c foot) within (given.born r a stands) low);
-    other = given.other;
+    beside = given.beside;
     over = λ r s a b own ne at_r at_s low. given.over r s a b own ne at_r at_s (beneath_before (kinds_of types) hand c d forest foot touch (foot_of types b) a.object (given.born r a at_r) (given.free r a at_r) low);
   }
     where
-      same_type : (a : Region) → a.object < c.births → (Beneath (kinds_of types) c foot a.object → ⊥) → (q : Object) → at d.objects a.object ≡ Some q → ((o : Object) → at c.objects a.object ≡ Some o → o.ty ≡ a.ty) → q.ty ≡ a.ty
-      same_type a born free q there was = go (at c.objects a.object) refl (touch.kept a.object born free)
+      same_type : (a : Region) → a.object < c.births → (Beneath (kinds_of types) c foot a.object → ⊥) → (q : Object) → at d.objects a.object ≡ Some q → (o : Object) × (at c.objects a.object ≡ Some o) × (o.ty ≡ q.ty)
+      same_type a born free q there = go (at c.objects a.object) refl (touch.kept a.object born free)
         where
-          go : (o : Option Object) → at c.objects a.object ≡ o → option_map (spared (kinds_of types) (foot.part a.object)) (at d.objects a.object) ≡ option_map (spared (kinds_of types) (foot.part a.object)) (at c.objects a.object) → q.ty ≡ a.ty
+          go : (o : Option Object) → at c.objects a.object ≡ o → option_map (spared (kinds_of types) (foot.part a.object)) (at d.objects a.object) ≡ option_map (spared (kinds_of types) (foot.part a.object)) (at c.objects a.object) → (o : Object) × (at c.objects a.object ≡ Some o) × (o.ty ≡ q.ty)
           go (Some o) e same =
-              ap (λ (x : Object). x.ty) (some_same (sym (ap (option_map (spared (kinds_of types) (foot.part a.object))) there) ∙ same ∙ ap (option_map (spared (kinds_of types) (foot.part a.object))) e)) ∙ was o e
+              (o, e, sym (ap (λ (x : Object). x.ty) (some_same (sym (ap (option_map (spared (kinds_of types) (foot.part a.object))) there) ∙ same ∙ ap (option_map (spared (kinds_of types) (foot.part a.object))) e))))
           go None e same = absurd (none_some (sym (sym (ap (option_map (spared (kinds_of types) (foot.part a.object))) there) ∙ same ∙ ap (option_map (spared (kinds_of types) (foot.part a.object))) e)))
 
 -- ---- apart from the locals
@@ -92,17 +92,15 @@ module _ (types : Types) (f : Function) (rest : ℕ → ℕ) (inputs : Root → 
     pub mutated_low : (r : Root) (a : Region) (n : ℕ) → StandsAt inputs r a → owning types f r ≡ true → n < st.world.content.births → Beneath (kinds_of types) st.world.content (foot_of types a) n → Beneath (kinds_of types) st.world.content (frame_foot types f inputs st.cells) n
     mutated_low r a n stands own lt low = beneath_more (kinds_of types) (λ m. times (named_in st.cells) m + rest m) st.world.content store.forest (foot_of types a) foot n (mutated_within r a stands own) lt low
 
-    pub frame_rooted : AreRooted types st.world.content (RootStands types f (StandsAt inputs) st.cells) (owning types f)
-    frame_rooted = record { fits = fits; one = one; apart = apart }
+    pub frame_rooted : (ordered : IsOrdered types) → AreRooted types st.world.content (RootStands types f (StandsAt inputs) st.cells) (owning types f)
+    frame_rooted ordered = record { fits = fits; one = one; apart = apart }
       where
         locals : AreRooted types st.world.content (RootStands types f NoInput st.cells) (owning types f)
         locals = let h = locals_rooted types f rest st store frame in record { fits = h.fits; one = h.one; apart = λ r s a b own ne. h.apart r s a b refl ne }
 
         fits : (r : Root) (a : Region) → RootStands types f (StandsAt inputs) st.cells r a → IsTrue types st.world.content a
         fits (root.Local x) a s o there = locals.fits (root.Local x) a s o there
-        fits (root.Input q member) a s o there =
-            let all = given.all (root.Input q member) a s in
-            subst (λ w. LiesWithin types o.ty w a.ty) (sym all.word) (subst (λ id. LiesWithin types id 0 a.ty) (sym (all.type o there)) (members.within_self types a.ty))
+        fits (root.Input q member) a s o there = part_within types ordered o.ty a.word a.ty (given.part (root.Input q member) a s o there)
 
         one : (r : Root) (a b : Region) → RootStands types f (StandsAt inputs) st.cells r a → RootStands types f (StandsAt inputs) st.cells r b → a ≡ b
         one (root.Local x) a b s t = locals.one (root.Local x) a b s t
@@ -124,14 +122,7 @@ module _ (types : Types) (f : Function) (rest : ℕ → ℕ) (inputs : Root → 
         apart (root.Local x) (root.Input q member) a b own ne s t = from_local x a (root.Input q member) b s.0 t
         apart (root.Input q member) (root.Local y) a b own ne s t = turned b a (from_local y b (root.Input q member) a t.0 s)
         apart (root.Input q member) (root.Input p other) a b own ne s t = record {
-          beside = λ same. absurd (given.other (root.Input q member) (root.Input p other) a b own ne s t same);
+          beside = given.beside (root.Input q member) (root.Input p other) a b own ne s t;
           over = λ low. given.free (root.Input p other) b t (mutated_low (root.Input q member) a b.object s own (given.born (root.Input p other) b t) low);
           under = λ low. given.over (root.Input q member) (root.Input p other) a b own ne s t low;
         }
-
-    -- roots stand in two objects
-    pub roots_other : (r s : Root) (a b : Region) → owning types f r ≡ true → r ≢ s → RootStands types f (StandsAt inputs) st.cells r a → RootStands types f (StandsAt inputs) st.cells s b → a.object ≢ b.object
-    roots_other (root.Local x) (root.Local y) a b own ne s t same = locals_other types f rest st store frame x y b.object (λ k. ne (ap (λ z. root.Local z) k)) (subst (λ n. slice_get st.cells x ≡ Some (Named n)) same s.0) t.0
-    roots_other (root.Local x) (root.Input q member) a b own ne s t same = given.free (root.Input q member) b t (subst (Beneath (kinds_of types) st.world.content foot) same (local_low x a.object s.0))
-    roots_other (root.Input q member) (root.Local y) a b own ne s t same = given.free (root.Input q member) a s (subst (Beneath (kinds_of types) st.world.content foot) (sym same) (local_low y b.object t.0))
-    roots_other (root.Input q member) (root.Input p other) a b own ne s t same = given.other (root.Input q member) (root.Input p other) a b own ne s t same

@@ -1,10 +1,10 @@
--- What is known of a frame of a function without structs before an instruction, and of the instruction; and what its operands are.
+-- What is known of a frame before an instruction, and of the instruction; and what its operands are.
 use Rattle.std.proofs.Common.{◌≡◌, ℕ, ◌+◌, Bool, true, false, List, [], ◌∷◌, ◌++◌, Option, Some, None, refl, sym, ap, subst, ◌∙◌}
-use Rattle.std.specs.Prelude.{ℤ, Contains, cond, not, slice_get, unwrap_or}
+use Rattle.std.specs.Prelude.{ℤ, Contains, cond, not, slice_get}
 use Rattle.std.specs.List.{flat_map}
 use Rattle.std.proofs.lemmas.Bool.{and_parts, false≢true}
 use Rattle.std.proofs.lemmas.List.Elements.{Contains-append_left}
-use Rattle.life_types.specs.Pointees.{pointee}
+use Rattle.life_types.specs.Pointees.{or_void, pointee}
 use Rattle.life_types.specs.Trees.{IsOrdered, members_at}
 use Rattle.life_types.specs.TypeTests.{is_pointer, is_value, is_void}
 use Rattle.life_types.specs.Types.{HasEachOnce, Types}
@@ -16,9 +16,10 @@ use Rattle.life_core.specs.Function.{Function}
 use Rattle.life_core.specs.Operands.{Location, Operand, whole}
 use Rattle.life_core.specs.Operands as named
 use Rattle.life_core.specs.Step.{Step}
-use Rattle.life_pset.specs.Elements.{AreShort, elements_of}
-use Rattle.life_pset.specs.Shapes.{has_buffer, location_type, member_of, members_type, operand_type, target_type, ty_if}
+use Rattle.life_pset.specs.Elements.{AreShort, elements_of, local_place}
+use Rattle.life_pset.specs.Shapes.{has_buffer, member_of, member_type, members_type, operand_type, ty_if}
 use Rattle.life_pset.specs.Shapes as shapes
+use Rattle.life_pset.specs.Table.{IsOf, table_of}
 use Rattle.life_pset.specs.declared.element.Element.{Element}
 use Rattle.life_pset.specs.declared.element.Element.TheVariants as element
 use Rattle.life_pset.specs.declared.element.Fact.{Fact}
@@ -40,7 +41,7 @@ use Rattle.life_rules.specs.declared.diag.Why.{Why}
 use Rattle.life_rules.specs.declared.diag.Why.TheVariants as why
 use Rattle.life_rules.proofs.Giving.{at_head, flat_map_into}
 use Rattle.life_store.specs.Effects.{cell}
-use Rattle.life_store.specs.Parts.{local_type}
+use Rattle.life_store.specs.Parts.{local_type, members_if, operand_type as meant_type}
 use Rattle.life_store.specs.State.{Named, Number, State}
 use Rattle.life_forest.proofs.CopiedTypes.{LocalsStand}
 use Rattle.life_forest.specs.FrameTypes.{Stands}
@@ -50,19 +51,23 @@ use Rattle.life_forest.specs.Settled.{IsPoised}
 use Rattle.life_forest.specs.Sorted.{Aims, Counts, Names, sort_if}
 use Rattle.life_forest.specs.Typed.{IsStore}
 use Rattle.life_forest.proofs.ReadyCells.{pointer_no_object}
-use Rattle.life_forest.proofs.SeenTypes.{pointee_points, pointer_solid}
+use Rattle.life_forest.proofs.SeenTypes.{pointee_points}
 use Rattle.life_forest.proofs.Shaped.{IsShaped}
 use Rattle.life_forest.proofs.Slots.{register_only}
-use Rattle.life_forest.proofs.TypedSteps.{if_there}
+use Rattle.life_forest.proofs.TypedSteps.{if_there, operand_same}
 use Rattle.life_cover.specs.Buffered.{AreBut}
 use Rattle.life_cover.specs.Frames.{FrameCovered, RootStands}
 use Rattle.life_cover.specs.Inputs.{AreGiven, StandsAt, frame_foot, may_change, owning}
 use Rattle.life_cover.specs.Kills.{Closed, IsUnnamed}
 use Rattle.life_cover.specs.Uniques.{UniquesTold}
 use Rattle.life_cover.specs.Lacking.{IsUnmoved, MayLack}
+use Rattle.life_cover.specs.Members.{HaveInertMembers, is_inert}
 use Rattle.life_cover.specs.Regions.{Region}
 use Rattle.life_cover.specs.Roots.{AreRooted}
+use Rattle.life_cover.proofs.InertParts.{pointer_alone}
 use Rattle.life_cover.proofs.Inputs.{frame_rooted}
+use Rattle.life_cover.proofs.Making.{fact_path}
+use Rattle.life_cover.proofs.MemberReach.{named_further, through_further}
 use Rattle.life_cover.proofs.PointerKinds.{IsClean, IsCleanOfTwo}
 use Rattle.life_cover.proofs.Reaching.{Reach, named_reach, through_reach, unranged_target}
 use Rattle.life_cover.proofs.Using.{NotInvalid}
@@ -72,7 +77,7 @@ use Rattle.life_cover.proofs.Using.{NotInvalid}
 pub record IsKnownFrame (types : Types) (f : Function) (rest : ℕ → ℕ) (inputs : Root → Option Region) (S : Fact → Type 0) (st : State) : Type 0 where
   pub ordered : IsOrdered types
   pub once : HasEachOnce types
-  pub plain : types.structs ≡ []
+  pub inert : HaveInertMembers types
   pub shaped : IsShaped types f
   pub stand : LocalsStand types ordered f
   pub short : AreShort (elements_of types f)
@@ -116,28 +121,46 @@ used_right sigs types n f place i S clean p used = record { valid = λ cause s. 
         x : Fact
         x = fact_at (located p) e
 
--- ---- places have no members
+-- ---- what owns or points is no member
 
-module _ (types : Types) (plain : types.structs ≡ []) where
-  no_member : (t : Ty) (m : ℕ) → member_of types t m ≡ None
-  no_member (ty.Struct number) m = ap (λ (ids : List TyId). slice_get ids m) (none number)
-    where
-      none : (k : ℕ) → members_at types k ≡ []
-      none k = ap (λ (ss : List (List TyId)). unwrap_or (slice_get ss k) []) plain
-  no_member _ m = refl
-
+module _ (types : Types) (inert : HaveInertMembers types) where
   void_members : (ms : List ℕ) → members_type types None ms ≡ None
   void_members [] = refl
   void_members (m ∷ ms) = void_members ms
 
-  pub whole_type : (id : Option TyId) (ms : List ℕ) → is_void (ty_if types (members_type types id ms)) ≡ false → ms ≡ []
-  whole_type id [] solid = refl
-  whole_type id (m ∷ ms) solid =
-      absurd (false≢true (sym (ap (λ (i : Option TyId). is_void (ty_if types i)) (sym (void_members ms) ∙ ap (λ (i : Option TyId). members_type types i ms) (sym (no_member (ty_if types id) m))) ∙ solid)))
+  member_inert : (id : Option TyId) (m : ℕ) → is_inert (ty_if types (member_type types id m)) ≡ true
+  member_inert None m = refl
+  member_inert (Some id) m = go (slice_get types.types id.0) refl
+    where
+      of_member : (number : ℕ) → slice_get types.types id.0 ≡ Some (ty.Struct number) → (o : Option TyId) → slice_get (members_at types number) m ≡ o → is_inert (ty_if types o) ≡ true
+      of_member number there None e = refl
+      of_member number there (Some part) e = inert id part m (ap (λ (t : Option Ty). slice_get (members_if types t) m) there ∙ e)
 
-  -- a location of a type is a local
-  pub whole_location : (f : Function) (l : Location) → is_void (type_in types f l) ≡ false → whole l.local ≡ l
-  whole_location f l solid = whole_is l (whole_type (shapes.local_type types f l.local) l.members solid)
+      go : (t : Option Ty) → slice_get types.types id.0 ≡ t → is_inert (ty_if types (member_of types (or_void t) m)) ≡ true
+      go (Some (ty.Struct number)) there = of_member number there (slice_get (members_at types number) m) refl
+      go None there = refl
+      go (Some _) there = refl
+
+  members_inert : (ms : List ℕ) (id : Option TyId) (m : ℕ) → is_inert (ty_if types (members_type types id (m ∷ ms))) ≡ true
+  members_inert [] id m = member_inert id m
+  members_inert (n ∷ ms) id m = members_inert ms (member_type types id m) n
+
+  pub whole_type : (id : Option TyId) (ms : List ℕ) → is_inert (ty_if types (members_type types id ms)) ≡ false → ms ≡ []
+  whole_type id [] alone = refl
+  whole_type id (m ∷ ms) alone = absurd (false≢true (sym alone ∙ members_inert ms id m))
+
+  -- and it has none
+  pub memberless : (id : Option TyId) (ms : List ℕ) → is_inert (ty_if types id) ≡ false → is_void (ty_if types (members_type types id ms)) ≡ false → ms ≡ []
+  memberless id [] alone solid = refl
+  memberless id (m ∷ ms) alone solid = absurd (false≢true (sym solid ∙ ap (λ (i : Option TyId). is_void (ty_if types i)) (ap (λ (i : Option TyId). members_type types i ms) (none (ty_if types id) alone) ∙ void_members ms)))
+    where
+      none : (t : Ty) → is_inert t ≡ false → member_of types t m ≡ None
+      none (ty.Struct number) e = absurd (false≢true (sym e))
+      none _ e = refl
+
+  -- a location of such a type is a local
+  pub whole_location : (f : Function) (l : Location) → is_inert (type_in types f l) ≡ false → whole l.local ≡ l
+  whole_location f l alone = whole_is l (whole_type (shapes.local_type types f l.local) l.members alone)
     where
       whole_is : (q : Location) → q.members ≡ [] → whole q.local ≡ q
       whole_is q e = ap (λ (ms : List ℕ). record { local = q.local; members = ms }) (sym e)
@@ -151,7 +174,7 @@ module _ (types : Types) (f : Function) (rest : ℕ → ℕ) (inputs : Root → 
   store_of = k.stands.store
 
   pub rooted_of : AreRooted types st.world.content (RootStands types f (StandsAt inputs) st.cells) (owning types f)
-  rooted_of = frame_rooted types f rest inputs st k.stands.store k.stands.frame k.given
+  rooted_of = frame_rooted types f rest inputs st k.stands.store k.stands.frame k.given k.ordered
 
   -- ---- what names an object
 
@@ -199,32 +222,40 @@ module _ (types : Types) (f : Function) (rest : ℕ → ℕ) (inputs : Root → 
   single_pointee ty.View e = absurd (false≢true (sym e))
   single_pointee _ e = refl
 
+  -- the meaning has the type as well
+  meant : (o : Operand) → is_void (type_of types f o) ≡ false → is_void (ty_if types (meant_type types f o)) ≡ false
+  meant o solid = ap (λ (id : Option TyId). is_void (ty_if types id)) (sym (operand_same types k.ordered k.once 0 [] f k.shaped o)) ∙ solid_type o solid
+
   not_false : (b : Bool) → not b ≡ true → b ≡ false
   not_false true e = absurd (false≢true e)
   not_false false e = refl
 
   -- a location of a pointer is a local
   pub at_pointer : (p : Location) → is_pointer (type_in types f p) ≡ true → (P : Location → Type 0) → ((x : ℕ) → P (whole x)) → P p
-  at_pointer p pointer P each = subst P (whole_location types k.plain f p (pointer_solid (type_in types f p) pointer)) (each p.local)
+  at_pointer p pointer P each = subst P (whole_location types k.inert f p (pointer_alone (type_in types f p) pointer)) (each p.local)
 
-  pub reach_at : (o : Operand) → is_void (type_of types f o) ≡ false → ((p : Location) → Contains (used_in o) p → IsUsable S p) → Reach types f st (StandsAt inputs) (may_change types f) S o
-  reach_at (named.Name l) solid usable =
-      subst (λ (q : Location). Reach types f st (StandsAt inputs) (may_change types f) S (named.Name q)) (whole_location types k.plain f l (solid_type (named.Name l) solid))
+  abbrev Comes : Operand → Type 0
+  Comes o = Reach types f st (StandsAt inputs) (may_change types f) S o
+
+  pub reach_at : ((x : Fact) → S x → IsOf (table_of types f) x) → (o : Operand) → is_void (type_of types f o) ≡ false → ((p : Location) → Contains (used_in o) p → IsUsable S p) → Comes o
+  reach_at of (named.Name l) solid usable =
+      named_further types k.ordered f k.shaped k.short st (λ x n e. object_named x n e) inputs k.given.each S l (meant (named.Name l) solid)
       (named_reach types f st (StandsAt inputs) (may_change types f) S k.stands.frame l.local refl (cell st l.local) refl)
-  reach_at (named.Through p ms) solid usable =
-      subst (λ (xs : List ℕ). Reach types f st (StandsAt inputs) (may_change types f) S (named.Through p xs)) (sym (whole_type types k.plain (target_type types (location_type types f p)) ms (solid_type (named.Through p ms) solid)))
-      (go p (whole_location types k.plain f p (pointer_solid (type_in types f p) pointer)) (usable p (at_head p [])) (placed (named.Through p ms) solid))
+  reach_at of (named.Through p ms) solid usable =
+      through_further types k.ordered f k.shaped k.short st (λ x n e. object_named x n e) inputs k.given.each S p ms (meant (named.Through p ms) solid)
+      (go p (whole_location types k.inert f p (pointer_alone (type_in types f p) pointer)) (usable p (at_head p [])) (placed (named.Through p ms) solid))
     where
       pointer : is_pointer (type_in types f p) ≡ true
       pointer = pointee_points types (type_in types f p) (placed (named.Through p ms) solid)
 
-      go : (q : Location) → whole q.local ≡ q → IsUsable S q → is_place types f (named.Through q []) ≡ true → Reach types f st (StandsAt inputs) (may_change types f) S (named.Through q [])
+      go : (q : Location) → whole q.local ≡ q → IsUsable S q → is_place types f (named.Through q []) ≡ true → Comes (named.Through q [])
       go q e usable_q there =
-          subst (λ (z : Location). Reach types f st (StandsAt inputs) (may_change types f) S (named.Through z [])) e
+          subst (λ (z : Location). Comes (named.Through z [])) e
           (at_local q.local (subst (IsUsable S) (sym e) usable_q) (subst (λ (z : Location). is_place types f (named.Through z []) ≡ true) (sym e) there))
         where
-          at_local : (x : ℕ) → IsUsable S (whole x) → is_place types f (named.Through (whole x) []) ≡ true → Reach types f st (StandsAt inputs) (may_change types f) S (named.Through (whole x) [])
+          at_local : (x : ℕ) → IsUsable S (whole x) → is_place types f (named.Through (whole x) []) ≡ true → Comes (named.Through (whole x) [])
           at_local x u is =
               let single = single_pointee (type_at types f x) (not_false (is_void (pointee types (type_at types f x))) is) in
               through_reach types f st (StandsAt inputs) (may_change types f) S k.stands.frame k.covered x u.valid u.some single
-              (unranged_target types (local_type types f x) (subst (λ (id : Option TyId). is_range (ty_if types id) ≡ false) (k.shaped x) single)) (cell st x) refl
+              (unranged_target types (local_type types f x) (subst (λ (id : Option TyId). is_range (ty_if types id) ≡ false) (k.shaped x) single))
+              (λ a s. fact_path types k.ordered f k.shaped k.short st.world.content st.cells (λ y n named. object_named y n named) inputs k.given.each (local_place x) a (of (fact_at (local_place x) (element.At a)) s)) (cell st x) refl

@@ -1,12 +1,16 @@
--- What may be without its buffer in a frame without structs is neither owned nor an owner that an instruction uses at which nothing is wrong.
+-- What may be without its buffer in a frame is neither owned nor an owner that an instruction uses at which nothing is wrong.
 use Rattle.std.proofs.Common.{◌≡◌, ◌≢◌, inl, inr, ⊎_elim, ℕ, ◌<◌, Bool, true, false, List, [], ◌∷◌, ◌++◌, Option, Some, None, refl, sym, ap, subst, ◌∙◌, arith}
 use Rattle.std.specs.Prelude.{Contains, cond, slice_get, ◌&&◌}
 use Rattle.std.specs.List.{flat_map}
 use Rattle.std.proofs.lemmas.Bool.{false≢true}
 use Rattle.std.proofs.lemmas.List.Elements.{Contains-append_left, Contains-append_right}
+use Rattle.life_types.specs.Pointees.{or_void}
 use Rattle.life_types.specs.TypeTests.{is_void}
 use Rattle.life_types.specs.Types.{Types}
 use Rattle.life_types.specs.declared.place.Place.{Place}
+use Rattle.life_types.specs.declared.ty.Ty.{Ty}
+use Rattle.life_types.specs.declared.ty.Ty.TheVariants as ty
+use Rattle.life_types.specs.declared.ty.TyId.{TyId}
 use Rattle.life_core.specs.declared.program.Local.{Local}
 use Rattle.life_core.specs.declared.program.LocalKind.{LocalKind}
 use Rattle.life_core.specs.declared.program.LocalKind.TheVariants.{Object, Register, Range}
@@ -39,6 +43,7 @@ use Rattle.life_rules.specs.declared.diag.Why.TheVariants as why
 use Rattle.life_rules.proofs.Giving.{at_head, flat_map_into}
 use Rattle.life_store.proofs.CellLemmas.{none_some}
 use Rattle.life_store.proofs.MapLemmas.{one_or_apart}
+use Rattle.life_store.specs.Parts.{members_if}
 use Rattle.life_store.specs.State.{Named, State}
 use Rattle.life_forest.specs.Forest.{Beneath}
 use Rattle.life_forest.specs.Frames.{named_in}
@@ -49,14 +54,13 @@ use Rattle.life_forest.proofs.Steps.{alive_le}
 use Rattle.life_cover.specs.Frames.{RootStands}
 use Rattle.life_cover.specs.Inputs.{StandsAt, may_change}
 use Rattle.life_cover.specs.Lacking.{IsLoose, IsMovedFrom, IsUnmoved, MayLack}
-use Rattle.life_cover.specs.Regions.{Goes, IsAt, Lies, Region, foot_of}
+use Rattle.life_cover.specs.Regions.{Goes, IsAt, IsTrue, Lies, Region, ToMember, foot_of}
 use Rattle.life_cover.proofs.Inputs as known
 use Rattle.life_cover.proofs.Inside.{goes_true, lies_inside, owned_counted}
 use Rattle.life_cover.proofs.KnownFrames.{IsKnownFrame, IsRight, hand_of, object_named, rooted_of, store_of}
-use Rattle.life_cover.proofs.Listing.{no_member, steps_from}
+use Rattle.life_cover.proofs.Listing.{steps_from}
 use Rattle.life_cover.proofs.Locals.{two_named, beneath_owned, named_unowned}
 use Rattle.life_cover.proofs.Making.{IsItsPath}
-use Rattle.life_cover.proofs.Opening.{path_of}
 use Rattle.life_cover.proofs.Reaching.{IsReached}
 
 -- a local that is a vector or a string
@@ -128,24 +132,25 @@ module _ (types : Types) (f : Function) (rest : ℕ → ℕ) (inputs : Root → 
   -- ---- what lies at a place
 
   module _ (p : AbsPlace) (a : Region) (at_p : IsAt types st.world.content (RootStands types f (StandsAt inputs) st.cells) p a) where
-    -- what lies behind an owner is owned
-    path_none : MayLack types f inputs S st a.object → (path p ≡ []) × (at_p.start ≡ a)
-    path_none lacks = go (path p) refl at_p.lies
+    -- what lies behind an owner is owned, so it lies in the object of its root
+    one_object : MayLack types f inputs S st a.object → at_p.start.object ≡ a.object
+    one_object lacks = go (path p) at_p.start ((rooted_of types f rest inputs S st k).fits p.root at_p.start at_p.stands) at_p.lies
       where
-        go : (ss : List ℕ) → path p ≡ ss → Lies types st.world.content ss at_p.start a → (path p ≡ []) × (at_p.start ≡ a)
-        go [] e lies = (e, lies)
-        go (s ∷ ss) e lies = absurd (by_step lies.1)
+        go : (ss : List ℕ) (b : Region) → IsTrue types st.world.content b → Lies types st.world.content ss b a → b.object ≡ a.object
+        go [] b is lies = ap (λ (r : Region). r.object) lies
+        go (s ∷ ss) b is lies = by_step lies.1 (go ss lies.0 next lies.2)
           where
-            by_step : Goes types st.world.content s at_p.start lies.0 → ⊥
-            by_step (inl member) = none_some (sym (no_member types k.ordered k.plain st.world.content at_p.start.ty s) ∙ member.type)
-            by_step (inr owned) =
-                let is = (rooted_of types f rest inputs S st k).fits p.root at_p.start at_p.stands in
-                let own = owned_counted types k.ordered (hand_of rest st) st.world.content (store_of types f rest inputs S st k) s at_p.start lies.0 is owned every refl in
-                ⊎_elim
-                (λ among. unowned a.object at_p.start.object (subst (λ n. 0 < owns_at (kinds_of types) st.world.content every at_p.start.object n) (sym among.object) own) lacks)
+            next : IsTrue types st.world.content lies.0
+            next = goes_true types k.ordered (hand_of rest st) st.world.content (store_of types f rest inputs S st k) s b lies.0 is lies.1
+
+            by_step : Goes types st.world.content s b lies.0 → lies.0.object ≡ a.object → b.object ≡ a.object
+            by_step (inl member) inner = sym member.object ∙ inner
+            by_step (inr owned) inner =
+                let own = owned_counted types k.ordered (hand_of rest st) st.world.content (store_of types f rest inputs S st k) s b lies.0 is owned every refl in
+                absurd (⊎_elim
+                (λ among. unowned a.object b.object (subst (λ n. 0 < owns_at (kinds_of types) st.world.content every b.object n) (sym among.object) own) lacks)
                 (λ low. low_whole lies.0 a.object low lacks)
-                (lies_inside types k.ordered (hand_of rest st) st.world.content (store_of types f rest inputs S st k) ss lies.0 a
-                (goes_true types k.ordered (hand_of rest st) st.world.content (store_of types f rest inputs S st k) s at_p.start lies.0 is lies.1) lies.2)
+                (lies_inside types k.ordered (hand_of rest st) st.world.content (store_of types f rest inputs S st k) ss lies.0 a next lies.2))
 
     -- it is a local
     root_named : (ro : Root) → RootStands types f (StandsAt inputs) st.cells ro at_p.start → MayLack types f inputs S st at_p.start.object → (x : ℕ) × (ro ≡ root.Local x) × (slice_get st.cells x ≡ Some (Named at_p.start.object))
@@ -154,9 +159,9 @@ module _ (types : Types) (f : Function) (rest : ℕ → ℕ) (inputs : Root → 
 
     named_there : MayLack types f inputs S st a.object → (x : ℕ) × (p.root ≡ root.Local x) × (slice_get st.cells x ≡ Some (Named a.object))
     named_there lacks =
-        let none = path_none lacks in
-        let x = root_named p.root at_p.stands (subst (λ (b : Region). MayLack types f inputs S st b.object) (sym none.1) lacks) in
-        (x.0, x.1, x.2 ∙ ap (λ (b : Region). Some (Named b.object)) none.1)
+        let same = one_object lacks in
+        let x = root_named p.root at_p.stands (subst (MayLack types f inputs S st) (sym same) lacks) in
+        (x.0, x.1, x.2 ∙ ap (λ n. Some (Named n)) same)
 
     -- which names what is loose nowhere
     pub place_held : IsLoose types inputs (named_in st.cells) st.world.content a.object → ⊥
@@ -169,12 +174,12 @@ module _ (types : Types) (f : Function) (rest : ℕ → ℕ) (inputs : Root → 
     -- so the place is that of the local that was moved from
     pub place_moved : IsItsPath p → (m : IsMovedFrom types f S st.cells a.object) → p ≡ local_place m.local
     place_moved its m =
-        let none = path_none (inl m) in
         let x = named_there (inl m) in
+        let here : x.0 ≡ m.local = one_or_apart x.0 m.local (λ same. same) (λ ne. absurd (twice x.0 ne x.2)) in
         its.made
-        ∙ ap (λ (ss : List ℕ). steps_from (root_place p.root) ss) none.0
+        ∙ ap (λ (ss : List ℕ). steps_from (root_place p.root) ss) (path_none (x.1 ∙ ap root.Local here) (path p) at_p.lies)
         ∙ ap root_place x.1
-        ∙ ap local_place (one_or_apart x.0 m.local (λ same. same) (λ ne. absurd (twice x.0 ne x.2)))
+        ∙ ap local_place here
       where
         twice : (x : ℕ) → x ≢ m.local → slice_get st.cells x ≡ Some (Named a.object) → ⊥
         twice x ne named =
@@ -183,13 +188,44 @@ module _ (types : Types) (f : Function) (rest : ℕ → ℕ) (inputs : Root → 
             let alive = alive_le (kinds_of types) st.world.content a.object in
             omega (arith, two, held, alive)
 
+        -- a vector or a string has no members
+        no_step : p.root ≡ root.Local m.local → (s : ℕ) (b : Region) → ToMember types s at_p.start b → ⊥
+        no_step at_root s b member = memberless_owner (slice_get types.types at_p.start.ty.0) buffer member.type
+          where
+            stands : RootStands types f (StandsAt inputs) st.cells (root.Local m.local) at_p.start
+            stands = subst (λ (ro : Root). RootStands types f (StandsAt inputs) st.cells ro at_p.start) at_root at_p.stands
+
+            buffer : has_buffer (or_void (slice_get types.types at_p.start.ty.0)) ≡ true
+            buffer = sym (ap (λ (id : Option TyId). has_buffer (ty_if types id)) (k.shaped m.local ∙ stands.2)) ∙ m.owner
+
+            memberless_owner : (o : Option Ty) → has_buffer (or_void o) ≡ true → slice_get (members_if types o) s ≡ Some b.ty → ⊥
+            memberless_owner (Some ty.Text) e h = none_some h
+            memberless_owner (Some (ty.Vector element)) e h = none_some h
+            memberless_owner None e h = false≢true e
+            memberless_owner (Some _) e h = false≢true e
+
+        path_none : p.root ≡ root.Local m.local → (ss : List ℕ) → Lies types st.world.content ss at_p.start a → ss ≡ []
+        path_none at_root [] lies = refl
+        path_none at_root (s ∷ ss) lies = absurd (by_step lies.1)
+          where
+            by_step : Goes types st.world.content s at_p.start lies.0 → ⊥
+            by_step (inl member) = no_step at_root s lies.0 member
+            by_step (inr owned) =
+                let is = (rooted_of types f rest inputs S st k).fits p.root at_p.start at_p.stands in
+                let own = owned_counted types k.ordered (hand_of rest st) st.world.content (store_of types f rest inputs S st k) s at_p.start lies.0 is owned every refl in
+                ⊎_elim
+                (λ among. unowned a.object at_p.start.object (subst (λ n. 0 < owns_at (kinds_of types) st.world.content every at_p.start.object n) (sym among.object) own) (inl m))
+                (λ low. low_whole lies.0 a.object low (inl m))
+                (lies_inside types k.ordered (hand_of rest st) st.world.content (store_of types f rest inputs S st k) ss lies.0 a
+                (goes_true types k.ordered (hand_of rest st) st.world.content (store_of types f rest inputs S st k) s at_p.start lies.0 is lies.1) lies.2)
+
   -- ---- an operand that is reached
 
   module _ (o : Operand) (r : IsReached types f st (StandsAt inputs) (may_change types f) S o) (solid : is_void (type_of types f o) ≡ false) (sigs : List Signature) (number : ℕ) (place : Place) (i : Step) (S' : Fact → Type 0) (right : IsRight sigs types number f place i S S') (uses_it : Contains (owners i) o) where
     module _ (m : IsMovedFrom types f S st.cells r.region.object) where
       -- the place of the local
       placed : r.place ≡ local_place m.local
-      placed = place_moved r.place r.region r.lies (path_of types f rest inputs S st k o r solid right.closed.of) m
+      placed = place_moved r.place r.region r.lies r.path m
 
       variable : is_variable_place types f (local_place m.local) ≡ true
       variable = variable_here m.local r.region.object m.names m.owner

@@ -1,4 +1,3 @@
-mod Worked
 pub mod AimKinds
 pub mod ApartPlaces
 pub mod Arguments
@@ -44,6 +43,7 @@ pub mod GivenValues
 pub mod Guarding
 pub mod HandedLoose
 pub mod HeldElements
+pub mod InertParts
 pub mod InputPlaces
 pub mod Inputs
 pub mod Inside
@@ -63,6 +63,7 @@ pub mod MadeOver
 pub mod MakeKinds
 pub mod MakeSteps
 pub mod Making
+pub mod MemberReach
 pub mod MoveKinds
 pub mod MoveSteps
 pub mod Moved
@@ -71,6 +72,7 @@ pub mod MovedUniques
 pub mod Mutated
 pub mod NamedResults
 pub mod NumberKinds
+pub mod ObjectParts
 pub mod Opening
 pub mod Owned
 pub mod OwnerElements
@@ -79,6 +81,7 @@ pub mod OwnerMoves
 pub mod OwnerPointers
 pub mod OwnersStay
 pub mod Owning
+pub mod PartedPlaces
 pub mod PlacedMoveKinds
 pub mod PlainTargets
 pub mod PointerInputs
@@ -121,4 +124,5 @@ pub mod Unnamed
 pub mod Using
 pub mod Walks
 pub mod WholeSteps
+mod Worked
 pub mod Writing

@@ -1,11 +1,11 @@
 -- The locations and the places of a function are in its table: each pointer that is a local, each object, and what the owner there has.
-use Rattle.std.proofs.Common.{◌≡◌, inl, inr, ℕ, zero, suc, ◌+◌, Bool, true, false, List, [], ◌∷◌, ◌++◌, map, Option, Some, None, refl, sym, ap, subst, ◌∙◌, arith}
-use Rattle.std.specs.Prelude.{Contains, if◌then◌else◌, slice_get, unwrap_or}
+use Rattle.std.proofs.Common.{◌≡◌, inl, inr, ℕ, zero, suc, ◌+◌, Bool, true, false, List, [], ◌∷◌, ◌++◌, map, Option, Some, None, refl, sym, ap, subst, ◌∙◌, arith, ◌<◌}
+use Rattle.std.specs.Prelude.{Contains, if◌then◌else◌, slice_get, nat_lt}
 use Rattle.std.specs.List.{flat_map}
 use Rattle.std.proofs.lemmas.Bool.{false≢true}
 use Rattle.std.proofs.lemmas.List.Elements.{Contains-append_left, Contains-append_right}
 use Rattle.life_types.specs.Pointees.{or_void, ty_of}
-use Rattle.life_types.specs.Trees.{IsOrdered, TypeTree, Text, Vector, Unique, Void, Member, tree_at, tree_of, members_at}
+use Rattle.life_types.specs.Trees.{struct_of as tree_struct, IsOrdered, TypeTree, Text, Vector, Unique, Void, Member, tree_at, tree_of, members_at}
 use Rattle.life_types.specs.TypeTests.{is_pointer, is_unique}
 use Rattle.life_types.specs.Types.{Types}
 use Rattle.life_types.specs.declared.ty.Ty.{Ty}
@@ -18,7 +18,7 @@ use Rattle.life_core.specs.declared.program.LocalKind.TheVariants.{Object, Regis
 use Rattle.life_core.specs.Function.{Function}
 use Rattle.life_core.specs.Kinds.{has_kind, is_object}
 use Rattle.life_pset.specs.Elements.{caused_elements, elements_of, input_places, inputs_of, local_locations, local_place, locations_from, locations_of, object_places, objects_from, places_from, places_in, pointers_in, locations_in}
-use Rattle.life_pset.specs.Places.{member_place, owned_place, stepped}
+use Rattle.life_pset.specs.Places.{member_place, owned_place, stepped, owned_step, too_long}
 use Rattle.life_pset.specs.Shapes.{is_variable, local_type, shape, shape_of, ty_if, is_variable_of}
 use Rattle.life_pset.specs.declared.element.AbsPlace.{AbsPlace}
 use Rattle.life_pset.specs.declared.element.Element.{Element}
@@ -30,6 +30,7 @@ use Rattle.life_store.specs.Parts.{characters_type, members_if, members_of}
 use Rattle.life_store.proofs.CellLemmas.{none_some, some_same}
 use Rattle.life_forest.proofs.Laying.{none_behind}
 use Rattle.life_cover.specs.Regions.{Goes, Lies, Region, owned_in_type}
+use Rattle.std.proofs.lemmas.Bool.Decides.{nat_tests}
 
 -- ---- locations
 
@@ -140,28 +141,44 @@ module _ (types : Types) (ordered : IsOrdered types) where
   pub owned_itself : (a : AbsPlace) (id item : TyId) → owned_in_type types (slice_get types.types id.0) ≡ Some item → Contains (places_in a (tree_at types id)) (owned_place a)
   owned_itself a id item owned = owned_among a id item owned (owned_place a) (place_itself (owned_place a) (tree_at types item))
 
-  -- where no type is a struct, so are those of a place to which it goes
-  module _ (plain : types.structs ≡ []) (c : Content) where
-    pub no_member : (id : TyId) (m : ℕ) → slice_get (members_of types id) m ≡ None
-    no_member id m = go (slice_get types.types id.0)
-      where
-        empty : (ids : List TyId) (k : ℕ) → ids ≡ [] → slice_get ids k ≡ None
-        empty ids k e = ap (λ (xs : List TyId). slice_get xs k) e
+  -- the places of a member are among those of the struct
+  member_from : (a : AbsPlace) (m : ℕ) (ids : List TyId) (j k : ℕ) (id : TyId) → m + j ≡ k → slice_get ids j ≡ Some id → (z : AbsPlace) → Contains (places_in (member_place a k) (tree_at types id)) z → Contains (places_from a m (tree_struct (tree_at types) ids)) z
+  member_from a m [] j k id is e z h = absurd (none_some e)
+  member_from a m (x ∷ ids) zero k id is e z h =
+      let here : k ≡ m = omega (arith, is) in
+      Contains-append_left (places_in (member_place a m) (tree_at types x)) (places_from a (m + 1) (tree_struct (tree_at types) ids)) z
+      (subst (λ (i : TyId). Contains (places_in (member_place a m) (tree_at types i)) z) (sym (some_same e)) (subst (λ q. Contains (places_in (member_place a q) (tree_at types id)) z) here h))
+  member_from a m (x ∷ ids) (suc j) k id is e z h =
+      Contains-append_right (places_in (member_place a m) (tree_at types x)) (places_from a (m + 1) (tree_struct (tree_at types) ids)) z (member_from a (m + 1) ids j k id (omega (arith, is)) e z h)
 
-        none : (number : ℕ) → members_at types number ≡ []
-        none number = ap (λ (ss : List (List TyId)). unwrap_or (slice_get ss number) []) plain
+  pub member_among : (a : AbsPlace) (id : TyId) (m : ℕ) (part : TyId) → slice_get (members_of types id) m ≡ Some part → (z : AbsPlace) → Contains (places_in (member_place a m) (tree_at types part)) z → Contains (places_in a (tree_at types id)) z
+  member_among a id m part typed z h = subst (λ (t : TypeTree). Contains (places_in a t) z) (sym (tree_made types ordered id)) (go (slice_get types.types id.0) typed)
+    where
+      begun : (j : ℕ) → 0 + j ≡ j
+      begun j = omega arith
 
-        go : (o : Option Ty) → slice_get (members_if types o) m ≡ None
-        go (Some (variant.Struct number)) = empty (members_at types number) m (none number)
-        go None = refl
-        go (Some _) = refl
+      of_struct : (ids : List TyId) → slice_get ids m ≡ Some part → Contains (places_in a (tree_struct (tree_at types) ids)) z
+      of_struct [] e = absurd (none_some e)
+      of_struct (x ∷ ids) e = in_tail a (places_from a 0 (tree_struct (tree_at types) (x ∷ ids))) z (member_from a 0 (x ∷ ids) m m part (begun m) e z h)
 
+      go : (o : Option Ty) → slice_get (members_if types o) m ≡ Some part → Contains (places_in a (tree_of types (tree_at types) o)) z
+      go (Some (variant.Struct number)) e = of_struct (members_at types number) e
+      go None e = absurd (none_some e)
+      go (Some _) e = absurd (none_some e)
+
+  -- .. so those of a place to which another goes are among its own
+  module _ (c : Content) where
     pub inner_among : (ss : List ℕ) (a : AbsPlace) (from to : Region) → Lies types c ss from to → (z : AbsPlace) → Contains (places_in (steps_from a ss) (tree_at types to.ty)) z → Contains (places_in a (tree_at types from.ty)) z
     inner_among [] a from to lies z h = subst (λ (r : Region). Contains (places_in a (tree_at types r.ty)) z) (sym lies) h
     inner_among (s ∷ ss) a from to lies z h = step (inner_among ss (stepped a s) lies.0 to lies.2 z h) lies.1
       where
+        lt_true : (n m : ℕ) → n < m → nat_lt n m ≡ true
+        lt_true n m lt = grind (arith, nat_tests)
+
         step : Contains (places_in (stepped a s) (tree_at types lies.0.ty)) z → Goes types c s from lies.0 → Contains (places_in a (tree_at types from.ty)) z
-        step k (inl m) = absurd (none_some (sym (no_member from.ty s) ∙ m.type))
+        step k (inl m) =
+            member_among a from.ty s lies.0.ty m.type z
+            (subst (λ (p : AbsPlace). Contains (places_in p (tree_at types lies.0.ty)) z) (sym (ap (λ (b : Bool). if b then stepped a s else too_long a) (lt_true s owned_step m.small))) k)
         step k (inr o) = owned_among a from.ty lies.0.ty o.type z (subst (λ j. Contains (places_in (stepped a j) (tree_at types lies.0.ty)) z) o.owned k)
 
   -- ---- the objects of a function

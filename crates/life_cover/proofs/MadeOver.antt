@@ -1,4 +1,4 @@
--- A unique_ptr that is a whole local of a frame without structs is given an object that has what a temporary of the frame had; what it had ends. There
+-- A unique_ptr that is a whole local of a frame is given an object that has what a temporary of the frame had; what it had ends. There
 -- is no fault, the facts behind it cover all pointers of the frame, each vector and each string has its buffer, and what is touched lies beneath what
 -- the frame names.
 use Rattle.std.proofs.Common.{◌≡◌, ◌≢◌, ◌⊎◌, inr, ⊎_elim, ℕ, ◌+◌, ◌≤◌, ◌<◌, true, List, [], ◌∷◌, length, Option, Some, None, refl, sym, ap, subst, ◌∙◌, arith}
@@ -193,7 +193,7 @@ module _ (types : Types) (f : Function) (rest : ℕ → ℕ) (inputs : Root → 
         (given.given_over_store types k.ordered (λ j. times (named_in (slice_set st.cells y Empty)) j + rest j) st.world.content s u.target m v.object v.slot in_two v.there v.one m_type)
         (given.given_over_stands types k.ordered (λ j. times (named_in (slice_set st.cells y Empty)) j + rest j) st.world.content s u.target m v.object v.slot n u.variable.object in_two v.there v.one m_type u.variable.there (λ e. apart (sym e)) unowned)
         (given_touches types k.ordered (λ j. times (named_in (slice_set st.cells y Empty)) j + rest j) st.world.content m in_two v.object v.slot v.there v.one u.target m_type s)
-        (given_buffered types k.ordered (λ j. times (named_in (slice_set st.cells y Empty)) j + rest j) st.world.content m in_two v.object v.slot v.there v.one u.target m_type s (MayLack types f inputs S st) (whole_parts types k.plain u.target) m_has m_free k.buffered)
+        (given_buffered types k.ordered (λ j. times (named_in (slice_set st.cells y Empty)) j + rest j) st.world.content m in_two v.object v.slot v.there v.one u.target m_type s (MayLack types f inputs S st) (whole_parts types k.inert u.target) m_has m_free k.buffered)
 
     -- ---- and put into the unique_ptr
 

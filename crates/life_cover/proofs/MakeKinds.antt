@@ -196,7 +196,7 @@ module _ (types : Types) (f : Function) (rest : ℕ → ℕ) (inputs : Root → 
         subst (λ (p : Parts). OnRight (made_fresh s p (record { object = n; index = 0; word = 0 }) st) (IsMade types f inputs S' (MayLack types f inputs S st) no_local (λ z. x ≡ z) st)) (sym (parts_here ∙ u.parts))
         (object_made is (object_with s u.target (parts_at types u.target) (fresh s form.Zero (parts_at types u.target)) st.world.content)
         (remade_fresh types k.ordered (hand_of rest st) st.world.content (store_of types f rest inputs S st k) n u.number u.variable.object u.variable.there within slot u.target u.parts in_the_hand u.variable.slot u.variable.one wide s form.Zero)
-        (born_buffered types k.ordered s (MayLack types f inputs S st) form.Zero u.target st.world.content (whole_parts types k.plain u.target) k.buffered)
+        (born_buffered types k.ordered s (MayLack types f inputs S st) form.Zero u.target st.world.content (whole_parts types k.inert u.target) k.buffered)
         (object_faultless s u.target (parts_at types u.target) (fresh s form.Zero (parts_at types u.target)) st.world.content (fresh_faultless s form.Zero (parts_at types u.target))))
 
     number_made : made_element m ≡ element.Own → parts_at types u.target ≡ Single → (y : ℕ) → ((j : ℕ) → cell st y ≡ Some (Named j) → ⊥) → OnRight (made_of s types f (location_parts types f (whole x)) (record { object = n; index = 0; word = 0 }) y (cell st y) st) (IsMade types f inputs S' (MayLack types f inputs S st) no_local (λ z. x ≡ z) st)

@@ -3,7 +3,7 @@ use Rattle.std.proofs.Common.{◌≡◌, ℕ, Bool, true, false, List, [], ◌�
 use Rattle.std.specs.Prelude.{Contains, ◌&&◌, if◌then◌else◌, not}
 use Rattle.std.proofs.lemmas.Bool.{and_parts, false≢true}
 use Rattle.life_types.specs.Pointees.{ty_of}
-use Rattle.life_types.specs.TypeTests.{is_unique, is_value, is_void}
+use Rattle.life_types.specs.TypeTests.{is_unique, is_value}
 use Rattle.life_types.specs.Types.{Types}
 use Rattle.life_types.specs.declared.place.Place.{Place}
 use Rattle.life_types.specs.declared.ty.Ty.{Ty}
@@ -30,6 +30,7 @@ use Rattle.life_forest.proofs.OneNumber.{type_there}
 use Rattle.life_forest.proofs.ReadyCells.{number_any}
 use Rattle.life_forest.proofs.SeenTypes.{value_parts}
 use Rattle.life_forest.proofs.TypedSteps.{value_solid}
+use Rattle.life_cover.proofs.InertParts.{unique_alone}
 use Rattle.life_cover.proofs.KnownFrames.{IsKnownFrame, IsRight, number_free, object_uncounted, whole_location}
 use Rattle.life_cover.proofs.Looks.{given_type}
 use Rattle.life_cover.proofs.MadeOver.{object_kind}
@@ -51,10 +52,6 @@ module _ (types : Types) (texts : ℕ) (fs : List Function) (f : Function) where
   unique_of t made.Zero e = e
   unique_of (ty.Unique target) (made.Of y) e = refl
   unique_of _ (made.Of y) e = absurd (no_void y e)
-
-  unique_solid : (t : Ty) → is_unique t ≡ true → is_void t ≡ false
-  unique_solid (ty.Unique target) e = refl
-  unique_solid _ e = absurd (false≢true e)
 
 module _ (types : Types) (f : Function) (rest : ℕ → ℕ) (inputs : Root → Option Region) (S : Fact → Type 0) (st : State) (k : IsKnownFrame types f rest inputs S st) (sigs : List Signature) (number : ℕ) (place : Place) (S' : Fact → Type 0) (texts : ℕ) (fs : List Function) (s : Setting) where
   -- what is known behind it
@@ -121,4 +118,4 @@ module _ (types : Types) (f : Function) (rest : ℕ → ℕ) (inputs : Root → 
   pub make_right : (u : Location) (m : Made) → IsRight sigs types number f place (Make u m) S S' → is_made_for types texts fs f (type_in types f u) m ≡ true → OnRight (does s types f (Make u m) st) (IsMadeBy u.local m)
   make_right u m right e =
       subst (λ (q : Location). IsRight sigs types number f place (Make q m) S S' → is_made_for types texts fs f (type_in types f q) m ≡ true → OnRight (does s types f (Make q m) st) (IsMadeBy u.local m))
-      (whole_location types k.plain f u (unique_solid types texts fs f (type_in types f u) (unique_of types texts fs f (type_in types f u) m e))) (by_made u.local m) right e
+      (whole_location types k.inert f u (unique_alone (type_in types f u) (unique_of types texts fs f (type_in types f u) m e))) (by_made u.local m) right e

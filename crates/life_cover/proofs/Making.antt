@@ -1,5 +1,5 @@
 -- Each place that facts name is made of its root, step by step; so what the owner there has is in the table as well.
-use Rattle.std.proofs.Common.{◌≡◌, inl, inr, ℕ, ◌+◌, ◌≤◌, Bool, true, false, List, [], ◌∷◌, ◌++◌, map, length, Some, refl, sym, ap, subst, ◌∙◌, arith, Option}
+use Rattle.std.proofs.Common.{◌≡◌, inl, inr, ℕ, ◌+◌, ◌≤◌, Bool, true, false, List, [], ◌∷◌, ◌++◌, map, length, Some, refl, sym, ap, subst, ◌∙◌, arith, Option, ◌<◌}
 use Rattle.std.specs.Prelude.{Contains, if◌then◌else◌, nat_lt, slice_get}
 use Rattle.std.specs.List.{flat_map}
 use Rattle.std.proofs.lemmas.Bool.Decides.{nat_tests}
@@ -37,8 +37,9 @@ use Rattle.life_cover.specs.Frames.{RootStands}
 use Rattle.life_cover.specs.Inputs.{IsInput, StandsAt}
 use Rattle.life_cover.specs.Regions.{IsAt, Region, owned_in_type}
 use Rattle.life_cover.proofs.InputPlaces.{place_behind}
-use Rattle.life_cover.proofs.Listing.{inner_among, object_known, owned_itself, place_itself, steps_from}
+use Rattle.life_cover.proofs.Listing.{inner_among, object_known, owned_itself, place_itself, steps_from, member_among}
 use Rattle.life_cover.proofs.Stepping.{HasRoom, stepped_path, stepped_room}
+use Rattle.life_store.specs.Parts.{members_of}
 
 -- ---- lists
 
@@ -222,13 +223,17 @@ made_path a h short =
       made = m.1 ∙ ap (steps_from (root_place a.root)) (sym (ap path m.1 ∙ path_from m.0 (root_place a.root) room));
     }
 
+-- a step further
+pub stepped_its_path : (a : AbsPlace) (s : ℕ) → IsItsPath a → (stepped a s).length ≤ 8 → IsItsPath (stepped a s)
+stepped_its_path a s is le = made_path (stepped a s) (own_root a.root (stepped a s) (stepped_made a.root a s (record { root = refl; made = λ short. (path a, is.made) }))) le
+
 -- ---- what the owner at a place has
 
 short_of : (es : List Element) → AreShort es → (e : Element) → Contains es e → IsShort e
 short_of [] all = each_none IsShort
 short_of (x ∷ xs) all = each_cons IsShort x xs all.0 (short_of xs all.1)
 
-module _ (types : Types) (ordered : IsOrdered types) (plain : types.structs ≡ []) (f : Function) (shaped : IsShaped types f) (short : AreShort (elements_of types f)) (c : Content) (cells : List Cell)
+module _ (types : Types) (ordered : IsOrdered types) (f : Function) (shaped : IsShaped types f) (short : AreShort (elements_of types f)) (c : Content) (cells : List Cell)
     (objects : (x n : ℕ) → slice_get cells x ≡ Some (Named n) → object_at types f x ≡ true) (inputs : Root → Option Region) (each : (r : Root) (a : Region) → StandsAt inputs r a → IsInput types f r a) where
   pub place_short : (a : AbsPlace) → Contains (elements_of types f) (element.At a) → a.length ≤ 8
   place_short a h = short_of (elements_of types f) short (element.At a) h
@@ -238,45 +243,46 @@ module _ (types : Types) (ordered : IsOrdered types) (plain : types.structs ≡ 
     pub known : Contains (elements_of types f) (element.At (owned_place a))
     pub room : HasRoom 1 a
 
-  open_at : (a : AbsPlace) (r : Region) (item : TyId) → IsItsPath a → IsAt types c (RootStands types f (StandsAt inputs) cells) a r → owned_in_type types (slice_get types.types r.ty.0) ≡ Some item → Contains (elements_of types f) (element.At (owned_place a))
-  open_at a r item is at_r type = go a.root refl at_r.stands
+  -- what lies in a place is known with it
+  pub inside_known : (a : AbsPlace) (r : Region) (z : AbsPlace) → IsItsPath a → IsAt types c (RootStands types f (StandsAt inputs) cells) a r → Contains (places_in a (tree_at types r.ty)) z → Contains (elements_of types f) (element.At z)
+  inside_known a r z is at_r has = go a.root refl at_r.stands
     where
-      go : (ro : Root) → a.root ≡ ro → RootStands types f (StandsAt inputs) cells ro at_r.start → Contains (elements_of types f) (element.At (owned_place a))
-      go (root.Input q member) e stands =
-          place_behind types ordered f (root.Input q member) at_r.start (each (root.Input q member) at_r.start stands) (owned_place a)
-          (inner_among types ordered plain c (path a) (root_place (root.Input q member)) at_r.start r at_r.lies (owned_place a)
-          (subst (λ (b : AbsPlace). Contains (places_in b (tree_at types r.ty)) (owned_place a)) (is.made ∙ ap (λ (ro : Root). steps_from (root_place ro) (path a)) e) (owned_itself types ordered a r.ty item type)))
-      go (root.Local x) e stands =
-          object_known types ordered f x at_r.start.ty (owned_place a) (objects x at_r.start.object stands.0) (shaped x ∙ stands.2)
-          (inner_among types ordered plain c (path a) (local_place x) at_r.start r at_r.lies (owned_place a)
-          (subst (λ (b : AbsPlace). Contains (places_in b (tree_at types r.ty)) (owned_place a)) (is.made ∙ ap (λ (ro : Root). steps_from (root_place ro) (path a)) e) (owned_itself types ordered a r.ty item type)))
+      of_root : (ro : Root) → a.root ≡ ro → Contains (places_in (root_place ro) (tree_at types at_r.start.ty)) z
+      of_root ro e = inner_among types ordered c (path a) (root_place ro) at_r.start r at_r.lies z (subst (λ (b : AbsPlace). Contains (places_in b (tree_at types r.ty)) z) (is.made ∙ ap (λ (q : Root). steps_from (root_place q) (path a)) e) has)
+
+      go : (ro : Root) → a.root ≡ ro → RootStands types f (StandsAt inputs) cells ro at_r.start → Contains (elements_of types f) (element.At z)
+      go (root.Input q member) e stands = place_behind types ordered f (root.Input q member) at_r.start (each (root.Input q member) at_r.start stands) z (of_root (root.Input q member) e)
+      go (root.Local x) e stands = object_known types ordered f x at_r.start.ty z (objects x at_r.start.object stands.0) (shaped x ∙ stands.2) (of_root (root.Local x) e)
+
+  open_at : (a : AbsPlace) (r : Region) (item : TyId) → IsItsPath a → IsAt types c (RootStands types f (StandsAt inputs) cells) a r → owned_in_type types (slice_get types.types r.ty.0) ≡ Some item → Contains (elements_of types f) (element.At (owned_place a))
+  open_at a r item is at_r type = inside_known a r (owned_place a) is at_r (owned_itself types ordered a r.ty item type)
 
   -- the place itself
   pub known_at : (a : AbsPlace) (r : Region) → IsItsPath a → IsAt types c (RootStands types f (StandsAt inputs) cells) a r → Contains (elements_of types f) (element.At a)
-  known_at a r is at_r = go a.root refl at_r.stands
-    where
-      go : (ro : Root) → a.root ≡ ro → RootStands types f (StandsAt inputs) cells ro at_r.start → Contains (elements_of types f) (element.At a)
-      go (root.Input q member) e stands =
-          place_behind types ordered f (root.Input q member) at_r.start (each (root.Input q member) at_r.start stands) a
-          (inner_among types ordered plain c (path a) (root_place (root.Input q member)) at_r.start r at_r.lies a
-          (subst (λ (b : AbsPlace). Contains (places_in b (tree_at types r.ty)) a) (is.made ∙ ap (λ (ro : Root). steps_from (root_place ro) (path a)) e) (place_itself a (tree_at types r.ty))))
-      go (root.Local x) e stands =
-          object_known types ordered f x at_r.start.ty a (objects x at_r.start.object stands.0) (shaped x ∙ stands.2)
-          (inner_among types ordered plain c (path a) (local_place x) at_r.start r at_r.lies a
-          (subst (λ (b : AbsPlace). Contains (places_in b (tree_at types r.ty)) a) (is.made ∙ ap (λ (ro : Root). steps_from (root_place ro) (path a)) e) (place_itself a (tree_at types r.ty))))
+  known_at a r is at_r = inside_known a r a is at_r (place_itself a (tree_at types r.ty))
 
-  room_at : (a : AbsPlace) → IsItsPath a → Contains (elements_of types f) (element.At (owned_place a)) → HasRoom 1 a
-  room_at a is known = go (nat_lt a.length 8) refl (place_short (owned_place a) known)
+  -- and a member of it
+  pub member_known : (a : AbsPlace) (r : Region) (s : ℕ) (part : TyId) → IsItsPath a → IsAt types c (RootStands types f (StandsAt inputs) cells) a r → s < owned_step → slice_get (members_of types r.ty) s ≡ Some part → Contains (elements_of types f) (element.At (stepped a s))
+  member_known a r s part is at_r small typed =
+      inside_known a r (stepped a s) is at_r
+      (member_among types ordered a r.ty s part typed (stepped a s)
+      (subst (λ (p : AbsPlace). Contains (places_in p (tree_at types part)) (stepped a s)) (sym (ap (λ (b : Bool). if b then stepped a s else too_long a) (lt_true s owned_step small))) (place_itself (stepped a s) (tree_at types part))))
+    where
+      lt_true : (n m : ℕ) → n < m → nat_lt n m ≡ true
+      lt_true n m lt = grind (arith, nat_tests)
+
+  pub room_at : (a : AbsPlace) (s : ℕ) → IsItsPath a → Contains (elements_of types f) (element.At (stepped a s)) → HasRoom 1 a
+  room_at a s is known = go (nat_lt a.length 8) refl (place_short (stepped a s) known)
     where
       lt_of : (n m : ℕ) → nat_lt n m ≡ true → n + 1 ≤ m
       lt_of n m h = grind (arith, nat_tests)
 
-      go : (b : Bool) → nat_lt a.length 8 ≡ b → (owned_place a).length ≤ 8 → HasRoom 1 a
+      go : (b : Bool) → nat_lt a.length 8 ≡ b → (stepped a s).length ≤ 8 → HasRoom 1 a
       go true e le = record { steps = is.eight; fits = lt_of a.length 8 e }
-      go false e le = let is_long = ap (λ b. (if b then longer a owned_step else too_long a).length) e in absurd (omega (arith, is_long, le))
+      go false e le = let is_long = ap (λ b. (if b then longer a s else too_long a).length) e in absurd (omega (arith, is_long, le))
 
   pub can_open : (a : AbsPlace) (r : Region) (item : TyId) → IsItsPath a → IsAt types c (RootStands types f (StandsAt inputs) cells) a r → owned_in_type types (slice_get types.types r.ty.0) ≡ Some item → CanOpen a
-  can_open a r item is at_r type = let known = open_at a r item is at_r type in record { known = known; room = room_at a is known }
+  can_open a r item is at_r type = let known = open_at a r item is at_r type in record { known = known; room = room_at a owned_step is known }
 
   -- a fact's place, and a local's
   pub fact_path : (l a : AbsPlace) → IsOf (table_of types f) (fact_at l (element.At a)) → IsItsPath a

@@ -23,7 +23,8 @@ use Rattle.life_proper.specs.WellFormed.{is_itself, is_well_formed_step}
 use Rattle.life_proper.proofs.HeldSorts.{same_is}
 use Rattle.life_store.specs.State.{State}
 use Rattle.life_forest.proofs.OneNumber.{same_solid}
-use Rattle.life_cover.proofs.KnownFrames.{IsKnownFrame, IsRight, typed, whole_location, solid_type}
+use Rattle.life_cover.proofs.InertParts.{buffer_alone, unique_alone}
+use Rattle.life_cover.proofs.KnownFrames.{IsKnownFrame, IsRight, typed, whole_location}
 use Rattle.life_cover.proofs.PlainTargets.{through_other}
 use Rattle.life_cover.specs.Regions.{Region}
 
@@ -94,4 +95,4 @@ module _ (types : Types) (f : Function) (rest : ℕ → ℕ) (inputs : Root → 
         let sort = owner_sort (type_in types f l) (subst (λ (t : Ty). is_owner t ≡ true) (sym (typed types f rest inputs S st k (named.Name l) solid)) outer.0) in
         subst (λ (q : Location). IsRight sigs types number f place (Move (named.Name q) y) S S' → (is_unique (type_in types f q) ≡ true) ⊎ (has_buffer (type_in types f q) ≡ true) → same (type_of types f (named.Name q)) (type_at types f y) ≡ true
         → is_itself types texts fs f y (named.Name q) ≡ false → Q (named.Name q))
-        (whole_location types k.plain f l (solid_type types f rest inputs S st k (named.Name l) solid)) (at_whole l.local) right sort alike.0 (not_true (is_itself types texts fs f y (named.Name l)) itself.0)
+        (whole_location types k.inert f l (⊎_elim (λ u. unique_alone (type_in types f l) u) (λ b. buffer_alone (type_in types f l) b) sort)) (at_whole l.local) right sort alike.0 (not_true (is_itself types texts fs f y (named.Name l)) itself.0)

@@ -29,11 +29,12 @@ use Rattle.life_rules.proofs.Giving.{at_head, in_tail}
 use Rattle.life_store.specs.Cells.{at}
 use Rattle.life_store.specs.Content.{Content}
 use Rattle.life_store.specs.Effects.{cell, put_content}
-use Rattle.life_store.specs.Parts.{local_type}
+use Rattle.life_store.specs.Parts.{local_type, width_at}
 use Rattle.life_store.specs.State.{Named, Pointer, Points, State}
 use Rattle.life_store.proofs.CellLemmas.{some_same}
 use Rattle.life_store.proofs.MapLemmas.{one_or_apart}
 use Rattle.life_forest.specs.Forest.{Beneath, Touches, part, under as further, whole as one}
+use Rattle.life_forest.specs.FrameTypes.{IsVariable}
 use Rattle.life_forest.specs.Kinds.{kinds_of}
 use Rattle.life_forest.proofs.Sparing.{owns_le}
 use Rattle.life_forest.proofs.Steps.{alive_le, touches_more}
@@ -49,7 +50,8 @@ use Rattle.life_cover.proofs.KnownFrames.{IsKnownFrame, IsRight, hand_of, rooted
 use Rattle.life_cover.proofs.Left.{caused_of, kept_by}
 use Rattle.life_cover.proofs.Locals.{two_named}
 use Rattle.life_cover.proofs.Moved.{both_feet}
-use Rattle.life_cover.proofs.Opening.{place_all}
+use Rattle.life_cover.proofs.ObjectParts.{part_within}
+use Rattle.life_cover.proofs.Opening.{place_part}
 use Rattle.life_cover.proofs.Putting.{other_local}
 use Rattle.life_cover.proofs.Sparing.{local_low, place_within}
 
@@ -206,7 +208,17 @@ module _ (types : Types) (f : Function) (rest : ℕ → ℕ) (inputs : Root → 
 
   -- where they lie in one object, they are one
   alike : into.object ≡ m → into ≡ from
-  alike same = same_region into from same (place_all types f rest inputs S st k to into at_to).word refl
+  alike same = same_region into from same word refl
+    where
+      v : IsVariable st.world.content (local_type types f y) m
+      v = k.stands.frame.objects y m named_y
+
+      -- a value of its own type stands at its begin
+      word : into.word ≡ 0
+      word =
+          let fits = (part_within types k.ordered v.object.ty into.word into.ty (place_part types f rest inputs S st k to into at_to v.object (ap (at st.world.content.objects) same ∙ v.there))).fits in
+          let e = ap (width_at types) (some_same (sym v.type ∙ typed_y)) in
+          omega (arith, fits, e)
 
   guards : Guards types st.world.content (RootStands types f (StandsAt inputs) st.cells) S (λ a. under (local_place y) a || under to a) (both_feet types into from)
   guards a r names at_r low = ⊎_elim

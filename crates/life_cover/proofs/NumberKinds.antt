@@ -132,7 +132,7 @@ module _ (types : Types) (f : Function) (rest : ℕ → ℕ) (inputs : Root → 
 
     pub load_kind : (s : Setting) (r : ℕ) (o : Operand) → IsRight sigs types n f place (Load r o) S S' → is_number types f r ≡ true → is_void (type_of types f o) ≡ false → OnRight (does s types f (Load r o) st) (FrameCovered types f inputs S')
     load_kind s r o right is solid =
-        on_place_right types f st (StandsAt inputs) (may_change types f) S o (reach_at types f rest inputs S st k o solid (λ p used. used_right sigs types n f place (Load r o) S right.clean p used))
+        on_place_right types f st (StandsAt inputs) (may_change types f) S o (reach_at types f rest inputs S st k right.closed.of o solid (λ p used. used_right sigs types n f place (Load r o) S right.clean p used))
         (λ m j object. Next (put_cell r (Number (number_in_word (word_at object j (operand_word types f o st)))) st)) (λ c. on_character s.texts c (λ z. Next (put_cell r (Number z) st))) (FrameCovered types f inputs S')
         (λ h. put (number_in_word (word_at h.holder h.index (operand_word types f o st))))
         (λ c single. character_right s.texts c (λ z. Next (put_cell r (Number z) st)) (FrameCovered types f inputs S') put)

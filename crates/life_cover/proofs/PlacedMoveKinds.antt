@@ -3,6 +3,7 @@
 use Rattle.std.proofs.Common.{◌≡◌, ◌≢◌, ◌⊎◌, ⊎_elim, inl, inr, ℕ, suc, ◌<◌, length, true, false, List, [], ◌∷◌, Option, Some, None, refl, sym, ap, subst, ◌∙◌}
 use Rattle.std.specs.Prelude.{◌||◌, slice_get}
 use Rattle.std.proofs.lemmas.Bool.{false≢true}
+use Rattle.life_types.specs.Pointees.{or_void}
 use Rattle.life_types.specs.Trees.{holds_owner, tree_at, tree_of}
 use Rattle.life_types.specs.TypeTests.{is_void}
 use Rattle.life_types.specs.Types.{Types}
@@ -46,18 +47,20 @@ use Rattle.life_cover.specs.Frames.{RootStands}
 use Rattle.life_cover.specs.Inputs.{StandsAt, may_change, owning}
 use Rattle.life_cover.specs.Kills.{LeftBy}
 use Rattle.life_cover.specs.Lacking.{MayLack}
+use Rattle.life_cover.specs.Members.{is_inert}
 use Rattle.life_cover.specs.Regions.{Region, owned_in_type}
 use Rattle.life_cover.proofs.Behind.{behind_content, no_local, tells_none}
 use Rattle.life_cover.proofs.BufferMoves.{IsBufferParts, placed_buffered}
 use Rattle.life_cover.proofs.Buffering.{but_more}
-use Rattle.life_cover.proofs.GivenBuffers.{HasGiven, IsGiven, buffer_local, buffer_solid, given_all, given_buffer, given_free, given_is, given_object, given_one, given_other, gives, its_buffer, not_given, parts_here}
+use Rattle.life_cover.proofs.GivenBuffers.{HasGiven, IsGiven, buffer_local, buffer_solid, given_buffer, given_free, given_is, given_object, given_one, given_other, gives, its_buffer, not_given, parts_here, given_part}
+use Rattle.life_cover.proofs.InertParts.{buffer_alone}
 use Rattle.life_cover.proofs.KeptBuffers.{at_start, holder_born, is_owner}
 use Rattle.life_cover.proofs.KnownFrames.{IsKnownFrame, IsRight, hand_of, reach_at, store_of, used_right}
 use Rattle.life_cover.proofs.Lacking.{low_whole}
 use Rattle.life_cover.proofs.MakeKinds.{IsMade}
 use Rattle.life_cover.proofs.Moved.{both_feet}
 use Rattle.life_cover.proofs.MovedFacts.{both_false, left_by_placed, placed_covered, placed_spares}
-use Rattle.life_cover.proofs.Opening.{IsTyped, owner_typed, region_all}
+use Rattle.life_cover.proofs.Opening.{IsTyped, owner_typed, region_all, region_part}
 use Rattle.life_cover.proofs.OwnerMoves.{left, left_itself, left_other, owner_touches}
 use Rattle.life_cover.proofs.Pointers.{OnRight}
 use Rattle.life_cover.proofs.Putting.{other_local}
@@ -95,6 +98,9 @@ module _ (types : Types) (f : Function) (rest : ℕ → ℕ) (inputs : Root → 
     place_typed : IsTyped types f rest inputs S st k (named.Through p members) r (type_at types f y)
     place_typed = owner_typed types f rest inputs S st k (named.Through p members) r (type_at types f y) item.0 alike (buffer_solid types (type_at types f y) buffer) item.1
 
+    alone : is_inert (or_void (slice_get types.types r.region.ty.0)) ≡ false
+    alone = ap (λ (t : Option Ty). is_inert (or_void t)) place_typed.there ∙ buffer_alone (type_at types f y) buffer
+
     typed_y : local_type types f y ≡ Some r.region.ty
     typed_y =
         let w = buffer_local types f rest inputs S st k y m named_y buffer in
@@ -115,12 +121,12 @@ module _ (types : Types) (f : Function) (rest : ℕ → ℕ) (inputs : Root → 
     -- the frame may change what it owns
     own : owning types f r.place.root ≡ true
     own =
-        reached_owning sigs types number f place (Move (named.Through p members) y) S right.clean (named.Through p members) (λ x. refl) k.ordered k.plain inputs st k.given.each r (r.change free)
+        reached_owning sigs types number f place (Move (named.Through p members) y) S right.clean (named.Through p members) (λ x. refl) k.ordered inputs st k.given.each r (r.change free)
         (ap holds_owner (tree_made types k.ordered r.region.ty ∙ ap (tree_of types (tree_at types)) place_typed.there) ∙ buffer_holds types (type_at types f y) buffer)
 
     -- what it lies in isn't owned by the local
     holder_type : r.holder.ty ≡ r.region.ty
-    holder_type = (region_all types f rest inputs S st k (named.Through p members) r).type r.holder r.there
+    holder_type = (region_all types f rest inputs S st k (named.Through p members) r alone).type r.holder r.there
 
     other : has.held ≢ r.region.object
     other = not_given types f rest inputs S st k sigs number place S' (named.Through p members) y right buffer m named_y r.region.ty typed_y r.region.object r.holder r.there holder_type
@@ -177,15 +183,15 @@ module _ (types : Types) (f : Function) (rest : ℕ → ℕ) (inputs : Root → 
           (left_by_placed sigs types f place p members y r.by.0 S S' right.closed r.by.1 (RootStands types f (StandsAt inputs) st.cells))) unwritten behind touch,
       behind_content types f inputs (GivenBare types f rest inputs S st k y) no_local no_local st behind
           (but_more types (λ j. MayLack types f inputs S st j ⊎ (j ≡ m)) (GivenBare types f rest inputs S st k y) behind (λ j bare. ⊎_elim (λ lacks. inl lacks) (λ is. inr (named_y ∙ ap (λ i. Some (Named i)) (sym is))) bare)
-          (at_start types f rest inputs S st k (named.Through p members) r s
+          (at_start types f rest inputs S st k (named.Through p members) r s alone
           (λ q. AreBut types (λ j. MayLack types f inputs S st j ⊎ (j ≡ m)) (moved_to (parts_at types r.region.ty) q m (taken (parts_at types r.region.ty) (suc has.held ∷ []) st.world.content)))
           (placed_buffered types (MayLack types f inputs S st) has.held (low_whole types f rest inputs S st k from has.held has.low) st.world.content k.buffered (parts_at types r.region.ty) is_buffer m r.region.object r.index
           (holder_born types f rest inputs S st k (named.Through p members) r s) other
-          (is_owner types f rest inputs S st k (named.Through p members) r s (parts_at types r.region.ty) refl one (its_buffer types (parts_at types r.region.ty) is_buffer)))))
+          (is_owner types f rest inputs S st k (named.Through p members) r s alone (parts_at types r.region.ty) refl one (its_buffer types (parts_at types r.region.ty) is_buffer)))))
           (placed_spares types f rest inputs S st k r.place r.region own r.lies y m named_y typed_y behind touch)
-          (λ z j e is_unique. inr (had_beside_both types f rest inputs S st k r.region from (region_all types f rest inputs S st k (named.Through p members) r)
+          (λ z j e is_unique. inr (had_beside_both types f rest inputs S st k r.region from (region_part types f rest inputs S st k (named.Through p members) r)
           (given_other types f rest inputs S st k sigs number place S' (named.Through p members) y right buffer m named_y r.region.ty typed_y)
-          (given_all types f rest inputs S st k sigs number place S' (named.Through p members) y right buffer m named_y r.region.ty typed_y)
+          (given_part types f rest inputs S st k sigs number place S' (named.Through p members) y right buffer m named_y r.region.ty typed_y)
           (given_other types f rest inputs S st k sigs number place S' (named.Through p members) y right buffer m named_y r.region.ty typed_y) behind touch z j e is_unique)),
       tells_none types f S' (put_content behind st),
     )
@@ -200,7 +206,7 @@ module _ (types : Types) (f : Function) (rest : ℕ → ℕ) (inputs : Root → 
 
   pub placed_move_kind : OnRight (does s types f (Move (named.Through p members) y) st) (IsMade types f inputs S' (GivenBare types f rest inputs S st k y) no_local no_local st)
   placed_move_kind =
-      by_reach types f st (StandsAt inputs) (may_change types f) S (named.Through p members) (reach_at types f rest inputs S st k (named.Through p members) solid (λ q used. used_right sigs types number f place (Move (named.Through p members) y) S right.clean q used))
+      by_reach types f st (StandsAt inputs) (may_change types f) S (named.Through p members) (reach_at types f rest inputs S st k right.closed.of (named.Through p members) solid (λ q used. used_right sigs types number f place (Move (named.Through p members) y) S right.clean q used))
       go (IsMade types f inputs S' (GivenBare types f rest inputs S st k y) no_local no_local st)
       (λ r. subst (λ e. OnRight e (IsMade types f inputs S' (GivenBare types f rest inputs S st k y) no_local no_local st)) (sym (spot_is types f st (StandsAt inputs) (may_change types f) S (named.Through p members) r go)) (by_cell r (cell st y) refl))
     where

@@ -125,36 +125,36 @@ module _ (types : Types) (f : Function) (rest : ℕ → ℕ) (inputs : Root → 
 
   -- ---- behind the call
 
-  module _ (after : State) (touch : Touches (kinds_of types) (foot_with types (mutated types gf (entry_inputs st.world.content values)) (named_in values)) st.world.content after.world.content)
+  module _ (after : State) (touch : Touches (kinds_of types) (foot_with types (mutated types gf (entry_inputs types gf st.world.content values)) (named_in values)) st.world.content after.world.content)
       (stay : (y m : ℕ) → cell st y ≡ Some (Named m) → times (named_in values) m ≡ 0 → cell after y ≡ Some (Named m)) (objects : (y m : ℕ) → cell after y ≡ Some (Named m) → object_at types f y ≡ true) where
-    module _ (t : Target) (h : IsPromisedTo types gf (entry_inputs st.world.content values) after.world.content t) where
+    module _ (t : Target) (h : IsPromisedTo types gf (entry_inputs types gf st.world.content values) after.world.content t) where
       -- its root is an input of the callee
-      input_root : (ro : Root) → RootStands types gf (StandsAt (entry_inputs st.world.content values)) [] ro h.points.lies.start → StandsAt (entry_inputs st.world.content values) ro h.points.lies.start
+      input_root : (ro : Root) → RootStands types gf (StandsAt (entry_inputs types gf st.world.content values)) [] ro h.points.lies.start → StandsAt (entry_inputs types gf st.world.content values) ro h.points.lies.start
       input_root (root.Local y) stands = absurd (none_some stands.0)
       input_root (root.Input q member) stands = stands
 
-      stands_g : StandsAt (entry_inputs st.world.content values) h.place.root h.points.lies.start
+      stands_g : StandsAt (entry_inputs types gf st.world.content values) h.place.root h.points.lies.start
       stands_g = input_root h.place.root h.points.lies.stands
 
-      abbrev e : IsEntered st.world.content values h.place.root h.points.lies.start
-      e = is_entered st.world.content values h.place.root h.points.lies.start stands_g
+      abbrev e : IsEntered types gf st.world.content values h.place.root h.points.lies.start
+      e = is_entered types gf st.world.content values h.place.root h.points.lies.start stands_g
 
-      abbrev aim : IsAimedBy types f inputs S st xs gf (is_entered st.world.content values h.place.root h.points.lies.start stands_g).parameter (is_entered st.world.content values h.place.root h.points.lies.start stands_g).target
+      abbrev aim : IsAimedBy types f inputs S st xs gf (is_entered types gf st.world.content values h.place.root h.points.lies.start stands_g).parameter (is_entered types gf st.world.content values h.place.root h.points.lies.start stands_g).target
       aim = aims e.parameter e.target e.handed
 
       -- the argument's place lies where it did
       still : IsAt types after.world.content (RootStands types f (StandsAt inputs) after.cells) aim.place h.points.lies.start
       still =
-          at_on types k.ordered (hand_of rest st) st.world.content after.world.content (store_of types f rest inputs S st k) (foot_with types (mutated types gf (entry_inputs st.world.content values)) (named_in values)) touch (RootStands types f (StandsAt inputs) st.cells) (RootStands types f (StandsAt inputs) after.cells)
+          at_on types k.ordered (hand_of rest st) st.world.content after.world.content (store_of types f rest inputs S st k) (foot_with types (mutated types gf (entry_inputs types gf st.world.content values)) (named_in values)) touch (RootStands types f (StandsAt inputs) st.cells) (RootStands types f (StandsAt inputs) after.cells)
           aim.place h.points.lies.start ((rooted_of types f rest inputs S st k).fits aim.place.root)
           (λ z. roots_stay types f rest inputs S st k sigs number place S' target g xs right values gf at_g shaped aims over after stay aim.place z (local_place aim.from, aim.fact))
           (stood types f rest inputs S st k sigs number place S' target g xs right values gf at_g shaped aims over h.place.root h.points.lies.start stands_g)
           ((callee_given types f rest inputs S st k sigs number place S' target g xs right values gf at_g shaped aims over).free h.place.root h.points.lies.start stands_g)
 
-      reached : IsReachedAt types k.ordered k.plain f k.shaped k.short after.world.content after.cells objects inputs k.given.each (steps_place aim.place (path h.place)) h.points.region
+      reached : IsReachedAt types k.ordered f k.shaped k.short after.world.content after.cells objects inputs k.given.each (steps_place aim.place (path h.place)) h.points.region
       reached =
-          steps_reached types k.ordered k.plain f k.shaped k.short after.world.content after.cells objects inputs k.given.each (path h.place) aim.place h.points.lies.start h.points.region
-          (record { path = fact_path types k.ordered k.plain f k.shaped k.short after.world.content after.cells objects inputs k.given.each (local_place aim.from) aim.place (right.closed.of (fact_at (local_place aim.from) (element.At aim.place)) aim.fact); lies = still })
+          steps_reached types k.ordered f k.shaped k.short after.world.content after.cells objects inputs k.given.each (path h.place) aim.place h.points.lies.start h.points.region
+          (record { path = fact_path types k.ordered f k.shaped k.short after.world.content after.cells objects inputs k.given.each (local_place aim.from) aim.place (right.closed.of (fact_at (local_place aim.from) (element.At aim.place)) aim.fact); lies = still })
           h.points.lies.lies
 
       -- what may be changed through it may be changed through the argument
@@ -174,7 +174,7 @@ module _ (types : Types) (f : Function) (rest : ℕ → ℕ) (inputs : Root → 
       to_covered : IsCovered types after.world.content (RootStands types f (StandsAt inputs) after.cells) (may_change types f) S' (local_place x) (look_at types f x) (To t)
       to_covered = record {
         known = element.At (steps_place aim.place (path h.place));
-        holds = passed_fact_at e.parameter aim.from aim.handed aim.place aim.fact h.place e.root h.promised (reached_known types k.ordered k.plain f k.shaped k.short after.world.content after.cells objects inputs k.given.each (steps_place aim.place (path h.place)) h.points.region reached);
+        holds = passed_fact_at e.parameter aim.from aim.handed aim.place aim.fact h.place e.root h.promised (reached_known types k.ordered f k.shaped k.short after.world.content after.cells objects inputs k.given.each (steps_place aim.place (path h.place)) h.points.region reached);
         covers = record {
           region = h.points.region;
           lies = reached.lies;
@@ -186,7 +186,7 @@ module _ (types : Types) (f : Function) (rest : ℕ → ℕ) (inputs : Root → 
         };
       }
 
-    pub result_covered : (p : Pointer) → IsPromised types gf (entry_inputs st.world.content values) after.world.content p → IsCovered types after.world.content (RootStands types f (StandsAt inputs) after.cells) (may_change types f) S' (local_place x) (look_at types f x) p
+    pub result_covered : (p : Pointer) → IsPromised types gf (entry_inputs types gf st.world.content values) after.world.content p → IsCovered types after.world.content (RootStands types f (StandsAt inputs) after.cells) (may_change types f) S' (local_place x) (look_at types f x) p
     result_covered (Static s) h = tt
     result_covered Wild h = absurd h
     result_covered Null h = record { known = element.Null; holds = null_fact h; covers = tt }

@@ -190,7 +190,7 @@ module _ (types : Types) (f : Function) (rest : ℕ → ℕ) (inputs : Root → 
 
     pub vector_object : OnRight (does s types f (Changes o (PushBack x)) st) (FrameCovered types f inputs S')
     vector_object =
-        by_reach types f st (StandsAt inputs) (may_change types f) S o (reach_at types f rest inputs S st k o (ap is_void is_vector) (λ q used. used_right sigs types number f place (Changes o (PushBack x)) S right.clean q used)) (λ spot. changed s types f (operand_parts types f o) spot (PushBack x) st)
+        by_reach types f st (StandsAt inputs) (may_change types f) S o (reach_at types f rest inputs S st k right.closed.of o (ap is_void is_vector) (λ q used. used_right sigs types number f place (Changes o (PushBack x)) S right.clean q used)) (λ spot. changed s types f (operand_parts types f o) spot (PushBack x) st)
         (FrameCovered types f inputs S')
         (λ r. subst (λ e. OnRight e (FrameCovered types f inputs S')) (sym (spot_is types f st (StandsAt inputs) (may_change types f) S o r (λ spot. changed s types f (operand_parts types f o) spot (PushBack x) st)))
         (subst (λ (v : Option Cell). OnRight (pushes s types f (operand_parts types f o) (record { object = r.region.object; index = r.index; word = r.region.word }) x v st) (FrameCovered types f inputs S')) (sym named) (object_pushed r)))

@@ -21,6 +21,7 @@ use Rattle.life_cover.specs.Buffered.{AreBut, HasBuffers}
 use Rattle.life_cover.proofs.Buffering.{Each, Have, IsOwnerAt, birth_but, each_take, have_in, owns_but, resized_but, set_but, without_but, without_leaves}
 use Rattle.life_cover.proofs.Copies.{IsWhole, slot_within}
 use Rattle.life_cover.proofs.ErasedBuffers.{EachOf, count_filled, first_filled}
+use Rattle.life_cover.proofs.InertParts.{single_has, single_wide}
 use Rattle.life_cover.proofs.OwnersStay.{read_word}
 use Rattle.life_cover.proofs.Rebuffering.{AreFree, AreTaken, IsFree, IsSized, IsTaken, sized_is, slots_taken, taken_but}
 
@@ -78,7 +79,7 @@ taken_wide (Text ty) is ws d e = text (owned_in (slice_index ws 0))
     text : (x : Option ℕ) → length (renamed x d).0 ≡ 1
     text None = refl
     text (Some n) = object n (at d.objects n)
-taken_wide (Member first others) is ws d e = absurd is
+taken_wide (Member first others) is ws d e = single_wide (Member first others) is ws d e
 taken_wide Single is ws d e = e
 taken_wide Raw is ws d e = e
 taken_wide Iterates is ws d e = e
@@ -110,7 +111,7 @@ module _ (types : Types) where
       → Have types (with_words size 0 ws q)
   value_put (Text ty) is q size ws typed front fits last has wide = owner_put q size ws (Text ty) typed front fits last has.0 (one_word_of ws has.0 wide has.1) refl (λ us m e. (m, e))
   value_put (Vector ty element) is q size ws typed front fits last has wide = owner_put q size ws (Vector ty element) typed front fits last has.0 (one_word_of ws has.0 wide has.1) refl (λ us m e. (m, e))
-  value_put (Member first others) is q size ws typed front fits last has wide = absurd is
+  value_put (Member first others) is q size ws typed front fits last has wide = any_have q size ws (Member first others) typed (λ us. single_has (Member first others) is us)
   value_put Single is q size ws typed front fits last has wide = any_have q size ws Single typed (λ us. tt)
   value_put Raw is q size ws typed front fits last has wide = any_have q size ws Raw typed (λ us. tt)
   value_put Iterates is q size ws typed front fits last has wide = any_have q size ws Iterates typed (λ us. tt)

@@ -1,4 +1,4 @@
--- Behind an object that is pushed to a vector of a frame without structs, and gives its value over, each vector and each string has its buffer; and
+-- Behind an object that is pushed to a vector of a frame, and gives its value over, each vector and each string has its buffer; and
 -- what is touched lies beneath what the frame names.
 use Rattle.std.proofs.Common.{◌≡◌, ◌≢◌, inr, ⊎_elim, ℕ, ◌<◌, true, List, length, Option, Some, refl, sym, ap, subst, ◌∙◌, arith, ◌⊎◌, ◌+◌, ◌∷◌, [], true}
 use Rattle.std.specs.Prelude.{slice_get, slice_set, Contains}
@@ -49,12 +49,12 @@ use Rattle.life_cover.specs.Regions.{Region, foot_of}
 use Rattle.life_cover.specs.Lacking.{IsUnmoved, MayLack}
 use Rattle.life_cover.proofs.Buffers.{buffer_lives, buffer_low, low, foot_covers, buffer, own}
 use Rattle.life_cover.proofs.Copies.{whole_parts}
-use Rattle.life_cover.proofs.HeldElements.{all_free, elements_region, held, held_type, vector_operand, vector_parts, not_bare}
+use Rattle.life_cover.proofs.HeldElements.{all_free, elements_region, held, held_type, vector_operand, vector_parts, not_bare, vector_alone}
 use Rattle.life_cover.proofs.Inside.{beneath_lesser, not_itself}
 use Rattle.life_cover.proofs.KeptBuffers.{at_start, by_change, holder_born, is_owner}
 use Rattle.life_cover.proofs.KnownFrames.{IsKnownFrame, hand_of, store_of}
 use Rattle.life_cover.proofs.Locals.{named_free}
-use Rattle.life_cover.proofs.Opening.{IsOpened, region_all, vector_opened}
+use Rattle.life_cover.proofs.Opening.{IsOpened, region_part, vector_opened}
 use Rattle.life_cover.proofs.UniquesStay.{had_beside_given, reached_other}
 use Rattle.life_cover.proofs.OwnersStay.{owned_is}
 use Rattle.life_cover.proofs.PushedBuffers.{object_buffered}
@@ -191,19 +191,19 @@ module _ (types : Types) (f : Function) (rest : ℕ → ℕ) (inputs : Root → 
 
     pushed_one : IfGot (pushed s item (parts_at types item) (record { object = r.region.object; index = r.index; word = r.region.word }) h.buffer (consumed (parts_at types item) m) st.world.content) (AreBut types (MayLack types f inputs S st))
     pushed_one =
-        at_start types f rest inputs S st k o r s (λ spot. IfGot (pushed s item (parts_at types item) spot h.buffer (consumed (parts_at types item) m) st.world.content) (AreBut types (MayLack types f inputs S st)))
-        (object_buffered types (MayLack types f inputs S st) s item (parts_at types item) (whole_parts types k.plain item) refl h.buffer st.world.content k.buffered elements.0 elements.1 (held_type types f rest inputs S st k o r item is_vector unmoved)
+        at_start types f rest inputs S st k o r s (vector_alone types f rest inputs S st k o r item is_vector) (λ spot. IfGot (pushed s item (parts_at types item) spot h.buffer (consumed (parts_at types item) m) st.world.content) (AreBut types (MayLack types f inputs S st)))
+        (object_buffered types (MayLack types f inputs S st) s item (parts_at types item) (whole_parts types k.inert item) refl h.buffer st.world.content k.buffered elements.0 elements.1 (held_type types f rest inputs S st k o r item is_vector unmoved)
         (subst (λ n. AllWide n elements.0.slots) fit_word (k.stands.store.fit h.buffer elements.0 elements.1).slots) fit_word (k.stands.store.forest.births h.buffer elements.0 elements.1) (not_bare types f rest inputs S st k o r item is_vector unmoved) m born apart
         (all_free types f rest inputs S st k o r item is_vector unmoved (λ j. MayLack types f inputs S st j ⊎ (j ≡ st.world.content.births)) (λ j q there beneath out. ⊎_elim (λ lacks. low_whole types f rest inputs S st k (elements_region types f rest inputs S st k o r item is_vector unmoved) j beneath lacks) (λ new. unborn j q there new) out))
         (all_free types f rest inputs S st k o r item is_vector unmoved (λ j. (MayLack types f inputs S st j ⊎ (j ≡ st.world.content.births)) ⊎ (j ≡ m))
         (λ j q there beneath out. ⊎_elim (λ left. ⊎_elim (λ lacks. low_whole types f rest inputs S st k (elements_region types f rest inputs S st k o r item is_vector unmoved) j beneath lacks) (λ new. unborn j q there new) left)
         (λ same. named_free types f rest st k.stands.store k.stands.frame x m (elements_region types f rest inputs S st k o r item is_vector unmoved) named (subst (Beneath (kinds_of types) st.world.content (foot_of types (elements_region types f rest inputs S st k o r item is_vector unmoved))) same beneath)) out))
         variable.object variable.slot variable.there variable.one m_has m_wide (subst (λ (id : TyId). IsFree types (parts_at types id) (λ j. MayLack types f inputs S st j ⊎ ((j ≡ h.buffer) ⊎ (j ≡ st.world.content.births))) variable.slot.words) m_type (free_of (parts_at types variable.object.ty) refl))
-        r.region.object r.index (holder_born types f rest inputs S st k o r s) holder_apart (is_owner types f rest inputs S st k o r s (Vector item (parts_at types item)) (vector_parts types f rest inputs S st k o r item is_vector) refl (λ ws j e. (j, e))))
+        r.region.object r.index (holder_born types f rest inputs S st k o r s) holder_apart (is_owner types f rest inputs S st k o r s (vector_alone types f rest inputs S st k o r item is_vector) (Vector item (parts_at types item)) (vector_parts types f rest inputs S st k o r item is_vector) refl (λ ws j e. (j, e))))
 
     after_edit : (a : Attempt Content) → IfGot a (λ d. AreBut types (MayLack types f inputs S st) d × Touches (kinds_of types) (pushed_foot types r.region m) st.world.content d) → OnNext (on_next (on_got a (λ d. Next (put_content d st))) (λ after. Next (put_cell x Empty after))) (IsBehind types f inputs (MayLack types f inputs S st) (λ y. x ≡ y) no_local st)
     after_edit (Got d) e = behind_empty types f inputs (MayLack types f inputs S st) (λ y. x ≡ y) no_local st x (λ n is. refl) d e.0 (pushed_spares types f rest inputs S st k o r own m (in_hand st.cells x m named) d e.1)
-        (λ y j ne at is. inr (had_beside_given types f rest inputs S st k r.region (region_all types f rest inputs S st k o r) (reached_other types f rest inputs S st k o r (ap is_void is_vector) (ap is_unique is_vector)) x m named d e.1 y j ne at is))
+        (λ y j ne at is. inr (had_beside_given types f rest inputs S st k r.region (region_part types f rest inputs S st k o r) (reached_other types f rest inputs S st k o r (ap is_void is_vector) (ap is_unique is_vector)) x m named d e.1 y j ne at is))
     after_edit (GotTrap kind) e = tt
     after_edit (GotFault kind) e = tt
     after_edit GotLost e = tt

@@ -35,6 +35,7 @@ use Rattle.life_cover.specs.Covers.{Holds, IsCovered, IsSeenAs}
 use Rattle.life_cover.specs.Frames.{LocalsCovered, RootStands, look_at}
 use Rattle.life_cover.specs.Regions.{IsAt, Region}
 use Rattle.life_cover.proofs.Fresh.{holds_lives, position_valid}
+use Rattle.life_cover.proofs.Making.{IsItsPath}
 use Rattle.life_cover.proofs.Pointers.{OnRight}
 use Rattle.life_cover.proofs.Using.{IsTo, NotInvalid, not_null, not_wild, to_place}
 
@@ -70,6 +71,7 @@ module _ (types : Types) (f : Function) (st : State) (Input : Root → Region �
     pub place : AbsPlace
     pub lies : IsAt types st.world.content (RootStands types f Input st.cells) place region
     pub by : IsBy o place
+    pub path : IsItsPath place
     pub change : is_const_place types f o ≡ false → may_change place.root ≡ true
     pub seen : IsSeenAs types (operand_type types f o) region.ty
     pub found : locate types f o st ≡ Here region.object index holder
@@ -123,6 +125,7 @@ module _ (types : Types) (f : Function) (st : State) (Input : Root → Region �
               place = local_place x;
               lies = record { start = record { object = n; word = 0; ty = v.object.ty }; stands = (e, refl, v.type); lies = refl };
               by = refl;
+              path = record { eight = refl; made = refl };
               change = λ e. may;
               seen = subst (λ (t : Option TyId). IsSeenAs types t v.object.ty) (sym v.type) (inl refl);
               found = ap (named_by st.world.content) e ∙ ap (λ (ob : Option Object). found_in ob n 0) v.there ∙ ap (λ b. here_if b n 0 v.object) (lt_true 0 (length v.object.slots) small);
@@ -132,7 +135,7 @@ module _ (types : Types) (f : Function) (st : State) (Input : Root → Region �
     -- ---- behind a pointer
 
     module _ (old : LocalsCovered types f Input may_change S st) (p : ℕ) (right : NotInvalid S (local_place p)) (some : S (fact_at (local_place p) element.Null) → ⊥) (single : (look_at types f p).ranged ≡ false)
-        (sees : (look_at types f p).target ≡ target_type types (local_type types f p)) where
+        (sees : (look_at types f p).target ≡ target_type types (local_type types f p)) (path : (a : AbsPlace) → S (fact_at (local_place p) (element.At a)) → IsItsPath a) where
       target_reach : (t : Target) → cell st p ≡ Some (Points (To t)) → IsTo types st.world.content (RootStands types f Input st.cells) may_change S (local_place p) (look_at types f p) right t → Reach (named.Through (whole p) [])
       target_reach t e to = go (holds_lives st.world.content false t holds)
         where
@@ -158,6 +161,7 @@ module _ (types : Types) (f : Function) (st : State) (Input : Root → Region �
                 place = to.place;
                 lies = to.points.lies;
                 by = (to.place, to.fact, refl);
+                path = path to.place to.fact;
                 change = λ e. to.points.change e;
                 seen = subst (λ (id : Option TyId). IsSeenAs types id to.points.region.ty) sees to.points.type;
                 found = is ∙ ap (λ b. reached_if b t.object t.index l.0) lt ∙ ap (λ n. Here n t.index l.0) to.points.object;

@@ -18,6 +18,7 @@ use Rattle.life_forest.proofs.Widths.{count-blank, wide-resized}
 use Rattle.life_cover.specs.Buffered.{AreBut, HasBuffers}
 use Rattle.life_cover.proofs.Buffering.{IsOwnerAt, birth_but, have_in, owns_but, rename_but, resized_but, set_but, single_have, without_but}
 use Rattle.life_cover.proofs.Copies.{IsWhole}
+use Rattle.life_cover.proofs.InertParts.{single_has, single_taken}
 
 -- ---- what was there and is there is as it was
 
@@ -160,7 +161,16 @@ module _ (types : Types) where
         born = omega (arith, born);
         older = older_set d (without has.0 d) (with_rename has.0 o d) d.births o (omega arith) (omega arith) refl (older_without d d has.0 (older_self d));
       }
-  taken_but (Member first others) is out f gone ws has free d born h = absurd is
+  taken_but (Member first others) is out f gone ws has free d born h = behind (taken (Member first others) ws d) (single_taken (Member first others) is ws d)
+    where
+      behind : (v : Words) → v.1 ≡ d → IsTaken (Member first others) out f d v
+      behind v same = record {
+        has = single_has (Member first others) is v.0;
+        buffers = subst (AreBut types out) (sym same) h;
+        same = ap (λ (e : Content). at e.objects f) same;
+        born = subst (λ (e : Content). f < e.births) (sym same) born;
+        older = subst (IsOlder d) (sym same) (older_self d);
+      }
   taken_but Single is out f gone ws has free d born h = record { has = has; buffers = h; same = refl; born = born; older = older_self d }
   taken_but Raw is out f gone ws has free d born h = record { has = has; buffers = h; same = refl; born = born; older = older_self d }
   taken_but Iterates is out f gone ws has free d born h = record { has = has; buffers = h; same = refl; born = born; older = older_self d }

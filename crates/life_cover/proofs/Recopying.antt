@@ -24,6 +24,7 @@ use Rattle.life_forest.proofs.Stores.{if_such}
 use Rattle.life_cover.specs.Buffered.{AreBut, HasBuffers}
 use Rattle.life_cover.proofs.Buffering.{Each, Have, IsOwnerAt, birth_but, ended_but, ended_leaves, filled_but, owns_but}
 use Rattle.life_cover.proofs.Copies.{IsWhole}
+use Rattle.life_cover.proofs.InertParts.{single_copied, single_fresh, single_has}
 use Rattle.life_cover.proofs.OwnersStay.{read_word}
 use Rattle.life_cover.proofs.Rebuffering.{IsSized, sized_but}
 
@@ -58,19 +59,18 @@ more_filled c d n rows new more = go (at d.objects n)
 abbrev pub IsOwningRow : Parts → List ℕ → Type 0
 IsOwningRow (Text ty) ws = (b : ℕ) × (ws ≡ suc b ∷ [])
 IsOwningRow (Vector ty element) ws = (b : ℕ) × (ws ≡ suc b ∷ [])
-IsOwningRow (Member first others) ws = ⊥
 IsOwningRow _ ws = Unit {0}
 
-row_has : (p : Parts) (ws : List ℕ) → IsOwningRow p ws → HasBuffers p ws
-row_has (Text ty) ws h = (h.0, ap (λ (x : List ℕ). owned_in (slice_index x 0)) h.1)
-row_has (Vector ty element) ws h = (h.0, ap (λ (x : List ℕ). owned_in (slice_index x 0)) h.1)
-row_has (Member first others) ws h = absurd h
-row_has Single ws h = tt
-row_has Raw ws h = tt
-row_has Iterates ws h = tt
-row_has Views ws h = tt
-row_has (Unique ty target) ws h = tt
-row_has NoMember ws h = tt
+row_has : (p : Parts) → IsWhole p → (ws : List ℕ) → IsOwningRow p ws → HasBuffers p ws
+row_has (Text ty) is ws h = (h.0, ap (λ (x : List ℕ). owned_in (slice_index x 0)) h.1)
+row_has (Vector ty element) is ws h = (h.0, ap (λ (x : List ℕ). owned_in (slice_index x 0)) h.1)
+row_has (Member first others) is ws h = single_has (Member first others) is ws
+row_has Single is ws h = tt
+row_has Raw is ws h = tt
+row_has Iterates is ws h = tt
+row_has Views is ws h = tt
+row_has (Unique ty target) is ws h = tt
+row_has NoMember is ws h = tt
 
 -- its one slot gets the words
 pub one_written : (P : List ℕ → Type 0) (ss : List Slot) (v : ℕ) → length ss ≡ 1 → ((t : Slot) → slice_get ss 0 ≡ Some t → P (slice_set t.words 0 v)) → Each P (set_slot ss 0 (option_map (written 0 v) (slice_get ss 0)))
@@ -134,7 +134,7 @@ module _ (types : Types) (ordered : IsOrdered types) (s : Setting) where
   copied_but Views bound is made out ws d h = record { row = tt; buffers = h; more = more_self d }
   copied_but (Unique ty target) bound is made out ws d h = tt
   copied_but NoMember bound is made out ws d h = record { row = tt; buffers = h; more = more_self d }
-  copied_but (Member first others) bound is made out ws d h = absurd is
+  copied_but (Member first others) bound is made out ws d h = subst (λ (x : Attempt Words). IfGot x (IsCopied (Member first others) out d)) (sym (single_copied s (Member first others) is ws d).1) (record { row = tt; buffers = h; more = more_self d })
   copied_but (Text ty) bound is made out ws d h =
       buffer_copied (Text ty) Single ty 1 made.1 (λ vs e. Got (vs, e)) (λ b e. (b, refl)) (λ o us e k. (tt, k, more_self e)) (owned_in (slice_index ws 0)) out d h
   copied_but (Vector ty element) bound is made out ws d h =
@@ -142,7 +142,7 @@ module _ (types : Types) (ordered : IsOrdered types) (s : Setting) where
     where
       inner : ((o : ℕ → Type 0) (us : List ℕ) (e : Content) → AreBut types o e → IfGot (copied s element us e) (IsCopied element o e)) → (o : ℕ → Type 0) (us : List ℕ) (e : Content) → AreBut types o e
           → IfGot (copied s element us e) (λ v. HasBuffers element v.0 × AreBut types o v.1 × IsMore e v.1)
-      inner each o us e k = if_such (copied s element us e) (IsCopied element o e) (λ v. HasBuffers element v.0 × AreBut types o v.1 × IsMore e v.1) (each o us e k) (λ v c. (row_has element v.0 c.row, c.buffers, c.more))
+      inner each o us e k = if_such (copied s element us e) (IsCopied element o e) (λ v. HasBuffers element v.0 × AreBut types o v.1 × IsMore e v.1) (each o us e k) (λ v c. (row_has element is v.0 c.row, c.buffers, c.more))
 
   -- ---- a copy is written to a place
 
@@ -194,7 +194,7 @@ module _ (types : Types) (ordered : IsOrdered types) (s : Setting) where
   fresh_but form Views is out d h = record { row = tt; buffers = h; more = more_self d }
   fresh_but form (Unique ty target) is out d h = record { row = tt; buffers = h; more = more_self d }
   fresh_but form NoMember is out d h = record { row = tt; buffers = h; more = more_self d }
-  fresh_but form (Member first others) is out d h = absurd is
+  fresh_but form (Member first others) is out d h = subst (λ (x : Attempt Words). IfGot x (IsCopied (Member first others) out d)) (sym (single_fresh s form (Member first others) is d).1) (record { row = tt; buffers = h; more = more_self d })
   fresh_but form (Text ty) is out d h = born_buffer (Text ty) ty 1 (λ b. (b, refl)) out d h
   fresh_but form (Vector ty element) is out d h = born_buffer (Vector ty element) ty (width element) (λ b. (b, refl)) out d h
 
@@ -223,20 +223,20 @@ module _ (types : Types) (ordered : IsOrdered types) (s : Setting) where
   slot_wide [] t w h e = absurd (none_some e)
   slot_wide (x ∷ ss) t w h e = subst (λ (y : Slot). length y.words ≡ w) (some_same e) h.0
 
-  row_have : (p : Parts) (o : Object) (ws : List ℕ) → parts_at types o.ty ≡ p → length o.slots ≡ 1 → ((t : Slot) → slice_get o.slots 0 ≡ Some t → length t.words ≡ width p) → IsOwningRow p ws → Have types (with_words 0 0 ws o)
-  row_have (Text ty) o ws typed one wide row = owner_have (Text ty) o ws row.0 row.1 typed one (λ t e. let w = wide t e in omega (arith, w)) (λ us m e. (m, e))
-  row_have (Vector ty element) o ws typed one wide row = owner_have (Vector ty element) o ws row.0 row.1 typed one (λ t e. let w = wide t e in omega (arith, w)) (λ us m e. (m, e))
-  row_have (Member first others) o ws typed one wide row = absurd row
-  row_have Single o ws typed one wide row = plain_have o ws Single typed (λ us. tt)
-  row_have Raw o ws typed one wide row = plain_have o ws Raw typed (λ us. tt)
-  row_have Iterates o ws typed one wide row = plain_have o ws Iterates typed (λ us. tt)
-  row_have Views o ws typed one wide row = plain_have o ws Views typed (λ us. tt)
-  row_have (Unique ty target) o ws typed one wide row = plain_have o ws (Unique ty target) typed (λ us. tt)
-  row_have NoMember o ws typed one wide row = plain_have o ws NoMember typed (λ us. tt)
+  row_have : (p : Parts) → IsWhole p → (o : Object) (ws : List ℕ) → parts_at types o.ty ≡ p → length o.slots ≡ 1 → ((t : Slot) → slice_get o.slots 0 ≡ Some t → length t.words ≡ width p) → IsOwningRow p ws → Have types (with_words 0 0 ws o)
+  row_have (Text ty) is o ws typed one wide row = owner_have (Text ty) o ws row.0 row.1 typed one (λ t e. let w = wide t e in omega (arith, w)) (λ us m e. (m, e))
+  row_have (Vector ty element) is o ws typed one wide row = owner_have (Vector ty element) o ws row.0 row.1 typed one (λ t e. let w = wide t e in omega (arith, w)) (λ us m e. (m, e))
+  row_have (Member first others) is o ws typed one wide row = plain_have o ws (Member first others) typed (λ us. single_has (Member first others) is us)
+  row_have Single is o ws typed one wide row = plain_have o ws Single typed (λ us. tt)
+  row_have Raw is o ws typed one wide row = plain_have o ws Raw typed (λ us. tt)
+  row_have Iterates is o ws typed one wide row = plain_have o ws Iterates typed (λ us. tt)
+  row_have Views is o ws typed one wide row = plain_have o ws Views typed (λ us. tt)
+  row_have (Unique ty target) is o ws typed one wide row = plain_have o ws (Unique ty target) typed (λ us. tt)
+  row_have NoMember is o ws typed one wide row = plain_have o ws NoMember typed (λ us. tt)
 
   -- an object with a value that has its buffers
-  pub with_buffered : (bare : ℕ → Type 0) (value : Content → Attempt Words) (ty : TyId) (c : Content) → ((out : ℕ → Type 0) (d : Content) → AreBut types out d → IfGot (value d) (IsCopied (parts_at types ty) out d)) → AreBut types bare c → IfGot (object_with s ty (parts_at types ty) value c) (λ b. AreBut types bare b.1)
-  with_buffered bare value ty c each h =
+  pub with_buffered : (bare : ℕ → Type 0) (value : Content → Attempt Words) (ty : TyId) (c : Content) → IsWhole (parts_at types ty) → ((out : ℕ → Type 0) (d : Content) → AreBut types out d → IfGot (value d) (IsCopied (parts_at types ty) out d)) → AreBut types bare c → IfGot (object_with s ty (parts_at types ty) value c) (λ b. AreBut types bare b.1)
+  with_buffered bare value ty c is each h =
       got_then (sized_birth s ty (width (parts_at types ty)) 1 c) (λ b. then_get (value b.1) (λ v. Got (b.0, wrote b.0 0 0 v.0 v.1))) (λ f. IsSized c ty (width (parts_at types ty)) 1 f × AreBut types (λ k. bare k ⊎ (k ≡ f.0)) f.1) (λ b. AreBut types bare b.1)
       (sized_but types s ty (width (parts_at types ty)) 1 c bare h)
       (λ f k. got_then (value f.1) (λ v. Got (f.0, wrote f.0 0 0 v.0 v.1)) (IsCopied (parts_at types ty) (λ j. bare j ⊎ (j ≡ f.0)) f.1) (λ b. AreBut types bare b.1)
@@ -246,13 +246,13 @@ module _ (types : Types) (ordered : IsOrdered types) (s : Setting) where
       let births = k.0.births in
       let same : k.0.object ≡ o = some_same (sym (made.more.same f.0 (omega (arith, number, births)) ∙ k.0.there) ∙ there) in
       subst (λ (x : Object). Have types (with_words 0 0 v.0 x)) same
-      (row_have (parts_at types ty) k.0.object v.0 (ap (parts_at types) k.0.type) k.0.count (λ t e. slot_wide k.0.object.slots t (width (parts_at types ty)) k.0.wide e) made.row)) made.buffers))
+      (row_have (parts_at types ty) is k.0.object v.0 (ap (parts_at types) k.0.type) k.0.count (λ t e. slot_wide k.0.object.slots t (width (parts_at types ty)) k.0.wide e) made.row)) made.buffers))
 
   -- as it comes to life
   pub born_buffered : (bare : ℕ → Type 0) (form : Form) (ty : TyId) (c : Content) → IsWhole (parts_at types ty) → AreBut types bare c → IfGot (object_with s ty (parts_at types ty) (fresh s form (parts_at types ty)) c) (λ b. AreBut types bare b.1)
-  born_buffered bare form ty c is h = with_buffered bare (fresh s form (parts_at types ty)) ty c (fresh_but form (parts_at types ty) is) h
+  born_buffered bare form ty c is h = with_buffered bare (fresh s form (parts_at types ty)) ty c is (fresh_but form (parts_at types ty) is) h
 
   -- .. with a number
   pub number_buffered : (bare : ℕ → Type 0) (word : ℕ) (ty : TyId) (c : Content) → parts_at types ty ≡ Single → AreBut types bare c → IfGot (object_with s ty (parts_at types ty) (λ d. Got (word ∷ [], d)) c) (λ b. AreBut types bare b.1)
   number_buffered bare word ty c single h =
-      with_buffered bare (λ d. Got (word ∷ [], d)) ty c (λ out d k. record { row = subst (λ (p : Parts). IsOwningRow p (word ∷ [])) (sym single) tt; buffers = k; more = more_self d }) h
+      with_buffered bare (λ d. Got (word ∷ [], d)) ty c (subst IsWhole (sym single) tt) (λ out d k. record { row = subst (λ (p : Parts). IsOwningRow p (word ∷ [])) (sym single) tt; buffers = k; more = more_self d }) h

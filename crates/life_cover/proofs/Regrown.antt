@@ -16,8 +16,9 @@ use Rattle.life_forest.proofs.Above.{with_words_type}
 use Rattle.life_forest.proofs.Coming.{IfGot, got_then, if_room}
 use Rattle.life_forest.proofs.Stores.{if_such}
 use Rattle.life_cover.specs.Buffered.{AreBut, HasBuffers}
-use Rattle.life_cover.proofs.Buffering.{IsOwnerAt, birth_but, filled_but, owns_but, resized_but, set_but, single_have, without_but, without_leaves}
+use Rattle.life_cover.proofs.Buffering.{IsOwnerAt, birth_but, filled_but, owns_but, resized_but, set_but, single_have, without_but, without_leaves, inert_have, have_in}
 use Rattle.life_cover.proofs.Copies.{IsWhole}
+use Rattle.life_cover.proofs.InertParts.{AreSingle}
 use Rattle.life_cover.proofs.Rebuffering.{AreFree, AreTaken, IsOlder, IsSized, older_filled, older_then, older_without, single_in, sized_is, slots_taken}
 
 module _ (types : Types) (bare : ℕ → Type 0) where
@@ -103,9 +104,9 @@ module _ (types : Types) (bare : ℕ → Type 0) where
           ⊎_elim (λ same. (x, ap (at d.objects) (sym same.0) ∙ e, sym (with_words_type i w ws x) ∙ ap (λ (y : Object). y.ty) (some_same (sym same.1 ∙ there)))) (λ other. (o, sym other.1 ∙ there, refl))
           (set_cases d.objects n k (with_words i w ws x))
 
-  pub wrote_single : (f i w : ℕ) (ws : List ℕ) (d : Content) → ((o : Object) → at d.objects f ≡ Some o → parts_at types o.ty ≡ Single) → AreBut types bare d → AreBut types bare (wrote f i w ws d)
+  pub wrote_single : (f i w : ℕ) (ws : List ℕ) (d : Content) → ((o : Object) → at d.objects f ≡ Some o → AreSingle (parts_at types o.ty)) → AreBut types bare d → AreBut types bare (wrote f i w ws d)
   wrote_single f i w ws d single h =
-      single_in types bare f (wrote f i w ws d) (λ o there. let x = wrote_type f i w ws d f o there in ap (parts_at types) (sym x.2) ∙ single x.0 x.1) (go (at d.objects f))
+      have_in types bare f (wrote f i w ws d) (λ o there. let x = wrote_type f i w ws d f o there in inert_have types o (subst (λ (id : TyId). AreSingle (parts_at types id)) x.2 (single x.0 x.1))) (go (at d.objects f))
     where
       go : (x : Option Object) → AreBut types (λ k. bare k ⊎ (k ≡ f)) (wrote_if x f i w ws d)
       go None k j o t free there slot = h k j o t (λ gone. free (inl gone)) there slot
@@ -125,7 +126,7 @@ module _ (types : Types) (bare : ℕ → Type 0) where
         got_then (with_room s ty Single b c) (λ f. Got (put_last (record { object = n; index = i; word = 0 }) f.0 (size_of c b) (ws, f.1))) IsRoom (AreBut types bare) room
         (λ f r.
         wrote_single f.0 (size_of c b) 0 ws (owns (record { object = n; index = i; word = 0 }) f.0 f.1)
-        (λ o there. let x = wrote_type n i 0 (suc f.0 ∷ []) f.1 f.0 o there in ap (parts_at types) (sym x.2 ∙ r.type x.0 x.1) ∙ single)
+        (λ o there. let x = wrote_type n i 0 (suc f.0 ∷ []) f.1 f.0 o there in subst AreSingle (sym (ap (parts_at types) (sym x.2 ∙ r.type x.0 x.1) ∙ single)) tt)
         (owns_but types bare n i f.0 f.1 (λ o there. owner o (r.same n o born apart there)) r.buffers))
       where
         same_room : IsRoom (b, resized_at b (size_of c b + 1) (size_of c b) c)

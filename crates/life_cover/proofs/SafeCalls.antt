@@ -88,6 +88,7 @@ use Rattle.life_cover.proofs.ResultTypes.{result_typed}
 use Rattle.life_cover.proofs.SafeBodies.{CallsAreSafe, IsSafeAt, IsLeftSafe, IsSafeStop, IsSpokenBody, SafeAnswer, effect_good, right_at}
 use Rattle.life_cover.specs.Frames.{FrameCovered, look_at}
 use Rattle.life_cover.specs.Inputs.{AreGiven, entry_inputs, foot_with, frame_foot, mutated}
+use Rattle.life_cover.specs.Members.{HaveInertMembers}
 use Rattle.life_cover.specs.Passed.{ArePassed, IsPromised}
 use Rattle.life_cover.specs.Regions.{Region}
 use Rattle.life_pset.specs.declared.element.Element.{Element}
@@ -116,8 +117,8 @@ SafeCalled types g inputs given c (Quit stop w) = IsSafeStop stop
 -- .. where its inputs stand apart, and it is handed what its parameters may be given
 abbrev pub SafeCallee : Types → List Function → Callee → Type 0
 SafeCallee types fs call = (k : ℕ) (g : Function) (rest : ℕ → ℕ) (xs : List Cell) (n : ℕ) (w : World) → slice_get fs k ≡ Some g → AreHandedTo types w.content (types_held types g) xs → IsStore types (λ j. times (named_in xs) j + rest j) w.content
-    → AreBut types (IsLoose types (entry_inputs w.content xs) (named_in xs) w.content) w.content
-    → AreGiven types g (entry_inputs w.content xs) (foot_with types (mutated types g (entry_inputs w.content xs)) (named_in xs)) w.content → ArePassed types g w.content xs → SafeCalled types g (entry_inputs w.content xs) (named_in xs) w.content (call k xs n w)
+    → AreBut types (IsLoose types (entry_inputs types g w.content xs) (named_in xs) w.content) w.content
+    → AreGiven types g (entry_inputs types g w.content xs) (foot_with types (mutated types g (entry_inputs types g w.content xs)) (named_in xs)) w.content → ArePassed types g w.content xs → SafeCalled types g (entry_inputs types g w.content xs) (named_in xs) w.content (call k xs n w)
 
 -- the facts cover all pointers behind it, and the buffers are there
 abbrev IsTaken : Types → Function → (inputs : Root → Option Region) → (S : Fact → Type 0) → State → State → Type 0
@@ -146,7 +147,7 @@ slotless_names (GivenOver y ∷ xs) (v ∷ vs) none = slotless_names xs vs none.
 slotless_names (Slot l ∷ xs) (v ∷ vs) none = absurd none.0
 
 module _ (types : Types) (ordered : IsOrdered types) (once : HasEachOnce types) (some : HaveMembers types) (names texts : ℕ) (fs : List Function) (f : Function) (formed : is_well_formed_function types names texts fs f ≡ true) (points : ArePointsFormed types texts fs f)
-    (ready : HasReadyWays types f) (plain : types.structs ≡ []) (short : AreShort (elements_of types f)) (kept : all_keep_given types f ≡ true) (spoken : IsSpokenBody types f) (sigs : List Signature) (number : ℕ) (none : (d : Diag) → IsDiagnosed sigs types number f d → ⊥)
+    (ready : HasReadyWays types f) (inert : HaveInertMembers types) (short : AreShort (elements_of types f)) (kept : all_keep_given types f ≡ true) (spoken : IsSpokenBody types f) (sigs : List Signature) (number : ℕ) (none : (d : Diag) → IsDiagnosed sigs types number f d → ⊥)
     (rest : ℕ → ℕ) (inputs : Root → Option Region) (before : Content) (given : List ℕ) (hand : ℕ → ℕ) (store : IsStore types hand before) (s : Setting) (call : Callee) (callees : GoodCallee types fs call) (free : (k : ℕ) (g : Function) → slice_get fs k ≡ Some g → ArePointerSlots types (types_taken g))
     (safe : SafeCallee types fs call) (heads : (k : ℕ) (g : Function) → slice_get fs k ≡ Some g → slice_get sigs k ≡ Some (signature_of g)) (all_formed : (k : ℕ) (g : Function) → slice_get fs k ≡ Some g → is_well_formed_function types names texts fs g ≡ true) where
   module _ (b : ℕ) (place : Place) (target : Option Location) (g : FnId) (xs : List Argument) (x : Exits) (here : numbered (code_of f) b ≡ Some (record { spot = spot_at place (Action (Call target g xs)); leads = goes x.next })) (n : ℕ) (st : State)
@@ -158,7 +159,7 @@ module _ (types : Types) (ordered : IsOrdered types) (once : HasEachOnce types) 
     spoken_of = spoken b (record { spot = spot_at place (Action (Call target g xs)); leads = goes x.next }) (Call target g xs) here refl
 
     known_at : IsKnownFrame types f rest inputs (FactsAt sigs types f b) st
-    known_at = known types ordered once some names texts fs f formed points ready plain short rest inputs (FactsAt sigs types f b) st inv.safe
+    known_at = known types ordered once some names texts fs f formed points ready inert short rest inputs (FactsAt sigs types f b) st inv.safe
 
     are : IsNodeReady types f (ready_of st) (Action (Call target g xs))
     are = ready.ready b (ready_of st) (record { spot = spot_at place (Action (Call target g xs)); leads = goes x.next }) inv.reached here
@@ -265,7 +266,7 @@ module _ (types : Types) (ordered : IsOrdered types) (once : HasEachOnce types) 
 
       module _ (q : ℕ) (lead : numbered (code_of f) b ≡ Some (record { spot = spot_at place (Action (Call target g xs)); leads = goes (Some q) })) where
         right : IsRight sigs types number f place (Call target g xs) (FactsAt sigs types f b) (FactsAt sigs types f q)
-        right = right_at types ordered once some names texts fs f formed points ready plain short kept spoken sigs number none rest inputs before given hand store s b q place (Call target g xs) lead
+        right = right_at types ordered once some names texts fs f formed points ready inert short kept spoken sigs number none rest inputs before given hand store s b q place (Call target g xs) lead
 
         aims : (m : ℕ) (t : Target) → slice_get over m ≡ Some (Points (To t)) → IsAimedBy types f inputs (FactsAt sigs types f b) st xs gf m t
         aims = aimed_by types f rest inputs (FactsAt sigs types f b) st known_at sigs number place (FactsAt sigs types f q) target g xs right over spoken_of.1 handed_each texts fs gf (heads g.0 gf is) args shaped_g
@@ -273,7 +274,7 @@ module _ (types : Types) (ordered : IsOrdered types) (once : HasEachOnce types) 
         handed_passed : ArePassed types gf st.world.content over
         handed_passed = passed types f rest inputs (FactsAt sigs types f b) st known_at sigs number place (FactsAt sigs types f q) target g xs right over spoken_of.1 handed_each texts fs gf (heads g.0 gf is) args shaped_g
 
-        inputs_given : AreGiven types gf (entry_inputs st.world.content over) (foot_with types (mutated types gf (entry_inputs st.world.content over)) (named_in over)) st.world.content
+        inputs_given : AreGiven types gf (entry_inputs types gf st.world.content over) (foot_with types (mutated types gf (entry_inputs types gf st.world.content over)) (named_in over)) st.world.content
         inputs_given =
             callee_given types f rest inputs (FactsAt sigs types f b) st known_at sigs number place (FactsAt sigs types f q) target g xs right over gf (heads g.0 gf is) shaped_g aims
             (given_object types f rest inputs (FactsAt sigs types f b) st known_at sigs number place (FactsAt sigs types f q) target g xs right over spoken_of.1 handed_each)
@@ -282,7 +283,7 @@ module _ (types : Types) (ordered : IsOrdered types) (once : HasEachOnce types) 
         over_given = given_object types f rest inputs (FactsAt sigs types f b) st known_at sigs number place (FactsAt sigs types f q) target g xs right over spoken_of.1 handed_each
 
         -- the callee doesn't come to what may be bare
-        given_whole : (m : ℕ) → MayLack types f inputs (FactsAt sigs types f b) st m → IsLoose types (entry_inputs st.world.content over) (named_in over) st.world.content m
+        given_whole : (m : ℕ) → MayLack types f inputs (FactsAt sigs types f b) st m → IsLoose types (entry_inputs types gf st.world.content over) (named_in over) st.world.content m
         given_whole = handed_loose types f rest inputs (FactsAt sigs types f b) st known_at sigs number place (FactsAt sigs types f q) target g xs right over gf (heads g.0 gf is) shaped_g aims over_given spoken_of.1 handed_each left_hand
 
         -- ---- behind the call
@@ -290,13 +291,13 @@ module _ (types : Types) (ordered : IsOrdered types) (once : HasEachOnce types) 
         abbrev left : World → State
         left w = record { world = w; cells = (lent types f xs st).cells }
 
-        module _ (w : World) (vs : List Cell) (back : IsBack types w.content gf.result (slot_types types (types_taken gf)) vs) (h : SafeCalled types gf (entry_inputs st.world.content over) (named_in over) st.world.content (Back 0 w vs)) where
+        module _ (w : World) (vs : List Cell) (back : IsBack types w.content gf.result (slot_types types (types_taken gf)) vs) (h : SafeCalled types gf (entry_inputs types gf st.world.content over) (named_in over) st.world.content (Back 0 w vs)) where
           -- what may be bare then
           abbrev Loose : ℕ → Type 0
-          Loose m = IsLoose types (entry_inputs st.world.content over) (named_in vs) w.content m × (times (named_in (lent types f xs st).cells) m ≡ 0) × IsSpared inputs m
+          Loose m = IsLoose types (entry_inputs types gf st.world.content over) (named_in vs) w.content m × (times (named_in (lent types f xs st).cells) m ≡ 0) × IsSpared inputs m
 
           abbrev Left : ℕ → Type 0
-          Left m = MayLack types f inputs (FactsAt sigs types f b) st m ⊎ (IsLoose types (entry_inputs st.world.content over) (named_in vs) w.content m × (waiting m ≡ 0) × IsSpared inputs m)
+          Left m = MayLack types f inputs (FactsAt sigs types f b) st m ⊎ (IsLoose types (entry_inputs types gf st.world.content over) (named_in vs) w.content m × (waiting m ≡ 0) × IsSpared inputs m)
 
           abbrev Given : ℕ → Type 0
           Given y = Contains (flat_map given_argument xs) y
@@ -306,18 +307,18 @@ module _ (types : Types) (ordered : IsOrdered types) (once : HasEachOnce types) 
 
           -- what the callee may touch lies nowhere above what inputs stand for
           input_apart : (r : Root) (a : Region) → inputs r ≡ Some a
-              → (a.object < st.world.content.births) × (Beneath (kinds_of types) st.world.content (foot_with types (mutated types gf (entry_inputs st.world.content over)) (named_in over)) a.object → ⊥)
+              → (a.object < st.world.content.births) × (Beneath (kinds_of types) st.world.content (foot_with types (mutated types gf (entry_inputs types gf st.world.content over)) (named_in over)) a.object → ⊥)
           input_apart r a stands = (
             known_at.given.born r a stands,
             λ low. known_at.given.free r a stands
-                (beneath_more (kinds_of types) (λ j. times (named_in st.cells) j + rest j) st.world.content known_at.stands.store.forest (foot_with types (mutated types gf (entry_inputs st.world.content over)) (named_in over)) (frame_foot types f inputs st.cells) a.object
+                (beneath_more (kinds_of types) (λ j. times (named_in st.cells) j + rest j) st.world.content known_at.stands.store.forest (foot_with types (mutated types gf (entry_inputs types gf st.world.content over)) (named_in over)) (frame_foot types f inputs st.cells) a.object
                 (call_within types f rest inputs (FactsAt sigs types f b) st known_at sigs number place (FactsAt sigs types f q) target g xs right over gf (heads g.0 gf is) shaped_g aims over_given) (known_at.given.born r a stands) low),
           )
 
           buffers : AreBut types Left w.content
           buffers =
-              called_spared types plain waiting (mutated types gf (entry_inputs st.world.content over)) (named_in over) st.world.content w.content over_store h.1.0 (MayLack types f inputs (FactsAt sigs types f b) st)
-              (IsLoose types (entry_inputs st.world.content over) (named_in vs) w.content) known_at.buffered h.0 (λ a among l. let m = mutated_from types gf (entry_inputs st.world.content over) a among in l.spared m.0 a m.1 refl) inputs input_apart
+              called_spared types inert waiting (mutated types gf (entry_inputs types gf st.world.content over)) (named_in over) st.world.content w.content over_store h.1.0 (MayLack types f inputs (FactsAt sigs types f b) st)
+              (IsLoose types (entry_inputs types gf st.world.content over) (named_in vs) w.content) known_at.buffered h.0 (λ a among l. let m = mutated_from types gf (entry_inputs types gf st.world.content over) a among in l.spared m.0 a m.1 refl) inputs input_apart
 
           by_target : (t : Option Location) → target ≡ t → OnNext (target_given s types f t vs (left w)) (IsCalled types f inputs (FactsAt sigs types f q) Left Given Taken Loose st)
           by_target None at_t =
@@ -431,14 +432,14 @@ module _ (types : Types) (ordered : IsOrdered types) (once : HasEachOnce types) 
               go (Faults kind) t = tt
               go Strays t = tt
 
-        returned : x.next ≡ Some q → (r : Called) → GoodCalled types gf (λ j. times (named_in (lent types f xs st).cells) j + rest j) st.world.content r → SafeCalled types gf (entry_inputs st.world.content over) (named_in over) st.world.content r
+        returned : x.next ≡ Some q → (r : Called) → GoodCalled types gf (λ j. times (named_in (lent types f xs st).cells) j + rest j) st.world.content r → SafeCalled types gf (entry_inputs types gf st.world.content over) (named_in over) st.world.content r
             → SafeAnswer sigs types f rest inputs before given x (came_back s types f place target xs st r)
         returned next (Barred kind) good h = tt
         returned next (Quit stop w) good h = h
         returned next (Back m w vs) good h =
             paid_good (IsSafeAt sigs types f rest inputs before given) (IsLeftSafe sigs types f rest inputs before given) IsSafeStop tt place w x (taken_back s types f target xs vs (left w)) m
             (subst (λ (to : Option ℕ). GoodEffect (IsSafeAt sigs types f rest inputs before given) IsSafeStop place to (taken_back s types f target xs vs (left w))) (sym next)
-            (effect_good types ordered once some names texts fs f formed points ready plain short kept spoken sigs number none rest inputs before given hand store s b q place (Call target g xs) st lead inv (taken_back s types f target xs vs (left w))
+            (effect_good types ordered once some names texts fs f formed points ready inert short kept spoken sigs number none rest inputs before given hand store s b q place (Call target g xs) st lead inv (taken_back s types f target xs vs (left w))
             (call_goes types f rest inputs (FactsAt sigs types f q) (bits_past types f (Action (Call target g xs)) (ready_of st)) st w (taken_back s types f target xs vs (left w)) inv.safe.sound.stands.store inv.safe.given
             (callers.taken_gives types ordered once some names texts fs f formed points ready rest before s call callees kept b place target g xs x here n st sound_at gf is args own into w vs
             (subst (λ (u : World). GoodCalled types gf waiting u.content (Back 0 w vs)) (sym left_world) good)) waits (taken_safe w vs good.2 h))))
@@ -450,7 +451,7 @@ module _ (types : Types) (ordered : IsOrdered types) (once : HasEachOnce types) 
         called_at next =
             subst (λ (o : Option (List Cell)). SafeAnswer sigs types f rest inputs before given x (came_back s types f place target xs st (call_with call g.0 o n (lent types f xs st).world))) (sym handed_all)
             (subst (λ (w : World). SafeAnswer sigs types f rest inputs before given x (came_back s types f place target xs st (call g.0 over n w))) (sym left_world)
-            (returned next (call g.0 over n st.world) (callees g.0 gf waiting over n st.world is handed_taken over_store) (safe g.0 gf waiting over n st.world is handed_suit over_store (but_more types (MayLack types f inputs (FactsAt sigs types f b) st) (IsLoose types (entry_inputs st.world.content over) (named_in over) st.world.content) st.world.content given_whole inv.safe.buffered) inputs_given handed_passed)))
+            (returned next (call g.0 over n st.world) (callees g.0 gf waiting over n st.world is handed_taken over_store) (safe g.0 gf waiting over n st.world is handed_suit over_store (but_more types (MayLack types f inputs (FactsAt sigs types f b) st) (IsLoose types (entry_inputs types gf st.world.content over) (named_in over) st.world.content) st.world.content given_whole inv.safe.buffered) inputs_given handed_passed)))
 
       called : SafeAnswer sigs types f rest inputs before given x (act s types f call place (Call target g xs) n st)
       called = by_next x.next refl

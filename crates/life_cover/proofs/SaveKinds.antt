@@ -1,8 +1,13 @@
 -- A number is saved where nothing is wrong: there is no fault, and the facts behind it cover all pointers of the frame.
-use Rattle.std.proofs.Common.{◌≡◌, inl, inr, ℕ, true, List, [], ◌∷◌, length, Option, Some, None, refl, sym, ap, subst, ◌∙◌, arith}
+use Rattle.std.specs.Prelude.{slice_get}
+use Rattle.std.proofs.Common.{◌≡◌, inl, inr, ℕ, true, List, [], ◌∷◌, length, Option, Some, None, refl, sym, ap, subst, ◌∙◌, arith, false, ◌||◌}
+use Rattle.life_types.specs.Pointees.{or_void}
+use Rattle.life_types.specs.Trees.{holds_owner, members_at, tree_at, tree_of}
 use Rattle.life_types.specs.TypeTests.{is_value}
 use Rattle.life_types.specs.Types.{Types}
 use Rattle.life_types.specs.declared.place.Place.{Place}
+use Rattle.life_types.specs.declared.ty.Ty.{Ty}
+use Rattle.life_types.specs.declared.ty.Ty.TheVariants as ty
 use Rattle.life_types.specs.declared.ty.TyId.{TyId}
 use Rattle.life_core.specs.Function.{Function}
 use Rattle.life_core.specs.Operands.{Operand}
@@ -17,27 +22,31 @@ use Rattle.life_store.specs.Content.{Object, with_object, with_word}
 use Rattle.life_store.specs.Doing.{does, saved}
 use Rattle.life_store.specs.Effects.{Next, Setting, Strays, cell, put_content, word_of_number}
 use Rattle.life_store.specs.Held.{wrote_if}
-use Rattle.life_store.specs.Parts.{Parts, Single, operand_type, parts_at}
+use Rattle.life_store.specs.Parts.{Parts, Single, operand_type, parts_at, operand_parts, parts_if, parts_of, width}
 use Rattle.life_store.specs.Places.{locate, on_found, operand_word, wrote_spot}
 use Rattle.life_store.specs.State.{State}
 use Rattle.life_store.proofs.CellLemmas.{some_same}
 use Rattle.life_forest.specs.Forest.{Touches}
 use Rattle.life_forest.specs.Kinds.{kinds_of}
+use Rattle.life_forest.specs.Owned.{times}
 use Rattle.life_forest.specs.Within.{LiesWithin}
 use Rattle.life_forest.proofs.Lying.{LiesAt, touches_value}
 use Rattle.life_forest.proofs.OneNumber.{IsOfType}
-use Rattle.life_forest.proofs.SeenTypes.{character_parts, value_parts}
+use Rattle.life_forest.proofs.SeenTypes.{character_parts, parts_typed, value_parts}
 use Rattle.life_forest.proofs.Spots.{lies_at}
 use Rattle.life_forest.proofs.TypedSteps.{operand_of, value_solid}
 use Rattle.life_cover.specs.Covers.{IsSeenAs}
 use Rattle.life_cover.specs.Frames.{FrameCovered, RootStands, look_at}
+use Rattle.life_cover.proofs.InertParts.{AreSingle, inert_holds, inert_single, single_kinds, single_owns}
 use Rattle.life_cover.proofs.Inside.{lies_true}
 use Rattle.life_cover.proofs.KnownFrames.{IsKnownFrame, IsRight, hand_of, reach_at, rooted_of, store_of, used_right}
+use Rattle.life_cover.proofs.MemberReach.{no_struct}
 use Rattle.life_cover.proofs.OwnerKinds.{number_right}
 use Rattle.life_cover.proofs.Pointers.{OnRight}
 use Rattle.life_cover.proofs.Reaching.{IsReached, on_place_right}
 use Rattle.life_cover.proofs.Unkilled.{no_foot, unkilled_cover}
 use Rattle.life_cover.specs.Inputs.{may_change, StandsAt}
+use Rattle.life_cover.specs.Members.{is_inert}
 use Rattle.life_cover.specs.Regions.{Region}
 
 module _ (types : Types) (f : Function) (rest : ℕ → ℕ) (inputs : Root → Option Region) (S : Fact → Type 0) (st : State) (k : IsKnownFrame types f rest inputs S st) (o : Operand) (r : IsReached types f st (StandsAt inputs) (may_change types f) S o) where
@@ -63,15 +72,48 @@ module _ (types : Types) (f : Function) (rest : ℕ → ℕ) (inputs : Root → 
   region_within =
       lies_true types k.ordered (hand_of rest st) st.world.content (store_of types f rest inputs S st k) (path r.place) r.lies.start r.region ((rooted_of types f rest inputs S st k).fits r.place.root r.lies.start r.lies.stands) r.lies.lies r.holder r.there
 
-  -- so words that are written there touch nothing that is owned
-  pub words_touches : is_value (type_of types f o) ≡ true → (ws : List ℕ) → length ws ≡ 1 → Touches (kinds_of types) no_foot st.world.content (wrote_spot (record { object = r.region.object; index = r.index; word = r.region.word }) ws st.world.content)
-  words_touches value ws one =
-      touches_value (kinds_of types) st.world.content (record { object = r.region.object; index = r.index; word = r.region.word }) Single r.holder lies ws one no_foot (λ u lt. refl) (λ m born own. absurd (omega (arith, own)))
+  -- so words of values alone that are written there touch nothing that is owned
+  pub singles_touch : (p : Parts) → parts_at types r.region.ty ≡ p → AreSingle p → (ws : List ℕ) → length ws ≡ width p → Touches (kinds_of types) no_foot st.world.content (wrote_spot (record { object = r.region.object; index = r.index; word = r.region.word }) ws st.world.content)
+  singles_touch p typed is ws wide =
+      touches_value (kinds_of types) st.world.content (record { object = r.region.object; index = r.index; word = r.region.word }) p r.holder lies ws wide no_foot (λ u lt. ap (λ b. b || false) (single_kinds p is u lt))
+      (λ m born own. let none = ap (λ (ns : List ℕ). times ns m) (single_owns p is ws) in absurd (omega (arith, own, none)))
     where
-      lies : LiesAt (kinds_of types) st.world.content (record { object = r.region.object; index = r.index; word = r.region.word }) Single r.holder
+      lies : LiesAt (kinds_of types) st.world.content (record { object = r.region.object; index = r.index; word = r.region.word }) p r.holder
       lies =
-          subst (λ (p : Parts). LiesAt (kinds_of types) st.world.content (record { object = r.region.object; index = r.index; word = r.region.word }) p r.holder) (value_there value)
+          subst (λ (q : Parts). LiesAt (kinds_of types) st.world.content (record { object = r.region.object; index = r.index; word = r.region.word }) q r.holder) typed
           (lies_at types k.ordered (hand_of rest st) st.world.content (store_of types f rest inputs S st k) r.region.object r.index r.region.word r.region.ty r.holder r.there region_within r.small)
+
+  pub words_touches : is_value (type_of types f o) ≡ true → (ws : List ℕ) → length ws ≡ 1 → Touches (kinds_of types) no_foot st.world.content (wrote_spot (record { object = r.region.object; index = r.index; word = r.region.word }) ws st.world.content)
+  words_touches value ws one = singles_touch Single (value_there value) tt ws one
+
+  -- a struct
+  module _ (number : ℕ) (is : type_of types f o ≡ ty.Struct number) where
+    record IsStruct : Type 0 where
+      pub typed : operand_type types f o ≡ Some r.region.ty
+      pub there : slice_get types.types r.region.ty.0 ≡ Some (ty.Struct number)
+
+    struct_typed : IsStruct
+    struct_typed = go (subst (λ (t : Option TyId). IsSeenAs types t r.region.ty) of.is r.seen)
+      where
+        of : IsOfType types (operand_type types f o) (ty.Struct number)
+        of = operand_of types k.ordered k.once 0 [] f k.shaped o (ty.Struct number) is refl
+
+        go : IsSeenAs types (Some of.number) r.region.ty → IsStruct
+        go (inl same) = record { typed = of.is ∙ ap Some same; there = ap (λ (id : TyId). slice_get types.types id.0) (sym same) ∙ of.there }
+        go (inr character) = absurd (no_struct types (parts_at types) (members_at types number) (sym (parts_typed types k.ordered of.number (ty.Struct number) of.there) ∙ character.0))
+
+    pub struct_parts : parts_at types r.region.ty ≡ parts_of types (parts_at types) (Some (ty.Struct number))
+    struct_parts = parts_typed types k.ordered r.region.ty (ty.Struct number) struct_typed.there
+
+    pub struct_operand : operand_parts types f o ≡ parts_of types (parts_at types) (Some (ty.Struct number))
+    struct_operand = ap (parts_if types) struct_typed.typed ∙ struct_parts
+
+    -- .. holds values alone
+    pub struct_alone : AreSingle (parts_of types (parts_at types) (Some (ty.Struct number)))
+    struct_alone = subst AreSingle struct_parts (inert_single types k.inert r.region.ty (ap (λ (t : Option Ty). is_inert (or_void t)) struct_typed.there))
+
+    pub struct_owns : holds_owner (tree_of types (tree_at types) (Some (ty.Struct number))) ≡ false
+    struct_owns = inert_holds types k.inert k.ordered r.region.ty number struct_typed.there
 
   pub saved_touches : is_value (type_of types f o) ≡ true → (word : ℕ) → Touches (kinds_of types) no_foot st.world.content (with_object r.region.object (with_word r.index r.region.word word r.holder) st.world.content)
   saved_touches value word =
@@ -82,7 +124,7 @@ module _ (types : Types) (f : Function) (rest : ℕ → ℕ) (inputs : Root → 
   pub save_kind : (s : Setting) (o : Operand) (q : ℕ) → IsRight sigs types n f place (Save o q) S S' → is_value (type_of types f o) ≡ true → OnRight (does s types f (Save o q) st) (FrameCovered types f inputs S')
   save_kind s o q right value =
       number_right (cell st q) (λ z. on_found (locate types f o st) (λ m i object. Next (saved z m i (operand_word types f o st) object st))) (FrameCovered types f inputs S')
-      (λ z. on_place_right types f st (StandsAt inputs) (may_change types f) S o (reach_at types f rest inputs S st k o (value_solid (type_of types f o) value) (λ p used. used_right sigs types n f place (Save o q) S right.clean p used))
+      (λ z. on_place_right types f st (StandsAt inputs) (may_change types f) S o (reach_at types f rest inputs S st k right.closed.of o (value_solid (type_of types f o) value) (λ p used. used_right sigs types n f place (Save o q) S right.clean p used))
       (λ m i object. Next (saved z m i (operand_word types f o st) object st)) (λ c. Strays) (FrameCovered types f inputs S')
       (λ r. subst (λ w. FrameCovered types f inputs S' (saved z r.region.object r.index w r.holder st)) (sym r.word) (kept r (word_of_number z))) (λ c single. tt))
     where

@@ -1,11 +1,11 @@
 -- What may be bare behind an instruction of a frame: locals of which facts say so still, since the instruction doesn't write them, and what other
 -- frames name.
-use Rattle.std.proofs.Common.{◌≡◌, inl, inr, ⊎_elim, ℕ, Bool, true, false, Some, refl, sym, ap, subst, List, ◌<◌, arith, [], Option}
+use Rattle.std.proofs.Common.{◌≡◌, inl, inr, ⊎_elim, ℕ, Bool, true, false, Some, refl, sym, ap, subst, List, ◌<◌, arith, Option}
 use Rattle.std.specs.Prelude.{cond, ◌&&◌, ◌||◌}
 use Rattle.std.proofs.lemmas.Bool.{false≢true}
 use Rattle.life_types.specs.Types.{Types}
 use Rattle.life_types.specs.declared.place.Place.{Place}
-use Rattle.life_types.specs.TypeTests.{is_raw, is_unique, is_void}
+use Rattle.life_types.specs.TypeTests.{is_raw, is_unique}
 use Rattle.life_types.specs.declared.ty.Ty.{Ty}
 use Rattle.life_types.specs.declared.ty.Ty.TheVariants as ty
 use Rattle.life_core.specs.Function.{Function}
@@ -26,6 +26,7 @@ use Rattle.life_cover.specs.Buffered.{AreBut}
 use Rattle.life_cover.specs.Lacking.{IsMovedFrom, MayLack, IsLoose}
 use Rattle.life_cover.proofs.Behind.{IsBehind}
 use Rattle.life_cover.proofs.Buffering.{but_more}
+use Rattle.life_cover.proofs.InertParts.{nullable_alone}
 use Rattle.life_cover.proofs.KnownFrames.{IsRight, whole_location}
 use Rattle.life_cover.proofs.UniqueFacts.{stays}
 use Rattle.life_cover.proofs.Edges.{Passes}
@@ -41,6 +42,7 @@ use Rattle.life_forest.specs.Owned.{every, times}
 use Rattle.life_forest.proofs.Below.{positive_is}
 use Rattle.life_forest.proofs.Steps.{own_all}
 use Rattle.life_cover.specs.Inputs.{frame_foot}
+use Rattle.life_cover.specs.Members.{HaveInertMembers}
 use Rattle.life_cover.specs.Regions.{Region}
 use Rattle.life_pset.specs.declared.element.Root.{Root}
 
@@ -99,21 +101,16 @@ module _ (types : Types) (f : Function) (rest : ℕ → ℕ) (inputs : Root → 
 
 -- ---- behind a test
 
--- a pointer and a unique_ptr alone are tested for null
-nullable_solid : (t : Ty) → (is_raw t || is_unique t) ≡ true → is_void t ≡ false
-nullable_solid ty.Void e = absurd (false≢true e)
-nullable_solid _ e = refl
-
 nullable_apart : (t : Ty) → (is_raw t || is_unique t) ≡ true → has_buffer t ≡ true → ⊥
 nullable_apart ty.Text e b = false≢true e
 nullable_apart (ty.Vector element) e b = false≢true e
 nullable_apart _ e b = false≢true b
 
-module _ (types : Types) (f : Function) (rest : ℕ → ℕ) (inputs : Root → Option Region) (plain : types.structs ≡ []) (texts : ℕ) (fs : List Function) (S S' : Fact → Type 0) (st : State) where
+module _ (types : Types) (f : Function) (rest : ℕ → ℕ) (inputs : Root → Option Region) (inert : HaveInertMembers types) (texts : ℕ) (fs : List Function) (S S' : Fact → Type 0) (st : State) where
   not_stopped : (t : Test) (branch : Bool) (y : ℕ) (e : Element) → is_well_formed_test types texts fs f t ≡ true → has_buffer (type_at types f y) ≡ true → stops_at t (Some branch) (fact_at (local_place y) e) ≡ false
   not_stopped (NonZero r) branch y e formed buffer = refl
   not_stopped (NotNull l) branch y e formed buffer =
-      let here = whole_location types plain f l (nullable_solid (type_in types f l) formed) in
+      let here = whole_location types inert f l (nullable_alone (type_in types f l) formed) in
       ap (λ b. b && cond branch (is_null e) (is_held e))
       (subst (λ (q : Location). is_location q (local_place y) ≡ false) here
       (other_local l.local y (λ same. nullable_apart (type_in types f l) formed (subst (λ (q : Location). has_buffer (type_in types f q) ≡ true) here (subst (λ z. has_buffer (type_at types f z) ≡ true) (sym same) buffer)))))

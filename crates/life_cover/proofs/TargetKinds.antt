@@ -88,8 +88,8 @@ module _ (types : Types) (f : Function) (rest : ℕ → ℕ) (inputs : Root → 
     owns : owned_in_type types (slice_get types.types u.number.0) ≡ Some u.target
     owns = ap (owned_in_type types) u.there
 
-    can : CanOpen types k.ordered k.plain f k.shaped k.short st.world.content st.cells (object_named types f rest inputs S st k) inputs k.given.each (local_place x)
-    can = can_open types k.ordered k.plain f k.shaped k.short st.world.content st.cells (object_named types f rest inputs S st k) inputs k.given.each (local_place x) region u.target (record { eight = refl; made = refl }) at_x owns
+    can : CanOpen types k.ordered f k.shaped k.short st.world.content st.cells (object_named types f rest inputs S st k) inputs k.given.each (local_place x)
+    can = can_open types k.ordered f k.shaped k.short st.world.content st.cells (object_named types f rest inputs S st k) inputs k.given.each (local_place x) region u.target (record { eight = refl; made = refl }) at_x owns
 
     points : (b : ℕ) → had_by st.world.content n ≡ Some b → PointsTo types st.world.content (RootStands types f (StandsAt inputs) st.cells) (may_change types f) (look_at types f p) (owned_place (local_place x)) (at_position st.world.content b 0 0)
     points b owned =

@@ -1,4 +1,4 @@
--- The locals of a frame without structs that are unique_ptrs: what they are, and what is done with them.
+-- The locals of a frame that are unique_ptrs: what they are, and what is done with them.
 use Rattle.std.proofs.Common.{◌≡◌, ℕ, true, Option, Some, refl, sym, ap, subst, ◌∙◌, ◌<◌, length, None, arith}
 use Rattle.std.specs.Prelude.{slice_get, nat_lt}
 use Rattle.std.proofs.lemmas.Bool.{false≢true}

@@ -1,12 +1,8 @@
 -- A test leaves the state as it is, and the facts that its branch passes on say what each unique_ptr has: of the one that was tested each fact stays that
 -- may be so.
-use Rattle.std.proofs.Common.{◌≡◌, ◌≢◌, ℕ, zero, suc, Bool, true, false, ◌&&◌, ◌||◌, List, [], Option, Some, None, refl, sym, ap, subst, ◌∙◌}
+use Rattle.std.proofs.Common.{◌≡◌, ℕ, zero, suc, Bool, true, false, ◌&&◌, List, Option, Some, None, refl, sym, ap, subst, ◌∙◌}
 use Rattle.std.specs.Prelude.{ℤ, cond, pos, negsuc, slice_get}
-use Rattle.std.proofs.lemmas.Bool.{false≢true}
-use Rattle.life_types.specs.TypeTests.{is_raw, is_unique, is_void}
 use Rattle.life_types.specs.Types.{Types}
-use Rattle.life_types.specs.declared.ty.Ty.{Ty}
-use Rattle.life_types.specs.declared.ty.Ty.TheVariants as ty
 use Rattle.life_core.specs.Function.{Function}
 use Rattle.life_core.specs.Operands.{Location, whole}
 use Rattle.life_core.specs.Step.{Test, NonZero, NotNull}
@@ -25,8 +21,10 @@ use Rattle.life_store.specs.State.{Pointer, Null, Wild, To, Static, Cell, Empty,
 use Rattle.life_store.proofs.CellLemmas.{some_same}
 use Rattle.life_store.proofs.MapLemmas.{one_or_apart}
 use Rattle.life_cover.specs.Covers.{CoversOwner}
+use Rattle.life_cover.specs.Members.{HaveInertMembers}
 use Rattle.life_cover.specs.Uniques.{UniquesTold, had_by}
 use Rattle.life_cover.proofs.Edges.{Passes}
+use Rattle.life_cover.proofs.InertParts.{nullable_alone}
 use Rattle.life_cover.proofs.KnownFrames.{whole_location}
 use Rattle.life_cover.proofs.Locals.{named_once}
 use Rattle.life_cover.proofs.Putting.{other_local}
@@ -57,10 +55,6 @@ null_left (element.At place) b h = absurd h
 and_false : (a : Bool) → (a && false) ≡ false
 and_false true = refl
 and_false false = refl
-
-nullable_solid : (t : Ty) → (is_raw t || is_unique t) ≡ true → is_void t ≡ false
-nullable_solid ty.Void e = absurd (false≢true e)
-nullable_solid _ e = refl
 
 module _ (types : Types) (f : Function) (S H F : Fact → Type 0) (st : State) (old : UniquesTold types f S st) where
   -- where each fact stays that covers what one has
@@ -124,8 +118,8 @@ module _ (types : Types) (f : Function) (S H F : Fact → Type 0) (st : State) (
     null_told n (Some (Points w)) e = pointer_told n w e
     null_told n (Some (Named m)) e = owner_told n m e
 
-  pub test_told : types.structs ≡ [] → (texts : ℕ) (fs : List Function) (t : Test) (n : ℕ) → is_well_formed_test types texts fs f t ≡ true → Passes t true S H → Passes t false S F → IsToldBy types f H F (test_at types f t n st)
-  test_told plain texts fs (NonZero r) n e held failed = number_told r held failed n (cell st r)
-  test_told plain texts fs (NotNull l) n e held failed =
-      subst (λ (q : Location). Passes (NotNull q) true S H → Passes (NotNull q) false S F → IsToldBy types f H F (test_at types f (NotNull q) n st)) (whole_location types plain f l (nullable_solid (type_in types f l) e))
+  pub test_told : HaveInertMembers types → (texts : ℕ) (fs : List Function) (t : Test) (n : ℕ) → is_well_formed_test types texts fs f t ≡ true → Passes t true S H → Passes t false S F → IsToldBy types f H F (test_at types f t n st)
+  test_told inert texts fs (NonZero r) n e held failed = number_told r held failed n (cell st r)
+  test_told inert texts fs (NotNull l) n e held failed =
+      subst (λ (q : Location). Passes (NotNull q) true S H → Passes (NotNull q) false S F → IsToldBy types f H F (test_at types f (NotNull q) n st)) (whole_location types inert f l (nullable_alone (type_in types f l) e))
       (λ h g. null_told l.local h g n (cell st l.local) refl) held failed

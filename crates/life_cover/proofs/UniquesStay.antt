@@ -21,7 +21,7 @@ use Rattle.life_store.specs.Cells.{at}
 use Rattle.life_store.specs.Content.{Content}
 use Rattle.life_store.specs.Effects.{cell}
 use Rattle.life_store.specs.Kinds.{is_value, kind_in}
-use Rattle.life_store.specs.Parts.{Parts, Single, Unique, characters_type, local_type, parts_at}
+use Rattle.life_store.specs.Parts.{Parts, Single, Unique, characters_type, local_type, members_if, parts_at}
 use Rattle.life_store.specs.State.{Named, State}
 use Rattle.life_store.proofs.CellLemmas.{some_same}
 use Rattle.life_store.proofs.MapLemmas.{one_or_apart}
@@ -37,13 +37,14 @@ use Rattle.life_forest.proofs.Steps.{own_all}
 use Rattle.life_forest.proofs.TypedSteps.{operand_of}
 use Rattle.life_cover.specs.Covers.{IsSeenAs}
 use Rattle.life_cover.specs.Frames.{look_at}
-use Rattle.life_cover.specs.Inputs.{IsAllOf, StandsAt, may_change}
-use Rattle.life_cover.specs.Regions.{Region, foot_of, is_in_region}
+use Rattle.life_cover.specs.Inputs.{StandsAt, may_change}
+use Rattle.life_cover.specs.Regions.{IsPart, Region, foot_of, is_in_region}
 use Rattle.life_cover.specs.Uniques.{had_by}
 use Rattle.life_cover.proofs.Inside.{region_within}
 use Rattle.life_cover.proofs.KnownFrames.{IsKnownFrame, store_of}
 use Rattle.life_cover.proofs.Locals.{locals_other, named_unowned}
 use Rattle.life_cover.proofs.Moved.{both_feet}
+use Rattle.life_cover.proofs.ObjectParts.{only_part}
 use Rattle.life_cover.proofs.OwnersStay.{owner_kept}
 use Rattle.life_cover.proofs.Reaching.{IsReached}
 use Rattle.life_cover.proofs.Unkilled.{no_foot}
@@ -119,12 +120,14 @@ module _ (types : Types) (f : Function) (rest : ℕ → ℕ) (inputs : Root → 
         (ap (λ (id : TyId). is_value (kind_in (parts_at types id) 0)) u.type ∙ ap (λ (p : Parts). is_value (kind_in p 0)) u.parts) free
 
     -- it isn't in a region of another type
-    pub not_in : (a : Region) → IsAllOf st.world.content a → IsOther types a.ty → is_in_region types a n 0 ≡ false
-    not_in a all other =
+    pub not_in : (a : Region) → IsPart types st.world.content a → IsOther types a.ty → is_in_region types a n 0 ≡ false
+    not_in a lies other =
         not_true (is_in_region types a n 0)
         (λ e.
         let u = unique_local types f rest inputs S st k x n named unique in
-        other u.target (ap (λ (id : TyId). slice_get types.types id.0) (sym (all.type u.variable.object (ap (at st.world.content.objects) (sym (region_within types a n 0 e).object) ∙ u.variable.there)) ∙ u.type) ∙ u.there))
+        let here : slice_get types.types u.variable.object.ty.0 ≡ Some (ty.Unique u.target) = ap (λ (id : TyId). slice_get types.types id.0) u.type ∙ u.there in
+        let only = only_part types u.variable.object.ty a.word a.ty (λ m. ap (λ (o : Option Ty). slice_get (members_if types o) m) here) (lies u.variable.object (ap (at st.world.content.objects) (sym (region_within types a n 0 e).object) ∙ u.variable.there)) in
+        other u.target (ap (λ (id : TyId). slice_get types.types id.0) (sym only.same) ∙ here))
 
     -- nor in that of another local
     pub not_of_local : (y m : ℕ) → slice_get st.cells y ≡ Some (Named m) → x ≢ y → (id : TyId) → is_in_region types (record { object = m; word = 0; ty = id }) n 0 ≡ false
@@ -139,17 +142,17 @@ module _ (types : Types) (f : Function) (rest : ℕ → ℕ) (inputs : Root → 
   had_nothing d touch x n named unique = had_on x n named unique no_foot d touch (λ e. false≢true e) refl
 
   -- where what is owned in a region of another type is
-  pub had_beside : (a : Region) → IsAllOf st.world.content a → IsOther types a.ty → (d : Content) → Touches (kinds_of types) (foot_of types a) st.world.content d → (x n : ℕ) → slice_get st.cells x ≡ Some (Named n) → is_unique (type_at types f x) ≡ true → had_by d n ≡ had_by st.world.content n
+  pub had_beside : (a : Region) → IsPart types st.world.content a → IsOther types a.ty → (d : Content) → Touches (kinds_of types) (foot_of types a) st.world.content d → (x n : ℕ) → slice_get st.cells x ≡ Some (Named n) → is_unique (type_at types f x) ≡ true → had_by d n ≡ had_by st.world.content n
   had_beside a all other d touch x n named unique = had_on x n named unique (foot_of types a) d touch (λ e. false≢true e) (not_in x n named unique a all other)
 
   -- .. in two of them
-  pub had_beside_both : (a b : Region) → IsAllOf st.world.content a → IsOther types a.ty → IsAllOf st.world.content b → IsOther types b.ty → (d : Content) → Touches (kinds_of types) (both_feet types a b) st.world.content d
+  pub had_beside_both : (a b : Region) → IsPart types st.world.content a → IsOther types a.ty → IsPart types st.world.content b → IsOther types b.ty → (d : Content) → Touches (kinds_of types) (both_feet types a b) st.world.content d
       → (x n : ℕ) → slice_get st.cells x ≡ Some (Named n) → is_unique (type_at types f x) ≡ true → had_by d n ≡ had_by st.world.content n
   had_beside_both a b all other all_b other_b d touch x n named unique =
       had_on x n named unique (both_feet types a b) d touch (λ e. false≢true e) (both_false (is_in_region types a n 0) (is_in_region types b n 0) (not_in x n named unique a all other) (not_in x n named unique b all_b other_b))
 
   -- .. in such a region, and all that another local names
-  pub had_beside_given : (a : Region) → IsAllOf st.world.content a → IsOther types a.ty → (y m : ℕ) → cell st y ≡ Some (Named m) → (d : Content) → Touches (kinds_of types) (and_all (foot_of types a) (m ∷ [])) st.world.content d
+  pub had_beside_given : (a : Region) → IsPart types st.world.content a → IsOther types a.ty → (y m : ℕ) → cell st y ≡ Some (Named m) → (d : Content) → Touches (kinds_of types) (and_all (foot_of types a) (m ∷ [])) st.world.content d
       → (x n : ℕ) → y ≢ x → slice_get st.cells x ≡ Some (Named n) → is_unique (type_at types f x) ≡ true → had_by d n ≡ had_by st.world.content n
   had_beside_given a all other y m named_y d touch x n ne named unique =
       had_on x n named unique (and_all (foot_of types a) (m ∷ [])) d touch

@@ -83,9 +83,9 @@ module _ (sigs : List Signature) (types : Types) (n : ℕ) (f : Function) (place
           (subst (λ (ds : List Diag). Contains ds d) (sym (told e)) (at_head d [])))))
 
   -- so what is changed lies where the function may change owners
-  pub reached_owning : (ordered : IsOrdered types) (plain : types.structs ≡ []) (inputs : Root → Option Region) (st : State) → ((r : Root) (a : Region) → StandsAt inputs r a → IsInput types f r a) → (r : IsReached types f st (StandsAt inputs) (may_change types f) S o)
+  pub reached_owning : (ordered : IsOrdered types) (inputs : Root → Option Region) (st : State) → ((r : Root) (a : Region) → StandsAt inputs r a → IsInput types f r a) → (r : IsReached types f st (StandsAt inputs) (may_change types f) S o)
       → may_change types f r.place.root ≡ true → holds_owner (tree_at types r.region.ty) ≡ true → owning types f r.place.root ≡ true
-  reached_owning ordered plain inputs st each r may holds = by_root r.place.root refl r.lies.stands
+  reached_owning ordered inputs st each r may holds = by_root r.place.root refl r.lies.stands
     where
       by_root : (ro : Root) → r.place.root ≡ ro → RootStands types f (StandsAt inputs) st.cells ro r.lies.start → owning types f r.place.root ≡ true
       by_root (root.Local x) e stands = ap (owning types f) e
@@ -93,7 +93,7 @@ module _ (sigs : List Signature) (types : Types) (n : ℕ) (f : Function) (place
           let i = each (root.Input q member) r.lies.start stands in
           ap (owning types f) e
           ∙ mutating_input types ordered f q member r.lies.start i (sym (ap (may_change types f) e) ∙ may)
-          (holds_up types ordered plain st.world.content (path r.place) r.lies.start r.region r.lies.lies holds)
+          (holds_up types ordered st.world.content (path r.place) r.lies.start r.region r.lies.lies holds)
           (through o refl r.by)
         where
           unlike : (x : ℕ) → root.Local x ≡ root.Input q member → ⊥

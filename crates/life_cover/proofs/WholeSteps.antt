@@ -1,4 +1,4 @@
--- An instruction of a frame without structs, at which nothing is wrong, makes no fault; and what is known of the frame before it is
+-- An instruction of a frame, at which nothing is wrong, makes no fault; and what is known of the frame before it is
 -- known behind it: the facts cover all pointers, and each vector and each string has its buffer. What it touches lies beneath what the frame names.
 use Rattle.std.proofs.Common.{◌≡◌, ◌⊎◌, ℕ, Bool, true, false, ◌&&◌, not, Option, Some, None, List, refl, sym, ap, subst, ◌∙◌, ◌≢◌, [], ◌∷◌, inl, inr, ⊎_elim}
 use Rattle.std.specs.Prelude.{if◌then◌else◌, Contains, ℤ, nat_eq, slice_get}
@@ -21,13 +21,13 @@ use Rattle.life_core.specs.Operands as named
 use Rattle.life_core.specs.Touched.{touched_by}
 use Rattle.life_core.specs.declared.instr.Form.{Form}
 use Rattle.life_core.specs.declared.instr.Made.{Made}
-use Rattle.life_pset.specs.Shapes.{operand_type, tree_if, has_buffer}
+use Rattle.life_pset.specs.Shapes as shapes
+use Rattle.life_pset.specs.Shapes.{operand_type, tree_if, has_buffer, members_type, ty_if}
 use Rattle.life_pset.specs.declared.element.Element.TheVariants as element
 use Rattle.life_pset.specs.declared.element.Fact.{Fact}
 use Rattle.life_pset.specs.Elements.{changed_in, local_place, moved}
-use Rattle.life_pset.specs.Places.{is_within}
 use Rattle.life_contract.specs.Signatures.{Signature}
-use Rattle.life_contract.specs.Located.{is_location, is_rooted, located}
+use Rattle.life_contract.specs.Located.{is_location, is_rooted}
 use Rattle.life_proper.specs.OperandTypes.{aims_at, are_alike, is_range, keeps_const, same, walks, are_compared}
 use Rattle.life_proper.specs.Placed.{element_of, is_const_base, is_const_place, is_given, is_number_of, object_at, register_at, result_at, slot_at, type_at, type_in, type_of, type_of_element, is_number}
 use Rattle.life_proper.specs.WellFormed.{is_change_of, is_well_formed_step, is_port}
@@ -43,14 +43,16 @@ use Rattle.life_forest.specs.Frames.{OnNext}
 use Rattle.life_forest.specs.Settled.{IsPoised}
 use Rattle.life_forest.proofs.OneNumber.{same_solid, type_there}
 use Rattle.life_forest.proofs.ReadyCells.{number_any}
-use Rattle.life_forest.proofs.SeenTypes.{aims_seen, iterator_points, pointer_solid, range_points, value_parts, walks_seen}
+use Rattle.life_forest.proofs.SeenTypes.{aims_seen, iterator_points, range_points, value_parts, walks_seen}
 use Rattle.life_forest.proofs.StandingNumbers.{evaluated_gives, loaded_gives, ports_give, sames_give, sizes_give}
 use Rattle.life_forest.proofs.TypedSteps.{IsSlotFree, value_solid}
 use Rattle.life_cover.specs.Frames.{FrameCovered}
 use Rattle.life_cover.specs.Inputs.{may_change, owning, StandsAt}
 use Rattle.life_cover.specs.Regions.{Region}
 use Rattle.life_pset.specs.declared.element.Root.{Root}
+use Rattle.life_cover.proofs.CopyKinds.{outside_local}
 use Rattle.life_cover.proofs.GivenOn.{given_behind}
+use Rattle.life_cover.proofs.InertParts.{pointer_alone, unique_alone}
 use Rattle.life_cover.proofs.Opening.{text_opened, vector_opened}
 use Rattle.life_cover.proofs.Writing.{change_owning}
 use Rattle.life_cover.specs.Buffered.{AreBut}
@@ -64,7 +66,7 @@ use Rattle.life_cover.proofs.FrameSteps.{IsSpoken, alike_points, not_false, sour
 use Rattle.life_cover.proofs.HeldElements.{vector_operand}
 use Rattle.life_cover.proofs.KeptBuffers.{IsKept as IsKeptChange, by_change, by_next, ends_behind, text_behind, vector_behind, IsAmong, LeftBare, ends_tell}
 use Rattle.life_cover.proofs.KeptCopies.{copy_behind, live_behind, save_behind, CopiedBare, ReplacedBare, copyable_other}
-use Rattle.life_cover.proofs.KnownFrames.{at_pointer, IsKnownFrame, IsRight, number_free, object_uncounted, reach_at, used_right, whole_location, pointer_free, solid_type, typed}
+use Rattle.life_cover.proofs.KnownFrames.{at_pointer, IsKnownFrame, IsRight, number_free, object_uncounted, reach_at, used_right, whole_location, pointer_free, solid_type, typed, memberless}
 use Rattle.life_cover.proofs.Leaving.{advances_leave, aims_leave, cursors_leave, cuts_leave, elements_leave, repoints_leave}
 use Rattle.life_cover.proofs.Looks.{given_type}
 use Rattle.life_cover.proofs.Pointers.{OnRight, right_weaker}
@@ -73,7 +75,7 @@ use Rattle.life_cover.proofs.Reaching.{IsReached, Reach}
 use Rattle.life_cover.proofs.Behind.{IsBehind, behind_input, behind_number, behind_pointer, behind_self, right_next, any_local, no_local, behind_more, TellsLost, both_next, tells_none}
 use Rattle.life_cover.proofs.MakeKinds.{IsMade}
 use Rattle.life_cover.proofs.MakeSteps.{IsMadeBy, make_right, unique_of}
-use Rattle.life_cover.proofs.MoveSteps.{unique_solid, OfLocals, OfPlaces, by_move}
+use Rattle.life_cover.proofs.MoveSteps.{OfLocals, OfPlaces, by_move}
 use Rattle.life_cover.proofs.Lacking.{owner_whole, variable_here}
 use Rattle.life_cover.proofs.Putting.{other_local}
 use Rattle.life_cover.proofs.StillLacking.{StillLacks, still_lacking, loose_still, moved_on}
@@ -143,7 +145,7 @@ module _ (types : Types) (f : Function) (rest : ℕ → ℕ) (inputs : Root → 
     own_text is r = change_owning types f rest inputs S st k sigs n place S' o free right r (text_opened types f rest inputs S st k o r (reached_whole (ap is_void is) r) is).type
 
     reach_owner : is_void (type_of types f o) ≡ false → Reach types f st (StandsAt inputs) (may_change types f) S o
-    reach_owner solid = reach_at types f rest inputs S st k o solid (λ q h. used_right sigs types n f place (Changes o c) S right.clean q h)
+    reach_owner solid = reach_at types f rest inputs S st k right.closed.of o solid (λ q h. used_right sigs types n f place (Changes o c) S right.clean q h)
 
     -- no object is pushed
     abbrev IsPlain : TyId → Change → Type 0
@@ -159,7 +161,7 @@ module _ (types : Types) (f : Function) (rest : ℕ → ℕ) (inputs : Root → 
     kept_change element (Erase at into) spoken e r is =
         let walk = (and_parts (walks types (type_in types f at) (ty_of types element)) (walks types (type_in types f into) (ty_of types element)) e).1 in
         let pointer = (walks_seen types k.ordered k.once (type_in types f into) (ty_of types element) walk).pointer in
-        let here = whole_location types k.plain f into (pointer_solid (type_in types f into) pointer) in
+        let here = whole_location types k.inert f into (pointer_alone (type_in types f into) pointer) in
         (here, subst (λ (q : Location). is_pointer (type_in types f q) ≡ true) (sym here) pointer)
     kept_change element PopBack spoken e r is = tt
     kept_change element Clear spoken e r is = tt
@@ -362,19 +364,17 @@ module _ (types : Types) (f : Function) (rest : ℕ → ℕ) (inputs : Root → 
       apart : (q from : Operand) → is_void (type_of types f q) ≡ false → is_unique (type_of types f q) ≡ false → (y : ℕ) → is_unique (type_at types f y) ≡ true → writes (Copy q from) (local_place y) ≡ false
       apart (named.Through p members) from solid other y is = refl
       apart (named.Name l) from solid other y is =
-          let here = whole_location types k.plain f l (solid_type types f rest inputs S st k (named.Name l) solid) in
-          subst (λ (q : Location). is_within (located q) (local_place y) ≡ false) here
-          (ap (λ c. c && true)
-          (ne_eqb l.local y
-          (λ same. false≢true (sym other ∙ ap is_unique (sym (typed types f rest inputs S st k (named.Name l) solid)) ∙ subst (λ (q : Location). is_unique (type_in types f q) ≡ true) here (subst (λ z. is_unique (type_at types f z) ≡ true) (sym same) is)))))
+          outside_local l y (λ same.
+          let at_l : is_unique (type_at types f l.local) ≡ true = subst (λ z. is_unique (type_at types f z) ≡ true) (sym same) is in
+          let none = memberless types k.inert (shapes.local_type types f l.local) l.members (unique_alone (type_at types f l.local) at_l) (solid_type types f rest inputs S st k (named.Name l) solid) in
+          false≢true (sym other ∙ ap is_unique (sym (typed types f rest inputs S st k (named.Name l) solid) ∙ ap (λ (ms : List ℕ). ty_if types (members_type types (shapes.local_type types f l.local) ms)) none) ∙ at_l))
 
       still : (q from : Operand) (right : Right (Copy q from)) → is_void (type_of types f q) ≡ false → (m : ℕ) → CopiedBare types f rest inputs S st k to s q m → StillLacks types f rest inputs S st sigs n place S' (Copy q from) right (CopiedBare types f rest inputs S st k to s q) no_local m
       still (named.Through p members) from right solid m b = record { lacks = b; kept = λ moved none. none; unwritten = λ moved. refl }
       still (named.Name l) from right solid m b = record {
         lacks = b.0;
         kept = λ moved none. none;
-        unwritten = λ moved. subst (λ (q : Location). is_within (located q) (local_place moved.local) ≡ false) (whole_location types k.plain f l (solid_type types f rest inputs S st k (named.Name l) solid))
-            (ap (λ c. c && true) (ne_eqb l.local moved.local (λ h. b.1 (subst (λ y. slice_get st.cells y ≡ Some (Named m)) (sym h) moved.names))));
+        unwritten = λ moved. outside_local l moved.local (λ h. b.1 (subst (λ y. slice_get st.cells y ≡ Some (Named m)) (sym h) moved.names));
       }
 
   -- only a pointer is given a position
@@ -402,7 +402,7 @@ module _ (types : Types) (f : Function) (rest : ℕ → ℕ) (inputs : Root → 
 
   location_apart : (l : Location) → is_unique (type_in types f l) ≡ true → (y : ℕ) → has_buffer (type_at types f y) ≡ true → is_location l (local_place y) ≡ false
   location_apart l unique y buffer =
-      let here = whole_location types k.plain f l (unique_solid (type_in types f l) unique) in
+      let here = whole_location types k.inert f l (unique_alone (type_in types f l) unique) in
       subst (λ (q : Location). is_location q (local_place y) ≡ false) here (other_local l.local y (unique_apart l.local y (subst (λ (q : Location). is_unique (type_in types f q) ≡ true) (sym here) unique) buffer))
 
   made_apart : (u : Location) (m : Made) → is_well_formed_step types texts fs f (Make u m) ≡ true → (y : ℕ) → has_buffer (type_at types f y) ≡ true → writes (Make u m) (local_place y) ≡ false
@@ -493,7 +493,7 @@ module _ (types : Types) (f : Function) (rest : ℕ → ℕ) (inputs : Root → 
   made_kept u m right e =
       lost_kept (Make u m) right (Gives (Make u m)) (λ z. u.local ≡ z) (λ y given. given) (made_apart u m e)
       (λ z is. one_or_apart u.local z (λ same. inl same)
-      (λ ne. inr (subst (λ (q : Location). is_location q (local_place z) ≡ false) (whole_location types k.plain f u (unique_solid (type_in types f u) (unique_of types texts fs f (type_in types f u) m e))) (other_local u.local z ne))))
+      (λ ne. inr (subst (λ (q : Location). is_location q (local_place z) ≡ false) (whole_location types k.inert f u (unique_alone (type_in types f u) (unique_of types texts fs f (type_in types f u) m e))) (other_local u.local z ne))))
       (right_next (does s types f (Make u m) st) (Held (MayLack types f inputs S st) (Gives (Make u m)) (λ z. u.local ≡ z))
       (right_weaker (does s types f (Make u m) st) (IsMadeBy types f rest inputs S st k sigs n place S' texts fs s u.local m) (Held (MayLack types f inputs S st) (Gives (Make u m)) (λ z. u.local ≡ z)) (make_right types f rest inputs S st k sigs n place S' texts fs s u m right e) (λ after h. (h.1, h.2))))
 
@@ -524,7 +524,7 @@ module _ (types : Types) (f : Function) (rest : ℕ → ℕ) (inputs : Root → 
       let number = (and_parts (is_number_of types f (type_of types f o) r) (not (is_const_place types f o)) e).0 in
       let value = (and_parts (is_value (type_of types f o)) (same (type_of types f o) (type_at types f r)) (and_parts (register_at types f r) (is_value (type_of types f o) && same (type_of types f o) (type_at types f r)) number).1).0 in
       plain_kept (Save o r) right no_local (λ y none. absurd none) (λ y buffer. refl)
-      (save_behind types f rest inputs S st k o s value (reach_at types f rest inputs S st k o (value_solid (type_of types f o) value) (λ q h. used_right sigs types n f place (Save o r) S right.clean q h)) r)
+      (save_behind types f rest inputs S st k o s value (reach_at types f rest inputs S st k right.closed.of o (value_solid (type_of types f o) value) (λ q h. used_right sigs types n f place (Save o r) S right.clean q h)) r)
   step_kept (Copy to from) spoken right e free = copied_kept to from right e
   step_kept (Move to y) spoken right e free = by_move types f rest inputs S st k sigs n place S' texts fs y (λ q. OnNext (does s types f (Move q y) st) IsKept) (unique_kept y) (buffer_kept y) (placed_kept y) to right e
   step_kept (Aim p sr) spoken right e free =
@@ -569,4 +569,4 @@ module _ (types : Types) (f : Function) (rest : ℕ → ℕ) (inputs : Root → 
 
   -- .. is known behind it, where its store and its cells stand
   pub known_behind : (after : State) → FrameCovered types f inputs S' after × IsKept after → Stands types f rest after → IsPoised types f after → IsKnownFrame types f rest inputs S' after
-  known_behind after h stands poised = record { ordered = k.ordered; once = k.once; plain = k.plain; shaped = k.shaped; stand = k.stand; short = k.short; stands = stands; poised = poised; given = given_behind types f rest inputs any_local any_local any_local st after k.stands.store k.given h.1.1; covered = h.0; buffered = h.1.0; told = h.1.2 }
+  known_behind after h stands poised = record { ordered = k.ordered; once = k.once; inert = k.inert; shaped = k.shaped; stand = k.stand; short = k.short; stands = stands; poised = poised; given = given_behind types f rest inputs any_local any_local any_local st after k.stands.store k.given h.1.1; covered = h.0; buffered = h.1.0; told = h.1.2 }

@@ -18,13 +18,15 @@ use Rattle.life_pset.specs.declared.element.Root.TheVariants as root
 use Rattle.life_store.specs.Cells.{at, at-unset_same}
 use Rattle.life_store.specs.Content.{Slot, Object, Content, is_valid_in, resized, without}
 use Rattle.life_store.specs.Held.{slots_if}
+use Rattle.life_store.specs.Parts.{characters_type, local_type}
 use Rattle.life_store.specs.State.{Target, Named, Null, Number, Points, To}
 use Rattle.life_cover.specs.Covers.{Covers, Holds, Look}
-use Rattle.life_cover.specs.Inputs.{entry_inputs, frame_foot, no_inputs}
+use Rattle.life_cover.specs.Inputs.{entry_inputs, frame_foot, no_inputs, type_seen}
 use Rattle.life_cover.specs.Kills.{is_hit}
 use Rattle.life_cover.specs.Passed.{takes_null}
 use Rattle.life_cover.specs.Regions.{Lies, Region}
 use Rattle.life_cover.proofs.Mutated.{none_mutated}
+use Rattle.life_forest.specs.FrameTypes.{seen_type}
 
 abbrev id : ℕ → TyId
 id n = record { 0 = n }
@@ -136,15 +138,20 @@ empty_handed c = (tt, λ h. h, λ h. h)
 
 -- ---- inputs at a function's entry
 
--- what a pointer points to is its input, and null and a number stand for none
-pointer_stands : (c : Content) (i : ℕ) → at c.objects 8 ≡ Some buffer → entry_inputs c (Number (pos 3) ∷ Points (To (iterator i)) ∷ []) (root.Input 1 None) ≡ Some (region 8 0 0)
-pointer_stands c i there = ap (option_map (λ (o : Object). record { object = 8; word = 0; ty = o.ty })) there
+-- what a pointer points to is its input, as its type says, and null and a number stand for none
+pointer_stands : (f : Function) (c : Content) (i : ℕ) → at c.objects 8 ≡ Some buffer → seen_type table (local_type table f 1) ≡ Some (id 0) → entry_inputs table f c (Number (pos 3) ∷ Points (To (iterator i)) ∷ []) (root.Input 1 None) ≡ Some (region 8 0 0)
+pointer_stands f c i there seen =
+    ap (option_map (λ (o : Object). record { object = 8; word = 0; ty = type_seen table (seen_type table (local_type table f 1)) o.ty })) there ∙ ap (λ (t : Option TyId). Some (record { object = 8; word = 0; ty = type_seen table t buffer.ty })) seen
 
-number_stands : (c : Content) (i : ℕ) → entry_inputs c (Number (pos 3) ∷ Points (To (iterator i)) ∷ []) (root.Input 0 None) ≡ None
-number_stands c i = refl
+number_stands : (f : Function) (c : Content) (i : ℕ) → entry_inputs table f c (Number (pos 3) ∷ Points (To (iterator i)) ∷ []) (root.Input 0 None) ≡ None
+number_stands f c i = refl
 
-null_stands : (c : Content) → entry_inputs c (Points Null ∷ []) (root.Input 0 None) ≡ None
-null_stands c = refl
+null_stands : (f : Function) (c : Content) → entry_inputs table f c (Points Null ∷ []) (root.Input 0 None) ≡ None
+null_stands f c = refl
+
+-- a pointer to a member of a struct sees the member, and one to a character of a string the character
+member_seen : (type_seen table (Some (id 0)) (id 3) ≡ id 0) × (type_seen table (Some (id 0)) (characters_type table) ≡ characters_type table)
+member_seen = (refl, refl)
 
 -- a frame without inputs may touch what it names, and nothing else
 named_touched : (f : Function) → (frame_foot table f no_inputs (Named 7 ∷ [])).whole 7 ≡ true

@@ -21,4 +21,4 @@ use Rattle.life_cover.proofs.Unkept.{reached_owning}
 
 module _ (types : Types) (f : Function) (rest : ℕ → ℕ) (inputs : Root → Option Region) (S : Fact → Type 0) (st : State) (k : IsKnownFrame types f rest inputs S st) (sigs : List Signature) (n : ℕ) (place : Place) (S' : Fact → Type 0) (o : Operand) (free : is_const_place types f o ≡ false) where
   pub change_owning : {c : Change} {item : TyId} → IsRight sigs types n f place (Changes o c) S S' → (r : IsReached types f st (StandsAt inputs) (may_change types f) S o) → owned_in_type types (slice_get types.types r.region.ty.0) ≡ Some item → owning types f r.place.root ≡ true
-  change_owning {c = c} {item = item} right r type = reached_owning sigs types n f place (Changes o c) S right.clean o (λ x. refl) k.ordered k.plain inputs st k.given.each r (r.change free) (owner_holds types k.ordered r.region.ty item type)
+  change_owning {c = c} {item = item} right r type = reached_owning sigs types n f place (Changes o c) S right.clean o (λ x. refl) k.ordered inputs st k.given.each r (r.change free) (owner_holds types k.ordered r.region.ty item type)

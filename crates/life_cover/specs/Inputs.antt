@@ -1,9 +1,10 @@
 -- The inputs of a function: what it may change behind them, where they stand, and what a frame may touch.
-use Rattle.std.specs.Prelude.{◌≡◌, ◌≢◌, ℕ, ◌<◌, Bool, true, false, not, List, [], ◌∷◌, Option, Some, None, Contains, option_map, slice_get}
+use Rattle.std.specs.Prelude.{◌≡◌, ◌≢◌, ℕ, ◌<◌, Bool, true, false, cond, nat_eq, not, List, [], ◌∷◌, Option, Some, None, Contains, length, option_map, slice_get}
 use Rattle.std.proofs.Common.{◌⊎◌}
 use Rattle.std.specs.List.{flat_map, list_any}
 use Rattle.life_types.specs.TypeTests.{is_constant}
 use Rattle.life_types.specs.Types.{Types}
+use Rattle.life_types.specs.declared.ty.TyId.{TyId}
 use Rattle.life_core.specs.Function.{Function}
 use Rattle.life_pset.specs.Elements.{Input, inputs_of}
 use Rattle.life_pset.specs.Shapes.{target_type, ty_if}
@@ -14,13 +15,14 @@ use Rattle.life_contract.specs.Signatures.{signature_of}
 use Rattle.life_rules.specs.Texts.{input_of}
 use Rattle.life_store.specs.Cells.{at}
 use Rattle.life_store.specs.Content.{Content, Object}
-use Rattle.life_store.specs.Parts.{characters_type}
+use Rattle.life_store.specs.Parts.{characters_type, local_type}
 use Rattle.life_store.specs.State.{Cell, Points, To}
 use Rattle.life_forest.specs.Forest.{Beneath, Foot, positive}
+use Rattle.life_forest.specs.FrameTypes.{seen_type}
 use Rattle.life_forest.specs.Frames.{named_in}
 use Rattle.life_forest.specs.Kinds.{kinds_of}
 use Rattle.life_forest.specs.Owned.{times}
-use Rattle.life_cover.specs.Regions.{Region, foot_of, is_in_region}
+use Rattle.life_cover.specs.Regions.{AreBeside, IsPart, Region, foot_of, is_in_region}
 
 -- ---- by a function's head
 
@@ -54,14 +56,19 @@ StandsAt inputs r a = inputs r ≡ Some a
 abbrev pub no_inputs : Root → Option Region
 no_inputs r = None
 
--- at a function's entry: a pointer that its caller hands over stands for all of the object into which it points
-abbrev pub pointed : Content → Option Cell → Option Region
-pointed c (Some (Points (To t))) = option_map (λ (o : Object). record { object = t.object; word = t.word; ty = o.ty }) (at c.objects t.object)
-pointed c _ = None
+-- what a pointer to values of a type sees in an object of a type: the characters of a string have no number of their own
+abbrev pub type_seen : Types → (target : Option TyId) → (object : TyId) → TyId
+type_seen types None id = id
+type_seen types (Some t) id = cond (nat_eq id.0 (length types.types)) id t
 
-abbrev pub entry_inputs : Content → (arguments : List Cell) → Root → Option Region
-entry_inputs c vs (root.Input q None) = pointed c (slice_get vs q)
-entry_inputs c vs _ = None
+-- at a function's entry: a pointer that its caller hands over stands for the part of an object to which it points, in each slot
+abbrev pub pointed : Types → (target : Option TyId) → Content → Option Cell → Option Region
+pointed types target c (Some (Points (To t))) = option_map (λ (o : Object). record { object = t.object; word = t.word; ty = type_seen types target o.ty }) (at c.objects t.object)
+pointed types target c _ = None
+
+abbrev pub entry_inputs : Types → Function → Content → (arguments : List Cell) → Root → Option Region
+entry_inputs types f c vs (root.Input q None) = pointed types (seen_type types (local_type types f q)) c (slice_get vs q)
+entry_inputs types f c vs _ = None
 
 -- it is an input of the function, and what stands there has the type that its pointer points to, or is the characters of a string
 pub record IsInput (types : Types) (f : Function) (r : Root) (a : Region) : Type 0 where
@@ -96,12 +103,12 @@ frame_foot types f inputs cells = foot_with types (mutated types f inputs) (name
 
 -- ---- the inputs stand well in a content, where this foot may be touched
 
--- each is an input of the function, and stands at all of an object that was there; it isn't beneath the foot; and one that is mutating is
--- another object than each other, and isn't beneath it
+-- each is an input of the function, and stands at a part of an object that was there; it isn't beneath the foot; and one that is mutating shares no
+-- word with another, and isn't beneath it
 pub record AreGiven (types : Types) (f : Function) (inputs : Root → Option Region) (foot : Foot) (c : Content) : Type 0 where
   pub each : (r : Root) (a : Region) → StandsAt inputs r a → IsInput types f r a
-  pub all : (r : Root) (a : Region) → StandsAt inputs r a → IsAllOf c a
+  pub part : (r : Root) (a : Region) → StandsAt inputs r a → IsPart types c a
   pub born : (r : Root) (a : Region) → StandsAt inputs r a → a.object < c.births
   pub free : (r : Root) (a : Region) → StandsAt inputs r a → Beneath (kinds_of types) c foot a.object → ⊥
-  pub other : (r s : Root) (a b : Region) → owning types f r ≡ true → r ≢ s → StandsAt inputs r a → StandsAt inputs s b → a.object ≢ b.object
+  pub beside : (r s : Root) (a b : Region) → owning types f r ≡ true → r ≢ s → StandsAt inputs r a → StandsAt inputs s b → a.object ≡ b.object → AreBeside types a b
   pub over : (r s : Root) (a b : Region) → owning types f r ≡ true → r ≢ s → StandsAt inputs r a → StandsAt inputs s b → Beneath (kinds_of types) c (foot_of types b) a.object → ⊥

@@ -17,8 +17,8 @@ use Rattle.life_store.specs.Content.{Content, Object}
 use Rattle.life_store.specs.State.{Cell, Null, Pointer, Points, Static, Target, To, Wild}
 use Rattle.life_cover.specs.Covers.{Holds, IsSeenAs, Look, PointsTo}
 use Rattle.life_cover.specs.Frames.{RootStands, look_at}
-use Rattle.life_cover.specs.Inputs.{StandsAt, may_change}
-use Rattle.life_cover.specs.Regions.{Region}
+use Rattle.life_cover.specs.Inputs.{StandsAt, may_change, type_seen}
+use Rattle.life_cover.specs.Regions.{HasPart, Region}
 
 -- the input that a parameter is, where it is a pointer
 abbrev pub parameter_input : Types → (parameters x : ℕ) → Local → Input
@@ -31,12 +31,12 @@ abbrev pub takes_null : Types → (parameters x : ℕ) → Option Local → Bool
 takes_null types n x None = false
 takes_null types n x (Some l) = may_be_null types l.nonnull (parameter_input types n x l)
 
--- a pointer into an object that lives, which is seen as the parameter's type says
+-- a pointer to a part of an object that lives, which is seen as the parameter's type says
 pub record IsPassedTo (types : Types) (c : Content) (look : Look) (t : Target) : Type 0 where
   pub object : Object
   pub there : at c.objects t.object ≡ Some object
-  pub word : t.word ≡ 0
-  pub type : IsSeenAs types look.target object.ty
+  pub part : HasPart types object.ty t.word (type_seen types look.target object.ty)
+  pub type : IsSeenAs types look.target (type_seen types look.target object.ty)
   pub holds : Holds c look.ranged t
 
 -- .. or null, where it may be, or what never ends

@@ -1,5 +1,5 @@
 -- Where a place of the rules lies in a store: in an object, from a word on, whichever the slot.
-use Rattle.std.specs.Prelude.{◌≡◌, ℕ, suc, ◌+◌, ◌<◌, Bool, false, ◌&&◌, nat_eq, nat_le, nat_lt, List, [], ◌∷◌, Option, Some, None, slice_get, sum_by, take}
+use Rattle.std.specs.Prelude.{◌≡◌, ℕ, suc, ◌+◌, ◌≤◌, ◌<◌, Bool, false, ◌&&◌, nat_eq, nat_le, nat_lt, List, [], ◌∷◌, Option, Some, None, slice_get, sum_by, take}
 use Rattle.std.proofs.Common.{◌⊎◌}
 use Rattle.life_types.specs.Types.{Types}
 use Rattle.life_types.specs.declared.ty.Ty.{Ty}
@@ -55,6 +55,11 @@ abbrev pub Lies : Types → Content → (steps : List ℕ) → (from to : Region
 Lies types c [] a b = a ≡ b
 Lies types c (s ∷ ss) a b = (next : Region) × Goes types c s a next × Lies types c ss next b
 
+-- a value of the one type has one of the other there: itself, a member, a member of a member, and so on
+pub data HasPart (types : Types) (whole : TyId) : ℕ → TyId → Type 0 where
+  itself : (w : ℕ) (part : TyId) → w ≡ 0 → whole ≡ part → HasPart types whole w part
+  member_part : (v w m : ℕ) (id part : TyId) → HasPart types whole v id → slice_get (members_of types id) m ≡ Some part → w ≡ v + sum_by (width_at types) (take m (members_of types id)) → HasPart types whole w part
+
 -- a place lies there, where its root stands somewhere
 pub record IsAt (types : Types) (c : Content) (Stands : Root → Region → Type 0) (place : AbsPlace) (r : Region) : Type 0 where
   pub start : Region
@@ -63,12 +68,20 @@ pub record IsAt (types : Types) (c : Content) (Stands : Root → Region → Type
 
 -- ---- regions of a store
 
--- the object, as long as it lives, has a value of the type there
+-- the object, as long as it lives, has such a part there
+abbrev pub IsPart : Types → Content → Region → Type 0
+IsPart types c r = (o : Object) → at c.objects r.object ≡ Some o → HasPart types o.ty r.word r.ty
+
+-- .. so its words there are as those of a value of the type
 abbrev pub IsTrue : Types → Content → Region → Type 0
 IsTrue types c r = (o : Object) → at c.objects r.object ≡ Some o → LiesWithin types o.ty r.word r.ty
 
 abbrev pub is_in_region : Types → Region → (object word : ℕ) → Bool
 is_in_region types r m u = nat_eq m r.object && (nat_le r.word u && nat_lt u (r.word + width_at types r.ty))
+
+-- in one object, no word is in both
+abbrev pub AreBeside : Types → Region → Region → Type 0
+AreBeside types a b = (a.word + width_at types a.ty ≤ b.word) ⊎ (b.word + width_at types b.ty ≤ a.word)
 
 -- the owners in it
 abbrev pub foot_of : Types → Region → Foot

@@ -1,17 +1,15 @@
 -- What must be true of the roots of a function's places.
-use Rattle.std.specs.Prelude.{◌≡◌, ◌≢◌, ◌+◌, ◌≤◌, Bool, true}
-use Rattle.std.proofs.Common.{◌⊎◌}
+use Rattle.std.specs.Prelude.{◌≡◌, ◌≢◌, Bool, true}
 use Rattle.life_types.specs.Types.{Types}
 use Rattle.life_pset.specs.declared.element.Root.{Root}
 use Rattle.life_store.specs.Content.{Content}
-use Rattle.life_store.specs.Parts.{width_at}
 use Rattle.life_forest.specs.Forest.{Beneath}
 use Rattle.life_forest.specs.Kinds.{kinds_of}
-use Rattle.life_cover.specs.Regions.{Region, IsTrue, foot_of}
+use Rattle.life_cover.specs.Regions.{AreBeside, Region, IsTrue, foot_of}
 
 -- neither lies in, above or beneath the other
 pub record IsApart (types : Types) (c : Content) (a b : Region) : Type 0 where
-  pub beside : a.object ≡ b.object → (a.word + width_at types a.ty ≤ b.word) ⊎ (b.word + width_at types b.ty ≤ a.word)
+  pub beside : a.object ≡ b.object → AreBeside types a b
   pub over : Beneath (kinds_of types) c (foot_of types a) b.object → ⊥
   pub under : Beneath (kinds_of types) c (foot_of types b) a.object → ⊥
 
