@@ -60,7 +60,6 @@ use Rattle.life_elab_laws.proofs.ViewSteps.{pointer_held}
 use Rattle.life_elab_laws.proofs.WalkerForms.{IsWalker, IsWalkerAt, cursor_walker, walker_pointer, walker_type, no_place}
 use Rattle.life_elab_laws.proofs.WalkerSteps.{advance_filling, advance_given}
 use Rattle.life_elab_laws.proofs.FormedFits.{same_id}
-use Rattle.life_core_served.specs.Served.{is_served_location}
 use Rattle.life_elab_laws.proofs.EqualityRows.{compares}
 use Rattle.life_elab_laws.proofs.Elements.{element_target, element_there, one_element}
 use Rattle.life_elab_laws.proofs.Targets.{target_no_void}
@@ -193,7 +192,6 @@ module _ (a : Around) (visible : List ℕ) (types : Types) (texts : ℕ) (fs : L
           formed =
               and_from (is_number_of types f ty.Bool r) (are_compared types (type_in types f x.0) (type_in types f x.1)) (subst (λ (u : Ty). is_number_of types f u r ≡ true) bool e)
               (ap (λ (u : Ty). are_compared types u (type_in types f x.1)) h.0.typed ∙ ap (are_compared types first) h.1.typed ∙ compared);
-          served = and_from (is_served_location x.0) (is_served_location x.1) h.0.served h.1.served;
         };
       })
 

@@ -11,7 +11,6 @@ use Rattle.life_typed.specs.declared.typed_expr.ExprType.TheVariants.{NullPointe
 use Rattle.life_core.specs.Function.{Function}
 use Rattle.life_core.specs.Kinds.{is_register_at}
 use Rattle.life_core.specs.Operands.{Location, Null, Operand, Place as Aimed, Text, whole}
-use Rattle.life_core_served.specs.Served.{is_served_location, is_served_operand}
 use Rattle.life_core.specs.Touched.{touched_by}
 use Rattle.life_proper.specs.Knowing.{known_at}
 use Rattle.life_proper.specs.OperandTypes.{aims_at, keeps_const, same, takes}
@@ -79,7 +78,7 @@ module _ (types : Types) (texts : ℕ) (fs : List Function) (f : Function) where
 
   -- nullptr is taken by each raw pointer
   pub null_given : IsGivenAs types texts fs f NullPointer (aimed Null)
-  null_given = λ u l loc at taken. record { given = refl; formed = ap is_raw at.typed ∙ raw u taken; served = and_from (is_served_location l) true at.served refl }
+  null_given = λ u l loc at taken. record { given = refl; formed = ap is_raw at.typed ∙ raw u taken }
     where
       clash : (u : Ty) → NullPointer ≡ Of u → ⊥
       clash u e = cc
@@ -93,7 +92,6 @@ module _ (types : Types) (texts : ℕ) (fs : List Function) (f : Function) where
   literal_given n few = λ u l loc at taken. record {
     given = refl;
     formed = and_from (is_view (type_in types f l)) (nat_lt n texts) (ap is_view at.typed ∙ view u taken) few;
-    served = and_from (is_served_location l) true at.served refl;
   }
     where
       clash : (u : Ty) → TextLiteral ≡ Of u → ⊥
@@ -104,11 +102,10 @@ module _ (types : Types) (texts : ℕ) (fs : List Function) (f : Function) where
       view u (inr e) = e
 
   -- a place by each that takes its address
-  pub place_given : (t : Ty) (o : Operand) → (aims_at types t (type_of types f o) && keeps_const (is_constant t) (is_const_place types f o)) ≡ true → (is_served_operand o ≡ true) → IsGivenAs types texts fs f (Of t) (aimed (Aimed o))
-  place_given t o fits served = λ u l raw at taken. record {
+  pub place_given : (t : Ty) (o : Operand) → (aims_at types t (type_of types f o) && keeps_const (is_constant t) (is_const_place types f o)) ≡ true → IsGivenAs types texts fs f (Of t) (aimed (Aimed o))
+  place_given t o fits = λ u l raw at taken. record {
     given = refl;
     formed = ap (λ (w : Ty). is_source_of types texts fs f w (Aimed o)) at.typed ∙ go u raw taken;
-    served = and_from (is_served_location l) (is_served_operand o) at.served served;
   }
     where
       same_of : (u : Ty) → Of t ≡ Of u → t ≡ u
@@ -123,7 +120,6 @@ module _ (types : Types) (texts : ℕ) (fs : List Function) (f : Function) where
   pointed_fine l u (Of v) (As q) raw at taken given = record {
     given = refl;
     formed = ap (λ (w : Ty). takes types w (type_in types f q)) at.typed ∙ ap (takes types u) given.typed ∙ taken;
-    served = and_from (is_served_location l) (is_served_location q) at.served given.served;
   }
   pointed_fine l u NullPointer (As q) raw at taken given = absurd given
   pointed_fine l u TextLiteral (As q) raw at taken given = absurd given

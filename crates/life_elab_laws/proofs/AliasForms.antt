@@ -1,7 +1,7 @@
 -- What a reference to an owner is given: a place that it refers to, or an owner that is built for it: a copy, one that is made, or a string of a literal.
 use Rattle.std.proofs.Common.{◌≡◌, ℕ, Bool, true, false, List, None, refl, sym, ap, ◌∙◌, subst, length}
 use Rattle.std.proofs.lemmas.Bool.{false≢true}
-use Rattle.life_served.specs.Served.{is_owner_of_values, owns_elements}
+use Rattle.life_served.specs.Served.{is_owner_of_values, owns_elements, is_target, is_walker_of_values}
 use Rattle.life_types.specs.Types.{Types}
 use Rattle.life_types.specs.declared.place.Place.{Place}
 use Rattle.life_types.specs.declared.ty.Ty.{Ty}
@@ -41,11 +41,13 @@ use Rattle.life_elab_laws.proofs.Parts.{leaf_part, then_part}
 use Rattle.life_elab_laws.proofs.PlainActs.{copied_plain}
 use Rattle.life_elab_laws.proofs.PointerForms.{held_typed}
 use Rattle.life_elab_laws.proofs.Setting.{Setting}
-use Rattle.life_elab_laws.proofs.Targets.{owner_target, value_target}
+use Rattle.life_elab_laws.proofs.Targets.{owner_target, value_target, IsTarget, target_is, to_owner, to_value}
 use Rattle.life_elab_laws.proofs.TypedKinds.{HasKind, a_null, a_number, a_pointer as is_pointer_kind, a_text, a_view, kind_no_owner, no_value, place_same, value_place}
 use Rattle.life_elab_laws.proofs.Values.{by_values}
 use Rattle.life_elab_laws.proofs.GivenKinds.{given_number}
 use Rattle.life_types.specs.TypeTests.{is_value}
+use Rattle.life_elab_laws.proofs.WalkerForms.{IsWalker}
+use Rattle.life_elab_laws.proofs.VariablePlaces.{owner_is, walker_is}
 
 -- ---- what an owner isn't given
 
@@ -188,3 +190,23 @@ module _ (a : Around) (visible : List ℕ) (types : Types) (texts : ℕ) (fs : L
       go from (by_temporary none initial) =
           let o = owning_owner a visible types texts fs f setting form from in
           owner_no_value a.program.types o.ty o.owner (subst (λ (x : ExprType). is_number x ≡ true) o.is (given_number a.program.types (type_at a.program.types target) (typed_in form) worth initial))
+
+  -- .. and no reference to one, or to an owner, is given an iterator or a span
+  pub walker_reference_refused : (form : Form) (target : TyId) (constant : Bool) → is_target a.program.types (type_at a.program.types target) ≡ true → is_given a.program.types (ty.Reference target constant) (typed_in form) ≡ true → IsWalker a visible types texts fs f setting form → ⊥
+  walker_reference_refused form target constant wide given from = go (given_bound a.program.types target constant (typed_in form) wide given) (target_is a.program.types (type_at a.program.types target) wide)
+    where
+      same : {u w : Ty} → Of u ≡ Of w → u ≡ w
+      same e = cc
+
+      walks : is_walker_of_values a.program.types from.ty ≡ true
+      walks = from.walker
+
+      go : IsBound a.program.types target constant (typed_in form) → IsTarget a.program.types (type_at a.program.types target) → ⊥
+      go (at_place there) (to_value v) = false≢true (sym (walker_is a.program.types from.ty from.walker).value ∙ ap is_value (same (sym from.is ∙ from.place target there.held there.place)) ∙ v)
+      go (at_place there) (to_owner o) =
+          false≢true (sym (walker_is a.program.types from.ty from.walker).owner ∙ ap owns_elements (same (sym from.is ∙ from.place target there.held there.place)) ∙ owner_is a.program.types (type_at a.program.types target) o)
+      go (by_temporary none initial) (to_value v) =
+          false≢true (sym (walker_is a.program.types from.ty from.walker).value ∙ subst (λ (x : ExprType). is_number x ≡ true) from.is (given_number a.program.types (type_at a.program.types target) (typed_in form) v initial))
+      go (by_temporary none initial) (to_owner o) =
+          no_owner_given a.program.types (type_at a.program.types target) o from.ty (walker_is a.program.types from.ty from.walker).owner (typed_in form).category
+          (subst (λ (x : ExprType). fits_at_all (fits a.program.types (type_at a.program.types target) x (typed_in form).category) ≡ true) from.is initial)

@@ -42,7 +42,6 @@ use Rattle.life_elab_laws.proofs.VariablePlaces.{stands_later}
 use Rattle.life_elab_laws.proofs.RowTypes.{sees}
 use Rattle.life_elab_laws.proofs.ViewSteps.{pointer_is_held}
 use Rattle.life_tree.specs.declared.operator.CompoundOperator.{CompoundOperator}
-use Rattle.life_core_served.specs.Served.{are_served_characters}
 use Rattle.life_elab_laws.proofs.FreeObjects.{object_part}
 
 -- ---- what may gain something
@@ -111,19 +110,19 @@ module _ (types : Types) (texts : ℕ) (fs : List Function) (f : Function) where
   characters_stay (Single r) n m k j h p keeps = held_stays types texts fs f r n m k j h p keeps
 
   abbrev pub some_characters : Gift types texts fs f Characters
-  some_characters = record { typed = λ c. (are_characters types texts fs f c ≡ true) × (are_served_characters c ≡ true); ready = AreCharactersAt; stays = characters_stay }
+  some_characters = record { typed = λ c. are_characters types texts fs f c ≡ true; ready = AreCharactersAt; stays = characters_stay }
 
   pub characters_part : (x : Seen) (s : State) → Part types texts fs f a_found x None s (characters x s) some_characters
   characters_part (InString place o) s =
       seen_part types texts fs f a_found (InString place o) None s _ (a_pointer types texts fs f ty.View) View some_characters
       (under_part types texts fs f (a_shown types texts fs f) (InString place o) a_found (InString place o) None s _ (a_pointer types texts fs f ty.View) (viewed_part types texts fs f (InString place o) s) (λ h. h) (λ n k h. h))
-      (λ b h. (ap is_view h.typed, h.served)) (λ n k h. h)
-  characters_part (InView l) s = gives_part types texts fs f a_found (InView l) None (View l) s some_characters (λ b h. (ap is_view h.typed, h.served)) (λ b k alive h. h)
-  characters_part (InRegister r) s = gives_part types texts fs f a_found (InRegister r) None (Single r) s some_characters (λ b h. (h, refl)) (λ b k alive h. h)
+      (λ b h. ap is_view h.typed) (λ n k h. h)
+  characters_part (InView l) s = gives_part types texts fs f a_found (InView l) None (View l) s some_characters (λ b h. ap is_view h.typed) (λ b k alive h. h)
+  characters_part (InRegister r) s = gives_part types texts fs f a_found (InRegister r) None (Single r) s some_characters (λ b h. h) (λ b k alive h. h)
 
   -- they stay
-  pub append_takes : (c : Characters) → are_served_characters c ≡ true → Takes types f (Append c) (characters_uses c)
-  append_takes c served = record { uses = refl; leaves = refl; writes = refl; given = refl; served = served }
+  pub append_takes : (c : Characters) → Takes types f (Append c) (characters_uses c)
+  append_takes c = record { uses = refl; leaves = refl; writes = refl; given = refl }
 
   pub characters_there : (c : Characters) (n : ℕ) (k : List Known) → AreCharactersAt c n k → AreHeld (characters_uses c) n k
   characters_there (View l) n k p = (pointer_is_held l n k p, tt)
@@ -196,5 +195,5 @@ module _ (a : Around) (visible : List ℕ) (types : Types) (texts : ℕ) (fs : L
       let all = keep_part types texts fs f G tt s (gives (x.given, o.given) o.state) c B C stands.opened pair third in
       then_part types texts fs f G tt None s (gives ((x.given, o.given), c.given) c.state) _ D G stands.opened all
       (changes_part types texts fs f D ((x.given, o.given), c.given) to.ty o.given (Append c.given) (characters_uses c.given) place c.state
-      (λ h. (h.0.1, ap (λ (t : Ty). is_change_of types texts fs f t (Append c.given)) text ∙ h.1.0, append_takes types texts fs f c.given h.1.1))
+      (λ h. (h.0.1, ap (λ (t : Ty). is_change_of types texts fs f t (Append c.given)) text ∙ h.1, append_takes types texts fs f c.given))
       (λ n k q. (q.0.1, characters_there types texts fs f c.given n k q.1)))

@@ -1,5 +1,5 @@
 -- Instructions on what has elements, a view or an owner at a place: how many there are, whether there are none, and one of them.
-use Rattle.std.proofs.Common.{◌≡◌, ◌<◌, ◌≤◌, ℕ, Bool, true, List, [], ◌∷◌, ◌++◌, None, not, length, if◌then◌else◌, refl, sym, ap, ◌∙◌, arith, Option}
+use Rattle.std.proofs.Common.{◌≡◌, ◌<◌, ◌≤◌, ℕ, Bool, true, List, [], ◌∷◌, ◌++◌, None, not, if◌then◌else◌, length, refl, sym, ap, ◌∙◌, arith, Option}
 use Rattle.std.proofs.lemmas.Bool.{and_from}
 use Rattle.life_types.specs.Pointees.{ty_of}
 use Rattle.life_types.specs.TypeTests.{is_constant, is_void}
@@ -11,7 +11,6 @@ use Rattle.life_types.specs.declared.ty.TyId.{TyId}
 use Rattle.life_typed.specs.BaseTypes.{type_at}
 use Rattle.life_typed.specs.declared.typed_expr.Category.TheVariants as category
 use Rattle.life_core.specs.Function.{Function}
-use Rattle.life_core_served.specs.Served.{is_served_base, is_served_element}
 use Rattle.life_core.specs.Kinds.{is_register_at}
 use Rattle.life_core.specs.Operands.{Base, behind, whole}
 use Rattle.life_core.specs.Step.{Element, Size}
@@ -74,7 +73,6 @@ module _ (types : Types) (texts : ℕ) (fs : List Function) (f : Function) where
   pub record IsBaseOf (t : Ty) (constant : Bool) (b : Base) : Type 0 where
     pub element : element_of types f b ≡ t
     pub held : keeps_const constant (is_const_base types f b) ≡ true
-    pub served : is_served_base b ≡ true
 
   pub base_stays : (b : Base) (n m : ℕ) (k j : List Known) → n ≤ m → IsBase b n k → Keeps f n None k j → IsBase b m j
   base_stays b n m k j h p keeps = record { local = p.local; uses = p.uses; below = omega (arith, p.below, h); held = keeps.below p.local p.below tt ∙ p.held }
@@ -107,7 +105,6 @@ module _ (types : Types) (texts : ℕ) (fs : List Function) (f : Function) where
         fine = λ r e h. record {
           given = refl;
           formed = and_from (is_number_of types f ty.Size r) (not (is_void (element_of types f b))) e (ap (λ (u : Ty). not (is_void u)) h.element ∙ v);
-          served = h.served;
         };
       })
 
@@ -125,12 +122,6 @@ module _ (types : Types) (texts : ℕ) (fs : List Function) (f : Function) where
   element_is t constant b which.Last h number = h.element
   element_is t constant b which.Target h number = absurd number
 
-  which_served : (w : Which) → IsWhichOf w → is_served_element w ≡ true
-  which_served (which.Index r) h = refl
-  which_served which.First h = refl
-  which_served which.Last h = refl
-  which_served which.Target h = absurd h
-
   -- an element, which is reached through a register
   pub element_part : (few : Types) (place : Place) (id : TyId) (constant : Bool) (t : Ty) (x : Base × Which) (s : State) → IsFront few.types types.types → IsFront few.types s.types.types → type_at few id ≡ t → is_element few t ≡ true
       → Part types texts fs f (both types texts fs f (a_base t constant) a_which) x None s (element place (category.Place id constant) x.0 x.1 s) (a_place types texts fs f t constant)
@@ -145,9 +136,8 @@ module _ (types : Types) (texts : ℕ) (fs : List Function) (f : Function) where
               and_from (aims_at types (type_in types f (whole w.given)) (type_of_element types f x.0 x.1)) _
               (ap (λ (u : Ty). aims_at types u (type_of_element types f x.0 x.1)) at ∙ ap (same (ty_of types id)) (element_is t constant x.0 x.1 h.0 h.1) ∙ ap (λ (u : Ty). same u t) later ∙ target_same few t (element_target few t v))
               (ap (λ (u : Ty). keeps_const (is_constant u) (is_const_base types f x.0)) at ∙ h.0.held);
-          served = and_from (is_served_base x.0) (is_served_element x.1) h.0.served (which_served x.1 h.1);
         },
-        behind_place types texts fs f (whole w.given) reference id constant t (record { typed = at; kept = kept_reference b; served = refl }) refl refl refl later (target_no_void few t (element_target few t v)),
+        behind_place types texts fs f (whole w.given) reference id constant t (record { typed = at; kept = kept_reference b }) refl refl refl later (target_no_void few t (element_target few t v)),
       ))
       (λ r n k e p. record { ready = uses_ready k (base_uses x.0 ++ (which_uses x.1 ++ [])) (r ∷ []) (both_known known.Ready k (base_uses x.0) (which_uses x.1 ++ []) (base_there x.0 n k p.0) (which_there x.1 n k p.1)); after = refl })
       (λ k lt e. record { local = w.given; uses = refl; below = lt; held = e })

@@ -1,12 +1,12 @@
 -- Where the body of a function begins: its parameters live, and no other variable does.
-use Rattle.std.proofs.Common.{◌≡◌, ◌<◌, ◌≤◌, ◌⊎◌, inl, inr, ℕ, zero, suc, Bool, true, false, ◌||◌, List, [], ◌∷◌, ◌++◌, length, map, slice_get, Option, Some, option_map, refl, sym, ap, ◌∙◌, subst, unwrap_or, arith, length-append, append_assoc, append-nil}
+use Rattle.std.proofs.Common.{◌≡◌, ◌<◌, ◌≤◌, ◌⊎◌, inl, inr, ℕ, zero, suc, Bool, true, false, List, [], ◌∷◌, ◌++◌, length, map, slice_get, Option, Some, option_map, refl, sym, ap, ◌∙◌, subst, unwrap_or, arith, length-append, append_assoc, append-nil}
 use Rattle.std.proofs.lemmas.Bool.{cases_eq, cases_lt, false≢true}
 use Rattle.std.proofs.lemmas.Option.{none-some, slice_get-map}
-use Rattle.life_types.specs.TypeTests.{is_value, is_void}
+use Rattle.life_types.specs.TypeTests.{is_void}
 use Rattle.life_types.specs.Types.{Types}
 use Rattle.life_types.specs.declared.ty.Ty.{Ty}
 use Rattle.life_types.specs.declared.ty.Ty.TheVariants as ty
-use Rattle.life_served.specs.Served.{are_served_variables, is_pointing, is_served_result}
+use Rattle.life_served.specs.Served.{are_served_variables, is_served_result}
 use Rattle.life_typed.specs.BaseTypes.{type_at}
 use Rattle.life_typed.specs.declared.typed_program.ParameterPromise.{ParameterPromise}
 use Rattle.life_typed.specs.declared.typed_program.TypedLocal.{TypedLocal}
@@ -31,9 +31,9 @@ use Rattle.life_elab_laws.proofs.Following.{Follows, HasRegister, follows_below,
 use Rattle.life_elab_laws.proofs.Fronts.{IsFront, front_append, front_itself, last_there}
 use Rattle.life_elab_laws.proofs.Growing.{Grows, grows_none}
 use Rattle.life_elab_laws.proofs.OrderedTypes.{order_none}
-use Rattle.life_elab_laws.proofs.WrittenLocals.{AddsRegisters, AreWrittenLocals, IsIntermediate, fits_register, locals_added, own_added, register_pushed, pointing_fits, registers_none}
+use Rattle.life_elab_laws.proofs.WrittenLocals.{AddsRegisters, AreWrittenLocals, IsIntermediate, fits_register, locals_added, own_added, register_pushed, registers_none}
 use Rattle.life_elab_laws.proofs.PendingTemporaries.{none_pending, pending_later}
-use Rattle.life_elab_laws.proofs.ResultTypes.{IsResultType, gives_alias, gives_nothing, gives_raw, gives_reference, gives_value, gives_view, result_is}
+use Rattle.life_elab_laws.proofs.ResultTypes.{IsResultType, gives_alias, gives_walker, gives_nothing, gives_raw, gives_reference, gives_value, gives_view, result_is}
 use Rattle.life_elab_laws.proofs.Targets.{owner_target, value_target}
 use Rattle.life_elab_laws.proofs.Values.{by_values}
 
@@ -154,10 +154,13 @@ module _ (a : Around) where
   }
 
   -- what is so of one register more, and where nothing is given back, is so of the result
-  by_result : (s : State) (P : Ty → State → Type 0) → P ty.Void s → ((t : Ty) → (is_value t || is_pointing a.program.types t) ≡ true → P t (record s { locals = s.locals ++ nameless a.function.place a.function.result ∷ [] })) → (t : Ty) → IsResultType a.program.types t → P t (with_result a t s)
+  by_result : (s : State) (P : Ty → State → Type 0) → P ty.Void s → ((t : Ty) → fits_register a.program.types t ≡ true → P t (record s { locals = s.locals ++ nameless a.function.place a.function.result ∷ [] })) → (t : Ty) → IsResultType a.program.types t → P t (with_result a t s)
   by_result s P none one t (gives_nothing void) = subst (λ (u : Ty). P u (with_result a u s)) (sym void) none
   by_result s P none one t (gives_value v) = by_values (λ u. P u (with_result a u s)) (one ty.Bool refl) (one ty.Char refl) (one ty.Int refl) (one ty.Long refl) (one ty.Size refl) t v
   by_result s P none one t (gives_raw target constant raw w) = subst (λ (u : Ty). P u (with_result a u s)) (sym raw) (one (ty.Raw target constant) w)
+  by_result s P none one (ty.Iterator target constant) (gives_walker w) = one (ty.Iterator target constant) w
+  by_result s P none one (ty.Span target constant) (gives_walker w) = one (ty.Span target constant) w
+  by_result s P none one _ (gives_walker w) = absurd (false≢true w)
   by_result s P none one t (gives_view view) = subst (λ (u : Ty). P u (with_result a u s)) (sym view) (one ty.View refl)
   by_result s P none one t (gives_reference target constant refers w) = subst (λ (u : Ty). P u (with_result a u s)) (sym refers) (one (ty.Reference target constant) (value_target a.program.types (type_at a.program.types target) w))
   by_result s P none one t (gives_alias target constant refers o) = subst (λ (u : Ty). P u (with_result a u s)) (sym refers) (one (ty.Reference target constant) (owner_target a.program.types (type_at a.program.types target) o))
@@ -168,7 +171,7 @@ module _ (a : Around) where
   -- .. a register
   result_registers : (t : Ty) (s : State) → IsResultType a.program.types t → slice_get s.types.types a.function.result.0 ≡ Some t → AddsRegisters a.program.types s (with_result a t s)
   result_registers t s kind at =
-      by_result s (λ t r. slice_get s.types.types a.function.result.0 ≡ Some t → AddsRegisters a.program.types s r) (λ at. registers_none a.program.types s) (λ t fits at. (one_register t s (pointing_fits a.program.types t fits) at, order_none s.types)) t kind at
+      by_result s (λ t r. slice_get s.types.types a.function.result.0 ≡ Some t → AddsRegisters a.program.types s r) (λ at. registers_none a.program.types s) (λ t fits at. (one_register t s fits at, order_none s.types)) t kind at
 
   result_there : (t : Ty) (s : State) → IsResultType a.program.types t → is_void t ≡ false → slice_get (with_result a t s).locals (length s.locals) ≡ Some (nameless a.function.place a.function.result)
   result_there t s kind some =
@@ -239,7 +242,7 @@ module _ (a : Around) where
       nothing_follows = record {
         count = refl;
         visible = λ x c. absurd (contains_among [] x c);
-        stands = record { table = table; opened = λ y c. absurd (contains_among [] y c); pends = none_pending [] T.types [] [] refl; seen = λ x u c at. absurd (contains_among [] x c) };
+        stands = record { table = table; opened = λ y c. absurd (contains_among [] y c); pends = none_pending [] T.types [] [] refl; seen = λ x u c at. absurd (contains_among [] x c); apart = λ x y u w c at d there other e. contains_among [] x c };
         ascend = tt;
         outside = omega arith;
         living = λ y m. absurd m;

@@ -19,7 +19,7 @@ use Rattle.life_core.specs.declared.program.Local.{Local}
 use Rattle.life_proper.specs.Checking.{flow}
 use Rattle.life_proper.specs.Knowing.{known_at}
 use Rattle.life_proper.specs.ReadyKnown.{can_leave}
-use Rattle.life_proper.specs.WellFormed.{can_end, is_source_of}
+use Rattle.life_proper.specs.WellFormed.{is_source_of}
 use Rattle.life_proper.specs.declared.known.Known.{Known}
 use Rattle.life_proper.specs.declared.known.Known.TheVariants as known
 use Rattle.life_proper.proofs.ReadyTests.{one_known}
@@ -33,7 +33,7 @@ use Rattle.life_elab_laws.proofs.BoundVariables.{adds_temporary, begins_before_i
 use Rattle.life_elab_laws.proofs.Declaring.{adds_new, begins_old, follows_new, its_local, new_then, with_new}
 use Rattle.life_elab_laws.proofs.Doing.{Acting, Does}
 use Rattle.life_elab_laws.proofs.Emitting.{keeps_set}
-use Rattle.life_elab_laws.proofs.EndSteps.{IsEnded, ended}
+use Rattle.life_elab_laws.proofs.EndSteps.{IsEnded, ended, ends_here}
 use Rattle.life_elab_laws.proofs.Ending.{blank_beside, blank_in, blank_length, ends_there, set_blank}
 use Rattle.life_elab_laws.proofs.Exits.{Knows, Leaves, leaves_falling, leaves_may}
 use Rattle.life_elab_laws.proofs.Falling.{Falls, falls_append, falls_filling}
@@ -47,7 +47,7 @@ use Rattle.life_elab_laws.proofs.GivingBack.{fine_known}
 use Rattle.life_elab_laws.proofs.Growing.{Begins, begins_before}
 use Rattle.life_elab_laws.proofs.Held.{blank_there}
 use Rattle.life_elab_laws.proofs.Knowledge.{at_set, beside_set, ready_set, set_length}
-use Rattle.life_elab_laws.proofs.MadeForms.{Builds, Found, gift_of}
+use Rattle.life_elab_laws.proofs.MadeForms.{BuildsIn, Found, gift_of}
 use Rattle.life_elab_laws.proofs.Making.{Alive, IsOpen, opened_later}
 use Rattle.life_elab_laws.proofs.NewVariables.{bound_given, reference_declared, reference_kept}
 use Rattle.life_elab_laws.proofs.OrderedTypes.{order_then, type_ordered}
@@ -66,7 +66,7 @@ use Rattle.life_elab_laws.proofs.WrittenLocals.{FitsTemporary, locals_added, own
 module _ (a : Around) (types : Types) (texts : ℕ) (fs : List Function) (f : Function) (setting : Setting a types fs f) (v : Visible) (in_loop : Bool) (last : Place)
     (u : TypedLocal) (s : State) (h : Follows types f a v s) (at : slice_get a.function.locals v.declared ≡ Some u) (built : is_served_variable a.program.types u.ty ≡ true)
     (target : TyId) (constant : Bool) (found : slice_get a.program.types.types u.ty.0 ≡ Some (ty.Reference target constant)) (owner : is_owner_of_values a.program.types (type_at a.program.types target) ≡ true) (place : Place)
-    (w : Gives Remaining) (is : Builds a v.visible types texts fs f setting (type_at a.program.types target) s w) where
+    (w : Gives Remaining) {plain : Bool} (is : BuildsIn a v.visible types texts fs f setting plain (type_at a.program.types target) s w) where
   abbrev t : Ty
   t = type_at a.program.types target
 
@@ -130,7 +130,8 @@ module _ (a : Around) (types : Types) (texts : ℕ) (fs : List Function) (f : Fu
     pends = begun_pends;
     seen = λ y z c found.
         let at = second.stands.seen y z c found in
-        record { local = at.local; there = at.there; typed = at.typed; kind = at.kind; lives = at.lives };
+        record { local = at.local; there = at.there; typed = at.typed; kind = at.kind; named = at.named; lives = at.lives };
+    apart = second.stands.apart;
   }
 
   part : Part types texts fs f (both types texts fs f Q (a_place types texts fs f t false)) (is.found, object_named x) None begun (gives tt (is.act place (object_named x) begun)) (nothing types texts fs f)
@@ -292,12 +293,11 @@ module _ (a : Around) (types : Types) (texts : ℕ) (fs : List Function) (f : Fu
           formed =
               ap (λ (r : Ty). is_source_of types texts fs f r (Aimed (object_named x))) (reference_declared a types texts fs f setting.front u acted b target constant found wide)
               ∙ bound_given a types texts fs f setting.front target constant false (object_named x) wide (keeps_all constant) is_place;
-          served = refl;
         })
 
     ends_fine : IsFine types texts fs f e.code
     ends_fine =
-        e.fine (all_among (can_end types texts fs f) over (λ z m. temporary_ends types texts fs f setting.registers z (temporary_later acted.locals f.locals acted.types.types types.types z old.locals old.table (pends.each z (over_pending z m)))))
+        e.fine (all_among (ends_here types texts fs f) over (λ z m. temporary_ends types texts fs f setting.registers z (temporary_later acted.locals f.locals acted.types.types types.types z old.locals old.table (pends.each z (over_pending z m)))))
 
     all_fine : IsFine types texts fs f all_code
     all_fine =

@@ -25,7 +25,7 @@ use Rattle.life_proper.specs.Knowing.{known_at}
 use Rattle.life_proper.specs.Placed.{object_at}
 use Rattle.life_proper.specs.Placed as placed
 use Rattle.life_proper.specs.ReadyKnown.{can_leave}
-use Rattle.life_proper.specs.WellFormed.{can_end, goes_to, is_source_of}
+use Rattle.life_proper.specs.WellFormed.{goes_to, is_source_of}
 use Rattle.life_proper.specs.declared.known.Known.{Known}
 use Rattle.life_proper.specs.declared.known.Known.TheVariants as known
 use Rattle.life_well_typed.specs.Visible.{Visible, with_next}
@@ -37,11 +37,11 @@ use Rattle.life_writer.specs.Writing.{Gives, State, with_code}
 use Rattle.life_elab_laws.proofs.Among.{Among, all_among, among_either, among_left, among_right, among_take, ascend_more}
 use Rattle.life_elab_laws.proofs.CallParts.{goes_object}
 use Rattle.life_elab_laws.proofs.Declaring.{adds_new, begins_old, follows_new, its_local, knows_new, new_below, new_then, with_new}
-use Rattle.life_elab_laws.proofs.Doing.{Acting, Does}
-use Rattle.life_elab_laws.proofs.EndSteps.{IsEnded, ended}
+use Rattle.life_elab_laws.proofs.Doing.{Does}
+use Rattle.life_elab_laws.proofs.EndSteps.{IsEnded, ended, ends_here}
 use Rattle.life_elab_laws.proofs.EndedTemporaries.{ending, ends_alive, ends_apart, ends_below, ends_pending, ends_temporary}
 use Rattle.life_elab_laws.proofs.Ending.{blank_beside, blank_length, blank_set, ends_there, set_blank}
-use Rattle.life_elab_laws.proofs.Exits.{Knows, Leaves, knows_same, leaves_falling, leaves_may}
+use Rattle.life_elab_laws.proofs.Exits.{Knows, Leaves, knows_same, leaves_falling}
 use Rattle.life_elab_laws.proofs.Falling.{Falls, falls_append, falls_filling}
 use Rattle.life_elab_laws.proofs.Filling.{aimed_filling, filling_fills}
 use Rattle.life_elab_laws.proofs.Following.{Adds, Follows, IsLiving, adds_settled, adds_then, alive_knows, follows_below, follows_settled, knows_alive, may_end, settled}
@@ -56,7 +56,7 @@ use Rattle.life_elab_laws.proofs.Making.{Alive}
 use Rattle.life_elab_laws.proofs.NewVariables.{bound_given, reference_declared, reference_kept}
 use Rattle.life_elab_laws.proofs.OperandsThere.{object_there, type_there}
 use Rattle.life_elab_laws.proofs.OrderedTypes.{order_then, type_ordered}
-use Rattle.life_elab_laws.proofs.Parts.{Makes, Runs}
+use Rattle.life_elab_laws.proofs.Parts.{Makes, Part, Runs}
 use Rattle.life_elab_laws.proofs.PendingTemporaries.{none_pending}
 use Rattle.life_elab_laws.proofs.Setting.{Setting}
 use Rattle.life_elab_laws.proofs.Shaping.{IsFine, IsFineStep, fine_acts, fine_append}
@@ -64,6 +64,7 @@ use Rattle.life_elab_laws.proofs.SomeKnown.{some_known, some_knows}
 use Rattle.life_elab_laws.proofs.TemporaryEnds.{TemporariesEnd, temporary_ends}
 use Rattle.life_elab_laws.proofs.Types.{type_added, types_before}
 use Rattle.life_elab_laws.proofs.VariablePlaces.{IsVariableAt}
+use Rattle.life_elab_laws.proofs.Under.{ActingUnder, DoesUnder, MayBeKnown, does_plain, leaves_under}
 use Rattle.life_elab_laws.proofs.WrittenLocals.{AreWrittenLocals, fits_below, locals_added, own_added, register_pushed, value_fits, FitsTemporary}
 use Rattle.life_elab_laws.proofs.Targets.{value_target}
 use Rattle.life_elab_laws.proofs.TemporaryBirths.{no_reference}
@@ -121,7 +122,6 @@ module _ (a : Around) (types : Types) (texts : ℕ) (fs : List Function) (f : Fu
     temporary_lives form = record {
       given = refl;
       formed = or_left (object_at types f (length s.locals)) _ kept_object;
-      served = refl;
     }
 
     pub temporary_goes : is_value t ≡ true → goes_to types texts fs f t (Some (whole (length s.locals))) ≡ true
@@ -130,7 +130,7 @@ module _ (a : Around) (types : Types) (texts : ℕ) (fs : List Function) (f : Fu
   pub temporary_written : AreWrittenLocals types a s → AreWrittenLocals types a with_temporary
   temporary_written are =
       locals_added types a s with_temporary (types_before s.types.types t)
-      (register_pushed types with_temporary.types s.locals temporary_local (record { nameless = refl; ty = t; typed = type_added s.types.types t; fits = inr (refl, fits) }), type_ordered s.types t within) are
+      (register_pushed types with_temporary.types s.locals temporary_local (record { nameless = refl; ty = t; typed = type_added s.types.types t; fits = inr (inl (refl, fits)) }), type_ordered s.types t within) are
 
   module _ (v : Visible) (h : Follows types f a v s) where
     opened : (y : ℕ) → Contains (s.living ++ length s.locals ∷ []) y → y < length (s.locals ++ temporary_local ∷ [])
@@ -145,6 +145,7 @@ module _ (a : Around) (types : Types) (texts : ℕ) (fs : List Function) (f : Fu
       there = front_append s.locals (temporary_local ∷ []) (variable s x) is.local is.there;
       typed = is.typed;
       kind = is.kind;
+      named = is.named;
       lives = Contains-append_left s.living (length s.locals ∷ []) (variable s x) is.lives;
     }
 
@@ -167,6 +168,7 @@ module _ (a : Around) (types : Types) (texts : ℕ) (fs : List Function) (f : Fu
         opened = opened;
         pends = none_pending with_temporary.locals with_temporary.types.types with_temporary.living s.pending h.pending;
         seen = λ x w c at. moved x w (h.stands.seen x w c at);
+        apart = h.stands.apart;
       };
       ascend = ascend_more 0 s.living (length s.locals) h.ascend (omega arith) (λ y m. follows_below types f a v s h y m);
       outside = omega (arith, length-append s.living (length s.locals ∷ []), h.outside);
@@ -223,7 +225,12 @@ module _ (a : Around) (types : Types) (texts : ℕ) (fs : List Function) (f : Fu
   wide : is_target a.program.types (type_at a.program.types target) ≡ true
   wide = value_target a.program.types (type_at a.program.types target) worth
 
-  module _ {A : Type 0} (w : Gives A) (Q : Gift types texts fs f A) (made : Makes types texts fs f None s w Q) where
+  -- .. behind what gave z
+  module _ {A B : Type 0} (P : Gift types texts fs f B) (z : B) (w : Gives A) (Q : Gift types texts fs f A) (made : Part types texts fs f P z None s w Q) where
+    -- what has to be known
+    abbrev More : List Known → Type 0
+    More = P.ready z (length s.locals)
+
     -- the temporary, and the reference
     abbrev x : ℕ
     x = length w.state.locals
@@ -237,7 +244,8 @@ module _ (a : Around) (types : Types) (texts : ℕ) (fs : List Function) (f : Fu
     -- what brings the temporary to life
     module _ (brings : List Tree) (fine : Begins types f kept → Q.typed w.given → IsFine types texts fs f brings)
         (falls : Begins types f kept → (k : List Known) → length k ≡ length f.locals → Q.ready w.given x k → known_at k x ≡ known.Blank → Falls types f brings k (slice_set k x known.Ready))
-        (apart : Begins types f kept → Q.typed w.given → (k : List Known) → Alive f w.state k → Q.ready w.given x k → known_at k x ≡ known.Blank → Apart f w.state kept (trees brings)) where
+        (apart : Begins types f kept → Q.typed w.given → (k : List Known) → Alive f w.state k → Q.ready w.given x k → known_at k x ≡ known.Blank → Apart f w.state kept (trees brings))
+        (told : Begins types f s → P.typed z) (some : Begins types f s → MayBeKnown f More) where
       abbrev aims : List Tree
       aims = Act place (Aim (whole y) (Aimed (object_named x))) ∷ []
 
@@ -300,8 +308,11 @@ module _ (a : Around) (types : Types) (texts : ℕ) (fs : List Function) (f : Fu
         before : Begins types f w.state
         before = begins_before_it a types texts fs f place t (inl worth) w.state (value_below w.state.types t worth) begun
 
-        part : Runs types texts fs f (nothing types texts fs f) tt None s w Q made.code
-        part = made.runs before tt
+        first_begins : Begins types f s
+        first_begins = begins_before types f s w.state made.grown before
+
+        part : Runs types texts fs f P z None s w Q made.code
+        part = made.runs before (told first_begins)
 
         aims_fine : IsFine types texts fs f aims
         aims_fine =
@@ -312,11 +323,10 @@ module _ (a : Around) (types : Types) (texts : ℕ) (fs : List Function) (f : Fu
               formed =
                   ap (λ (r : Ty). is_source_of types texts fs f r (Aimed (object_named x))) (reference_declared a types texts fs f setting.front u kept b target constant found wide)
                   ∙ bound_given a types texts fs f setting.front target constant false (object_named x) wide (keeps_all constant) at_it;
-              served = refl;
             })
 
         ends_fine_here : IsFine types texts fs f e.code
-        ends_fine_here = e.fine (all_among (can_end types texts fs f) over (λ z m. can z (ends_temporary types texts fs f s w.state made.grown h.stands.pends last before z m)))
+        ends_fine_here = e.fine (all_among (ends_here types texts fs f) over (λ z m. can z (ends_temporary types texts fs f s w.state made.grown h.stands.pends last before z m)))
 
         all_fine : IsFine types texts fs f all_code
         all_fine =
@@ -325,9 +335,9 @@ module _ (a : Around) (types : Types) (texts : ℕ) (fs : List Function) (f : Fu
 
         -- ---- on a way
 
-        went : (k : List Known) → Knows f s.living k → Leaves f in_loop (kept.living ++ y ∷ []) (take s.outside s.living) (flow types f (trees all_code) (Some k))
-        went k knows =
-            let g = part.goes k (knows_alive types f a v s h k knows) tt in
+        went : (k : List Known) → Knows f s.living k → More k → Leaves f in_loop (kept.living ++ y ∷ []) (take s.outside s.living) (flow types f (trees all_code) (Some k))
+        went k knows more =
+            let g = part.goes k (knows_alive types f a v s h k knows) more in
             let mid : Knows f w.state.living (set_blank over g.after) = alive_knows types f there_first (set_blank over g.after) first.pending (ends_alive types texts fs f s w.state made.grown h.stands.pends last g.after g.alive) in
             let blank : known_at g.after x ≡ known.Blank = sym (blank_beside over g.after x x_beside) ∙ blank_temporary a types texts fs f place t (inl worth) there_first (value_below there_first.types t worth) v first begun (set_blank over g.after) mid in
             let y_there : y < length g.after = omega (arith, g.alive.sized, new_below types f a setting.front v u l (its_local a u) there_kept second at built b) in
@@ -370,9 +380,9 @@ module _ (a : Around) (types : Types) (texts : ℕ) (fs : List Function) (f : Fu
               apart = λ z object m g. g;
             })
 
-        known_apart : (k : List Known) → Knows f s.living k → Apart f s finished (trees all_code)
-        known_apart k knows =
-            let g = part.goes k (knows_alive types f a v s h k knows) tt in
+        known_apart : (k : List Known) → Knows f s.living k → More k → Apart f s finished (trees all_code)
+        known_apart k knows more =
+            let g = part.goes k (knows_alive types f a v s h k knows) more in
             let mid : Knows f w.state.living (set_blank over g.after) = alive_knows types f there_first (set_blank over g.after) first.pending (ends_alive types texts fs f s w.state made.grown h.stands.pends last g.after g.alive) in
             let blank : known_at g.after x ≡ known.Blank = sym (blank_beside over g.after x x_beside) ∙ blank_temporary a types texts fs f place t (inl worth) there_first (value_below there_first.types t worth) v first begun (set_blank over g.after) mid in
             codes_apart f s w.state finished made.code (code ++ e.code) g.apart
@@ -380,17 +390,16 @@ module _ (a : Around) (types : Types) (texts : ℕ) (fs : List Function) (f : Fu
             (codes_apart f w.state kept (with_new l kept) brings aims (apart begun part.typed g.after g.alive g.gives blank) aims_apart)
             (e.apart (with_new l kept) finished (omega arith) (λ z o. elim o [ inl m ↦ inl (inl m) | inr m ↦ inl (inr (among_take (length s.pending) w.state.pending z m)) ])))
 
-        first_begins : Begins types f s
-        first_begins = begins_before types f s w.state made.grown before
+        acting : ActingUnder types texts fs f More in_loop s finished all_code
+        acting =
+            let start = some first_begins s.living (some_known types f a v s h first_begins) (some_knows types f a v s h first_begins) in
+            record {
+              stated = all_fine.stated in_loop;
+              ways = leaves_under types f More in_loop s.living (kept.living ++ y ∷ []) (take s.outside s.living) (trees all_code) went;
+              apart = known_apart start.0 start.1 start.2;
+            }
 
-        acting : Acting types texts fs f in_loop s finished all_code
-        acting = record {
-          stated = all_fine.stated in_loop;
-          ways = leaves_may types f in_loop s.living (kept.living ++ y ∷ []) (take s.outside s.living) (trees all_code) went;
-          apart = known_apart (some_known types f a v s h first_begins) (some_knows types f a v s h first_begins);
-        }
-
-      finished_does : Does types texts fs f a (with_next v) in_loop s finished
+      finished_does : DoesUnder types texts fs f More a (with_next v) in_loop s finished
       finished_does = record {
         adds = adds;
         locals = λ are.
@@ -401,8 +410,23 @@ module _ (a : Around) (types : Types) (texts : ℕ) (fs : List Function) (f : Fu
         code = all_code;
         written = ap (λ (c : List Tree). (c ++ code) ++ e.code) made.written ∙ ap (λ (c : List Tree). c ++ e.code) (append_assoc s.code made.code code) ∙ append_assoc s.code (made.code ++ code) e.code ∙ ap (λ (c : List Tree). s.code ++ c) (append_assoc made.code code e.code);
         acts = acting;
-        returns = λ b gives o k. fine_known types f (result_local a) texts fs all_code (all_fine b) o;
+        returns = λ b gives o k more. fine_known types f (result_local a) texts fs all_code (all_fine b) o;
       }
 
-      pub bound_does : Does types texts fs f a (with_next v) in_loop s (end_pending (length s.pending) last done)
-      bound_does = subst (Does types texts fs f a (with_next v) in_loop s) (sym finished_is) finished_does
+      pub bound_under : DoesUnder types texts fs f More a (with_next v) in_loop s (end_pending (length s.pending) last done)
+      bound_under = subst (DoesUnder types texts fs f More a (with_next v) in_loop s) (sym finished_is) finished_does
+
+  -- .. behind nothing
+  module _ {A : Type 0} (w : Gives A) (Q : Gift types texts fs f A) (made : Makes types texts fs f None s w Q) where
+    abbrev its_kept : State
+    its_kept = with_temporary a types texts fs f place t (inl worth) w.state (value_below w.state.types t worth)
+
+    pub bound_does : (brings : List Tree) → (Begins types f its_kept → Q.typed w.given → IsFine types texts fs f brings)
+        → (Begins types f its_kept → (k : List Known) → length k ≡ length f.locals → Q.ready w.given (length w.state.locals) k → known_at k (length w.state.locals) ≡ known.Blank → Falls types f brings k (slice_set k (length w.state.locals) known.Ready))
+        → (Begins types f its_kept → Q.typed w.given → (k : List Known) → Alive f w.state k → Q.ready w.given (length w.state.locals) k → known_at k (length w.state.locals) ≡ known.Blank → Apart f w.state its_kept (trees brings))
+        → Does types texts fs f a (with_next v) in_loop s (end_pending (length s.pending) last
+        (with_code (w.state.code ++ (brings ++ Act place (Aim (whole (length its_kept.locals)) (Aimed (object_named (length w.state.locals)))) ∷ [])) (with_new (variable_local a u) its_kept)))
+    bound_does brings fine falls apart =
+        does_plain types texts fs f a (with_next v) in_loop s (end_pending (length s.pending) last
+        (with_code (w.state.code ++ (brings ++ Act place (Aim (whole (length its_kept.locals)) (Aimed (object_named (length w.state.locals)))) ∷ [])) (with_new (variable_local a u) its_kept)))
+        (bound_under (nothing types texts fs f) tt w Q made brings fine falls apart (λ b. tt) (λ b living k knows. (k, knows, tt)))

@@ -153,7 +153,7 @@ module _ (types : Types) (texts : ℕ) (fs : List Function) (f : Function) where
       stated =
           stated_alone types texts fs f in_loop (Choice w.given Skip (Stops keyword))
           (stated_choice types texts fs f in_loop w.given Skip (Stops keyword) asks.fine (stated_none types texts fs f in_loop)
-          (record { statement = refl; tests = refl; breaks = refl; given = refl; formed = refl; served = refl }));
+          (record { statement = refl; tests = refl; breaks = refl; given = refl; formed = refl }));
       ways = leaves_may types f in_loop s.living w.state.living (take s.outside s.living) (trees (Choice w.given Skip (Stops keyword) ∷ [])) went;
       apart =
           alone_apart f s w.state (Choice w.given Skip (Stops keyword))

@@ -16,7 +16,7 @@ use Rattle.life_core.specs.declared.program.Local.{Local}
 use Rattle.life_proper.specs.Checking.{flow}
 use Rattle.life_proper.specs.Knowing.{known_at}
 use Rattle.life_proper.specs.ReadyKnown.{can_leave}
-use Rattle.life_proper.specs.WellFormed.{can_end, can_live}
+use Rattle.life_proper.specs.WellFormed.{can_live}
 use Rattle.life_proper.specs.declared.known.Known.{Known}
 use Rattle.life_proper.specs.declared.known.Known.TheVariants as known
 use Rattle.life_proper.proofs.ReadyTests.{one_known}
@@ -28,7 +28,7 @@ use Rattle.life_elab_laws.proofs.Among.{Among, all_among, among_contains, among_
 use Rattle.life_elab_laws.proofs.Declaring.{adds_new, follows_new, its_local, new_none, with_new}
 use Rattle.life_elab_laws.proofs.Doing.{Acting, Does}
 use Rattle.life_elab_laws.proofs.Emitting.{keeps_set}
-use Rattle.life_elab_laws.proofs.EndSteps.{IsEnded, ended}
+use Rattle.life_elab_laws.proofs.EndSteps.{IsEnded, ended, ends_here}
 use Rattle.life_elab_laws.proofs.Ending.{blank_beside, blank_in, blank_length, ends_there, set_blank}
 use Rattle.life_elab_laws.proofs.Exits.{Knows, Leaves, leaves_falling, leaves_may}
 use Rattle.life_elab_laws.proofs.Falling.{Falls, falls_append, falls_filling}
@@ -97,7 +97,8 @@ module _ (a : Around) (types : Types) (texts : ℕ) (fs : List Function) (f : Fu
         pends = begun_pends;
         seen = λ y z c found.
             let at = new.stands.seen y z (Contains-append_left v.visible (v.declared ∷ []) y c) found in
-            record { local = at.local; there = at.there; typed = at.typed; kind = at.kind; lives = at.lives };
+            record { local = at.local; there = at.there; typed = at.typed; kind = at.kind; named = at.named; lives = at.lives };
+        apart = λ y n z w c found d there. new.stands.apart y n z w (Contains-append_left v.visible (v.declared ∷ []) y c) found (Contains-append_left v.visible (v.declared ∷ []) n d) there;
       })
 
       abbrev done : State
@@ -186,13 +187,13 @@ module _ (a : Around) (types : Types) (texts : ℕ) (fs : List Function) (f : Fu
 
         ends_fine : IsFine types texts fs f e.code
         ends_fine =
-            e.fine (all_among (can_end types texts fs f) over (λ y m. temporary_ends types texts fs f setting.registers y (temporary_later done.locals f.locals done.types.types types.types y b.locals b.table (pends.each y (over_pending y m)))))
+            e.fine (all_among (ends_here types texts fs f) over (λ y m. temporary_ends types texts fs f setting.registers y (temporary_later done.locals f.locals done.types.types types.types y b.locals b.table (pends.each y (over_pending y m)))))
 
         all_fine : IsFine types texts fs f whole
         all_fine =
             fine_append types texts fs f made.code (comes ++ (part.code ++ e.code)) first.fine
             (fine_append types texts fs f comes (part.code ++ e.code)
-            (fine_acts types texts fs f u.place (Live x form) (record { given = refl; formed = lives begins; served = refl }))
+            (fine_acts types texts fs f u.place (Live x form) (record { given = refl; formed = lives begins }))
             (fine_append types texts fs f part.code e.code second.fine ends_fine))
 
         -- ---- on a way

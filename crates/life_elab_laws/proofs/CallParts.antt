@@ -12,7 +12,6 @@ use Rattle.life_types.specs.declared.ty.TyId.{TyId}
 use Rattle.life_typed.specs.Programs.{FunctionForm}
 use Rattle.life_core.specs.Function.{Function}
 use Rattle.life_core.specs.Operands.{Argument, Location, Value, whole}
-use Rattle.life_core_served.specs.Served.{is_served_argument, is_served_location}
 use Rattle.life_core.specs.Step.{Call}
 use Rattle.life_core.specs.Touched.{target_uses}
 use Rattle.life_proper.specs.GivenOver.{given_argument}
@@ -41,7 +40,7 @@ module _ (types : Types) (texts : ℕ) (fs : List Function) (f : Function) where
   -- ---- arguments
 
   pub none_handed : (s : State) → Makes types texts fs f None s (gives [] s) (arguments types texts fs f [])
-  none_handed s = leaf_part types texts fs f [] s (arguments types texts fs f []) (λ b. record { fit = refl; own = refl; given = refl; served = refl }) (λ b k alive. tt)
+  none_handed s = leaf_part types texts fs f [] s (arguments types texts fs f []) (λ b. record { fit = refl; own = refl; given = refl }) (λ b k alive. tt)
 
   -- one before the others
   pub handed_part : (id : TyId) (t : Ty) (ids : List TyId) (first : State → Gives ℕ) (others : State → Gives (List Argument)) (s : State) → ty_of types id ≡ t → IsOpen s
@@ -57,7 +56,6 @@ module _ (types : Types) (texts : ℕ) (fs : List Function) (f : Function) where
         fit = and_from (is_argument_for types texts fs f id (Value r.given)) (are_arguments_for types texts fs f ids xs.given) (ap (λ (u : Ty). is_number_of types f u r.given) at ∙ h.0) h.1.fit;
         own = h.1.own;
         given = h.1.given;
-        served = h.1.served;
       })
       (λ n k h. h)
 
@@ -99,22 +97,20 @@ module _ (types : Types) (texts : ℕ) (fs : List Function) (f : Function) where
   alone_fine g xs of callee h void = record {
     given = keeps_values None g xs h.given;
     formed = called_formed g xs of None callee h (ap (λ (u : Ty). goes_to types texts fs f u None) void);
-    served = h.served;
   }
 
   -- a call that gives something
   pub called_at_fine : (g : ℕ) (xs : List Argument) (of : FunctionForm) (l : Location) → IsCallee types fs g of → AreHanded types texts fs f (parameter_types (Some of)) xs
-      → goes_to types texts fs f (ty_of types of.result) (Some l) ≡ true → (is_served_location l ≡ true) → IsFineStep types texts fs f (called g xs l)
-  called_at_fine g xs of l callee h goes served = record {
+      → goes_to types texts fs f (ty_of types of.result) (Some l) ≡ true → IsFineStep types texts fs f (called g xs l)
+  called_at_fine g xs of l callee h goes = record {
     given = keeps_values (Some l) g xs h.given;
     formed = called_formed g xs of (Some l) callee h goes;
-    served = and_from (is_served_location l) (list_all is_served_argument xs) served h.served;
   }
 
   -- .. to a local
   pub called_fine : (g : ℕ) (xs : List Argument) (of : FunctionForm) (x : ℕ) → IsCallee types fs g of → AreHanded types texts fs f (parameter_types (Some of)) xs
       → goes_to types texts fs f (ty_of types of.result) (Some (whole x)) ≡ true → IsFineStep types texts fs f (called g xs (whole x))
-  called_fine g xs of x callee h goes = called_at_fine g xs of (whole x) callee h goes (refl)
+  called_fine g xs of x callee h goes = called_at_fine g xs of (whole x) callee h goes
 
   -- ---- a call that gives a number
 

@@ -1,6 +1,6 @@
 -- Calls that give a raw pointer, a view or a reference: a pointer or a view takes the one, and the other comes to a register, behind which the place is.
 use Rattle.std.proofs.Common.{◌≡◌, inl, inr, ℕ, Bool, true, List, length, Some, None, refl, ap, ◌∙◌, subst}
-use Rattle.std.proofs.lemmas.Bool.{and_from}
+use Rattle.std.proofs.lemmas.Bool.{and_from, false≢true}
 use Rattle.life_types.specs.Pointees.{ty_of}
 use Rattle.life_types.specs.Types.{Types}
 use Rattle.life_types.specs.declared.place.Place.{Place}
@@ -36,7 +36,7 @@ use Rattle.life_elab_laws.proofs.Parts.{Makes, seen_part, then_part}
 use Rattle.life_elab_laws.proofs.Types.{type_added}
 use Rattle.life_elab_laws.proofs.WalkerSteps.{keeps_itself}
 use Rattle.life_elab_laws.proofs.WrittenLocals.{fits_below, fits_later, fits_register}
-use Rattle.life_served.specs.Served.{is_target}
+use Rattle.life_served.specs.Served.{is_target, is_walker_of_values}
 use Rattle.life_elab_laws.proofs.Targets.{one_target, target_no_void, target_type}
 use Rattle.life_elab_laws.proofs.Shaped.{target_there}
 
@@ -58,12 +58,18 @@ module _ (types : Types) (texts : ℕ) (fs : List Function) (f : Function) (g : 
     taken_call : Makes types texts fs f None s (mapped (λ (xs : List Argument). By (called g xs)) w) (a_pointing types texts fs f (Of pointer))
     taken_call =
         seen_part types texts fs f (nothing types texts fs f) tt None s w (arguments types texts fs f (parameter_types (Some of))) (λ xs. By (called g xs)) (a_pointing types texts fs f (Of pointer)) first
-        (λ b h. λ u l loc at by. called_at_fine types texts fs f g w.given of l callee h (goes u l at.typed by) at.served)
+        (λ b h. λ u l loc at by. called_at_fine types texts fs f g w.given of l callee h (goes u l at.typed by))
         (λ n k h. called_filling f g (parameter_types (Some of)) w.given n k h)
 
   -- a view
   pub viewed_call : ty_of types of.result ≡ ty.View → Makes types texts fs f None s (mapped (λ (xs : List Argument). By (called g xs)) w) (a_pointing types texts fs f (Of ty.View))
   viewed_call own = taken_call ty.View own refl (λ l h. h)
+
+  -- an iterator or a span
+  pub walked_call : (table : Types) (t : Ty) → is_walker_of_values table t ≡ true → ty_of types of.result ≡ t → takes types t t ≡ true → Makes types texts fs f None s (mapped (λ (xs : List Argument). By (called g xs)) w) (a_pointing types texts fs f (Of t))
+  walked_call table (ty.Iterator item held) walks own itself = taken_call (ty.Iterator item held) own itself (λ l h. h)
+  walked_call table (ty.Span item held) walks own itself = taken_call (ty.Span item held) own itself (λ l h. h)
+  walked_call table _ walks own itself = absurd (false≢true walks)
 
   -- ---- a pointer or a reference to a value or an owner
 
@@ -108,7 +114,7 @@ module _ (types : Types) (texts : ℕ) (fs : List Function) (f : Function) (g : 
           (new_targeted types f place reference w.state (fits_later few types front reference fits) (fits_below few w.state.types (front_length few.types w.state.types.types table) reference fits))
           (λ b h. (
             called_fine types texts fs f g w.given of register.given callee h (comes b),
-            behind_place types texts fs f (whole register.given) reference target constant (type_at few target) (record { typed = referred b; kept = kept b; served = refl }) refl refl refl (target_type few types front target worth) (target_no_void few (type_at few target) worth),
+            behind_place types texts fs f (whole register.given) reference target constant (type_at few target) (record { typed = referred b; kept = kept b }) refl refl refl (target_type few types front target worth) (target_no_void few (type_at few target) worth),
           ))
           (λ r n k e h. written_fills f g (parameter_types (Some of)) w.given n k h r e)
           (λ k lt e. record { local = register.given; uses = refl; below = lt; held = e }))

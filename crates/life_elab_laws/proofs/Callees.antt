@@ -1,6 +1,6 @@
 -- What the core functions of a program that is served take and give.
 use Rattle.std.proofs.Common.{◌≡◌, ◌<◌, ◌≤◌, ℕ, zero, suc, true, false, List, [], ◌∷◌, ◌++◌, length, map, slice_get, take, Option, Some, None, refl, sym, ap, ◌∙◌, subst, unwrap_or, arith}
-use Rattle.std.proofs.lemmas.Bool.{and_parts}
+use Rattle.std.proofs.lemmas.Bool.{and_parts, false≢true}
 use Rattle.std.proofs.lemmas.Option.{none-some, same_Some}
 use Rattle.life_types.specs.Pointees.{or_void, ty_of}
 use Rattle.life_types.specs.TypeTests.{is_void}
@@ -8,7 +8,7 @@ use Rattle.life_types.specs.Types.{Types, class, class_at}
 use Rattle.life_types.specs.declared.ty.Ty.{Ty}
 use Rattle.life_types.specs.declared.ty.Ty.TheVariants as ty
 use Rattle.life_types.specs.declared.ty.TyId.{TyId}
-use Rattle.life_served.specs.Served.{are_served_variables, is_served_function, is_served_result, is_served_statement, are_served_parameters, is_served_parameter}
+use Rattle.life_served.specs.Served.{are_served_variables, is_served_function, is_served_result, is_served_statement, are_served_parameters, is_served_parameter, is_walker_of_values}
 use Rattle.life_typed.specs.BaseTypes.{type_at}
 use Rattle.life_typed.specs.Ends.{ends}
 use Rattle.life_typed.specs.Programs.{FunctionForm, ProgramForm, is_main}
@@ -27,7 +27,7 @@ use Rattle.life_elab_laws.proofs.Beginning.{parameter_locals, parameters_front, 
 use Rattle.life_elab_laws.proofs.Calls.{IsCallee}
 use Rattle.life_elab_laws.proofs.Fronts.{IsFront, front_cut, front_then}
 use Rattle.life_elab_laws.proofs.HandedTypes.{IsHandedType, handed_later, handed_type}
-use Rattle.life_elab_laws.proofs.ResultTypes.{IsResultType, gives_alias, gives_nothing, gives_raw, gives_reference, gives_value, gives_view, past_end, result_is}
+use Rattle.life_elab_laws.proofs.ResultTypes.{IsResultType, gives_alias, gives_walker, gives_nothing, gives_raw, gives_reference, gives_value, gives_view, past_end, result_is}
 use Rattle.life_elab_laws.proofs.Setting.{GivesBack, asked, unasked}
 use Rattle.life_elab_laws.proofs.Types.{value_class}
 use Rattle.life_core.specs.declared.program.LocalKind.TheVariants.{Register}
@@ -138,6 +138,12 @@ module _ (p : ProgramForm) (of : FunctionForm) (T types : Types) (core : Functio
         where
           clash : ty.Int ≡ ty.Raw target constant → ⊥
           clash e = cc
+      go (gives_walker w) = pointing (walker_some (type_at p.types of.result) w) (λ int. false≢true (subst (λ (t : Ty). is_walker_of_values p.types t ≡ true) int w))
+        where
+          walker_some : (t : Ty) → is_walker_of_values p.types t ≡ true → is_void t ≡ false
+          walker_some (ty.Iterator target constant) w = refl
+          walker_some (ty.Span target constant) w = refl
+          walker_some _ w = absurd (false≢true w)
       go (gives_view view) = pointing (ap is_void view) (λ int. clash (sym int ∙ view))
         where
           clash : ty.Int ≡ ty.View → ⊥

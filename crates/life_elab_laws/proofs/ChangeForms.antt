@@ -126,10 +126,22 @@ module _ (a : Around) (visible : List ℕ) (types : Types) (texts : ℕ) (fs : L
     reserved_part (x ⨟ more) d place s givings taken change stands =
         let number = taken_number a.program.types ty.Size (typed_in x) refl (and_parts (is_taken a.program.types (Some ty.Size) (typed_in x)) _ taken).0 in
         numbered_part place ty.Size (value (uses a x) (behind_first d) ty.Size None) Reserve s stands (λ s stands. (giving_number a visible types texts fs f setting x givings.0 number).valued number (behind_first d) ty.Size refl None s tt stands)
-        (λ r h. (change r h, record { uses = refl; leaves = refl; writes = refl; given = refl; served = refl }))
+        (λ r h. (change r h, record { uses = refl; leaves = refl; writes = refl; given = refl }))
     reserved_part _ d place s givings taken change stands = absurd givings
 
   -- ---- a statement
+
+  -- what has no value is done alone
+  pub alone_written : (form : Form) (e : Typed) (behind : Place) (s : State) → e.form ≡ form → IsAnswer (Of ty.Void, category.Value) e → Writes s ((uses a (typed e.place (Of ty.Void) category.Value form)).alone s) → Writes s (thrown e.category (uses a (whole_form e)) behind s)
+  alone_written form e behind s same c writes =
+      let x = gives_as (Of ty.Void, category.Value) e c in
+      subst (Writes s)
+      (sym (ap (λ (k : Category). thrown k (uses a (whole_form e)) behind s) x.1
+      ∙ ap (λ (y : ExprType). cond (is_void (own_type y)) ((uses a (whole_form e)).alone s) (thrown_by (class (Some (own_type y))) (uses a (whole_form e)) behind s)) x.0
+      ∙ ap (λ (y : ExprType). (uses a (typed e.place y e.category e.form)).alone s) x.0
+      ∙ ap (λ (k : Category). (uses a (typed e.place (Of ty.Void) k e.form)).alone s) x.1
+      ∙ ap (λ (g : Form). (uses a (typed e.place (Of ty.Void) category.Value g)).alone s) same))
+      writes
 
   pub change_part : (base : Form) (m : Method) (given : Form) (d : DelimitersForm) (e : Typed) (behind : Place) (s : State) → e.form ≡ method base m given d → IsObject a visible types texts fs f setting base
       → AreGiving a visible types texts fs f setting given → is_changing m ≡ true → IsCalled a.program.types (typed_in base).ty (typed_in base).category m given e → Standing a visible types texts fs f setting s
@@ -139,17 +151,8 @@ module _ (a : Around) (visible : List ℕ) (types : Types) (texts : ℕ) (fs : L
       free : const_or (is_constant (typed_in base).category) None ≡ None → is.constant ≡ false
       free none = sym (ap is_constant is.place) ∙ no_const (is_constant (typed_in base).category) none
 
-      -- what has no value is done alone
       alone : (m : Method) → e.form ≡ method base m given d → IsAnswer (Of ty.Void, category.Value) e → Writes s ((uses a (typed e.place (Of ty.Void) category.Value (method base m given d))).alone s) → Writes s (thrown e.category (uses a (whole_form e)) behind s)
-      alone m same c writes =
-          let x = gives_as (Of ty.Void, category.Value) e c in
-          subst (Writes s)
-          (sym (ap (λ (k : Category). thrown k (uses a (whole_form e)) behind s) x.1
-          ∙ ap (λ (y : ExprType). cond (is_void (own_type y)) ((uses a (whole_form e)).alone s) (thrown_by (class (Some (own_type y))) (uses a (whole_form e)) behind s)) x.0
-          ∙ ap (λ (y : ExprType). (uses a (typed e.place y e.category e.form)).alone s) x.0
-          ∙ ap (λ (k : Category). (uses a (typed e.place (Of ty.Void) k e.form)).alone s) x.1
-          ∙ ap (λ (g : Form). (uses a (typed e.place (Of ty.Void) category.Value g)).alone s) same))
-          writes
+      alone m same c writes = alone_written (method base m given d) e behind s same c writes
 
       -- the change of this type
       as_change : (t : Ty) → is.ty ≡ t → (c : Change) → is_change_of types texts fs f t c ≡ true → is_change_of types texts fs f is.ty c ≡ true
@@ -165,7 +168,7 @@ module _ (a : Around) (visible : List ℕ) (types : Types) (texts : ℕ) (fs : L
           → IsAnswer (Of ty.Void, category.Value) e → Writes s (thrown e.category (uses a (whole_form e)) behind s)
       clears t at change same fault c =
           alone methods.Clear same c
-          (changed_part base is (free (changes_free methods.Clear (typed_in base).category refl fault)) e.place Clear s (as_change t at Clear change) (record { uses = refl; leaves = refl; writes = refl; given = refl; served = refl }) stands)
+          (changed_part base is (free (changes_free methods.Clear (typed_in base).category refl fault)) e.place Clear s (as_change t at Clear change) (record { uses = refl; leaves = refl; writes = refl; given = refl }) stands)
 
       go : (t : Ty) → is.ty ≡ t → is_owner_of_values a.program.types t ≡ true → (m : Method) → e.form ≡ method base m given d → is_changing m ≡ true → IsCalled a.program.types (Of t) (typed_in base).category m given e → Writes s (thrown e.category (uses a (whole_form e)) behind s)
       go ty.Text at o methods.PushBack same b c = pushes ty.Text at same c.0 c.1 c.2
@@ -177,7 +180,7 @@ module _ (a : Around) (visible : List ℕ) (types : Types) (texts : ℕ) (fs : L
       go (ty.Vector item) at o methods.Clear same b c = clears (ty.Vector item) at refl same c.0 c.2
       go (ty.Vector item) at o methods.PopBack same b c =
           alone methods.PopBack same c.2
-          (changed_part base is (free (changes_free methods.PopBack (typed_in base).category refl c.0)) e.place PopBack s (as_change (ty.Vector item) at PopBack refl) (record { uses = refl; leaves = refl; writes = refl; given = refl; served = refl }) stands)
+          (changed_part base is (free (changes_free methods.PopBack (typed_in base).category refl c.0)) e.place PopBack s (as_change (ty.Vector item) at PopBack refl) (record { uses = refl; leaves = refl; writes = refl; given = refl }) stands)
       go (ty.Vector item) at o methods.Reserve same b c =
           alone methods.Reserve same c.2
           (reserved_part base is (free (changes_free methods.Reserve (typed_in base).category refl c.0)) given d e.place s givings c.1 (λ r h. as_change (ty.Vector item) at (Reserve r) h) stands)

@@ -26,7 +26,6 @@ use Rattle.life_elab_laws.proofs.Instructions.{acted_typed_part}
 use Rattle.life_elab_laws.proofs.Making.{AreHeld, IsPlace}
 use Rattle.life_elab_laws.proofs.Parts.{Part}
 use Rattle.life_elab_laws.proofs.Shaping.{is_no_object}
-use Rattle.life_core_served.specs.Served.{is_served_change, is_served_operand}
 
 -- what a change takes: locals that stay, and none of them an object that is given over
 pub record Takes (types : Types) (f : Function) (c : Change) (taken : List ℕ) : Type 0 where
@@ -34,7 +33,6 @@ pub record Takes (types : Types) (f : Function) (c : Change) (taken : List ℕ) 
   pub leaves : change_leaves f c ≡ []
   pub writes : change_writes c ≡ []
   pub given : list_all (is_no_object types f) (given_change c) ≡ true
-  pub served : is_served_change c ≡ true
 
 -- a register is no object
 pub register_no_object : (f : Function) (r : ℕ) → is_register_at f r ≡ true → is_object_at f r ≡ false
@@ -47,7 +45,6 @@ push_takes types f t r number = record {
   leaves = ap (λ (b : Bool). cond b (r ∷ []) []) plain;
   writes = refl;
   given = and_from (not (is_object_at f r)) true (ap not plain) refl;
-  served = refl;
 }
   where
     plain : is_object_at f r ≡ false
@@ -64,7 +61,6 @@ module _ (types : Types) (texts : ℕ) (fs : List Function) (f : Function) where
         record {
           given = and_from (list_all (is_no_object types f) (given_change c)) true is.2.given refl;
           formed = and_from (is_change_of types texts fs f (type_of types f o) c) (not (is_const_place types f o)) (ap (λ (u : Ty). is_change_of types texts fs f u c) is.0.typed ∙ is.1) is.0.held;
-          served = and_from (is_served_operand o) (is_served_change c) is.0.served is.2.served;
         },
         λ n k q. let there = ready n k q in (
           ap (are_ready k) (touches is.2)

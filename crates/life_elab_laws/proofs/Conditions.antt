@@ -10,7 +10,6 @@ use Rattle.life_types.specs.declared.ty.Ty.{Ty}
 use Rattle.life_core.specs.Function.{Function}
 use Rattle.life_core.specs.Operands.{Location}
 use Rattle.life_core.specs.Step.{NonZero, NotNull, Test}
-use Rattle.life_core_served.specs.Served.{is_served_test}
 use Rattle.life_core.specs.Tree.{Question, Acts, Asks, Both, Choice, Either, Then, Tree, trees}
 use Rattle.life_proper.specs.Knowing.{agreed_all, known_at}
 use Rattle.life_proper.specs.Placed.{is_number_of, type_in}
@@ -108,7 +107,7 @@ module _ (types : Types) (texts : ℕ) (fs : List Function) (f : Function) where
   -- of what a part gives
   module _ {A : Type 0} (place : Place) (test : A → Test) (s : State) (w : Gives A) (Q : Gift types texts fs f A)
       (ready : (x : A) (n : ℕ) (k j : List Known) → Q.typed x → Q.ready x n k → Spares k j → is_node_ready types f j (Question (test x)) ≡ true)
-      (formed : (x : A) → Q.typed x → (is_well_formed_test types texts fs f (test x) ≡ true) × (is_served_test types f (test x) ≡ true)) (made : Makes types texts fs f None (with_code [] s) w Q) where
+      (formed : (x : A) → Q.typed x → is_well_formed_test types texts fs f (test x) ≡ true) (made : Makes types texts fs f None (with_code [] s) w Q) where
     -- where nothing ends
     lasting_tests : Tests None s (behind_code place (test w.given) (taken s w.state))
     lasting_tests = record {
@@ -121,7 +120,7 @@ module _ (types : Types) (texts : ℕ) (fs : List Function) (f : Function) where
       where
         all : Runs types texts fs f (nothing types texts fs f) tt None (with_code [] s) w Q made.code → AsksAll s w.state (Then (trees made.code) (Asks place (test w.given)))
         all r = record {
-          fine = fine_behind types texts fs f made.code (Asks place (test w.given)) r.fine (let is = formed w.given r.typed in fine_asks types texts fs f place (test w.given) is.0 is.1);
+          fine = fine_behind types texts fs f made.code (Asks place (test w.given)) r.fine (fine_asks types texts fs f place (test w.given) (formed w.given r.typed));
           goes = λ k alive. let g = r.goes k alive tt in record {
             on = g.after;
             off = g.after;
@@ -156,7 +155,7 @@ module _ (types : Types) (texts : ℕ) (fs : List Function) (f : Function) where
           all b r = record {
             fine = fine_behind types texts fs f (made.code ++ end_code) (Asks place (test w.given))
                 (fine_append types texts fs f made.code end_code r.fine (ends_fine types texts fs f s w.state made.grown before token b can))
-                (let is = formed w.given r.typed in fine_asks types texts fs f place (test w.given) is.0 is.1);
+                (fine_asks types texts fs f place (test w.given) (formed w.given r.typed));
             goes = λ k alive. went k (r.goes k alive tt);
           }
             where
@@ -211,14 +210,14 @@ module _ (types : Types) (texts : ℕ) (fs : List Function) (f : Function) where
       → Makes types texts fs f None (with_code [] s) (value (with_code [] s)) (a_number types texts fs f t) → Tests ends s (non_zero place ends value s)
   non_zero_part place ends t value s before can made =
       tested_part place NonZero s (value (with_code [] s)) (a_number types texts fs f t)
-      (λ r n k j number h spares. uses_ready j (r ∷ []) [] (one_there j r (number_spared t r k j number spares h.1))) (λ r h. (number_any types f t r h, refl)) made ends before can
+      (λ r n k j number h spares. uses_ready j (r ∷ []) [] (one_there j r (number_spared t r k j number spares h.1))) (λ r h. number_any types f t r h) made ends before can
 
   pub not_null_part : (place : Place) (ends : Option Place) (t : Ty) (pointer : State → Gives Location) (s : State) → is_raw t ≡ true → ArePending s → TemporariesEnd types texts fs f
       → Makes types texts fs f None (with_code [] s) (pointer (with_code [] s)) (a_pointer types texts fs f t) → Tests ends s (not_null place ends pointer s)
   not_null_part place ends t pointer s raw before can made =
       tested_part place NotNull s (pointer (with_code [] s)) (a_pointer types texts fs f t)
       (λ l n k j at h spares. uses_ready j (l.local ∷ []) [] (one_there j l.local (pointer_spared l t n k j raw at.typed h spares)))
-      (λ l h. (or_left (is_raw (type_in types f l)) (is_unique (type_in types f l)) (ap is_raw h.typed ∙ raw), h.served)) made ends before can
+      (λ l h. or_left (is_raw (type_in types f l)) (is_unique (type_in types f l)) (ap is_raw h.typed ∙ raw)) made ends before can
 
   -- ---- conditions of others
 

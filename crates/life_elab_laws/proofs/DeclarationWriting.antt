@@ -1,10 +1,12 @@
 -- What is written for a declaration is ready and well formed: the variable lives, and is given what typing lets it be given.
-use Rattle.std.proofs.Common.{◌≡◌, ◌<◌, ℕ, Bool, true, false, ◌&&◌, ◌||◌, cond, not, List, [], ◌∷◌, ◌++◌, length, slice_get, Option, Some, None, refl, sym, ap, ◌∙◌, subst, unwrap_or, arith, append_assoc, inl, inr, nat_lt}
+use Rattle.std.proofs.Common.{◌≡◌, ◌<◌, ℕ, Bool, true, false, ◌&&◌, ◌||◌, cond, not, List, [], ◌∷◌, ◌++◌, Contains, length, slice_get, Option, Some, None, refl, sym, ap, ◌∙◌, subst, unwrap_or, arith, append_assoc, inl, inr, nat_lt}
 use Rattle.std.proofs.lemmas.Bool.{and_parts, false≢true, or_cases, and_from}
 use Rattle.std.specs.List.{list_all}
-use Rattle.life_served.specs.Served.{is_owner_of_values, is_owner_type, is_served_declaration, is_served_declared, is_served_expression, is_served_initial, is_served_owned, is_served_owner, is_served_variable, is_served_walker, is_text_there, is_vector, is_walker, is_walker_of_values, owns_elements, is_served_owning, are_served_elements, is_element, is_target, takes_owner}
+use Rattle.life_served.specs.Served.{is_owner_of_values, is_owner_type, is_served_declaration, is_served_declared, is_served_expression, is_served_initial, is_served_owned, is_served_owner, is_served_variable, is_served_walker, is_walker, is_walker_of_values, owns_elements, is_served_owning, are_served_elements, is_element, is_target, takes_list, takes_owner, fills_owner}
+use Rattle.std.proofs.lemmas.Option.{slice_get_within}
+use Rattle.life_served.specs.Served.{fills_unique}
 use Rattle.life_types.specs.Pointees.{ty_of}
-use Rattle.life_types.specs.TypeTests.{is_value, is_view}
+use Rattle.life_types.specs.TypeTests.{is_value, is_view, is_unique}
 use Rattle.life_types.specs.Types.{Types}
 use Rattle.life_types.specs.contracts.ty.TyPartialEq.TheImpl.{ghosts as compared}
 use Rattle.life_types.specs.declared.place.Place.{Place}
@@ -14,7 +16,7 @@ use Rattle.life_types.specs.declared.ty.TyId.{TyId}
 use Rattle.life_typed.specs.BaseTypes.{type_at}
 use Rattle.life_typed.specs.Conversions.{is_place, fits, is_place_of}
 use Rattle.life_typed.specs.Programs.{FunctionForm}
-use Rattle.life_typed.specs.TypedForm.{Typed, whole as whole_form, Form, forms, text, typed}
+use Rattle.life_typed.specs.TypedForm.{Typed, whole as whole_form, Form, forms, make_unique, move, null, text, typed}
 use Rattle.life_typed.specs.TypedStatement.{DeclarationForm, InitialForm, one, several, ListForm}
 use Rattle.life_typed.specs.declared.typed_expr.Category.TheVariants as category
 use Rattle.life_typed.specs.declared.typed_program.TypedLocal.{TypedLocal}
@@ -28,7 +30,7 @@ use Rattle.life_proper.specs.declared.known.Known.{Known}
 use Rattle.life_proper.specs.declared.known.Known.TheVariants as known
 use Rattle.life_proper.specs.GivenOver.{given_step}
 use Rattle.life_proper.specs.Knowing.{known_at}
-use Rattle.life_proper.specs.OperandTypes.{is_range, keeps_const, same, takes}
+use Rattle.life_proper.specs.OperandTypes.{is_range, keeps_const, same, takes, is_owner}
 use Rattle.life_proper.specs.WellFormed.{can_live, goes_to, is_source_of, is_change_of}
 use Rattle.life_well_typed.specs.Expressions.{IsExpression, parameter_types, IsMadeOf}
 use Rattle.life_well_typed.specs.Given.{is_given, is_number}
@@ -37,15 +39,16 @@ use Rattle.life_well_typed.specs.Visible.{Visible, with_next}
 use Rattle.life_writer.specs.Around.{Around, own_type, type_of}
 use Rattle.life_writer.specs.Around as around
 use Rattle.life_writer.specs.Calls.{Called, call_for, called, form_call}
-use Rattle.life_writer.specs.ExpressionForms.{all_uses, uses}
+use Rattle.life_writer.specs.ExpressionForms.{all_uses, uses, uses_if}
 use Rattle.life_writer.specs.Giving.{aimed_at, call_to, initial, value_by, object_by}
 use Rattle.life_writer.specs.Giving as giving
 use Rattle.life_writer.specs.Building.{live}
 use Rattle.life_writer.specs.Pointers.{aimed, pointed, located}
 use Rattle.life_writer.specs.Temporaries.{scoped}
 use Rattle.life_writer.specs.Using.{pointing, value}
-use Rattle.life_writer.specs.Variables.{end_pending, variable_local}
-use Rattle.life_writer.specs.Uses.{Remaining}
+use Rattle.life_writer.specs.OwnerForms.{made_at, moved_out_of, owned_operand}
+use Rattle.life_writer.specs.Variables.{end_pending, variable, variable_local}
+use Rattle.life_writer.specs.Uses.{Remaining, Uses}
 use Rattle.life_writer.specs.Writing.{State, Gives, ◌>>◌, emit, gives, mapped, with_code}
 use Rattle.life_elab.specs.DeclarationForms.{declared, declared_as, default_to, empty, given_initial}
 use Rattle.life_elab.specs.Declarations.{variable as home}
@@ -62,25 +65,27 @@ use Rattle.life_elab_laws.proofs.Expressions.{owner_expression, walker_expressio
 use Rattle.life_elab_laws.proofs.PointerForms.{points_whole, result_later}
 use Rattle.life_elab_laws.proofs.GivenKinds.{given_number, given_pointer, given_view}
 use Rattle.life_elab_laws.proofs.Falling.{Fills, falls_filling}
-use Rattle.life_elab_laws.proofs.Following.{Follows, follows_settled, settled}
+use Rattle.life_elab_laws.proofs.Following.{Follows, follows_settled, same_variable, settled}
 use Rattle.life_elab_laws.proofs.Filling.{aimed_filling, filling_fills, text_filling}
 use Rattle.life_elab_laws.proofs.FormedFits.{IsBound, IsBoundTo, at_place, by_temporary, given_bound, given_raw, given_seen, given_owner, given_string, given_vector, given_walker}
-use Rattle.life_elab_laws.proofs.Gifts.{Gift, a_number, a_place, a_pointing, arguments, nothing, takes_from, a_pointer}
+use Rattle.life_elab_laws.proofs.Gifts.{a_number, a_place, a_pointer, a_pointing, arguments, both, Gift, nothing, takes_from}
 use Rattle.life_elab_laws.proofs.GivenApart.{given_of, looked_of, step_apart}
+use Rattle.life_elab_laws.proofs.Fronts.{front_append}
 use Rattle.life_elab_laws.proofs.Growing.{Begins, Grows}
 use Rattle.life_elab_laws.proofs.KeptTemporaries.{temporary_does}
 use Rattle.life_elab_laws.proofs.Locations.{is_location, is_pointed, seen_pointed}
-use Rattle.life_elab_laws.proofs.NewVariables.{bound_given, location_declared, owner_lives, raw_lives, reference_declared, reference_kept, value_goes, value_lives, value_saved, owner_declared, location_lives}
+use Rattle.life_elab_laws.proofs.NewVariables.{bound_given, location_declared, object_lives, object_placed, owner_lives, raw_lives, reference_declared, reference_kept, value_goes, value_lives, value_saved, owner_declared, location_lives}
 use Rattle.life_elab_laws.proofs.Parts.{Makes, leaf_part, then_part}
 use Rattle.life_elab_laws.proofs.Saving.{live_fills, saved_falls}
 use Rattle.life_elab_laws.proofs.Setting.{Setting}
-use Rattle.life_elab_laws.proofs.Shaping.{IsFineStep, fine_acts, fine_append, is_no_object, keeps_its_target}
-use Rattle.life_elab_laws.proofs.TypedKinds.{none_some}
+use Rattle.life_elab_laws.proofs.Shaping.{fine_acts, fine_append, is_no_object, IsFineStep, step_keeps}
+use Rattle.life_elab_laws.proofs.TypedKinds.{none_some, value_simple}
 use Rattle.life_elab_laws.proofs.Types.{same_types}
 use Rattle.life_elab_laws.proofs.Values.{by_values}
-use Rattle.life_elab_laws.proofs.VariablePlaces.{IsVariableType, a_raw, an_alias, a_reference, a_value, a_view, an_owner, owner_is, variable_type, a_walker, walker_is}
-use Rattle.life_elab_laws.proofs.MadeForms.{Builds, BuildsIn, IsMade, IsOwning, gift_of, is_made, owning_owner, stands_there}
-use Rattle.life_elab_laws.proofs.ObjectForms.{IsObject, IsOwner}
+use Rattle.life_elab_laws.proofs.MadeForms.{Builds, BuildsIn, gift_of, is_made, IsMade, IsOwning, owning_owner, stands_there}
+use Rattle.life_elab_laws.proofs.VariablePlaces.{a_raw, a_reference, a_unique, a_value, a_view, a_walker, an_alias, an_owner, IsVariableType, owner_is, variable_type, walker_is}
+use Rattle.life_elab_laws.proofs.ObjectForms.{IsObject, IsOwner, other_number}
+use Rattle.life_elab_laws.proofs.MovedOwners.{IsMovedFrom, given_moved, moved_from_variable, moved_kind, moved_out_part, moved_plain}
 use Rattle.life_elab_laws.proofs.OwnerBirths.{lives_then}
 use Rattle.life_elab_laws.proofs.OwnerSteps.{copy_fine, place_held}
 use Rattle.life_elab_laws.proofs.SeenForms.{string_points}
@@ -96,16 +101,22 @@ use Rattle.life_type_expr.specs.Lists.{fits_at_all}
 use Rattle.life_elab_laws.proofs.WalkerForms.{IsWalker, vector_points, walker_points}
 use Rattle.life_elab_laws.proofs.WalkerSteps.{keeps_itself}
 use Rattle.life_elab_laws.proofs.ListForms.{list_builds}
-use Rattle.life_well_typed.specs.Members.{is_listed}
+use Rattle.life_well_typed.specs.Members.{is_listed, makes_object}
 use Rattle.life_writer.specs.Initialising.{initialised}
 use Rattle.life_writer.specs.Lists.{built_type, list_object, listed}
 use Rattle.life_elab_laws.proofs.TemporaryEnds.{TemporariesEnd, temporary_ends}
-use Rattle.life_core_served.specs.Served.{is_served_change, is_served_operand}
 use Rattle.life_elab_laws.proofs.Elements.{one_element}
 use Rattle.life_elab_laws.proofs.PushedElements.{AreGiving}
 use Rattle.life_elab_laws.proofs.AliasForms.{IsAliased, owning_aliased, value_reference_refused, whole_aliased, to_built, to_place}
 use Rattle.life_elab_laws.proofs.BoundOwners.{bound_owner_does}
 use Rattle.life_elab_laws.proofs.Targets.{owner_target, value_target}
+use Rattle.life_elab_laws.proofs.Making.{AreHeld}
+use Rattle.life_elab_laws.proofs.UniqueSteps.{IsMadeFor, a_made, made_uses_of, makes_part, null_fits}
+use Rattle.life_elab_laws.proofs.UniqueMaking.{IsOwnedBy, made_as}
+use Rattle.life_core.specs.declared.instr.Made.{Made}
+use Rattle.life_core.specs.declared.instr.Made.TheVariants as owning
+use Rattle.life_elab_laws.proofs.UniqueForms.{owner_no_unique, walker_no_unique}
+use Rattle.life_elab_laws.proofs.MoveSteps.{owner_moves}
 
 module _ (a : Around) (types : Types) (texts : ℕ) (fs : List Function) (f : Function) (setting : Setting a types fs f) (v : Visible) (in_loop : Bool) where
   module _ (u : TypedLocal) (s : State) (h : Follows types f a v s) (at : slice_get a.function.locals v.declared ≡ Some u) (built : is_served_variable a.program.types u.ty ≡ true) (last : Place) where
@@ -134,7 +145,7 @@ module _ (a : Around) (types : Types) (texts : ℕ) (fs : List Function) (f : Fu
     -- ---- it comes to life
 
     live_fine : (s' : State) → can_live types texts fs f (length s'.locals) ≡ true → IsFineStep types texts fs f (Live (length s'.locals) Plain)
-    live_fine s' lives = record { given = refl; formed = lives; served = refl }
+    live_fine s' lives = record { given = refl; formed = lives }
 
     live_does : (New s → can_live types texts fs f (length s.locals) ≡ true) → Born (live (home a u) s).state
     live_does lives =
@@ -189,7 +200,7 @@ module _ (a : Around) (types : Types) (texts : ℕ) (fs : List Function) (f : Fu
         (λ b q k alive r blank.
         new_then f (variable_local a u) w.state (looked_of (trees (Acts place (step w.given (whole x)) ∷ []))) (given_of (trees (Acts place (step w.given (whole x)) ∷ [])))
         (step_apart f types (step w.given (whole x)) place w.state k alive (fills b k r blank).ready
-        (and_parts (list_all (is_no_object types f) (given_step (step w.given (whole x)))) (keeps_its_target (step w.given (whole x))) (fits b q).given).0))
+        (and_parts (list_all (is_no_object types f) (given_step (step w.given (whole x)))) (step_keeps f (step w.given (whole x))) (fits b q).given).0))
 
     -- a call, where it gives the variable's type
     called_does : (t : Ty) → slice_get a.program.types.types u.ty.0 ≡ Some t → is_value t ≡ true → (g : ℕ) (of : FunctionForm) (place : Place) → slice_get a.program.functions g ≡ Some of
@@ -229,7 +240,6 @@ module _ (a : Around) (types : Types) (texts : ℕ) (fs : List Function) (f : Fu
           formed =
               ap (λ (t : Ty). is_source_of types texts fs f t (Aimed w.given)) (reference_declared a types texts fs f setting.front u w.state b target constant is wide)
               ∙ bound_given a types texts fs f setting.front target constant held w.given wide kept q;
-          served = q.served;
         })
         (λ b k q blank. filling_fills f (λ p. Aim p (Aimed w.given)) (length w.state.locals) k (aimed_filling f w.given (length w.state.locals) k q) (length w.state.locals) (reference_kept a types texts fs f setting.front u w.state b target constant is wide)))
 
@@ -309,7 +319,7 @@ module _ (a : Around) (types : Types) (texts : ℕ) (fs : List Function) (f : Fu
       reference_does target constant is worth bound =
           aimed_does e behind target constant bound.held is (value_target a.program.types (type_at a.program.types target) worth) bound.here bound.kept (whole_is.names target bound.held bound.place worth s h.stands)
 
-      one_does : not (owns_elements (type_of a u.ty) || is_walker (type_of a u.ty)) ≡ true → is_given a.program.types (type_of a u.ty) e ≡ true → Born (GivenOne (type_of a u.ty))
+      one_does : not (owns_elements (type_of a u.ty) || (is_walker (type_of a u.ty) || is_unique (type_of a u.ty))) ≡ true → is_given a.program.types (type_of a u.ty) e ≡ true → Born (GivenOne (type_of a u.ty))
       one_does plain given = go (variable_type a.program.types u.ty built)
         where
           as_given : (t : Ty) → slice_get a.program.types.types u.ty.0 ≡ Some t → is_given a.program.types t e ≡ true
@@ -324,8 +334,9 @@ module _ (a : Around) (types : Types) (texts : ℕ) (fs : List Function) (f : Fu
           go (a_view is) = as_type ty.View is (view_does is (as_given ty.View is))
           go (a_walker t is w) =
               let seen = walker_is a.program.types t w in
-              absurd (false≢true (sym (ap (λ (x : Ty). not (owns_elements x || is_walker x)) (type_is t is) ∙ ap (λ (b : Bool). not (b || is_walker t)) seen.owner ∙ ap not seen.walker) ∙ plain))
-          go (an_owner t is o) = absurd (false≢true (sym (ap (λ (x : Ty). not (owns_elements x || is_walker x)) (type_is t is) ∙ ap (λ (b : Bool). not (b || is_walker t)) (owner_is a.program.types t o)) ∙ plain))
+              absurd (false≢true (sym (ap (λ (x : Ty). not (owns_elements x || (is_walker x || is_unique x))) (type_is t is) ∙ ap (λ (b : Bool). not (b || (is_walker t || is_unique t))) seen.owner ∙ ap (λ (b : Bool). not (b || is_unique t)) seen.walker) ∙ plain))
+          go (an_owner t is o) = absurd (false≢true (sym (ap (λ (x : Ty). not (owns_elements x || (is_walker x || is_unique x))) (type_is t is) ∙ ap (λ (b : Bool). not (b || (is_walker t || is_unique t))) (owner_is a.program.types t o)) ∙ plain))
+          go (a_unique target is w) = absurd (false≢true (sym (ap (λ (x : Ty). not (owns_elements x || (is_walker x || is_unique x))) (type_is (ty.Unique target) is)) ∙ plain))
           go (an_alias target constant is o) =
               as_type (ty.Reference target constant) is
               (alias_does e behind target constant is o (whole_aliased a v.visible types texts fs f setting (whole_form e) target constant o (as_given (ty.Reference target constant) is) whole_is))
@@ -341,6 +352,12 @@ module _ (a : Around) (types : Types) (texts : ℕ) (fs : List Function) (f : Fu
     module _ (e : Typed) (he : Whole e) (behind : Place) where
       abbrev GivenThis : Ty → State
       GivenThis t = (initial a scoped (uses a (whole_form e)) t behind s >> λ rest s. rest (home a u) s).state
+
+      by_moved : (t : Ty) → is_owner t ≡ true → GivenThis t ≡ (object_by (uses a (whole_form e)).category (uses a (whole_form e)).at (uses a (whole_form e)).object s >> λ rest s. rest (home a u) s).state
+      by_moved ty.Text o = refl
+      by_moved (ty.Vector item) o = refl
+      by_moved (ty.Unique target) o = refl
+      by_moved _ o = absurd (false≢true o)
 
       by_owner : (t : Ty) → is_owner_of_values a.program.types t ≡ true → GivenThis t ≡ (object_by (uses a (whole_form e)).category (uses a (whole_form e)).at (uses a (whole_form e)).object s >> λ rest s. rest (home a u) s).state
       by_owner ty.Text o = refl
@@ -367,7 +384,7 @@ module _ (a : Around) (types : Types) (texts : ℕ) (fs : List Function) (f : Fu
             (lives_then a types texts fs f setting v in_loop last u s h at built u.place w (a_place types texts fs f t from.constant) made (λ x. Copy (object_named x) w.given) (place_uses w.given) (λ x. refl)
             (λ n k q. place_held w.given n k q) (λ x. refl)
             (λ b. owner_lives a types texts fs f setting.front u w.state b t is o)
-            (λ b q. let at = owner_declared a types texts fs f setting.front u w.state b t is o in copy_fine types texts fs f a.program.types t (object_named (length w.state.locals)) w.given o at.typed at.held q.typed at.served q.served))
+            (λ b q. let at = owner_declared a types texts fs f setting.front u w.state b t is o in copy_fine types texts fs f a.program.types t (object_named (length w.state.locals)) w.given o at.typed at.held q.typed))
 
       -- one that is made, where the variable has come to life
       made_does : (t : Ty) → slice_get a.program.types.types u.ty.0 ≡ Some t → is_owner_of_values a.program.types t ≡ true → is_given a.program.types t e ≡ true → IsMade a v.visible types texts fs f setting (whole_form e) → Born (GivenThis t)
@@ -420,8 +437,63 @@ module _ (a : Around) (types : Types) (texts : ℕ) (fs : List Function) (f : Fu
             formed =
                 and_from (is_change_of types texts fs f (type_of_place types f (object_named (length w.state.locals))) (Set (View w.given))) (not (is_const_place types f (object_named (length w.state.locals))))
                 (ap (λ (t : Ty). is_change_of types texts fs f t (Set (View w.given))) at.typed ∙ ap is_view q.typed) at.held;
-            served = and_from (is_served_operand (object_named (length w.state.locals))) (is_served_change (Set (View w.given))) at.served q.served;
           }))
+
+      -- what is moved out of another variable
+      module _ (x : ℕ) (c : Contains v.visible x) (from : IsMovedFrom a v.visible types texts fs f setting x e) where
+        apart_from : variable (emit u.place (Live (length s.locals) Plain) (with_new (variable_local a u) s)) x < length s.locals
+        apart_from =
+            let is = h.stands.seen x from.source c from.found in
+            subst (λ (y : ℕ). y < length s.locals)
+            (sym (same_variable types f s (with_new (variable_local a u) s) x (front_append s.variables (length s.locals ∷ [])) (omega (arith, h.visible x c, h.count))))
+            (slice_get_within s.locals (variable s x) is.local is.there)
+
+        moved_does : e.form ≡ move x → (t : Ty) → slice_get a.program.types.types u.ty.0 ≡ Some t → is_owner t ≡ true → is_given a.program.types t e ≡ true → Born (GivenThis t)
+        moved_does same t is o given =
+            let n = length s.locals in
+            let one : from.ty ≡ t = given_moved a v.visible types texts fs f setting t from.ty e o from.owner from.is given in
+            let found : slice_get a.program.types.types u.ty.0 ≡ Some from.ty = is ∙ ap Some (sym one) in
+            subst Born (sym (by_moved t o
+            ∙ ap (λ (c : Category). (object_by c (uses a (whole_form e)).at (uses a (whole_form e)).object s >> λ rest s. rest (home a u) s).state) from.value
+            ∙ ap (λ (g : Form). ((uses a (typed e.place e.ty e.category g)).object s >> λ rest s. rest (home a u) s).state) same))
+            (built_does a types texts fs f setting v in_loop last u s h at built (gives tt s) (nothing types texts fs f)
+            (leaf_part types texts fs f tt s (nothing types texts fs f) (λ b. tt) (λ b k alive. tt)) Plain from.ty
+            (moved_out_of e.place x u.place (object_named n))
+            (λ b. object_lives a types texts fs f setting.front u s b from.ty found (moved_kind a v.visible types texts fs f setting from.ty from.owner))
+            (λ b. object_placed a types texts fs f setting.front u s b from.ty found (moved_kind a v.visible types texts fs f setting from.ty from.owner) (moved_plain a v.visible types texts fs f setting from.ty from.owner))
+            (λ stands.
+            let begun = emit u.place (Live n Plain) (with_new (variable_local a u) s) in
+            moved_out_part a v.visible types texts fs f setting x e from c e.place (object_named n) u.place begun stands (other_number n (variable begun x) (λ e. omega (arith, e, apart_from)))))
+
+      -- ---- a unique_ptr
+
+      -- built behind what was found first
+      filled_unique : {A : Type 0} (target : TyId) → slice_get a.program.types.types u.ty.0 ≡ Some (ty.Unique target) → (w : Gives A) (Q : Gift types texts fs f A) → Makes types texts fs f None s w Q → (place : Place) (what : Made) (used : List ℕ)
+          → (Q.typed w.given → IsMadeFor types texts fs f setting.registers target what used) → ((n : ℕ) (k : List Known) → Q.ready w.given n k → AreHeld used n k)
+          → Born (made_at place what u.place (object_named (length w.state.locals)) (emit u.place (Live (length w.state.locals) Plain) (with_new (variable_local a u) w.state)))
+      filled_unique target is w Q found place what used fits ready =
+          built_does a types texts fs f setting v in_loop last u s h at built w Q found Plain (ty.Unique target)
+          (made_at place what u.place (object_named (length w.state.locals)))
+          (λ b. object_lives a types texts fs f setting.front u w.state b (ty.Unique target) is refl)
+          (λ b. object_placed a types texts fs f setting.front u w.state b (ty.Unique target) is refl refl)
+          (λ stands.
+          makes_part types texts fs f setting.registers (both types texts fs f Q (a_place types texts fs f (ty.Unique target) false)) (w.given, object_named (length w.state.locals)) target what used (length w.state.locals) place
+          (emit u.place (Live (length w.state.locals) Plain) (with_new (variable_local a u) w.state)) (λ q. (q.1, fits q.0)) (λ n k q. (q.1, ready n k q.0)))
+
+      null_does : (target : TyId) → slice_get a.program.types.types u.ty.0 ≡ Some (ty.Unique target) → is_value (type_at a.program.types target) ≡ true → e.form ≡ null → e.category ≡ category.Value → Born (GivenThis (ty.Unique target))
+      null_does target is worth same held =
+          subst Born (sym (ap (λ (c : Category). (object_by c (uses a (whole_form e)).at (uses a (whole_form e)).object s >> λ rest s. rest (home a u) s).state) held
+          ∙ ap (λ (g : Form). ((uses a (typed e.place e.ty e.category g)).object s >> λ rest s. rest (home a u) s).state) same))
+          (filled_unique target is (gives tt s) (nothing types texts fs f) (leaf_part types texts fs f tt s (nothing types texts fs f) (λ b. tt) (λ b k alive. tt)) u.place owning.Null [] (λ q. null_fits types texts fs f setting.registers target) (λ n k q. tt))
+
+      unique_made_does : (target : TyId) → slice_get a.program.types.types u.ty.0 ≡ Some (ty.Unique target) → is_value (type_at a.program.types target) ≡ true → (id : TyId) (argument : Form) (closing : Place) → e.form ≡ make_unique id argument closing → e.category ≡ category.Value
+          → IsOwnedBy a v.visible types texts fs f setting target id argument closing → Born (GivenThis (ty.Unique target))
+      unique_made_does target is worth id argument closing same held owned =
+          let w = owned_operand (type_of a id) (uses_if a argument) closing s in
+          let made = owned.makes s h.stands in
+          subst Born (sym (ap (λ (c : Category). (object_by c (uses a (whole_form e)).at (uses a (whole_form e)).object s >> λ rest s. rest (home a u) s).state) held
+          ∙ ap (λ (g : Form). ((uses a (typed e.place e.ty e.category g)).object s >> λ rest s. rest (home a u) s).state) same))
+          (filled_unique target is w (a_made types texts fs f setting.registers target) made e.place w.given (made_uses_of w.given) (λ q. q) (λ n k q. q))
 
     owned_does : (e : Typed) → (he : Whole e) → (behind : Place) → is_served_owned texts (type_of a u.ty) e ≡ true → is_given a.program.types (type_of a u.ty) e ≡ true → Born (GivenThis e he behind (type_of a u.ty))
     owned_does e he behind b given = elim (or_cases (takes_owner (type_of a u.ty) && is_served_owning texts e) _ b) [
@@ -429,13 +501,18 @@ module _ (a : Around) (types : Types) (texts : ℕ) (fs : List Function) (f : Fu
           let one = and_parts (takes_owner (type_of a u.ty)) (is_owner_type e.ty && is_served_owner texts (whole_form e)) owner in
           let two = and_parts (is_owner_type e.ty) (is_served_owner texts (whole_form e)) one.1 in
           given_owner_does one.0 (owner_expression a v.visible types texts fs f setting (whole_form e) two.1 two.0 he) (variable_type a.program.types u.ty built)
-      | inr other ↦ elim (or_cases (owns_elements (type_of a u.ty) && is_text_there texts e.form) (is_walker (type_of a u.ty) && is_served_walker texts (whole_form e)) other) [
-        | inl literal ↦
-            let one = and_parts (owns_elements (type_of a u.ty)) (is_text_there texts e.form) literal in
-            given_literal_does one.0 e.form refl one.1 he (variable_type a.program.types u.ty built)
-        | inr walks ↦
-            let one = and_parts (is_walker (type_of a u.ty)) (is_served_walker texts (whole_form e)) walks in
-            given_walker_does one.0 (walker_expression a v.visible types texts fs f setting (whole_form e) one.1 he) (variable_type a.program.types u.ty built)
+      | inr other ↦ elim (or_cases (owns_elements (type_of a u.ty) && fills_owner texts e.form) _ other) [
+        | inl fills ↦
+            let one = and_parts (owns_elements (type_of a u.ty)) (fills_owner texts e.form) fills in
+            owner_filled_does one.0 e.form refl one.1 he (variable_type a.program.types u.ty built)
+        | inr others ↦ elim (or_cases (is_walker (type_of a u.ty) && is_served_walker texts (whole_form e)) (is_unique (type_of a u.ty) && fills_unique texts e.form) others) [
+          | inl walks ↦
+              let one = and_parts (is_walker (type_of a u.ty)) (is_served_walker texts (whole_form e)) walks in
+              given_walker_does one.0 (walker_expression a v.visible types texts fs f setting (whole_form e) one.1 he) (variable_type a.program.types u.ty built)
+          | inr fills ↦
+              let one = and_parts (is_unique (type_of a u.ty)) (fills_unique texts e.form) fills in
+              given_unique_does one.0 e.form refl one.1 he (variable_type a.program.types u.ty built)
+        ]
       ]
     ]
       where
@@ -457,6 +534,7 @@ module _ (a : Around) (types : Types) (texts : ℕ) (fs : List Function) (f : Fu
             as_type (ty.Reference target constant) is
             (alias_does e behind target constant is o (owning_aliased a v.visible types texts fs f setting (whole_form e) target constant o (as_given (ty.Reference target constant) is) from))
         given_owner_does p from (a_view is) = as_type ty.View is (string_view_does e he behind (owning_owner a v.visible types texts fs f setting (whole_form e) from) is (as_given ty.View is))
+        given_owner_does p from (a_unique target is w) = refused (ty.Unique target) is refl p
         given_owner_does p from (a_walker (ty.Iterator item constant) is w) = refused (ty.Iterator item constant) is refl p
         given_owner_does p from (a_walker (ty.Span item constant) is w) = as_type (ty.Span item constant) is (span_does e he behind (owning_owner a v.visible types texts fs f setting (whole_form e) from) item constant w is (as_given (ty.Span item constant) is))
         given_owner_does p from (a_walker _ is w) = absurd (false≢true w)
@@ -472,6 +550,7 @@ module _ (a : Around) (types : Types) (texts : ℕ) (fs : List Function) (f : Fu
         given_walker_does p from (a_reference target constant is w) = no_walker (ty.Reference target constant) is refl p
         given_walker_does p from (an_alias target constant is o) = no_walker (ty.Reference target constant) is refl p
         given_walker_does p from (a_view is) = no_walker ty.View is refl p
+        given_walker_does p from (a_unique target is w) = no_walker (ty.Unique target) is refl p
         given_walker_does p from (an_owner ty.Text is o) = no_walker ty.Text is refl p
         given_walker_does p from (an_owner (ty.Vector item) is o) = no_walker (ty.Vector item) is refl p
         given_walker_does p from (an_owner _ is o) = absurd (false≢true o)
@@ -480,14 +559,15 @@ module _ (a : Around) (types : Types) (texts : ℕ) (fs : List Function) (f : Fu
         no_literal : (t : Ty) → slice_get a.program.types.types u.ty.0 ≡ Some t → owns_elements t ≡ false → owns_elements (type_of a u.ty) ≡ true → Born (GivenThis e he behind (type_of a u.ty))
         no_literal t is none p = absurd (false≢true (sym (ap owns_elements (type_is t is) ∙ none) ∙ p))
 
-        given_literal_does : owns_elements (type_of a u.ty) ≡ true → (form : Form) → e.form ≡ form → is_text_there texts form ≡ true → Whole e → IsVariableType a.program.types u.ty → Born (GivenThis e he behind (type_of a u.ty))
-        given_literal_does p (text n) same few made (a_value t is w) = no_literal t is (by_values (λ t. owns_elements t ≡ false) refl refl refl refl refl t w) p
-        given_literal_does p (text n) same few made (a_raw target constant is w) = no_literal (ty.Raw target constant) is refl p
-        given_literal_does p (text n) same few made (a_reference target constant is w) = no_literal (ty.Reference target constant) is refl p
-        given_literal_does p (text n) same few made (an_alias target constant is o) = no_literal (ty.Reference target constant) is refl p
-        given_literal_does p (text n) same few made (a_view is) = no_literal ty.View is refl p
-        given_literal_does p (text n) same few made (a_walker t is w) = no_literal t is (walker_is a.program.types t w).owner p
-        given_literal_does p (text n) same few made (an_owner t is o) =
+        owner_filled_does : owns_elements (type_of a u.ty) ≡ true → (form : Form) → e.form ≡ form → fills_owner texts form ≡ true → Whole e → IsVariableType a.program.types u.ty → Born (GivenThis e he behind (type_of a u.ty))
+        owner_filled_does p (text n) same few made (a_value t is w) = no_literal t is (by_values (λ t. owns_elements t ≡ false) refl refl refl refl refl t w) p
+        owner_filled_does p (text n) same few made (a_raw target constant is w) = no_literal (ty.Raw target constant) is refl p
+        owner_filled_does p (text n) same few made (a_reference target constant is w) = no_literal (ty.Reference target constant) is refl p
+        owner_filled_does p (text n) same few made (an_alias target constant is o) = no_literal (ty.Reference target constant) is refl p
+        owner_filled_does p (text n) same few made (a_unique target is w) = no_literal (ty.Unique target) is refl p
+        owner_filled_does p (text n) same few made (a_view is) = no_literal ty.View is refl p
+        owner_filled_does p (text n) same few made (a_walker t is w) = no_literal t is (walker_is a.program.types t w).owner p
+        owner_filled_does p (text n) same few made (an_owner t is o) =
             let told : IsMadeOf a.program a.function.locals v.visible e (text n) = subst (IsMadeOf a.program a.function.locals v.visible e) same made in
             string_only t is o (subst (λ (x : ExprType). fits_at_all (fits a.program.types t x e.category) ≡ true) told.0 (as_given t is)) told.1
           where
@@ -495,7 +575,39 @@ module _ (a : Around) (types : Types) (texts : ℕ) (fs : List Function) (f : Fu
             string_only ty.Text is o fits held = as_type ty.Text is (literal_does e he behind n same few is held)
             string_only (ty.Vector item) is o fits held = absurd (false≢true fits)
             string_only _ is o fits held = absurd (false≢true o)
-        given_literal_does p _ same few made kind = absurd (false≢true few)
+        owner_filled_does p (move x) same few made (a_value t is w) = no_literal t is (by_values (λ t. owns_elements t ≡ false) refl refl refl refl refl t w) p
+        owner_filled_does p (move x) same few made (a_raw target constant is w) = no_literal (ty.Raw target constant) is refl p
+        owner_filled_does p (move x) same few made (a_reference target constant is w) = no_literal (ty.Reference target constant) is refl p
+        owner_filled_does p (move x) same few made (an_alias target constant is o) = no_literal (ty.Reference target constant) is refl p
+        owner_filled_does p (move x) same few made (a_unique target is w) = no_literal (ty.Unique target) is refl p
+        owner_filled_does p (move x) same few made (a_view is) = no_literal ty.View is refl p
+        owner_filled_does p (move x) same few made (a_walker t is w) = no_literal t is (walker_is a.program.types t w).owner p
+        owner_filled_does p (move x) same few made (an_owner t is o) =
+            let told : IsMadeOf a.program a.function.locals v.visible e (move x) = subst (IsMadeOf a.program a.function.locals v.visible e) same made in
+            as_type t is (moved_does e he behind x told.0 (moved_from_variable a v.visible types texts fs f setting x e told.1) same t is (owner_moves a.program.types t o) (as_given t is))
+        owner_filled_does p _ same few made kind = absurd (false≢true few)
+
+        no_unique : (t : Ty) → slice_get a.program.types.types u.ty.0 ≡ Some t → is_unique t ≡ false → is_unique (type_of a u.ty) ≡ true → Born (GivenThis e he behind (type_of a u.ty))
+        no_unique t is none p = absurd (false≢true (sym (ap is_unique (type_is t is) ∙ none) ∙ p))
+
+        given_unique_does : is_unique (type_of a u.ty) ≡ true → (form : Form) → e.form ≡ form → fills_unique texts form ≡ true → Whole e → IsVariableType a.program.types u.ty → Born (GivenThis e he behind (type_of a u.ty))
+        given_unique_does p form same fills made (a_value t is w) = no_unique t is (value_simple t w).unique p
+        given_unique_does p form same fills made (a_raw target constant is w) = no_unique (ty.Raw target constant) is refl p
+        given_unique_does p form same fills made (a_reference target constant is w) = no_unique (ty.Reference target constant) is refl p
+        given_unique_does p form same fills made (an_alias target constant is o) = no_unique (ty.Reference target constant) is refl p
+        given_unique_does p form same fills made (a_view is) = no_unique ty.View is refl p
+        given_unique_does p form same fills made (a_walker t is w) = no_unique t is (walker_no_unique a.program.types t w) p
+        given_unique_does p form same fills made (an_owner t is o) = no_unique t is (owner_no_unique a.program.types t o) p
+        given_unique_does p form same fills made (a_unique target is w) = as_type (ty.Unique target) is (by form same fills (subst (IsMadeOf a.program a.function.locals v.visible e) same made))
+          where
+            by : (form : Form) → e.form ≡ form → fills_unique texts form ≡ true → IsMadeOf a.program a.function.locals v.visible e form → Born (GivenThis e he behind (ty.Unique target))
+            by null same fills told = null_does e he behind target is w same told.1
+            by (make_unique id argument closing) same fills told =
+                unique_made_does e he behind target is w id argument closing same (ap (λ (y : Typed). y.category) told.0)
+                (made_as a v.visible types texts fs f setting target w id argument closing e fills (as_given (ty.Unique target) is) told)
+            by (move x) same fills told =
+                moved_does e he behind x told.0 (moved_from_variable a v.visible types texts fs f setting x e told.1) same (ty.Unique target) is refl (as_given (ty.Unique target) is)
+            by _ same fills told = absurd (false≢true fills)
 
     -- ---- built variable
 
@@ -506,7 +618,6 @@ module _ (a : Around) (types : Types) (texts : ℕ) (fs : List Function) (f : Fu
         (λ b q. record {
           given = refl;
           formed = ap is_range (location_declared a types texts fs f setting.front u s b t loc is).typed ∙ range;
-          served = refl;
         })
         (λ b k q blank. record { ready = refl; after = refl })
 
@@ -535,6 +646,7 @@ module _ (a : Around) (types : Types) (texts : ℕ) (fs : List Function) (f : Fu
             (live_does (λ b. location_lives a types texts fs f setting.front u s b (ty.Iterator target constant) refl refl refl is))
         go (a_walker (ty.Span target constant) is w) = as_type (ty.Span target constant) is (empty_does (ty.Span target constant) refl refl is)
         go (a_walker _ is w) = absurd (false≢true w)
+        go (a_unique target is w) = as_type (ty.Unique target) is (live_does (λ b. object_lives a types texts fs f setting.front u s b (ty.Unique target) is refl))
         go (an_owner t is o) =
             as_type t is
             (subst (λ (g : Gives ℕ). Born g.state) (sym (owner_default t o))
@@ -547,35 +659,71 @@ module _ (a : Around) (types : Types) (texts : ℕ) (fs : List Function) (f : Fu
     abbrev ListGiven : ListForm → Place → Form → Ty → State
     ListGiven list behind es t = (initialised a (listed a (built_type a t) list.opening (all_uses a es) list.delimiters) t behind (home a u) s).state
 
-    listed_does : (list : ListForm) (behind : Place) → (is_vector (type_of a u.ty) && are_served_elements texts (forms list.elements)) ≡ true → IsInitialised a.program a.function.locals a.function.result v.visible (Some u) (Some (several list)) → Born (given_initial a u (Some (several list)) behind s)
+    -- a reference to a vector that is built for it
+    module _ (list : ListForm) (behind : Place) (target : TyId) where
+      abbrev element_uses : List Uses
+      element_uses = all_uses a (forms list.elements)
+
+      abbrev Kept : Gives Remaining → State
+      Kept w = (w >> λ rest s. rest (scoped list.opening (type_of a target)) s >> λ x s. gives (aimed_at list.opening (object_named x)) s >> λ rest s. rest (home a u) s).state
+
+      alias_listed : (constant : Bool) → slice_get a.program.types.types u.ty.0 ≡ Some (ty.Reference target constant) → is_owner_of_values a.program.types (type_at a.program.types target) ≡ true → AreGiving a v.visible types texts fs f setting (forms list.elements)
+          → is_listed a.program.types (ty.Reference target constant) (forms list.elements) ≡ true → Born (ListGiven list behind (forms list.elements) (ty.Reference target constant))
+      alias_listed false is o given all = absurd (false≢true all)
+      alias_listed true is o given all = go (type_at a.program.types target) refl o all
+        where
+          go : (t : Ty) → type_at a.program.types target ≡ t → is_owner_of_values a.program.types t ≡ true → makes_object a.program.types t (forms list.elements) ≡ true → Born (ListGiven list behind (forms list.elements) (ty.Reference target true))
+          go ty.Text here worth all = absurd (false≢true all)
+          go (ty.Vector item) here worth all =
+              let w = gives (list_object a (ty.Vector item) list.opening element_uses list.delimiters) s in
+              let builds = list_builds a v.visible types texts fs f setting item worth list.opening (forms list.elements) list.delimiters s given all in
+              let kept = subst (λ (t : Ty). BuildsIn a v.visible types texts fs f setting false t s w) (sym here) builds in
+              subst (λ (g : Gives Remaining). Born (Kept g)) (sym (ap (λ (t : Ty). giving.given (listed a t list.opening element_uses list.delimiters) t behind s) here))
+              (subst (λ (r : Remaining). Born (Kept (gives r s))) (sym kept.lives) (bound_owner_does a types texts fs f setting v in_loop last u s h at built target true is o list.opening w kept))
+          go _ here worth all = absurd (false≢true worth)
+
+    listed_does : (list : ListForm) (behind : Place) → (takes_list (type_of a u.ty) && are_served_elements texts (forms list.elements)) ≡ true → IsInitialised a.program a.function.locals a.function.result v.visible (Some u) (Some (several list)) → Born (given_initial a u (Some (several list)) behind s)
     listed_does list behind b i =
-        let one = and_parts (is_vector (type_of a u.ty)) (are_served_elements texts (forms list.elements)) b in
+        let one = and_parts (takes_list (type_of a u.ty)) (are_served_elements texts (forms list.elements)) b in
         go (givings a v.visible types texts fs f setting (forms list.elements) one.1 i.1) one.0 (variable_type a.program.types u.ty built)
       where
-        no_vector : (t : Ty) → slice_get a.program.types.types u.ty.0 ≡ Some t → is_vector t ≡ false → is_vector (type_of a u.ty) ≡ true → Born (ListGiven list behind (forms list.elements) (type_of a u.ty))
-        no_vector t is none p = absurd (false≢true (sym (ap is_vector (type_is t is) ∙ none) ∙ p))
+        as_type : (t : Ty) → slice_get a.program.types.types u.ty.0 ≡ Some t → Born (ListGiven list behind (forms list.elements) t) → Born (ListGiven list behind (forms list.elements) (type_of a u.ty))
+        as_type t is born = subst (λ (x : Ty). Born (ListGiven list behind (forms list.elements) x)) (sym (type_is t is)) born
 
-        go : AreGiving a v.visible types texts fs f setting (forms list.elements) → is_vector (type_of a u.ty) ≡ true → IsVariableType a.program.types u.ty → Born (ListGiven list behind (forms list.elements) (type_of a u.ty))
-        go given p (a_value t is w) = no_vector t is (by_values (λ t. is_vector t ≡ false) refl refl refl refl refl t w) p
-        go given p (a_raw target constant is w) = no_vector (ty.Raw target constant) is refl p
-        go given p (a_reference target constant is w) = no_vector (ty.Reference target constant) is refl p
-        go given p (an_alias target constant is o) = no_vector (ty.Reference target constant) is refl p
-        go given p (a_view is) = no_vector ty.View is refl p
-        go given p (a_walker (ty.Iterator item constant) is w) = no_vector (ty.Iterator item constant) is refl p
-        go given p (a_walker (ty.Span item constant) is w) = no_vector (ty.Span item constant) is refl p
+        as_listed : (t : Ty) → slice_get a.program.types.types u.ty.0 ≡ Some t → is_listed a.program.types t (forms list.elements) ≡ true
+        as_listed t is = subst (λ (x : Ty). is_listed a.program.types x (forms list.elements) ≡ true) (type_is t is) i.0
+
+        no_list : (t : Ty) → slice_get a.program.types.types u.ty.0 ≡ Some t → takes_list t ≡ false → takes_list (type_of a u.ty) ≡ true → Born (ListGiven list behind (forms list.elements) (type_of a u.ty))
+        no_list t is none p = absurd (false≢true (sym (ap takes_list (type_is t is) ∙ none) ∙ p))
+
+        -- what is no vector is built by none
+        value_listed : (target : TyId) (constant : Bool) → is_value (type_at a.program.types target) ≡ true → is_listed a.program.types (ty.Reference target constant) (forms list.elements) ≡ true → ⊥
+        value_listed target false w listed_is = false≢true listed_is
+        value_listed target true w listed_is =
+            false≢true (sym (by_values (λ x. makes_object a.program.types x (forms list.elements) ≡ false) refl refl refl refl refl (type_at a.program.types target) w) ∙ listed_is)
+
+        go : AreGiving a v.visible types texts fs f setting (forms list.elements) → takes_list (type_of a u.ty) ≡ true → IsVariableType a.program.types u.ty → Born (ListGiven list behind (forms list.elements) (type_of a u.ty))
+        go given p (a_value t is w) = no_list t is (by_values (λ t. takes_list t ≡ false) refl refl refl refl refl t w) p
+        go given p (a_raw target constant is w) = no_list (ty.Raw target constant) is refl p
+        go given p (a_reference target constant is w) = absurd (value_listed target constant w (as_listed (ty.Reference target constant) is))
+        go given p (an_alias target constant is o) = as_type (ty.Reference target constant) is (alias_listed list behind target constant is o given (as_listed (ty.Reference target constant) is))
+        go given p (a_unique target is w) = no_list (ty.Unique target) is refl p
+        go given p (a_view is) = no_list ty.View is refl p
+        go given p (a_walker (ty.Iterator item constant) is w) = no_list (ty.Iterator item constant) is refl p
+        go given p (a_walker (ty.Span item constant) is w) = no_list (ty.Span item constant) is refl p
         go given p (a_walker _ is w) = absurd (false≢true w)
-        go given p (an_owner ty.Text is o) = no_vector ty.Text is refl p
+        go given p (an_owner ty.Text is o) = no_list ty.Text is refl p
         go given p (an_owner (ty.Vector item) is o) =
-            subst (λ (t : Ty). Born (ListGiven list behind (forms list.elements) t)) (sym (type_is (ty.Vector item) is))
+            as_type (ty.Vector item) is
             (builds_does (ty.Vector item) is o (gives (list_object a (ty.Vector item) list.opening (all_uses a (forms list.elements)) list.delimiters) s)
-            (list_builds a v.visible types texts fs f setting item o list.opening (forms list.elements) list.delimiters s given (subst (λ (t : Ty). is_listed a.program.types t (forms list.elements) ≡ true) (type_is (ty.Vector item) is) i.0)))
+            (list_builds a v.visible types texts fs f setting item o list.opening (forms list.elements) list.delimiters s given (as_listed (ty.Vector item) is)))
         go given p (an_owner _ is o) = absurd (false≢true o)
 
     initial_does : (initial : Option InitialForm) (behind : Place) → is_served_initial texts (type_of a u.ty) initial ≡ true → IsInitialised a.program a.function.locals a.function.result v.visible (Some u) initial → Born (given_initial a u initial behind s)
     initial_does None behind b i = default_does i
     initial_does (Some (one e)) behind b i =
-        elim (or_cases (not (owns_elements (type_of a u.ty) || is_walker (type_of a u.ty)) && is_served_expression texts e) (is_served_owned texts (type_of a u.ty) e) b) [
-          | inl value ↦ let parts = and_parts (not (owns_elements (type_of a u.ty) || is_walker (type_of a u.ty))) (is_served_expression texts e) value in one_does e parts.1 i.1 behind parts.0 i.0
+        elim (or_cases (not (owns_elements (type_of a u.ty) || (is_walker (type_of a u.ty) || is_unique (type_of a u.ty))) && is_served_expression texts e) (is_served_owned texts (type_of a u.ty) e) b) [
+          | inl value ↦ let parts = and_parts (not (owns_elements (type_of a u.ty) || (is_walker (type_of a u.ty) || is_unique (type_of a u.ty)))) (is_served_expression texts e) value in one_does e parts.1 i.1 behind parts.0 i.0
           | inr owned ↦ owned_does e i.1 behind owned i.0
         ]
     initial_does (Some (several list)) behind b i = listed_does list behind b i

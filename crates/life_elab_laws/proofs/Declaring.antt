@@ -25,8 +25,8 @@ use Rattle.life_writer.specs.Around.{Around, result_local}
 use Rattle.life_writer.specs.Variables.{kind, variable, variable_local, with_variable, end_pending}
 use Rattle.life_writer.specs.Writing.{State, Gives, with_code}
 use Rattle.life_elab_laws.proofs.Among.{Among, among_either, among_left, among_right, among_take, ascend_more, all_among}
-use Rattle.life_elab_laws.proofs.Doing.{Acting, Does}
-use Rattle.life_elab_laws.proofs.Exits.{Knows, Leaves, leaves_falling, leaves_may, knows_same}
+use Rattle.life_elab_laws.proofs.Doing.{Does}
+use Rattle.life_elab_laws.proofs.Exits.{Knows, Leaves, leaves_falling, knows_same}
 use Rattle.life_elab_laws.proofs.Falling.{Falls, falls_append}
 use Rattle.life_elab_laws.proofs.Following.{Adds, Follows, IsLiving, may_end, adds_then, follows_below, knows_alive, same_variable, alive_knows, settled, follows_settled, adds_settled}
 use Rattle.life_elab_laws.proofs.FormedVariables.{reference_there}
@@ -39,18 +39,18 @@ use Rattle.life_elab_laws.proofs.SomeKnown.{some_known, some_knows}
 use Rattle.life_elab_laws.proofs.Knowledge.{at_set, beside_set, set_length, ready_set}
 use Rattle.life_elab_laws.proofs.Gifts.{Gift, nothing}
 use Rattle.life_elab_laws.proofs.OperandsThere.{object_there, type_there}
-use Rattle.life_elab_laws.proofs.Parts.{Makes, Runs}
+use Rattle.life_elab_laws.proofs.Parts.{Makes, Part, Runs}
 use Rattle.life_elab_laws.proofs.Shaped.{named_lasts, target_there}
 use Rattle.life_elab_laws.proofs.Shaping.{IsFine, fine_append}
 use Rattle.life_elab_laws.proofs.Types.{value_kind}
-use Rattle.life_elab_laws.proofs.VariablePlaces.{IsVariableAt, IsVariableType, a_raw, a_reference, a_value, a_view, an_owner, owner_kind, variable_type, a_walker, walker_is, an_alias}
+use Rattle.life_elab_laws.proofs.VariablePlaces.{a_raw, a_reference, a_unique, a_value, a_view, a_walker, an_alias, an_owner, IsVariableAt, IsVariableType, owner_kind, variable_type, walker_is}
 use Rattle.life_elab_laws.proofs.WrittenLocals.{IsLocalOf, locals_added, own_added}
 use Rattle.life_elab_laws.proofs.PendingTemporaries.{none_pending}
 use Rattle.life_elab_laws.proofs.EndedTemporaries.{ending, ends_alive, ends_apart, ends_below, ends_pending, ends_temporary}
-use Rattle.life_elab_laws.proofs.EndSteps.{IsEnded, ended}
+use Rattle.life_elab_laws.proofs.EndSteps.{IsEnded, ended, ends_here}
 use Rattle.life_elab_laws.proofs.Ending.{blank_beside, blank_length, blank_set, ends_there, set_blank}
 use Rattle.life_elab_laws.proofs.TemporaryEnds.{TemporariesEnd}
-use Rattle.life_proper.specs.WellFormed.{can_end}
+use Rattle.life_elab_laws.proofs.Under.{ActingUnder, DoesUnder, MayBeKnown, does_plain, leaves_under}
 use Rattle.life_proper.specs.ReadyKnown.{can_leave}
 use Rattle.life_types.specs.declared.place.Place.{Place}
 use Rattle.life_elab_laws.proofs.Targets.{owner_target, value_target}
@@ -108,6 +108,7 @@ module _ (types : Types) (f : Function) (a : Around) (front : IsFront a.program.
         go : IsVariableType a.program.types u.ty → may_end types f (length s.locals) ≡ true
         go (a_value t is e) = object t is (value_kind t e)
         go (an_owner t is o) = object t is (owner_kind a.program.types t o)
+        go (a_unique target is w) = object (ty.Unique target) is refl
         go (a_walker t is w) = pointer t (type_there types f (length s.locals) l t there (typed t is) (walker_is a.program.types t w).reference) (walker_is a.program.types t w).pointer
         go (a_raw target constant is e) = pointer (ty.Raw target constant) (type_there types f (length s.locals) l (ty.Raw target constant) there (typed (ty.Raw target constant) is) refl) refl
         go (a_view is) = pointer ty.View (type_there types f (length s.locals) l ty.View there (typed ty.View is) refl) refl
@@ -125,17 +126,34 @@ module _ (types : Types) (f : Function) (a : Around) (front : IsFront a.program.
       | inr e ↦ omega (arith, e, length-append s.locals (l ∷ []))
     ]
 
+    stays : (x : ℕ) → x < v.declared → variable (with_new l s) x ≡ variable s x
+    stays x lt = same_variable types f s (with_new l s) x (front_append s.variables (length s.locals ∷ [])) (omega (arith, lt, h.count))
+
     moved : (x : ℕ) (w : TypedLocal) → x < v.declared → IsVariableAt a s x w → IsVariableAt a (with_new l s) x w
     moved x w lt is = record {
       local = is.local;
-      there = ap (slice_get (with_new l s).locals) same ∙ front_append s.locals (l ∷ []) (variable s x) is.local is.there;
+      there = ap (slice_get (with_new l s).locals) (stays x lt) ∙ front_append s.locals (l ∷ []) (variable s x) is.local is.there;
       typed = is.typed;
       kind = is.kind;
-      lives = subst (Contains (s.living ++ length s.locals ∷ [])) (sym same) (Contains-append_left s.living (length s.locals ∷ []) (variable s x) is.lives);
+      named = is.named;
+      lives = subst (Contains (s.living ++ length s.locals ∷ [])) (sym (stays x lt)) (Contains-append_left s.living (length s.locals ∷ []) (variable s x) is.lives);
     }
+
+    -- each has a local of its own: the new one's is behind all others
+    older : (x : ℕ) (w : TypedLocal) → Contains v.visible x → slice_get a.function.locals x ≡ Some w → variable (with_new l s) x < length s.locals
+    older x w c there =
+        let is = h.stands.seen x w c there in
+        subst (λ (z : ℕ). z < length s.locals) (sym (stays x (h.visible x c))) (slice_get_within s.locals (variable s x) is.local is.there)
+
+    apart : (x y : ℕ) (w z : TypedLocal) → Contains (v.visible ++ v.declared ∷ []) x → slice_get a.function.locals x ≡ Some w → Contains (v.visible ++ v.declared ∷ []) y → slice_get a.function.locals y ≡ Some z
+        → (x ≡ y → ⊥) → variable (with_new l s) x ≡ variable (with_new l s) y → ⊥
+    apart x y w z c at d there other e = go (Contains-push_cases v.visible v.declared x c) (Contains-push_cases v.visible v.declared y d)
       where
-        same : variable (with_new l s) x ≡ variable s x
-        same = same_variable types f s (with_new l s) x (front_append s.variables (length s.locals ∷ [])) (omega (arith, lt, h.count))
+        go : Contains v.visible x ⊎ (v.declared ≡ x) → Contains v.visible y ⊎ (v.declared ≡ y) → ⊥
+        go (inl old) (inl too) = h.stands.apart x y w z old at too there other (sym (stays x (h.visible x old)) ∙ e ∙ stays y (h.visible y too))
+        go (inl old) (inr new) = omega (arith, older x w old at, e, new_variable y new)
+        go (inr new) (inl old) = omega (arith, older y z old there, e, new_variable x new)
+        go (inr new) (inr newer) = other (sym new ∙ newer)
 
     fresh : (x : ℕ) (w : TypedLocal) → v.declared ≡ x → slice_get a.function.locals x ≡ Some w → IsVariableAt a (with_new l s) x w
     fresh x w e there = record {
@@ -143,6 +161,7 @@ module _ (types : Types) (f : Function) (a : Around) (front : IsFront a.program.
       there = ap (slice_get (with_new l s).locals) (new_variable x e) ∙ new_at;
       typed = of.typed ∙ ap (λ (z : TypedLocal). z.ty) same;
       kind = of.kind ∙ ap (λ (z : TypedLocal). kind (class_at a.program.types z.ty)) same;
+      named = of.named ∙ ap (λ (z : TypedLocal). Some z.name) same;
       lives = subst (Contains (s.living ++ length s.locals ∷ [])) (sym (new_variable x e)) (Contains-push s.living (length s.locals));
     }
       where
@@ -176,6 +195,7 @@ module _ (types : Types) (f : Function) (a : Around) (front : IsFront a.program.
         opened = opened;
         pends = none_pending (with_new l s).locals s.types.types (with_new l s).living s.pending h.pending;
         seen = λ x w c there. elim (Contains-push_cases v.visible v.declared x c) [ inl old ↦ moved x w (h.visible x old) (h.stands.seen x w old there) | inr e ↦ fresh x w e there ];
+        apart = apart;
       };
       ascend = ascend_more 0 s.living (length s.locals) h.ascend (omega arith) (λ y m. follows_below types f a v s h y m);
       outside = omega (arith, length-append s.living (length s.locals ∷ []), h.outside);
@@ -236,14 +256,20 @@ module _ (f : Function) (l : Local) (s : State) where
 -- ---- the whole: what computes what it is given, the variable, and what gives it that
 
 module _ (types : Types) (texts : ℕ) (fs : List Function) (f : Function) (a : Around) (front : IsFront a.program.types.types types.types) where
-  module _ {A : Type 0} (v : Visible) (in_loop : Bool) (can : TemporariesEnd types texts fs f) (last : Place) (u : TypedLocal) (s : State) (w : Gives A) (Q : Gift types texts fs f A) (code : List Tree)
+  -- .. behind what gave y
+  module _ {A B : Type 0} (v : Visible) (in_loop : Bool) (can : TemporariesEnd types texts fs f) (last : Place) (u : TypedLocal) (P : Gift types texts fs f B) (y : B) (s : State) (w : Gives A) (Q : Gift types texts fs f A) (code : List Tree)
       (h : Follows types f a v s) (at : slice_get a.function.locals v.declared ≡ Some u) (built : is_served_variable a.program.types u.ty ≡ true)
-      (made : Makes types texts fs f None s w Q)
+      (made : Part types texts fs f P y None s w Q) (told : Begins types f (with_new (variable_local a u) w.state) → P.typed y)
       (fine : Begins types f (with_new (variable_local a u) w.state) → Q.typed w.given → IsFine types texts fs f code)
       (falls : Begins types f (with_new (variable_local a u) w.state) → (k : List Known) → length k ≡ length f.locals → Q.ready w.given (length w.state.locals) k → known_at k (length w.state.locals) ≡ known.Blank
       → Falls types f code k (slice_set k (length w.state.locals) known.Ready))
       (apart : Begins types f (with_new (variable_local a u) w.state) → Q.typed w.given → (k : List Known) → Alive f w.state k → Q.ready w.given (length w.state.locals) k → known_at k (length w.state.locals) ≡ known.Blank
-      → Apart f w.state (with_new (variable_local a u) w.state) (trees code)) where
+      → Apart f w.state (with_new (variable_local a u) w.state) (trees code))
+      (some : Begins types f (with_new (variable_local a u) w.state) → MayBeKnown f (P.ready y (length s.locals))) where
+    -- what has to be known
+    abbrev More : List Known → Type 0
+    More = P.ready y (length s.locals)
+
     -- its temporaries end behind it
     abbrev there : State
     there = settled types f s w.state
@@ -279,11 +305,11 @@ module _ (types : Types) (texts : ℕ) (fs : List Function) (f : Function) (a : 
       before : Begins types f w.state
       before = begins_old types f a front v u (variable_local a u) (its_local a u) there later at built b
 
-      part : Runs types texts fs f (nothing types texts fs f) tt None s w Q made.code
-      part = made.runs before tt
+      part : Runs types texts fs f P y None s w Q made.code
+      part = made.runs before (told b)
 
       ends_fine_here : IsFine types texts fs f e.code
-      ends_fine_here = e.fine (all_among (can_end types texts fs f) over (λ y m. can y (ends_temporary types texts fs f s w.state made.grown h.stands.pends last before y m)))
+      ends_fine_here = e.fine (all_among (ends_here types texts fs f) over (λ y m. can y (ends_temporary types texts fs f s w.state made.grown h.stands.pends last before y m)))
 
       all_fine : IsFine types texts fs f whole
       all_fine = fine_append types texts fs f made.code (code ++ e.code) part.fine (fine_append types texts fs f code e.code (fine b part.typed) ends_fine_here)
@@ -292,9 +318,9 @@ module _ (types : Types) (texts : ℕ) (fs : List Function) (f : Function) (a : 
       beside : Among x over → ⊥
       beside m = let lt = ends_below types texts fs f s w.state made.grown h.stands.pends last x m in omega (arith, lt)
 
-      went : (k : List Known) → Knows f s.living k → Leaves f in_loop (w.state.living ++ x ∷ []) (take s.outside s.living) (flow types f (trees whole) (Some k))
-      went k knows =
-          let g = part.goes k (knows_alive types f a v s h k knows) tt in
+      went : (k : List Known) → Knows f s.living k → More k → Leaves f in_loop (w.state.living ++ x ∷ []) (take s.outside s.living) (flow types f (trees whole) (Some k))
+      went k knows more =
+          let g = part.goes k (knows_alive types f a v s h k knows) more in
           let mid : Knows f w.state.living (set_blank over g.after) = alive_knows types f there (set_blank over g.after) later.pending (ends_alive types texts fs f s w.state made.grown h.stands.pends last g.after g.alive) in
           let blank : known_at g.after x ≡ known.Blank = sym (blank_beside over g.after x beside) ∙ blank_new types f a front v u (variable_local a u) (its_local a u) there later at built b (set_blank over g.after) mid in
           let lt : x < length g.after = omega (arith, g.alive.sized, new_below types f a front v u (variable_local a u) (its_local a u) there later at built b) in
@@ -309,9 +335,9 @@ module _ (types : Types) (texts : ℕ) (fs : List Function) (f : Function) (a : 
           (λ y. blank_set over g.after x y lt beside)
           (knows_new types f a front v u (variable_local a u) (its_local a u) there later at built b (set_blank over g.after) mid)))
 
-      known_apart : (k : List Known) → Knows f s.living k → Apart f s finished (trees whole)
-      known_apart k knows =
-          let g = part.goes k (knows_alive types f a v s h k knows) tt in
+      known_apart : (k : List Known) → Knows f s.living k → More k → Apart f s finished (trees whole)
+      known_apart k knows more =
+          let g = part.goes k (knows_alive types f a v s h k knows) more in
           let mid : Knows f w.state.living (set_blank over g.after) = alive_knows types f there (set_blank over g.after) later.pending (ends_alive types texts fs f s w.state made.grown h.stands.pends last g.after g.alive) in
           let blank : known_at g.after x ≡ known.Blank = sym (blank_beside over g.after x beside) ∙ blank_new types f a front v u (variable_local a u) (its_local a u) there later at built b (set_blank over g.after) mid in
           codes_apart f s w.state finished made.code (code ++ e.code) g.apart
@@ -321,14 +347,16 @@ module _ (types : Types) (texts : ℕ) (fs : List Function) (f : Function) (a : 
       first_begins : Begins types f s
       first_begins = begins_before types f s w.state made.grown before
 
-      acting : Acting types texts fs f in_loop s finished whole
-      acting = record {
-        stated = all_fine.stated in_loop;
-        ways = leaves_may types f in_loop s.living (w.state.living ++ x ∷ []) (take s.outside s.living) (trees whole) went;
-        apart = known_apart (some_known types f a v s h first_begins) (some_knows types f a v s h first_begins);
-      }
+      acting : ActingUnder types texts fs f More in_loop s finished whole
+      acting =
+          let start = some b s.living (some_known types f a v s h first_begins) (some_knows types f a v s h first_begins) in
+          record {
+            stated = all_fine.stated in_loop;
+            ways = leaves_under types f More in_loop s.living (w.state.living ++ x ∷ []) (take s.outside s.living) (trees whole) went;
+            apart = known_apart start.0 start.1 start.2;
+          }
 
-    finished_does : Does types texts fs f a (with_next v) in_loop s finished
+    finished_does : DoesUnder types texts fs f More a (with_next v) in_loop s finished
     finished_does = record {
       adds = adds;
       locals = λ are.
@@ -339,8 +367,22 @@ module _ (types : Types) (texts : ℕ) (fs : List Function) (f : Function) (a : 
       code = whole;
       written = ap (λ (c : List Tree). (c ++ code) ++ e.code) made.written ∙ ap (λ (c : List Tree). c ++ e.code) (append_assoc s.code made.code code) ∙ append_assoc s.code (made.code ++ code) e.code ∙ ap (λ (c : List Tree). s.code ++ c) (append_assoc made.code code e.code);
       acts = acting;
-      returns = λ b gives o k. fine_known types f (result_local a) texts fs whole (all_fine b) o;
+      returns = λ b gives o k more. fine_known types f (result_local a) texts fs whole (all_fine b) o;
     }
 
-    pub declared_does : Does types texts fs f a (with_next v) in_loop s (end_pending (length s.pending) last done)
-    declared_does = subst (Does types texts fs f a (with_next v) in_loop s) (sym finished_is) finished_does
+    pub declared_under : DoesUnder types texts fs f More a (with_next v) in_loop s (end_pending (length s.pending) last done)
+    declared_under = subst (DoesUnder types texts fs f More a (with_next v) in_loop s) (sym finished_is) finished_does
+
+  -- .. behind nothing
+  pub declared_does : {A : Type 0} (v : Visible) (in_loop : Bool) (can : TemporariesEnd types texts fs f) (last : Place) (u : TypedLocal) (s : State) (w : Gives A) (Q : Gift types texts fs f A) (code : List Tree)
+      (h : Follows types f a v s) (at : slice_get a.function.locals v.declared ≡ Some u) (built : is_served_variable a.program.types u.ty ≡ true)
+      → Makes types texts fs f None s w Q
+      → (Begins types f (with_new (variable_local a u) w.state) → Q.typed w.given → IsFine types texts fs f code)
+      → (Begins types f (with_new (variable_local a u) w.state) → (k : List Known) → length k ≡ length f.locals → Q.ready w.given (length w.state.locals) k → known_at k (length w.state.locals) ≡ known.Blank
+      → Falls types f code k (slice_set k (length w.state.locals) known.Ready))
+      → (Begins types f (with_new (variable_local a u) w.state) → Q.typed w.given → (k : List Known) → Alive f w.state k → Q.ready w.given (length w.state.locals) k → known_at k (length w.state.locals) ≡ known.Blank
+      → Apart f w.state (with_new (variable_local a u) w.state) (trees code))
+      → Does types texts fs f a (with_next v) in_loop s (end_pending (length s.pending) last (with_code (w.state.code ++ code) (with_new (variable_local a u) w.state)))
+  declared_does v in_loop can last u s w Q code h at built made fine falls apart =
+      does_plain types texts fs f a (with_next v) in_loop s (end_pending (length s.pending) last (with_code (w.state.code ++ code) (with_new (variable_local a u) w.state)))
+      (declared_under v in_loop can last u (nothing types texts fs f) tt s w Q code h at built made (λ b. tt) fine falls apart (λ b living k knows. (k, knows, tt)))

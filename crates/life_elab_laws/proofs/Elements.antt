@@ -1,5 +1,5 @@
--- What a vector has: values, strings and vectors of values.
-use Rattle.std.proofs.Common.{◌≡◌, inl, inr, true, false, refl, sym, ◌∙◌}
+-- What a vector has: values, and owners of values.
+use Rattle.std.proofs.Common.{◌≡◌, ℕ, zero, suc, inl, inr, true, false, refl, sym, ◌∙◌}
 use Rattle.std.proofs.lemmas.Bool.{false≢true, or_cases, or_left, or_right}
 use Rattle.life_types.specs.Pointees.{ty_of}
 use Rattle.life_types.specs.TypeTests.{is_value}
@@ -7,7 +7,7 @@ use Rattle.life_types.specs.Types.{Types}
 use Rattle.life_types.specs.declared.ty.Ty.{Ty}
 use Rattle.life_types.specs.declared.ty.Ty.TheVariants as ty
 use Rattle.life_types.specs.declared.ty.TyId.{TyId}
-use Rattle.life_served.specs.Served.{is_element, is_inner_owner, is_owner_of_values, is_plain_type, is_target, owns_elements}
+use Rattle.life_served.specs.Served.{is_element, is_inner_owner, is_owner_of_values, is_owner_within, is_plain_type, is_target, owns_elements}
 use Rattle.life_typed.specs.BaseTypes.{type_at}
 use Rattle.life_typed.specs.Members.{element_type}
 use Rattle.life_typed.specs.declared.typed_expr.ExprType.TheVariants.{Of}
@@ -29,11 +29,19 @@ value_element types t v = or_left (is_value t) (is_inner_owner types t) v
 pub inner_element : (types : Types) (t : Ty) → is_inner_owner types t ≡ true → is_element types t ≡ true
 inner_element types t o = or_right (is_value t) (is_inner_owner types t) o
 
+-- a path may have a step more than it has
+within_more : (types : Types) (n : ℕ) (t : Ty) → is_owner_within n types t ≡ true → is_owner_within (suc n) types t ≡ true
+within_more types zero t o = absurd (false≢true o)
+within_more types (suc n) ty.Text o = refl
+within_more types (suc n) (ty.Vector element) o = elim (or_cases (is_value (type_at types element)) (is_owner_within n types (type_at types element)) o) [
+  | inl v ↦ or_left (is_value (type_at types element)) (is_owner_within (suc n) types (type_at types element)) v
+  | inr inner ↦ or_right (is_value (type_at types element)) (is_owner_within (suc n) types (type_at types element)) (within_more types n (type_at types element) inner)
+]
+within_more types (suc n) _ o = absurd (false≢true o)
+
 -- an owner is one
 pub inner_owner : (types : Types) (t : Ty) → is_inner_owner types t ≡ true → is_owner_of_values types t ≡ true
-inner_owner types ty.Text o = refl
-inner_owner types (ty.Vector element) o = value_element types (type_at types element) o
-inner_owner types _ o = absurd (false≢true o)
+inner_owner types t o = within_more types 7 t o
 
 -- pointers are to each
 pub element_target : (types : Types) (t : Ty) → is_element types t ≡ true → is_target types t ≡ true

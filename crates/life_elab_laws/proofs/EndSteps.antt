@@ -1,5 +1,6 @@
 -- The instruction that ends locals, where there are any.
-use Rattle.std.proofs.Common.{◌≡◌, ◌<◌, ◌≤◌, ◌⊎◌, ℕ, true, List, [], ◌∷◌, ◌++◌, length, refl, sym, ap, append-nil}
+use Rattle.std.proofs.Common.{◌≡◌, ◌<◌, ◌≤◌, ◌⊎◌, ℕ, Bool, true, ◌&&◌, List, [], ◌∷◌, ◌++◌, length, refl, sym, ap, append-nil}
+use Rattle.std.proofs.lemmas.Bool.{and_from, and_parts}
 use Rattle.std.specs.List.{list_all}
 use Rattle.life_types.specs.Types.{Types}
 use Rattle.life_types.specs.declared.place.Place.{Place}
@@ -16,13 +17,25 @@ use Rattle.life_writer.specs.Writing.{State, with_code}
 use Rattle.life_elab_laws.proofs.Ending.{set_blank}
 use Rattle.life_elab_laws.proofs.Falling.{Falls, falls_acts}
 use Rattle.life_elab_laws.proofs.GivenApart.{Apart, Open, none_apart}
-use Rattle.life_elab_laws.proofs.Shaping.{IsFine, fine_acts, fine_none}
+use Rattle.life_elab_laws.proofs.Shaping.{IsFine, fine_acts, fine_none, lasts_at}
 
 module _ (types : Types) (texts : ℕ) (fs : List Function) (f : Function) where
+  -- what can end, and isn't passing
+  abbrev pub ends_here : ℕ → Bool
+  ends_here x = can_end types texts fs f x && lasts_at f x
+
+  both_tests : (xs : List ℕ) → list_all ends_here xs ≡ true → (list_all (can_end types texts fs f) xs ≡ true) × (list_all (lasts_at f) xs ≡ true)
+  both_tests [] h = (refl, refl)
+  both_tests (x ∷ xs) h =
+      let one = and_parts (ends_here x) (list_all ends_here xs) h in
+      let here = and_parts (can_end types texts fs f x) (lasts_at f x) one.0 in
+      let more = both_tests xs one.1 in
+      (and_from (can_end types texts fs f x) (list_all (can_end types texts fs f) xs) here.0 more.0, and_from (lasts_at f x) (list_all (lasts_at f) xs) here.1 more.1)
+
   pub record IsEnded (xs : List ℕ) (place : Place) (s : State) : Type 0 where
     pub code : List Tree
     pub written : end xs place s ≡ with_code (s.code ++ code) s
-    pub fine : list_all (can_end types texts fs f) xs ≡ true → IsFine types texts fs f code
+    pub fine : list_all ends_here xs ≡ true → IsFine types texts fs f code
     pub falls : (k : List Known) → can_leave k xs ≡ true → Falls types f code k (set_blank xs k)
     -- it looks at nothing
     pub apart : (s t : State) → length s.locals ≤ length t.locals → ((x : ℕ) → Open t x → Open s x ⊎ ((length s.locals ≤ x) × (x < length t.locals))) → Apart f s t (trees code)
@@ -38,7 +51,8 @@ module _ (types : Types) (texts : ℕ) (fs : List Function) (f : Function) where
   ended (x ∷ xs) place s = record {
     code = Acts place (End (x ∷ xs)) ∷ [];
     written = refl;
-    fine = λ ends. fine_acts types texts fs f place (End (x ∷ xs)) (record { given = refl; formed = ends; served = refl });
+    fine = λ ends. let is = both_tests (x ∷ xs) ends in
+        fine_acts types texts fs f place (End (x ∷ xs)) (record { given = and_from (list_all (lasts_at f) (x ∷ xs)) true is.1 refl; formed = is.0 });
     falls = λ k ready. falls_acts types f place (End (x ∷ xs)) k (all_ready k (touched_by f (End (x ∷ xs))) refl ready refl);
     apart = none_apart f;
   }

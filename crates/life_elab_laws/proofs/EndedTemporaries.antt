@@ -6,13 +6,12 @@ use Rattle.life_types.specs.declared.place.Place.{Place}
 use Rattle.life_core.specs.Function.{Function}
 use Rattle.life_core.specs.declared.program.Local.{Local}
 use Rattle.life_proper.specs.Knowing.{known_at}
-use Rattle.life_proper.specs.WellFormed.{can_end}
 use Rattle.life_proper.specs.declared.known.Known.{Known}
 use Rattle.life_proper.specs.declared.known.Known.TheVariants as known
 use Rattle.life_writer.specs.Variables.{end_pending}
 use Rattle.life_writer.specs.Writing.{State}
 use Rattle.life_elab_laws.proofs.Among.{Among, Apart, all_among, among_drop, among_or, among_parts, among_reverse, among_take, apart_reverse, ascend_apart, ascend_drop, parts_apart, reverse_among}
-use Rattle.life_elab_laws.proofs.EndSteps.{IsEnded, ended}
+use Rattle.life_elab_laws.proofs.EndSteps.{IsEnded, ended, ends_here}
 use Rattle.life_elab_laws.proofs.Ending.{blank_beside, blank_in, blank_length, ends_there, set_blank}
 use Rattle.life_elab_laws.proofs.Falling.{Falls}
 use Rattle.life_elab_laws.proofs.Fronts.{IsFront, front_itself, front_taken}
@@ -113,7 +112,7 @@ module _ (types : Types) (texts : ℕ) (fs : List Function) (f : Function) (s w 
   -- ---- the instruction
 
   pub ends_fine : Begins types f w → TemporariesEnd types texts fs f → IsFine types texts fs f ending_is.code
-  ends_fine b can = ending_is.fine (all_among (can_end types texts fs f) ending (λ y m. can y (ends_temporary b y m)))
+  ends_fine b can = ending_is.fine (all_among (ends_here types texts fs f) ending (λ y m. can y (ends_temporary b y m)))
 
   pub ends_fall : (k : List Known) → Alive f w k → Falls types f ending_is.code k (set_blank ending k)
   ends_fall k h = ending_is.falls k (ends_there ending k ends_apart (λ y m. h.pending y (ends_pending y m)))

@@ -1,5 +1,5 @@
 -- An element that is erased: it gives an iterator to what stood behind it.
-use Rattle.std.proofs.Common.{◌≡◌, ◌++◌, ℕ, Bool, true, false, not, List, [], ◌∷◌, None, refl, sym, ap, ◌∙◌, subst, ◌&&◌}
+use Rattle.std.proofs.Common.{◌≡◌, ◌++◌, ℕ, Bool, true, false, not, List, [], ◌∷◌, None, refl, sym, ap, ◌∙◌, subst}
 use Rattle.std.proofs.lemmas.Bool.{and_from, and_parts, false≢true}
 use Rattle.life_served.specs.Served.{is_owner_of_values, is_walker_of_values}
 use Rattle.life_types.specs.Pointees.{ty_of}
@@ -46,7 +46,6 @@ use Rattle.life_elab_laws.proofs.ViewForms.{gives_as}
 use Rattle.life_elab_laws.proofs.ViewSteps.{pointer_is_held}
 use Rattle.life_elab_laws.proofs.WalkerForms.{IsWalker, IsWalkerAt, walker_pointer, no_place}
 use Rattle.life_elab_laws.proofs.WalkerSteps.{iterator_taker}
-use Rattle.life_core_served.specs.Served.{is_served_location, is_served_operand}
 use Rattle.life_elab_laws.proofs.Elements.{one_element}
 use Rattle.life_elab_laws.proofs.FreeObjects.{object_part}
 
@@ -64,9 +63,6 @@ module _ (types : Types) (texts : ℕ) (fs : List Function) (f : Function) where
             ∙ and_from (walks types (type_in types f q) (ty_of types item)) (walks types (type_in types f l) (ty_of types item))
             (ap (λ (t : Ty). walks types t (ty_of types item)) source.typed ∙ ap (λ (t : Ty). same t (ty_of types item)) one ∙ itself)
             (ap (λ (t : Ty). walks types t (ty_of types item)) typed ∙ ap (λ (t : Ty). same t (ty_of types item)) to.one ∙ itself)) place.held;
-        served =
-            and_from (is_served_operand o) (is_served_location q && is_served_location l) place.served
-            (and_from (is_served_location q) (is_served_location l) source.served at.served);
       }
 
   erase_filling : (o : Operand) (q : Location) (n : ℕ) (k : List Known) → IsPlace o n k → IsPointer q n k → IsFilling f (λ p. Changes o (Erase q p)) n k

@@ -97,7 +97,7 @@ module _ (f : Function) where
   none_leaves true outside = tt
   none_leaves false outside = refl
 
-  leaves_nowhere : (in_loop : Bool) (living outside : List ℕ) (w : Flow) → IsNowhere w → Leaves in_loop living outside w
+  pub leaves_nowhere : (in_loop : Bool) (living outside : List ℕ) (w : Flow) → IsNowhere w → Leaves in_loop living outside w
   leaves_nowhere in_loop living outside w h = record {
     fine = h.fine;
     next = subst (MayKnow living) (sym h.next) tt;
@@ -122,14 +122,14 @@ leaves_may types f in_loop before after outside t some (Some k) h = some k h
 
 -- ---- loops
 
-implied_same : (a b : Known) → b ≡ a → is_implied a b ≡ true
+pub implied_same : (a b : Known) → b ≡ a → is_implied a b ≡ true
 implied_same known.Unknown b e = refl
 implied_same known.Blank b e = subst (λ (c : Known). is_implied known.Blank c ≡ true) (sym e) refl
 implied_same known.Ready b e = subst (λ (c : Known). is_implied known.Ready c ≡ true) (sym e) refl
 
--- what is known at the head is known on the way back, where both know the same of all that isn't forgotten at the head
+-- what is known at the head is known on the way back, where that is so of all that isn't forgotten at the head
 pub forgotten_implied : (ls : List Local) (k j : List Known) → length k ≡ length ls → length j ≡ length ls
-    → ((y : ℕ) (l : Local) → slice_get ls y ≡ Some l → is_forgotten l (known_at k y) ≡ false → known_at j y ≡ known_at k y) → are_implied (forgotten ls k) j ≡ true
+    → ((y : ℕ) (l : Local) → slice_get ls y ≡ Some l → is_forgotten l (known_at k y) ≡ false → is_implied (known_at k y) (known_at j y) ≡ true) → are_implied (forgotten ls k) j ≡ true
 forgotten_implied [] [] j a b h = refl
 forgotten_implied [] (x ∷ k) j a b h = absurd (omega (arith, a))
 forgotten_implied (l ∷ ls) [] j a b h = refl
@@ -138,4 +138,4 @@ forgotten_implied (l ∷ ls) (x ∷ k) (y ∷ j) a b h = go (is_forgotten l x) r
   where
     go : (m : Bool) → is_forgotten l x ≡ m → are_implied (forgotten ls k) j ≡ true → are_implied (forgotten (l ∷ ls) (x ∷ k)) (y ∷ j) ≡ true
     go true e rest = rw e rest
-    go false e rest = rw e (and_from (is_implied x y) (are_implied (forgotten ls k) j) (implied_same x y (h zero l refl e)) rest)
+    go false e rest = rw e (and_from (is_implied x y) (are_implied (forgotten ls k) j) (h zero l refl e) rest)

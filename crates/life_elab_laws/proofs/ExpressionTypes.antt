@@ -21,10 +21,10 @@ use Rattle.life_writer.specs.Around.{own_type}
 use Rattle.life_elab_laws.proofs.Locations.{is_location, is_seen}
 use Rattle.life_elab_laws.proofs.RowTypes.{no_text, promoted_is, sees}
 use Rattle.life_elab_laws.proofs.TypedKinds.{HasKind, IsKind, a_null, a_number, a_pointer, a_text, a_view, err_ok, no_value, ok_same, value_simple}
-use Rattle.life_elab_laws.proofs.ResultTypes.{IsResultType, gives_nothing, gives_raw, gives_reference, gives_value, gives_view, gives_alias}
+use Rattle.life_elab_laws.proofs.ResultTypes.{IsResultType, gives_walker, gives_nothing, gives_raw, gives_reference, gives_value, gives_view, gives_alias}
 use Rattle.life_elab_laws.proofs.Values.{by_values}
 use Rattle.life_elab_laws.proofs.WrittenLocals.{fits_register, value_fits}
-use Rattle.life_served.specs.Served.{is_owner_of_values, is_target}
+use Rattle.life_served.specs.Served.{is_owner_of_values, is_target, is_walker_of_values}
 
 -- ---- types of expressions
 
@@ -83,6 +83,7 @@ pub data IsAnswered (types : Types) (result : Ty) (t : ExprType) (k : Category) 
   answers_value : is_value result ≡ true → t ≡ Of result → k ≡ category.Value → IsAnswered types result t k
   answers_raw : (target : TyId) (constant : Bool) → result ≡ ty.Raw target constant → is_target types (type_at types target) ≡ true → t ≡ Of (ty.Raw target constant) → k ≡ category.Value → IsAnswered types result t k
   answers_view : result ≡ ty.View → t ≡ Of ty.View → k ≡ category.Value → IsAnswered types result t k
+  answers_walker : is_walker_of_values types result ≡ true → t ≡ Of result → k ≡ category.Value → IsAnswered types result t k
   answers_place : (target : TyId) (constant : Bool) → result ≡ ty.Reference target constant → is_value (type_at types target) ≡ true → t ≡ Of (type_at types target) → k ≡ category.Place target constant → IsAnswered types result t k
   answers_owner : (target : TyId) (constant : Bool) → result ≡ ty.Reference target constant → is_owner_of_values types (type_at types target) ≡ true → t ≡ Of (type_at types target) → k ≡ category.Place target constant → IsAnswered types result t k
 
@@ -100,6 +101,12 @@ answered_as types e t kind is = go kind
     go (gives_raw target constant raw w) =
         let here = as_type (ty.Raw target constant) raw in
         answers_raw target constant raw w (ap (λ (x : Typed). x.ty) here) (ap (λ (x : Typed). x.category) here)
+    go (gives_walker w) = let here = is ∙ walks t w in answers_walker w (ap (λ (x : Typed). x.ty) here) (ap (λ (x : Typed). x.category) here)
+      where
+        walks : (t : Ty) → is_walker_of_values types t ≡ true → answer_of t types e.place e.form ≡ value_typed e.place t e.form
+        walks (ty.Iterator target constant) w = refl
+        walks (ty.Span target constant) w = refl
+        walks _ w = absurd (false≢true w)
     go (gives_view view) = let here = as_type ty.View view in answers_view view (ap (λ (x : Typed). x.ty) here) (ap (λ (x : Typed). x.category) here)
     go (gives_reference target constant refers w) =
         let here = as_type (ty.Reference target constant) refers in
@@ -113,6 +120,7 @@ pub answer_own : (types : Types) (result : Ty) (t : ExprType) (k : Category) →
 answer_own types result t k (answers_nothing void own held) plain = void ∙ sym (ap own_type own)
 answer_own types result t k (answers_value w own held) plain = sym (ap own_type own)
 answer_own types result t k (answers_raw target constant raw w own held) plain = raw ∙ sym (ap own_type own)
+answer_own types result t k (answers_walker w own held) plain = sym (ap own_type own)
 answer_own types result t k (answers_view view own held) plain = view ∙ sym (ap own_type own)
 answer_own types result t k (answers_place target constant refers w own held) plain = absurd (false≢true (sym (ap (λ (c : Category). not (is_place c)) held) ∙ plain))
 answer_own types result t k (answers_owner target constant refers o own held) plain = absurd (false≢true (sym (ap (λ (c : Category). not (is_place c)) held) ∙ plain))

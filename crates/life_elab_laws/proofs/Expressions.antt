@@ -2,7 +2,7 @@
 use Rattle.std.proofs.Common.{◌≡◌, inl, inr, ℕ, zero, suc, true, List, [], ◌∷◌, slice_get, Option, Some, None, refl, sym, ap, ◌∙◌, subst, ◌&&◌, ◌||◌, Ok}
 use Rattle.std.proofs.lemmas.Bool.{and_parts, false≢true, or_cases}
 use Rattle.std.specs.Prelude.{pos}
-use Rattle.life_served.specs.Served.{is_asking, is_end, is_erase, is_owner_type, is_plain_type, is_served_either, is_served_form, is_served_object, is_served_owner, is_served_walker, is_subspan, is_walker_type, form_type, is_edge, is_equality, owns_elements, is_owner_of_values, is_walker_of_values, are_served_arguments, are_served_elements}
+use Rattle.life_served.specs.Served.{are_served_arguments, are_served_elements, form_type, is_asking, is_edge, is_end, is_equality, is_erase, is_get, is_owner_of_values, is_owner_type, is_plain_type, is_served_either, is_served_form, is_served_object, is_served_owner, is_served_unique, is_served_walker, is_subspan, is_testing, is_walker_of_values, is_walker_type, owns_elements}
 use Rattle.life_types.specs.Types.{Types}
 use Rattle.life_types.specs.declared.place.Place.{Place}
 use Rattle.life_types.specs.declared.ty.Ty.TheVariants as ty
@@ -14,7 +14,7 @@ use Rattle.life_typed.specs.TypedForm.{Form, Typed, number, character, boolean, 
 use Rattle.life_typed.specs.declared.typed_expr.ExprType.{ExprType}
 use Rattle.life_typed.specs.declared.typed_expr.ExprType.TheVariants.{Of}
 use Rattle.life_typed.specs.declared.typed_expr.Method.TheVariants as methods
-use Rattle.life_type_expr.specs.Operands.{number_type, pointed_to}
+use Rattle.life_type_expr.specs.Operands.{number_type}
 use Rattle.life_core.specs.Function.{Function}
 use Rattle.life_core.specs.Tree.{Tree}
 use Rattle.life_proper.specs.OperandTypes as operands
@@ -24,13 +24,13 @@ use Rattle.life_writer.specs.Around.{Around, own_type}
 use Rattle.life_writer.specs.ExpressionForms.{all_uses, uses, form_uses}
 use Rattle.life_writer.specs.Giving as giving
 use Rattle.life_writer.specs.Uses.{Uses}
-use Rattle.life_writer.specs.Using.{condition, value}
+use Rattle.life_writer.specs.Using.{value}
 use Rattle.life_writer.specs.Values as values
 use Rattle.life_writer.specs.Writing.{Gives, State}
 use Rattle.life_elab_laws.proofs.CallParts.{none_handed}
-use Rattle.life_elab_laws.proofs.Conditions.{Tests, negation_part}
-use Rattle.life_elab_laws.proofs.ExpressionForms.{IsForm, IsWhole, decided_form, literal, paren_form, value_form, whole_of}
-use Rattle.life_elab_laws.proofs.ExpressionKinds.{addressed_as, dereferenced_as, inverted_as, negated_as, number_value}
+use Rattle.life_elab_laws.proofs.Conditions.{Tests}
+use Rattle.life_elab_laws.proofs.ExpressionForms.{IsForm, IsWhole, literal, paren_form, value_form, whole_of}
+use Rattle.life_elab_laws.proofs.ExpressionKinds.{addressed_as, dereferenced_as, negated_as, number_value}
 use Rattle.life_elab_laws.proofs.ExpressionTypes.{negated_promoted}
 use Rattle.life_elab_laws.proofs.Gifts.{arguments}
 use Rattle.life_elab_laws.proofs.HandedForms.{first_handed}
@@ -38,11 +38,11 @@ use Rattle.life_elab_laws.proofs.HandedTypes.{IsHandedType}
 use Rattle.life_elab_laws.proofs.Instructions.{constant_part, input_part, negated_part}
 use Rattle.life_elab_laws.proofs.Parts.{Makes}
 use Rattle.life_elab_laws.proofs.Setting.{Setting}
-use Rattle.life_elab_laws.proofs.TypedKinds.{combined_as, none_some, ok_same, some_same, IsCombined}
+use Rattle.life_elab_laws.proofs.TypedKinds.{combined_as, ok_same, IsCombined}
 use Rattle.life_elab_laws.proofs.VariablePlaces.{Stands}
 use Rattle.life_elab_laws.proofs.OperatorForms.{binary_form}
 use Rattle.life_elab_laws.proofs.PointerForms.{address_form, call_form, dereference_form, null_form, text_form, variable_form}
-use Rattle.life_elab_laws.proofs.ReferredOwners.{call_object, dereferenced_object, owner_address_form}
+use Rattle.life_elab_laws.proofs.ReferredOwners.{call_object, dereferenced_object, owner_address_form, call_walker}
 use Rattle.life_elab_laws.proofs.ElementForms.{edge_reached, either_served, operand_typed, owner_index_reached, owner_method_form, view_index_reached}
 use Rattle.life_elab_laws.proofs.ViewForms.{AreWhole, method_form}
 use Rattle.life_elab_laws.proofs.ComparedForms.{IsEither, compared_form}
@@ -62,6 +62,8 @@ use Rattle.life_typed.specs.declared.typed_expr.BinaryOperator.{BinaryOperator}
 use Rattle.life_types.specs.declared.ty.Ty.{Ty}
 use Rattle.life_elab_laws.proofs.HandedOwners.{owner_first, walker_first}
 use Rattle.life_elab_laws.proofs.PushedElements.{AreGiving, IsGiving}
+use Rattle.life_elab_laws.proofs.UniqueForms.{IsUnique, unique_dereferenced, unique_expression, unique_get_form}
+use Rattle.life_elab_laws.proofs.UniqueTests.{by_unique, by_value, deciding_form, deciding_negation, IsDeciding}
 use Rattle.life_type_expr.specs.Members.{indexed_at}
 
 module _ (a : Around) (visible : List ℕ) (types : Types) (texts : ℕ) (fs : List Function) (f : Function) (setting : Setting a types fs f) where
@@ -126,9 +128,24 @@ module _ (a : Around) (visible : List ℕ) (types : Types) (texts : ℕ) (fs : L
   equated_form o left right e c equality (inl l) (inr r) =
       compared_form a visible types texts fs f setting o left right e c (compares_both o left right c.ty equality (inr (owner_ranged right r)) (row_fits_between o left right c.ty c.answer)) (inl l) (inr r)
 
-  -- ---- elements, and what is behind a pointer or an iterator
+  -- ---- unique_ptrs that are named
 
-  indexed_of : (base position : Form) (closing : Place) (e : Typed) → (is_served_either base (is_served_owner texts base) (is_served_form texts base) || is_served_walker texts base) ≡ true
+  pub named_unique : (form : Form) → is_served_unique form ≡ true → IsExpression a.program a.function.locals visible form → IsUnique a visible types texts fs f setting form
+  named_unique form b h = unique_expression a visible types texts fs f setting form b h
+
+  -- what decides
+  deciding_of : (form : Form) → (is_served_form texts form || is_served_unique form) ≡ true → (is_served_form texts form ≡ true → IsWhole a visible types texts fs f setting form) → IsExpression a.program a.function.locals visible form
+      → IsDeciding a visible types texts fs f setting form
+  deciding_of form b value h = elim (or_cases (is_served_form texts form) (is_served_unique form) b) [ inl v ↦ by_value (value v) | inr u ↦ by_unique (named_unique form u h) ]
+
+  got_from : (m : Method) (base given : Form) (d : DelimitersForm) (e : Typed) → is_get m ≡ true → IsUnique a visible types texts fs f setting base → IsCalled a.program.types (typed_in base).ty (typed_in base).category m given e
+      → IsForm a visible types texts fs f setting (method base m given d) e
+  got_from methods.Get base given d e b is h = unique_get_form a visible types texts fs f setting base is given d e h
+  got_from _ base given d e b is h = absurd (false≢true b)
+
+  -- ---- elements, and what is behind a pointer, an iterator or a unique_ptr
+
+  pub indexed_of : (base position : Form) (closing : Place) (e : Typed) → (is_served_either base (is_served_owner texts base) (is_served_form texts base) || is_served_walker texts base) ≡ true
       → indexed_at a.program.types e.place (typed_in base) (typed_in position) closing ≡ Ok e → (is_served_form texts base ≡ true → IsWhole a visible types texts fs f setting base)
       → (is_served_owner texts base ≡ true → is_owner_type (typed_in base).ty ≡ true → IsOwning a visible types texts fs f setting base) → (is_served_walker texts base ≡ true → IsWalker a visible types texts fs f setting base)
       → IsWhole a visible types texts fs f setting position → IsReached a visible types texts fs f setting (index base position closing) e
@@ -141,7 +158,7 @@ module _ (a : Around) (visible : List ℕ) (types : Types) (texts : ℕ) (fs : L
         | inr w ↦ span_index_reached a visible types texts fs f setting base position closing e (walker w) at h
       ]
 
-  edge_of : (base : Form) (which : Method) (given : Form) (delimiters : DelimitersForm) (e : Typed) → (is_edge which && (is_owner_type (form_type base) && is_served_owner texts base)) ≡ true
+  pub edge_of : (base : Form) (which : Method) (given : Form) (delimiters : DelimitersForm) (e : Typed) → (is_edge which && (is_owner_type (form_type base) && is_served_owner texts base)) ≡ true
       → IsCalled a.program.types (typed_in base).ty (typed_in base).category which given e → (is_served_owner texts base ≡ true → is_owner_type (typed_in base).ty ≡ true → IsOwning a visible types texts fs f setting base)
       → IsReached a visible types texts fs f setting (method base which given delimiters) e
   edge_of base which given delimiters e b h owner =
@@ -149,13 +166,22 @@ module _ (a : Around) (visible : List ℕ) (types : Types) (texts : ℕ) (fs : L
       let two = and_parts (is_owner_type (form_type base)) (is_served_owner texts base) one.1 in
       edge_reached a visible types texts fs f setting base which given delimiters e (owning_owner a visible types texts fs f setting base (owner two.1 (ap is_owner_type (operand_typed base) ∙ two.0))) one.0 h
 
-  behind_of : (inner : Form) (e : Typed) (place : Place) → (is_served_form texts inner || is_served_walker texts inner) ≡ true → is_owner_type e.ty ≡ true → pointed_to a.program.types e.place (typed_in inner) ≡ Ok e
+  -- what is behind an iterator or a unique_ptr
+  pub behind_reached : (inner : Form) (e : Typed) → (is_served_walker texts inner || is_served_unique inner) ≡ true → IsMadeOf a.program a.function.locals visible e (dereference inner) → (is_served_walker texts inner ≡ true → IsWalker a visible types texts fs f setting inner)
+      → IsReached a visible types texts fs f setting (dereference inner) e
+  behind_reached inner e b h walker =
+      elim (or_cases (is_served_walker texts inner) (is_served_unique inner) b) [
+        | inl w ↦ walker_dereferenced a visible types texts fs f setting inner e (walker w) h.0
+        | inr u ↦ unique_dereferenced a visible types texts fs f setting inner (named_unique inner u h.1) e h.0
+      ]
+
+  behind_of : (inner : Form) (e : Typed) (place : Place) → (is_served_form texts inner || (is_served_walker texts inner || is_served_unique inner)) ≡ true → is_owner_type e.ty ≡ true → IsMadeOf a.program a.function.locals visible e (dereference inner)
       → (is_served_form texts inner ≡ true → IsWhole a visible types texts fs f setting inner) → (is_served_walker texts inner ≡ true → IsWalker a visible types texts fs f setting inner)
       → IsObjectAt a visible types texts fs f setting e ((form_uses a (dereference inner) place e.ty e.category).at)
   behind_of inner e place b n h value walker =
-      elim (or_cases (is_served_form texts inner) (is_served_walker texts inner) b) [
-        | inl v ↦ dereferenced_object a visible types texts fs f setting inner e place (value v) n h
-        | inr w ↦ reached_object a visible types texts fs f setting (dereference inner) e place (walker_dereferenced a visible types texts fs f setting inner e (walker w) h) n
+      elim (or_cases (is_served_form texts inner) (is_served_walker texts inner || is_served_unique inner) b) [
+        | inl v ↦ dereferenced_object a visible types texts fs f setting inner e place (value v) n h.0
+        | inr others ↦ reached_object a visible types texts fs f setting (dereference inner) e place (behind_reached inner e others h walker) n
       ]
 
   -- ---- any expression
@@ -178,9 +204,9 @@ module _ (a : Around) (visible : List ℕ) (types : Types) (texts : ℕ) (fs : L
     expression (paren inner closing) e q b h = paren_form a visible types texts fs f setting inner closing e (ap (λ (y : Typed). y.ty) (ok_same h.0)) (ap (λ (y : Typed). y.category) (ok_same h.0)) (whole_expression inner b h.1)
     expression input e q b h = literal a visible types texts fs f setting input e ty.Long h refl refl (λ place b. refl) (λ place behind into s wanted stands. input_part types texts fs f into ty.Long place s refl wanted) (λ place behind r s. refl)
     expression (dereference inner) e q b h =
-        elim (or_cases (is_served_form texts inner) (is_served_walker texts inner) b) [
+        elim (or_cases (is_served_form texts inner) (is_served_walker texts inner || is_served_unique inner) b) [
           | inl value ↦ let is = whole_expression inner value h.1 in dereference_form a visible types texts fs f setting inner e (dereferenced_as a.program.types (typed_in inner) e is.kind q h.0) is
-          | inr walker ↦ reached_form a visible types texts fs f setting (dereference inner) e (walker_dereferenced a visible types texts fs f setting inner e (walker_expression inner walker h.1) h.0) q refl (λ place b. refl)
+          | inr others ↦ reached_form a visible types texts fs f setting (dereference inner) e (behind_reached inner e others h (λ w. walker_expression inner w h.1)) q refl (λ place b. refl)
         ]
     expression (negate inner) e q b h =
         let is = whole_expression inner b h.1 in
@@ -190,11 +216,7 @@ module _ (a : Around) (visible : List ℕ) (types : Types) (texts : ℕ) (fs : L
         (λ place behind into s wanted stands. negated_part types texts fs f g.ty place (value (uses a inner) behind g.ty None) into s g.worth (sym (ap (λ (t : ExprType). operands.is_promoted (own_type t)) own) ∙ negated_promoted a.program.types (typed_in inner) e is.kind h.0) wanted stands.opened
         (is.valued g.number behind g.ty g.worth None s tt stands))
         (λ place behind r s. refl)
-    expression (not inner) e q b h =
-        let is = whole_expression inner b h.1 in
-        let g = inverted_as (typed_in inner) e h.0 in
-        decided_form a visible types texts fs f setting (not inner) e ty.Bool (ap (λ (y : Typed). y.ty) g.is) (ap (λ (y : Typed). y.category) g.is) refl refl (λ place b none. absurd (none_some (sym none))) (λ place b none. absurd (none_some (sym none)))
-        (λ place b w at s stands. subst (λ (v : State → Gives Tree). Decided b.ends s (v s)) (some_same at) (negation_part types texts fs f b.ends (condition (uses a inner) b) s (is.conditions g.condition b s stands)))
+    expression (not inner) e q b h = deciding_negation a visible types texts fs f setting inner e h.0 (deciding_of inner b (λ v. whole_expression inner v h.1) h.1)
     expression (address_of inner) e q b h =
         elim (either_served inner (is_served_object texts inner) (is_served_form texts inner) b) [
           | inl value ↦ let is = whole_expression inner value h.1 in address_form a visible types texts fs f setting inner e (addressed_as a.program.types (typed_in inner) e is.kind h.0) is
@@ -204,17 +226,23 @@ module _ (a : Around) (visible : List ℕ) (types : Types) (texts : ℕ) (fs : L
         let c = combined_as o e.place (typed_in left) (typed_in right) e h.0 in
         elim (or_cases (is_served_form texts left && is_served_form texts right) _ b) [
           | inl values ↦ let parts = and_parts (is_served_form texts left) (is_served_form texts right) values in binary_form a visible types texts fs f setting o left right e c (whole_expression left parts.0 h.1) (whole_expression right parts.1 h.2)
-          | inr others ↦
-              let equality = and_parts (is_equality o) _ others in
-              elim (or_cases (is_served_either left (is_served_owner texts left) (is_served_form texts left) && is_served_either right (is_served_owner texts right) (is_served_form texts right)) (is_served_walker texts left && is_served_walker texts right) equality.1) [
-                | inl texts_too ↦
-                    let both = and_parts (is_served_either left (is_served_owner texts left) (is_served_form texts left)) (is_served_either right (is_served_owner texts right) (is_served_form texts right)) texts_too in
-                    equated_form o left right e c equality.0 (either_of left both.0 (λ v. whole_expression left v h.1) (λ o n. owner_expression left o n h.1)) (either_of right both.1 (λ v. whole_expression right v h.2) (λ o n. owner_expression right o n h.2))
-                | inr walkers ↦
-                    let both = and_parts (is_served_walker texts left) (is_served_walker texts right) walkers in
-                    let l = walker_expression left both.0 h.1 in
-                    compared_walkers_form a visible types texts fs f setting o left right e c (compares_both o left right c.ty equality.0 (inl (walker_ranged left l)) (row_fits_between o left right c.ty c.answer)) l (walker_expression right both.1 h.2)
-              ]
+          | inr others ↦ elim (or_cases (is_testing o && ((is_served_form texts left || is_served_unique left) && (is_served_form texts right || is_served_unique right))) _ others) [
+            | inl tests ↦
+                let one = and_parts (is_testing o) ((is_served_form texts left || is_served_unique left) && (is_served_form texts right || is_served_unique right)) tests in
+                let both = and_parts (is_served_form texts left || is_served_unique left) (is_served_form texts right || is_served_unique right) one.1 in
+                deciding_form a visible types texts fs f setting o left right e c (deciding_of left both.0 (λ v. whole_expression left v h.1) h.1) (deciding_of right both.1 (λ v. whole_expression right v h.2) h.2)
+            | inr equal ↦
+                let equality = and_parts (is_equality o) _ equal in
+                elim (or_cases (is_served_either left (is_served_owner texts left) (is_served_form texts left) && is_served_either right (is_served_owner texts right) (is_served_form texts right)) (is_served_walker texts left && is_served_walker texts right) equality.1) [
+                  | inl texts_too ↦
+                      let both = and_parts (is_served_either left (is_served_owner texts left) (is_served_form texts left)) (is_served_either right (is_served_owner texts right) (is_served_form texts right)) texts_too in
+                      equated_form o left right e c equality.0 (either_of left both.0 (λ v. whole_expression left v h.1) (λ o n. owner_expression left o n h.1)) (either_of right both.1 (λ v. whole_expression right v h.2) (λ o n. owner_expression right o n h.2))
+                  | inr walkers ↦
+                      let both = and_parts (is_served_walker texts left) (is_served_walker texts right) walkers in
+                      let l = walker_expression left both.0 h.1 in
+                      compared_walkers_form a visible types texts fs f setting o left right e c (compares_both o left right c.ty equality.0 (inl (walker_ranged left l)) (row_fits_between o left right c.ty c.answer)) l (walker_expression right both.1 h.2)
+                ]
+          ]
         ]
     expression (text n) e q b h = text_form a visible types texts fs f setting n e h.0 h.1 b
     expression (construct structure elements delimiters) e q b h = absurd (false≢true b)
@@ -227,14 +255,18 @@ module _ (a : Around) (visible : List ℕ) (types : Types) (texts : ℕ) (fs : L
         let is = indexed_of base position closing e parts.0 h.0 (λ v. whole_expression base v h.1) (λ o n. owner_expression base o n h.1) (λ w. walker_expression base w h.1) (whole_expression position parts.1 h.2) in
         reached_form a visible types texts fs f setting (index base position closing) e is q refl (λ place b. refl)
     expression (method base which given delimiters) e q b h =
-        let one = and_parts (is_asking which) _ b in
-        let two = and_parts (is_served_either base (is_served_owner texts base) (is_served_form texts base) || is_served_walker texts base) (is_served_form texts given) one.1 in
-        elim (or_cases (is_served_either base (is_served_owner texts base) (is_served_form texts base)) (is_served_walker texts base) two.0) [
-          | inl either ↦ elim (either_served base (is_served_owner texts base) (is_served_form texts base) either) [
-            | inl value ↦ method_form a visible types texts fs f setting base which given delimiters e (whole_expression base value h.1) (wholes given two.1 h.2) one.0 h.0
-            | inr owner ↦ owner_method_form a visible types texts fs f setting base which given delimiters e q (owning_owner a visible types texts fs f setting base (owner_expression base owner.1 owner.0 h.1)) one.0 h.0
-          ]
-          | inr walker ↦ span_method_form a visible types texts fs f setting base which given delimiters e (walker_expression base walker h.1) one.0 h.0
+        elim (or_cases (is_asking which && ((is_served_either base (is_served_owner texts base) (is_served_form texts base) || is_served_walker texts base) && is_served_form texts given)) (is_get which && is_served_unique base) b) [
+          | inl asks ↦
+              let one = and_parts (is_asking which) _ asks in
+              let two = and_parts (is_served_either base (is_served_owner texts base) (is_served_form texts base) || is_served_walker texts base) (is_served_form texts given) one.1 in
+              elim (or_cases (is_served_either base (is_served_owner texts base) (is_served_form texts base)) (is_served_walker texts base) two.0) [
+                | inl either ↦ elim (either_served base (is_served_owner texts base) (is_served_form texts base) either) [
+                  | inl value ↦ method_form a visible types texts fs f setting base which given delimiters e (whole_expression base value h.1) (wholes given two.1 h.2) one.0 h.0
+                  | inr owner ↦ owner_method_form a visible types texts fs f setting base which given delimiters e q (owning_owner a visible types texts fs f setting base (owner_expression base owner.1 owner.0 h.1)) one.0 h.0
+                ]
+                | inr walker ↦ span_method_form a visible types texts fs f setting base which given delimiters e (walker_expression base walker h.1) one.0 h.0
+              ]
+          | inr gets ↦ let one = and_parts (is_get which) (is_served_unique base) gets in got_from which base given delimiters e one.0 (named_unique base one.1 h.1) h.0
         ]
     expression (typed at t c form) e q b h = absurd h
     expression nothing e q b h = absurd h
@@ -264,7 +296,7 @@ module _ (a : Around) (visible : List ℕ) (types : Types) (texts : ℕ) (fs : L
     owner_made (call g given delimiters) e b n h place =
         stands_there (call_object a visible types texts fs f setting g given delimiters e place n h.0
         (λ of at s stands. handed delimiters given b h.2 (parameter_types (Some of)) (subst (λ (o : Option FunctionForm). are_given a.program.types (parameter_types o) given ≡ true) at h.1) (setting.taken g of at) s stands))
-    owner_made (dereference inner) e b n h place = stands_there (behind_of inner e place b n h.0 (λ v. whole_expression inner v h.1) (λ w. walker_expression inner w h.1))
+    owner_made (dereference inner) e b n h place = stands_there (behind_of inner e place b n h (λ v. whole_expression inner v h.1) (λ w. walker_expression inner w h.1))
     owner_made (index base position closing) e b n h place =
         let parts = and_parts (is_served_either base (is_served_owner texts base) (is_served_form texts base) || is_served_walker texts base) (is_served_form texts position) b in
         let is = indexed_of base position closing e parts.0 h.0 (λ v. whole_expression base v h.1) (λ o n. owner_expression base o n h.1) (λ w. walker_expression base w h.1) (whole_expression position parts.1 h.2) in
@@ -290,7 +322,7 @@ module _ (a : Around) (visible : List ℕ) (types : Types) (texts : ℕ) (fs : L
     object_made (call g given delimiters) e b n h place =
         call_object a visible types texts fs f setting g given delimiters e place n h.0
         (λ of at s stands. handed delimiters given b h.2 (parameter_types (Some of)) (subst (λ (o : Option FunctionForm). are_given a.program.types (parameter_types o) given ≡ true) at h.1) (setting.taken g of at) s stands)
-    object_made (dereference inner) e b n h place = behind_of inner e place b n h.0 (λ v. whole_expression inner v h.1) (λ w. walker_expression inner w h.1)
+    object_made (dereference inner) e b n h place = behind_of inner e place b n h (λ v. whole_expression inner v h.1) (λ w. walker_expression inner w h.1)
     object_made (index base position closing) e b n h place =
         let parts = and_parts (is_served_either base (is_served_owner texts base) (is_served_form texts base) || is_served_walker texts base) (is_served_form texts position) b in
         let is = indexed_of base position closing e parts.0 h.0 (λ v. whole_expression base v h.1) (λ o n. owner_expression base o n h.1) (λ w. walker_expression base w h.1) (whole_expression position parts.1 h.2) in
@@ -311,6 +343,9 @@ module _ (a : Around) (visible : List ℕ) (types : Types) (texts : ℕ) (fs : L
         → IsWalkerAt a visible types texts fs f setting e ((form_uses a form place e.ty e.category).pointing)
     walker_made (local x) e n b h place = variable_walker a visible types texts fs f setting x e n h.0 h.1
     walker_made (paren inner closing) e n b h place = walker_same a visible types texts fs f setting (typed_in inner) e ((uses a inner).pointing) (ap (λ (y : Typed). y.ty) (ok_same h.0)) (ap (λ (y : Typed). y.category) (ok_same h.0)) (walker_expression inner b h.1)
+    walker_made (call g given delimiters) e n b h place =
+        call_walker a visible types texts fs f setting g given delimiters e place n h.0
+        (λ of at s stands. handed delimiters given b h.2 (parameter_types (Some of)) (subst (λ (o : Option FunctionForm). are_given a.program.types (parameter_types o) given ≡ true) at h.1) (setting.taken g of at) s stands)
     walker_made (method base which given delimiters) e n b h place =
         elim (or_cases (is_end which && (is_owner_type (form_type base) && is_served_owner texts base)) _ b) [
           | inl ends ↦
@@ -386,3 +421,8 @@ module _ (a : Around) (visible : List ℕ) (types : Types) (texts : ℕ) (fs : L
 
   pub asked_expression : (form : Form) → is_served_owner texts form ≡ true → is_owner_type (typed_in form).ty ≡ true → IsExpression a.program a.function.locals visible form → IsOwner a visible types texts fs f setting form
   asked_expression form b n h = owning_owner a visible types texts fs f setting form (owner_expression form b n h)
+
+  -- ---- what decides
+
+  pub deciding_expression : (form : Form) → (is_served_form texts form || is_served_unique form) ≡ true → IsExpression a.program a.function.locals visible form → IsDeciding a visible types texts fs f setting form
+  deciding_expression form b h = deciding_of form b (λ v. whole_expression form v h) h

@@ -196,6 +196,7 @@ module _ (types : Types) (f : Function) where
       opened = λ y c. let is = later y (contains_among s.living y (subst (λ (ys : List ℕ). Contains ys y) living c)) in slice_get_within s'.locals y is.local is.there;
       pends = none_pending s'.locals s'.types.types s'.living s'.pending (pending ∙ h.pending);
       seen = λ x u c at. moved x u c (h.stands.seen x u c at);
+      apart = λ x y u w c at d there other e. h.stands.apart x y u w c at d there other (sym (stays x c) ∙ e ∙ stays y d);
     };
     ascend = subst (Ascend 0) (sym living) h.ascend;
     outside = outside;
@@ -207,17 +208,18 @@ module _ (types : Types) (f : Function) where
       later : (y : ℕ) → Among y s.living → IsLiving s' y
       later y m = let is = h.living y m in record { local = is.local; there = locals y is.local is.there; lasts = is.lasts }
 
+      stays : (x : ℕ) → Contains v.visible x → variable s' x ≡ variable s x
+      stays x c = same_variable s s' x variables (omega (arith, h.visible x c, h.count))
+
       moved : (x : ℕ) (u : TypedLocal) → Contains v.visible x → IsVariableAt a s x u → IsVariableAt a s' x u
       moved x u c is = record {
         local = is.local;
-        there = ap (slice_get s'.locals) same ∙ locals (variable s x) is.local is.there;
+        there = ap (slice_get s'.locals) (stays x c) ∙ locals (variable s x) is.local is.there;
         typed = is.typed;
         kind = is.kind;
-        lives = subst (λ (ys : List ℕ). Contains ys (variable s' x)) (sym living) (subst (Contains s.living) (sym same) is.lives);
+        named = is.named;
+        lives = subst (λ (ys : List ℕ). Contains ys (variable s' x)) (sym living) (subst (Contains s.living) (sym (stays x c)) is.lives);
       }
-        where
-          same : variable s' x ≡ variable s x
-          same = same_variable s s' x variables (omega (arith, h.visible x c, h.count))
 
   pub follows_grown : (a : Around) (v : Visible) (s s' : State) → s'.pending ≡ s.pending → Grows s s' → Follows a v s → Follows a v s'
   follows_grown a v s s' level g h = follows_again a v s s' v.declared h g.locals g.types (subst (IsFront s.variables) (sym g.variables) (front_itself s.variables)) g.living level (omega (arith, g.outside, ap length g.living, h.outside)) (ap length g.variables ∙ h.count) (omega arith)

@@ -11,14 +11,16 @@ use Rattle.life_types.specs.declared.ty.Ty.{Ty}
 use Rattle.life_types.specs.declared.ty.Ty.TheVariants as ty
 use Rattle.life_typed.specs.BaseTypes.{type_at}
 use Rattle.life_core.specs.Function.{Function}
-use Rattle.life_core.specs.Kinds.{is_object, is_register}
+use Rattle.life_core.specs.Kinds.{is_object}
 use Rattle.life_core.specs.declared.program.Local.{Local}
 use Rattle.life_core.specs.declared.program.LocalKind.{LocalKind}
-use Rattle.life_core.specs.declared.program.LocalKind.TheVariants.{Object, Register, Range}
+use Rattle.life_core.specs.declared.program.LocalKind.TheVariants.{Register}
+use Rattle.life_elab_laws.proofs.EndSteps.{ends_here}
 use Rattle.life_elab_laws.proofs.Shaped.{AreShaped, is_passing, shaped_at}
+use Rattle.life_elab_laws.proofs.Shaping.{is_lasting, lasts_at}
 use Rattle.life_elab_laws.proofs.Following.{may_end}
-use Rattle.life_elab_laws.proofs.VariablePlaces.{IsVariableType, a_raw, a_reference, a_value, a_view, an_alias, an_owner, variable_type, a_walker}
 use Rattle.life_elab_laws.proofs.Targets.{owner_target, reference_no_slot, value_target}
+use Rattle.life_elab_laws.proofs.VariablePlaces.{a_raw, a_reference, a_unique, a_value, a_view, a_walker, an_alias, an_owner, IsVariableType, variable_type}
 use Rattle.life_proper.specs.Placed.{is_slot_local, result_at, slot_at}
 use Rattle.life_proper.specs.WellFormed.{can_end}
 
@@ -55,24 +57,21 @@ module _ (types : Types) (texts : ℕ) (fs : List Function) (f : Function) (shap
       go false true vs es = absurd (false≢true (sym lasts ∙ passes (ap (slice_get f.locals) (sym (one y f.parameters es)) ∙ at) vs))
 
   -- what lives
-  pub variable_ends : (y : ℕ) (l : Local) → slice_get f.locals y ≡ Some l → is_passing l ≡ false → may_end types f y ≡ true → can_end types texts fs f y ≡ true
+  pub variable_ends : (y : ℕ) (l : Local) → slice_get f.locals y ≡ Some l → is_passing l ≡ false → may_end types f y ≡ true → ends_here types texts fs f y ≡ true
   variable_ends y l at lasts ends =
-      go (variable_type types l.ty (shaped_at types f.locals y l shaped at (no_register l.kind (is_none l.name) lasts)).built)
+      go (variable_type types l.ty (shaped_at types f.locals y l shaped at lasts))
     where
-      no_register : (k : LocalKind) (n : Bool) → (n && not (is_object k)) ≡ false → (is_register k && n) ≡ false
-      no_register Object n e = refl
-      no_register Register true e = e
-      no_register Register false e = refl
-      no_register Range n e = refl
-
-      both : is_slot_type types (slice_get types.types l.ty.0) ≡ false → can_end types texts fs f y ≡ true
+      both : is_slot_type types (slice_get types.types l.ty.0) ≡ false → ends_here types texts fs f y ≡ true
       both slot =
-          and_from (may_end types f y) _ ends
-          (and_from (not (result_at types f y)) (not (slot_at types f y)) (no_result y l at lasts) (ap (λ (o : Option Local). not (is_slot_local types f o)) at ∙ ap not slot))
+          and_from (can_end types texts fs f y) (lasts_at f y)
+          (and_from (may_end types f y) _ ends
+          (and_from (not (result_at types f y)) (not (slot_at types f y)) (no_result y l at lasts) (ap (λ (o : Option Local). not (is_slot_local types f o)) at ∙ ap not slot)))
+          (ap is_lasting at ∙ ap not lasts)
 
-      go : IsVariableType types l.ty → can_end types texts fs f y ≡ true
+      go : IsVariableType types l.ty → ends_here types texts fs f y ≡ true
       go (a_value t found v) = both (ap (is_slot_type types) found ∙ value_no_slot types t v)
       go (a_walker t found w) = both (ap (is_slot_type types) found ∙ walker_no_slot types t w)
+      go (a_unique target found v) = both (ap (is_slot_type types) found)
       go (an_owner t found o) = both (ap (is_slot_type types) found ∙ owner_no_slot types t o)
       go (a_raw target constant found v) = both (ap (is_slot_type types) found)
       go (a_view found) = both (ap (is_slot_type types) found)

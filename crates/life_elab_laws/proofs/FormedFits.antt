@@ -20,10 +20,11 @@ use Rattle.life_type_expr.specs.Operands.{is_constant}
 use Rattle.life_well_typed.specs.Given.{is_given}
 use Rattle.life_proper.specs.OperandTypes.{keeps_const, same, takes}
 use Rattle.life_elab_laws.proofs.Gifts.{takes_from}
+use Rattle.life_elab_laws.proofs.FormedVariables.{keeps_same}
 use Rattle.life_elab_laws.proofs.Fronts.{IsFront}
 use Rattle.life_elab_laws.proofs.Locations.{is_seen}
 use Rattle.life_types.specs.declared.ty.Ty.{Ty}
-use Rattle.life_elab_laws.proofs.Elements.{one_element}
+use Rattle.life_elab_laws.proofs.Elements.{one_element, element_target}
 use Rattle.life_elab_laws.proofs.Targets.{one_target}
 
 pub same_id : (a b : TyId) → id.eq a b ≡ true → a ≡ b
@@ -126,7 +127,7 @@ given_bound types target true e worth given = go (is_place_of e.category target)
 
 -- ---- owners
 
-tested_as : (b : Bool) → fits_at_all (unless (not b) General) ≡ true → b ≡ true
+pub tested_as : (b : Bool) → fits_at_all (unless (not b) General) ≡ true → b ≡ true
 tested_as true h = refl
 tested_as false h = absurd (false≢true h)
 
@@ -186,6 +187,12 @@ module _ (few more : Types) (front : IsFront few.types more.types) where
       go (ty.Span item c) (ty.Iterator found held) w own h = absurd (false≢true h)
       go (ty.Span item c) _ w own h = absurd (false≢true own)
       go _ u w own h = absurd (false≢true w)
+
+-- .. and it takes itself
+pub walker_itself : (few more : Types) → IsFront few.types more.types → (t : Ty) → is_walker_of_values few t ≡ true → takes more t t ≡ true
+walker_itself few more front (ty.Iterator item c) w = and_from (same (ty_of more item) (ty_of more item)) (keeps_const c c) (one_target few more front item (element_target few (type_at few item) w)) (keeps_same c)
+walker_itself few more front (ty.Span item c) w = and_from (same (ty_of more item) (ty_of more item)) (keeps_const c c) (one_target few more front item (element_target few (type_at few item) w)) (keeps_same c)
+walker_itself few more front _ w = absurd (false≢true w)
 
 -- a span that is given an owner is given a vector of its elements
 pub record IsSpanOf (item : TyId) (constant held : Bool) (u : Ty) : Type 0 where

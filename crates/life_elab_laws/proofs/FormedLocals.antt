@@ -1,7 +1,7 @@
 -- The locals of a core function that is translated are well formed, and so is what stands beside its body: its name, its result and its promise.
 use Rattle.std.proofs.Common.{◌≡◌, ◌<◌, ◌+◌, ◌≤◌, ◌⊎◌, inl, inr, ℕ, zero, suc, Bool, true, false, ◌&&◌, ◌||◌, not, List, [], ◌∷◌, length, nat_eq, nat_le, nat_lt, slice_get, Option, Some, is_some, refl, sym, ap, ◌∙◌, subst, unwrap_or, arith}
 use Rattle.std.specs.List.{list_all}
-use Rattle.std.proofs.lemmas.Bool.{and_from, and_parts, false≢true, le-leb}
+use Rattle.std.proofs.lemmas.Bool.{and_from, and_parts, false≢true, le-leb, or_cases}
 use Rattle.std.proofs.lemmas.Bool.Decides.{nat_tests}
 use Rattle.std.proofs.lemmas.Option.{same_Some}
 use Rattle.life_types.specs.Pointees.{or_void, ty_of}
@@ -12,7 +12,7 @@ use Rattle.life_types.specs.declared.ty.NameId.{NameId}
 use Rattle.life_types.specs.declared.ty.Ty.{Ty}
 use Rattle.life_types.specs.declared.ty.Ty.TheVariants as ty
 use Rattle.life_types.specs.declared.ty.TyId.{TyId}
-use Rattle.life_served.specs.Served.{is_owner_of_values, is_pointing, is_target, is_walker_of_values, is_element, is_inner_owner}
+use Rattle.life_served.specs.Served.{is_element, is_owner_of_values, is_owner_within, is_pointing, is_target, is_unique_of_value, is_walker_of_values}
 use Rattle.life_typed.specs.BaseTypes.{type_at}
 use Rattle.life_typed.specs.Programs.{FunctionForm, ProgramForm, PromiseForm, default, listed}
 use Rattle.life_typed.specs.declared.typed_program.ParameterPromise.{ParameterPromise}
@@ -39,7 +39,7 @@ use Rattle.life_elab_laws.proofs.OperandsThere.{type_either}
 use Rattle.life_elab_laws.proofs.ServedTypes.{IsServedType, variable_found}
 use Rattle.life_elab_laws.proofs.ResultTypes.{result_is}
 use Rattle.life_elab_laws.proofs.Values.{by_values}
-use Rattle.life_elab_laws.proofs.WrittenLocals.{AreWrittenLocals, IsIntermediate, IsOwn, fits_later, fits_local, fits_register, local_later, owner_local, register_local, FitsNameless, FitsTemporary}
+use Rattle.life_elab_laws.proofs.WrittenLocals.{AreWrittenLocals, fits_later, fits_local, fits_register, FitsNameless, FitsTemporary, hidden_later, hidden_local, hidden_pointer, IsIntermediate, IsOwn, local_later, owner_local, register_local, unique_local}
 use Rattle.life_elab_laws.proofs.Shaped.{owner_later}
 use Rattle.life_elab_laws.proofs.Targets.{IsTarget, target_is, target_referred, to_owner, to_value}
 use Rattle.life_elab_laws.proofs.Elements.{IsElement, has_value, has_owner, element_is}
@@ -66,36 +66,32 @@ module _ (types : Types) where
       go (Some ty.Size) v = refl
       go _ v = absurd (false≢true v)
 
-  -- .. of what a vector has
-  inner_tree : (n : ℕ) (id : TyId) → is_inner_owner types (type_at types id) ≡ true → (is_plain (tree_within n types id) && may_stand (tree_within n types id)) ≡ true
-  inner_tree zero id o = refl
-  inner_tree (suc n) id o = go (slice_get types.types id.0) o
-    where
-      go : (t : Option Ty) → is_inner_owner types (unwrap_or t ty.Void) ≡ true → (is_plain (tree_of types (tree_within n types) t) && may_stand (tree_of types (tree_within n types) t)) ≡ true
-      go (Some ty.Text) o = refl
-      go (Some (ty.Vector element)) o = of_elements n element (value_tree n element o)
-      go _ o = absurd (false≢true o)
+  -- .. and of an owner, as deep as it is
+  owner_stands : (m n : ℕ) → ((id : TyId) → is_owner_within m types (type_at types id) ≡ true → (is_plain (tree_within n types id) && may_stand (tree_within n types id)) ≡ true)
+      → (t : Option Ty) → is_owner_within (suc m) types (unwrap_or t ty.Void) ≡ true → (is_plain (tree_of types (tree_within n types) t) && may_stand (tree_of types (tree_within n types) t)) ≡ true
+  owner_stands m n inside (Some ty.Text) o = refl
+  owner_stands m n inside (Some (ty.Vector element)) o = of_elements n element (elim (or_cases (is_value (type_at types element)) (is_owner_within m types (type_at types element)) o) [
+    | inl v ↦ value_tree n element v
+    | inr inner ↦ inside element inner
+  ])
+  owner_stands m n inside _ o = absurd (false≢true o)
+
+  within_tree : (m n : ℕ) (id : TyId) → is_owner_within m types (type_at types id) ≡ true → (is_plain (tree_within n types id) && may_stand (tree_within n types id)) ≡ true
+  within_tree m zero id o = refl
+  within_tree zero (suc n) id o = absurd (false≢true o)
+  within_tree (suc m) (suc n) id o = owner_stands m n (within_tree m n) (slice_get types.types id.0) o
 
   element_tree : (n : ℕ) (id : TyId) → is_element types (type_at types id) ≡ true → (is_plain (tree_within n types id) && may_stand (tree_within n types id)) ≡ true
   element_tree n id h = go (element_is types (type_at types id) h)
     where
       go : IsElement types (type_at types id) → (is_plain (tree_within n types id) && may_stand (tree_within n types id)) ≡ true
       go (has_value v) = value_tree n id v
-      go (has_owner o) = inner_tree n id o
+      go (has_owner o) = within_tree 7 n id o
 
-  -- .. and of an owner, which is what pointers are to too
-  owner_tree : (n : ℕ) (id : TyId) → is_owner_of_values types (type_at types id) ≡ true → (is_plain (tree_within n types id) && may_stand (tree_within n types id)) ≡ true
-  owner_tree zero id o = refl
-  owner_tree (suc n) id o = go (slice_get types.types id.0) o
-    where
-      go : (t : Option Ty) → is_owner_of_values types (unwrap_or t ty.Void) ≡ true → (is_plain (tree_of types (tree_within n types) t) && may_stand (tree_of types (tree_within n types) t)) ≡ true
-      go (Some ty.Text) o = refl
-      go (Some (ty.Vector element)) o = of_elements n element (element_tree n element o)
-      go _ o = absurd (false≢true o)
-
+  -- pointers are to such an owner too
   target_tree : (n : ℕ) (id : TyId) → IsTarget types (type_at types id) → (is_plain (tree_within n types id) && may_stand (tree_within n types id)) ≡ true
   target_tree n id (to_value v) = value_tree n id v
-  target_tree n id (to_owner o) = owner_tree n id o
+  target_tree n id (to_owner o) = within_tree 8 n id o
 
   fits_stands : (id : TyId) (t : Ty) → slice_get types.types id.0 ≡ Some t → fits_local types t ≡ true → may_stand (tree_at types id) ≡ true
   unfolding tree_at
@@ -105,7 +101,7 @@ module _ (types : Types) where
       go (ty.Raw target constant) h = target_tree id.0 target (target_is types (type_at types target) h)
       go (ty.Reference target constant) h = target_tree id.0 target (target_is types (type_at types target) h)
       go (ty.Vector element) h = element_tree id.0 element h
-      go (ty.Unique target) h = absurd (false≢true h)
+      go (ty.Unique target) h = value_tree id.0 target h
       go (ty.Iterator target constant) h = element_tree id.0 target h
       go (ty.Span target constant) h = element_tree id.0 target h
       go (ty.Struct number) h = absurd (false≢true h)
@@ -134,7 +130,8 @@ module _ (types : Types) where
 
   pub variable_fits : (t : Ty) → IsServedType types t → fits_local types t ≡ true
   variable_fits t (inr (inl o)) = owner_local types t o
-  variable_fits t (inr (inr w)) = go t w
+  variable_fits t (inr (inr (inr u))) = unique_local types t u
+  variable_fits t (inr (inr (inl w))) = go t w
     where
       go : (t : Ty) → is_walker_of_values types t ≡ true → fits_local types t ≡ true
       go (ty.Iterator target constant) w = w
@@ -146,12 +143,18 @@ module _ (types : Types) where
       go ty.View b = refl
       go ty.Text b = absurd (false≢true b)
       go (ty.Vector element) b = absurd (false≢true b)
+      go (ty.Unique target) b = absurd (false≢true b)
       go (ty.Iterator target constant) b = absurd (false≢true b)
       go (ty.Span target constant) b = absurd (false≢true b)
       go _ b = b
 
   variable_kept : (t : Ty) → IsServedType types t → fits_kind (kind (class (Some t))) t ≡ true
-  variable_kept t (inr (inr w)) = go t w
+  variable_kept t (inr (inr (inr u))) = go t u
+    where
+      go : (t : Ty) → is_unique_of_value types t ≡ true → fits_kind (kind (class (Some t))) t ≡ true
+      go (ty.Unique target) u = refl
+      go _ u = absurd (false≢true u)
+  variable_kept t (inr (inr (inl w))) = go t w
     where
       go : (t : Ty) → is_walker_of_values types t ≡ true → fits_kind (kind (class (Some t))) t ≡ true
       go (ty.Iterator target constant) w = refl
@@ -177,7 +180,12 @@ module _ (types : Types) where
       go _ b = absurd (false≢true b)
 
   variable_named : (t : Ty) (name : NameId) → IsServedType types t → is_named_as (kind (class (Some t))) t (Some name) ≡ true
-  variable_named t name (inr (inr w)) = go t w
+  variable_named t name (inr (inr (inr u))) = go t u
+    where
+      go : (t : Ty) → is_unique_of_value types t ≡ true → is_named_as (kind (class (Some t))) t (Some name) ≡ true
+      go (ty.Unique target) u = refl
+      go _ u = absurd (false≢true u)
+  variable_named t name (inr (inr (inl w))) = go t w
     where
       go : (t : Ty) → is_walker_of_values types t ≡ true → is_named_as (kind (class (Some t))) t (Some name) ≡ true
       go (ty.Iterator target constant) w = refl
@@ -291,11 +299,14 @@ module _ (p : ProgramForm) (of : FunctionForm) (T types : Types) (names : ℕ) (
       temporary_fits (inl value) = (by_values (λ t. fits_local types t ≡ true) refl refl refl refl refl is.ty value, by_values (λ t. fits_kind Object t ≡ true) refl refl refl refl refl is.ty value)
       temporary_fits (inr o) = let owner = owner_later p.types types front is.ty o in (owner_local types is.ty owner, owner_kept is.ty owner)
 
-      go : FitsNameless p.types l.kind is.ty → is_well_formed_local types names core.parameters x l ≡ true
+      go : FitsNameless p.types (written (around p of) T).types l.kind is.ty → is_well_formed_local types names core.parameters x l ≡ true
       go (inl register) =
           let fit = fits_later p.types types front is.ty register.1 in
           nameless_formed (register_local types is.ty fit) (ap (λ (k : LocalKind). fits_kind k is.ty) register.0 ∙ fits_kept types is.ty fit)
-      go (inr temporary) = let fit = temporary_fits temporary.1 in nameless_formed fit.0 (ap (λ (k : LocalKind). fits_kind k is.ty) temporary.0 ∙ fit.1)
+      go (inr (inl temporary)) = let fit = temporary_fits temporary.1 in nameless_formed fit.0 (ap (λ (k : LocalKind). fits_kind k is.ty) temporary.0 ∙ fit.1)
+      go (inr (inr hidden)) =
+          let fit = hidden_later (written (around p of) T).types types later is.ty hidden.1 in
+          nameless_formed (hidden_local types is.ty fit) (ap (λ (k : LocalKind). fits_kind k is.ty) hidden.0 ∙ hidden_pointer types is.ty fit)
 
   own_formed : (x : ℕ) (l : Local) → slice_get core.locals x ≡ Some l → IsOwn (around p of) l → is_well_formed_local types names core.parameters x l ≡ true
   own_formed x l at is =

@@ -30,7 +30,7 @@ use Rattle.life_elab_laws.proofs.Locations.{is_location}
 use Rattle.life_elab_laws.proofs.TypedKinds.{place_same, owner_named, walker_named}
 use Rattle.life_elab_laws.proofs.Types.{value_kind}
 use Rattle.life_elab_laws.proofs.Values.{by_values}
-use Rattle.life_elab_laws.proofs.VariablePlaces.{IsVariableAt, IsVariableType, a_raw, a_reference, a_value, a_view, an_alias, kind_is, place_is, variable_type, an_owner, owner_kind, a_walker, walker_is}
+use Rattle.life_elab_laws.proofs.VariablePlaces.{a_raw, a_reference, a_unique, a_value, a_view, a_walker, an_alias, an_owner, IsVariableAt, IsVariableType, kind_is, owner_kind, place_is, variable_type, walker_is}
 use Rattle.life_proper.specs.OperandTypes.{keeps_const}
 use Rattle.life_proper.specs.Placed as placed
 use Rattle.life_elab_laws.proofs.Gifts.{IsAt, IsPlaceOf}
@@ -41,7 +41,7 @@ pub keeps_all : (to : Bool) → keeps_const to false ≡ true
 keeps_all true = refl
 keeps_all false = refl
 
-keeps_same : (c : Bool) → keeps_const c c ≡ true
+pub keeps_same : (c : Bool) → keeps_const c c ≡ true
 keeps_same true = refl
 keeps_same false = refl
 
@@ -118,7 +118,6 @@ module _ (types : Types) (texts : ℕ) (fs : List Function) (f : Function) where
   object_place y t c there typed = record {
     typed = ap (λ (b : Bool). if b then placed.type_at types f y else ty.Void) there ∙ typed;
     held = keeps_all c;
-    served = refl;
   }
 
   -- what a pointer of this type points to
@@ -131,7 +130,6 @@ module _ (types : Types) (texts : ℕ) (fs : List Function) (f : Function) where
         ∙ ap (λ (b : Bool). if b then ty_of types target else ty.Void) (ap (λ (w : Ty). not (is_void w)) (object ∙ typed) ∙ some)
         ∙ typed;
     held = ap (λ (w : Ty). keeps_const c (is_constant w)) at.typed ∙ ap (keeps_const c) const ∙ keeps_same c;
-    served = at.served;
   }
 
   module _ (a : Around) (front : IsFront a.program.types.types types.types) (s : State) (b : Begins types f s) (x : ℕ) (v : TypedLocal) (h : IsVariableAt a s x v) where
@@ -153,7 +151,6 @@ module _ (types : Types) (texts : ℕ) (fs : List Function) (f : Function) where
         (record {
           typed = reference_there types f (variable s x) h.local target constant there (typed_as t found) (target_there a.program.types types front target h');
           kept = register_there types f (variable s x) h.local there register;
-          served = refl;
         })
         refl refl refl later (target_no_void a.program.types (type_at a.program.types target) h'))
 
@@ -194,6 +191,10 @@ module _ (types : Types) (texts : ℕ) (fs : List Function) (f : Function) where
         go (an_alias target c found o) =
             let here = ap (type_at a.program.types) (place_same target id c constant (own target c (named (ty.Reference target c) found))) in
             absurd (owner_no_value a.program.types (type_at a.program.types target) o (ap is_value here ∙ value))
+        go (a_unique target found w) =
+            let one : v.ty ≡ id = place_same v.ty id v.constant constant (own v.ty v.constant (named (ty.Unique target) found)) in
+            let here : type_at a.program.types id ≡ ty.Unique target = ap (type_at a.program.types) (sym one) ∙ ap (λ (o : Option Ty). unwrap_or o ty.Void) found in
+            absurd (false≢true (sym (ap is_value here) ∙ value))
         go (a_view found) =
             let one : v.ty ≡ id = place_same v.ty id v.constant constant (own v.ty v.constant (named ty.View found)) in
             let here : type_at a.program.types id ≡ ty.View = ap (type_at a.program.types) (sym one) ∙ ap (λ (o : Option Ty). unwrap_or o ty.Void) found in
@@ -215,10 +216,15 @@ module _ (types : Types) (texts : ℕ) (fs : List Function) (f : Function) where
         subst (IsPlaceOf types texts fs f t constant) (sym (place_is a s x v h Object object))
         (object_place (variable s x) t constant (object_there types f (variable s x) h.local there object) (type_there types f (variable s x) h.local t there (typed_as t found) (owner_no_reference a.program.types t o)))
 
+    -- .. and so is anything else that is an object
+    pub object_formed : (t : Ty) (constant : Bool) → slice_get a.program.types.types v.ty.0 ≡ Some t → kind (class (Some t)) ≡ Object → is_reference t ≡ false → IsPlaceOf types texts fs f t constant (object_named (variable s x))
+    object_formed t constant found object plain =
+        object_place (variable s x) t constant (object_there types f (variable s x) h.local there (kind_is a s x v h t found ∙ object))
+        (type_there types f (variable s x) h.local t there (typed_as t found) plain)
+
     -- the variable of a raw pointer or a view has its type
     pub pointer_formed : (t : Ty) → is_location t ≡ true → slice_get a.program.types.types v.ty.0 ≡ Some t → IsAt types texts fs f t (whole (variable s x))
     pointer_formed t loc found = record {
       typed = type_there types f (variable s x) h.local t there (typed_as t found) (location_no_reference t loc);
       kept = register_there types f (variable s x) h.local there (kind_is a s x v h t found ∙ location_kind t loc);
-      served = refl;
     }

@@ -1,6 +1,5 @@
 -- What a part of an expression gives: which type it has in the finished function, and what is known of it where so many locals are there.
 use Rattle.std.proofs.Common.{◌≡◌, ◌≤◌, ◌⊎◌, ℕ, Bool, true, List, [], ◌∷◌, flat_map, None, ◌∙◌, arith}
-use Rattle.std.specs.List.{list_all}
 use Rattle.life_types.specs.TypeTests.{is_raw, is_view}
 use Rattle.life_types.specs.Types.{Types}
 use Rattle.life_types.specs.declared.ty.Ty.{Ty}
@@ -10,7 +9,6 @@ use Rattle.life_typed.specs.declared.typed_expr.ExprType.TheVariants.{NullPointe
 use Rattle.life_core.specs.Function.{Function}
 use Rattle.life_core.specs.Kinds.{is_register_at}
 use Rattle.life_core.specs.Operands.{Argument, Location, Operand, PointerOf, Value}
-use Rattle.life_core_served.specs.Served.{is_served_argument, is_served_location, is_served_operand}
 use Rattle.life_core.specs.Step.{Step}
 use Rattle.life_proper.specs.GivenOver.{given_argument}
 use Rattle.life_proper.specs.OperandTypes.{keeps_const, takes}
@@ -72,7 +70,6 @@ module _ (types : Types) (texts : ℕ) (fs : List Function) (f : Function) where
   pub record IsPlaceOf (t : Ty) (constant : Bool) (o : Operand) : Type 0 where
     pub typed : type_of types f o ≡ t
     pub held : keeps_const constant (is_const_place types f o) ≡ true
-    pub served : is_served_operand o ≡ true
 
   pub place_stays : (o : Operand) (n m : ℕ) (k j : List Known) → n ≤ m → IsPlace o n k → Keeps f n None k j → IsPlace o m j
   place_stays o n m k j h p keeps = record { local = p.local; uses = p.uses; below = omega (arith, p.below, h); held = keeps.below p.local p.below tt ∙ p.held }
@@ -85,7 +82,6 @@ module _ (types : Types) (texts : ℕ) (fs : List Function) (f : Function) where
   pub record IsAt (t : Ty) (l : Location) : Type 0 where
     pub typed : type_in types f l ≡ t
     pub kept : is_register_at f l.local ≡ true
-    pub served : is_served_location l ≡ true
 
   pub pointer_stays : (l : Location) (n m : ℕ) (k j : List Known) → n ≤ m → IsPointer l n k → Keeps f n None k j → IsPointer l m j
   pointer_stays l n m k j h p keeps = record { local = p.local; is = p.is; below = omega (arith, p.below, h); held = keeps.below p.local p.below tt ∙ p.held }
@@ -122,7 +118,6 @@ module _ (types : Types) (texts : ℕ) (fs : List Function) (f : Function) where
     pub fit : are_arguments_for types texts fs f ids xs ≡ true
     pub own : have_own_slots types texts fs f xs ≡ true
     pub given : flat_map given_argument xs ≡ []
-    pub served : list_all is_served_argument xs ≡ true
 
   pub numbers_stay : (ids : List TyId) (xs : List Argument) (n m : ℕ) (k j : List Known) → n ≤ m → AreNumbersFor ids xs n k → Keeps f n None k j → AreNumbersFor ids xs m j
   numbers_stay [] [] n m k j h p keeps = tt

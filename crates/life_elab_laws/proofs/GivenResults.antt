@@ -1,7 +1,7 @@
 -- What a return gives back: a value, a pointer or a view that is given something, or a reference that is aimed at a place, which may be a temporary's.
 use Rattle.std.proofs.Common.{◌≡◌, ℕ, Bool, true, false, cond, List, slice_get, Option, Some, None, inl, inr, refl, sym, ap, ◌∙◌, subst}
-use Rattle.std.proofs.lemmas.Bool.{false≢true}
-use Rattle.life_served.specs.Served.{is_served_expression, is_owner_of_values, is_served_owner, is_served_returned, is_target}
+use Rattle.std.proofs.lemmas.Bool.{false≢true, or_cases}
+use Rattle.life_served.specs.Served.{is_served_expression, is_owner_of_values, is_served_owner, is_served_returned, is_target, is_served_any, is_served_walker, is_walker_of_values}
 use Rattle.life_types.specs.TypeTests.{is_unique, is_value, is_void}
 use Rattle.life_types.specs.Types.{Types, class}
 use Rattle.life_types.specs.declared.place.Place.{Place}
@@ -11,7 +11,7 @@ use Rattle.life_types.specs.declared.ty.Ty.{Ty}
 use Rattle.life_types.specs.declared.ty.Ty.TheVariants as ty
 use Rattle.life_types.specs.declared.ty.TyId.{TyId}
 use Rattle.life_typed.specs.BaseTypes.{type_at}
-use Rattle.life_typed.specs.Conversions.{is_place_of}
+use Rattle.life_typed.specs.Conversions.{is_place_of, fits}
 use Rattle.life_typed.specs.TypedForm.{Typed, whole as whole_form}
 use Rattle.life_core.specs.Function.{Function}
 use Rattle.life_core.specs.Kinds.{is_register_at}
@@ -39,11 +39,11 @@ use Rattle.life_elab_laws.proofs.Aiming.{pointed_fills, pointed_fine}
 use Rattle.life_elab_laws.proofs.Doing.{DoesLevel}
 use Rattle.life_elab_laws.proofs.Emitting.{IsWanted, kept_targeted}
 use Rattle.life_elab_laws.proofs.ExpressionForms.{IsWhole}
-use Rattle.life_elab_laws.proofs.Expressions.{whole_expression, owner_expression}
+use Rattle.life_elab_laws.proofs.Expressions.{whole_expression, owner_expression, walker_expression}
 use Rattle.life_elab_laws.proofs.ExpressionTypes.{seen_kind}
 use Rattle.life_elab_laws.proofs.Filling.{aimed_filling, filling_fills}
 use Rattle.life_elab_laws.proofs.Following.{Follows, HasRegister, IsResultRegister}
-use Rattle.life_elab_laws.proofs.FormedFits.{IsBound, at_place, by_temporary, given_bound, given_raw, given_seen, given_string}
+use Rattle.life_elab_laws.proofs.FormedFits.{IsBound, at_place, by_temporary, given_bound, given_raw, given_seen, given_string, given_vector, given_walker, walker_itself}
 use Rattle.life_elab_laws.proofs.FormedVariables.{keeps_all, location_no_reference, reference_there, owner_no_location, owner_no_value}
 use Rattle.life_elab_laws.proofs.Gifts.{Gift, IsAt, a_number, a_place, a_pointing, held_stays, nothing, takes_from}
 use Rattle.life_elab_laws.proofs.GivenKinds.{given_number, given_pointer, given_view}
@@ -55,13 +55,13 @@ use Rattle.life_elab_laws.proofs.NewVariables.{bound_given}
 use Rattle.life_elab_laws.proofs.OperandsThere.{register_there, type_there}
 use Rattle.life_elab_laws.proofs.Parts.{Makes, Part, then_part}
 use Rattle.life_elab_laws.proofs.PointerForms.{points_whole}
-use Rattle.life_elab_laws.proofs.ResultTypes.{IsResultType, gives_alias, gives_nothing, gives_raw, gives_reference, gives_value, gives_view, result_is}
+use Rattle.life_elab_laws.proofs.ResultTypes.{IsResultType, gives_alias, gives_walker, gives_nothing, gives_raw, gives_reference, gives_value, gives_view, result_is}
 use Rattle.life_elab_laws.proofs.Returning.{back_given, result_returned, return_does}
 use Rattle.life_elab_laws.proofs.Setting.{Setting}
 use Rattle.life_elab_laws.proofs.TypedKinds.{value_simple}
 use Rattle.life_elab_laws.proofs.ValueTemporaries.{value_temporary}
 use Rattle.life_elab_laws.proofs.Values.{by_values}
-use Rattle.life_elab_laws.proofs.AliasForms.{IsAliased, owning_aliased, value_reference_refused, whole_aliased, to_built, to_place}
+use Rattle.life_elab_laws.proofs.AliasForms.{IsAliased, owning_aliased, value_reference_refused, whole_aliased, to_built, to_place, walker_reference_refused}
 use Rattle.life_elab_laws.proofs.ObjectForms.{IsOwner}
 use Rattle.life_elab_laws.proofs.MadeForms.{IsOwning, owning_owner, temporary_made}
 use Rattle.life_typed.specs.declared.typed_expr.ExprType.TheVariants.{Of}
@@ -69,6 +69,12 @@ use Rattle.life_elab_laws.proofs.ElementForms.{either_served}
 use Rattle.life_elab_laws.proofs.Targets.{owner_target, value_target}
 use Rattle.life_elab_laws.proofs.SeenForms.{string_points}
 use Rattle.life_elab_laws.proofs.Shaped.{target_there}
+use Rattle.life_elab_laws.proofs.WalkerForms.{IsWalker, vector_points, walker_points}
+use Rattle.life_type_expr.specs.Lists.{fits_at_all}
+use Rattle.life_elab_laws.proofs.HandedForms.{no_walker_given}
+use Rattle.life_elab_laws.proofs.HandedOwners.{owner_no_iterator, walker_no_raw, walker_no_text}
+use Rattle.life_elab_laws.proofs.RowTypes.{sees}
+use Rattle.life_elab_laws.proofs.VariablePlaces.{walker_is}
 use Rattle.life_typed.specs.declared.typed_expr.ExprType.{ExprType}
 
 module _ (a : Around) (types : Types) (texts : ℕ) (fs : List Function) (f : Function) (setting : Setting a types fs f) (v : Visible) (in_loop : Bool) where
@@ -137,7 +143,6 @@ module _ (a : Around) (types : Types) (texts : ℕ) (fs : List Function) (f : Fu
         at b = record {
           typed = type_there types f (result_local a) register.local u (b.locals (result_local a) register.local (there p.state first.grown)) (typed_there p.state first.grown b u own) (location_no_reference u loc);
           kept = kept p.state first.grown b;
-          served = refl;
         }
 
         second : Part types texts fs f (a_pointing types texts fs f source) p.given into p.state (gives (result_local a) (emit e.place (pointed p.given (whole (result_local a))) p.state)) a_register
@@ -196,7 +201,6 @@ module _ (a : Around) (types : Types) (texts : ℕ) (fs : List Function) (f : Fu
                 record {
                   given = refl;
                   formed = ap (λ (x : Ty). is_source_of types texts fs f x (Aimed o.given)) (refers_there b) ∙ bound_given a types texts fs f setting.front target constant held o.given w kept_const q;
-                  served = q.served;
                 },
                 tt,
               ))
@@ -232,6 +236,27 @@ module _ (a : Around) (types : Types) (texts : ℕ) (fs : List Function) (f : Fu
             aimed_back false (keeps_all constant) built
             (temporary_made a v.visible types texts fs f setting (type_at a.program.types target) e.place s (giving.given (uses a (whole_form e)) (type_at a.program.types target) token s) o (made token s h.stands) h.stands) (by_building none)
 
+      -- a span of the whole of a vector
+      walker_no_unique : (u : Ty) → is_walker_of_values a.program.types u ≡ true → is_unique u ≡ false
+      walker_no_unique (ty.Iterator item constant) w = refl
+      walker_no_unique (ty.Span item constant) w = refl
+      walker_no_unique _ w = absurd (false≢true w)
+
+      walks_as : (u : Ty) → is_walker_of_values a.program.types u ≡ true → (keyword behind : Place) (s : State) → result_by a (class (Some u)) (uses a (whole_form e)) u keyword behind s
+          ≡ emit e.place (pointed (pointing (uses a (whole_form e)) s).given (whole (result_local a))) (pointing (uses a (whole_form e)) s).state
+      walks_as (ty.Iterator item constant) w keyword behind s = refl
+      walks_as (ty.Span item constant) w keyword behind s = refl
+      walks_as _ w keyword behind s = absurd (false≢true w)
+
+      span_returned : (from : IsOwner a v.visible types texts fs f setting (whole_form e)) → (u : Ty) → t ≡ u → is_walker_of_values a.program.types u ≡ true → Back GivenBack
+      span_returned from (ty.Span item constant) own w =
+          let to = given_vector a.program.types item constant from.constant from.ty e from.owner from.is from.told (given_as (ty.Span item constant) own refl) in
+          pointer_returned (ty.Span item constant) own refl (Of (ty.Span item constant)) (vector_points a v.visible types texts fs f setting (whole_form e) from item constant to.is to.kept s h.stands)
+          (walker_itself a.program.types types setting.front (ty.Span item constant) w) (by_type (ty.Span item constant) own)
+      span_returned from (ty.Iterator item constant) own w =
+          absurd (owner_no_iterator a.program.types from.ty e from.owner item constant (subst (λ (x : ExprType). fits_at_all (fits a.program.types (ty.Iterator item constant) x e.category) ≡ true) from.is (given_as (ty.Iterator item constant) own refl)))
+      span_returned from _ own w = absurd (false≢true w)
+
       -- ---- by what is given back
 
       whole_returned : Whole → IsResultType a.program.types t → Back GivenBack
@@ -239,6 +264,7 @@ module _ (a : Around) (types : Types) (texts : ℕ) (fs : List Function) (f : Fu
       whole_returned whole_is (gives_value w) = value_returned whole_is w
       whole_returned whole_is (gives_raw target constant raw w) = raw_returned whole_is target constant raw w
       whole_returned whole_is (gives_view view) = view_returned whole_is view
+      whole_returned whole_is (gives_walker w) = absurd (no_walker_given a.program.types e whole_is.kind.kind t w (given_as t refl (walker_no_unique t w)))
       whole_returned whole_is (gives_reference target constant refers_to w) = reference_returned target constant refers_to (value_target a.program.types (type_at a.program.types target) w) whole_is w
       whole_returned whole_is (gives_alias target constant refers_to o) =
           alias_returned target constant refers_to (owner_target a.program.types (type_at a.program.types target) o) o
@@ -257,10 +283,33 @@ module _ (a : Around) (types : Types) (texts : ℕ) (fs : List Function) (f : Fu
           go (gives_raw target constant raw w) =
               absurd (owner_no_location a.program.types o.ty o.owner (subst (λ (x : ExprType). is_pointed x ≡ true) o.is (given_pointer a.program.types (ty.Raw target constant) e refl (given_as (ty.Raw target constant) raw refl))))
           go (gives_view view) = string_returned o view
+          go (gives_walker w) = span_returned o t refl w
           go (gives_reference target constant refers_to w) = absurd (value_reference_refused a v.visible types texts fs f setting (whole_form e) target constant w (given_as (ty.Reference target constant) refers_to refl) from)
           go (gives_alias target constant refers_to owned) =
               alias_returned target constant refers_to (owner_target a.program.types (type_at a.program.types target) owned) owned
               (owning_aliased a v.visible types texts fs f setting (whole_form e) target constant owned (given_as (ty.Reference target constant) refers_to refl) from)
+
+      -- an iterator or a span
+      walker_returned : (from : IsWalker a v.visible types texts fs f setting (whole_form e)) → IsResultType a.program.types t → Back GivenBack
+      walker_returned from kind = go kind
+        where
+          not_one : (u : Ty) → t ≡ u → is_unique u ≡ false → fits_at_all (fits a.program.types u (Of from.ty) e.category) ≡ true
+          not_one u same plain = subst (λ (x : ExprType). fits_at_all (fits a.program.types u x e.category) ≡ true) from.is (given_as u same plain)
+
+          go : IsResultType a.program.types t → Back GivenBack
+          go (gives_nothing void) = absurd (false≢true (sym r.0 ∙ ap is_void void))
+          go (gives_value w) =
+              absurd (false≢true (sym (walker_is a.program.types from.ty from.walker).value ∙ subst (λ (x : ExprType). is_number x ≡ true) from.is (given_number a.program.types t e w (given_as t refl (value_simple t w).unique))))
+          go (gives_raw target constant raw w) =
+              absurd (walker_no_raw a.program.types types from.ty from.walker target constant (subst (λ (x : ExprType). takes_from types (ty.Raw target constant) x ≡ true) from.is
+              (given_raw a.program.types types setting.front target constant w e (given_as (ty.Raw target constant) raw refl))))
+          go (gives_view view) = absurd (walker_no_text a.program.types from.ty from.walker (subst (λ (x : ExprType). sees x ≡ true) from.is (given_view a.program.types e (given_as ty.View view refl))))
+          go (gives_walker w) =
+              let loc = (walker_is a.program.types t w).location in
+              pointer_returned t refl loc (Of from.ty) (walker_points a v.visible types texts fs f setting (whole_form e) from s h.stands)
+              (given_walker a.program.types types setting.front t from.ty e w from.walker from.is (given_as t refl (walker_no_unique t w))) (walks_as t w keyword token s)
+          go (gives_reference target constant refers_to w) = absurd (walker_reference_refused a v.visible types texts fs f setting (whole_form e) target constant (value_target a.program.types (type_at a.program.types target) w) (given_as (ty.Reference target constant) refers_to refl) from)
+          go (gives_alias target constant refers_to o) = absurd (walker_reference_refused a v.visible types texts fs f setting (whole_form e) target constant (owner_target a.program.types (type_at a.program.types target) o) (given_as (ty.Reference target constant) refers_to refl) from)
 
     -- ---- any return
 
@@ -268,9 +317,12 @@ module _ (a : Around) (types : Types) (texts : ℕ) (fs : List Function) (f : Fu
         → Back (left 0 keyword (Returns keyword) (result_given a given keyword token s))
     returned_does register keyword None token b r = return_does a types texts fs f setting v in_loop s h (λ gives. false≢true (sym gives.0 ∙ r)) keyword
     returned_does register keyword (Some e) token b r =
-        elim (either_served (whole_form e) (is_served_owner texts (whole_form e)) (is_served_expression texts e) b) [
-          | inl value ↦ whole_returned (register r.0) e keyword token r (whole_expression a v.visible types texts fs f setting (whole_form e) value r.2) kind
-          | inr owner ↦ owner_returned (register r.0) e keyword token r (owner_expression a v.visible types texts fs f setting (whole_form e) owner.1 owner.0 r.2) kind
+        elim (or_cases (is_served_any texts e) (is_served_walker texts (whole_form e)) b) [
+          | inl any ↦ elim (either_served (whole_form e) (is_served_owner texts (whole_form e)) (is_served_expression texts e) any) [
+            | inl value ↦ whole_returned (register r.0) e keyword token r (whole_expression a v.visible types texts fs f setting (whole_form e) value r.2) kind
+            | inr owner ↦ owner_returned (register r.0) e keyword token r (owner_expression a v.visible types texts fs f setting (whole_form e) owner.1 owner.0 r.2) kind
+          ]
+          | inr walker ↦ walker_returned (register r.0) e keyword token r (walker_expression a v.visible types texts fs f setting (whole_form e) walker r.2) kind
         ]
       where
         kind : IsResultType a.program.types t

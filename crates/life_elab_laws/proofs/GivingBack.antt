@@ -83,7 +83,7 @@ module _ (types : Types) (f : Function) (r : ℕ) where
 
   -- ---- where no way comes
 
-  nowhere_known : (t : Tree) (o : State) → o ≡ None → Holds t o
+  pub nowhere_known : (t : Tree) (o : State) → o ≡ None → Holds t o
   nowhere_known Skip o e = tt
   nowhere_known (Then a b) o e = (nowhere_known a o e, nowhere_known b (flow types f a o).next (nowhere_flows types f a o e).next)
   nowhere_known (Acts place i) o e = tt

@@ -1,7 +1,6 @@
 -- What a parameter is handed: a value in a register, or a pointer, which is its own location or written to a register.
 use Rattle.std.proofs.Common.{◌≡◌, ℕ, Bool, true, false, not, List, ◌∷◌, None, Some, Option, length, slice_get, unwrap_or, refl, sym, ap, ◌∙◌, subst, cond}
 use Rattle.std.proofs.lemmas.Bool.{and_from, false≢true}
-use Rattle.std.specs.List.{list_all}
 use Rattle.life_types.specs.Pointees.{or_void, ty_of}
 use Rattle.life_types.specs.TypeTests.{is_value}
 use Rattle.life_types.specs.Types.{Types, is_slot_at, is_slot_type}
@@ -18,7 +17,6 @@ use Rattle.life_typed.specs.declared.typed_expr.ExprType.{ExprType}
 use Rattle.life_typed.specs.declared.typed_expr.ExprType.TheVariants.{NullPointer, Of, TextLiteral}
 use Rattle.life_core.specs.Function.{Function}
 use Rattle.life_core.specs.Operands.{Argument, Location, Operand, Place as Aimed, PointerOf, Value, object_named, whole}
-use Rattle.life_core_served.specs.Served.{is_served_argument}
 use Rattle.life_core.specs.Step.{Aim}
 use Rattle.life_proper.specs.OperandTypes.{keeps_const, same, takes}
 use Rattle.life_proper.specs.Placed.{type_in}
@@ -73,7 +71,7 @@ found_type : (types : Types) (id : TyId) (t : Ty) → slice_get types.types id.0
 found_type types id t at = ap (λ (o : Option Ty). unwrap_or o ty.Void) at
 
 -- what has a value or points to one is given to no iterator and to no span
-no_walker_given : (types : Types) (e : Typed) → HasKind types e → (t : Ty) → is_walker_of_values types t ≡ true → is_given types t e ≡ true → ⊥
+pub no_walker_given : (types : Types) (e : Typed) → HasKind types e → (t : Ty) → is_walker_of_values types t ≡ true → is_given types t e ≡ true → ⊥
 no_walker_given types e kind (ty.Iterator item constant) w given = refused kind
   where
     as_told : (x : ExprType) → e.ty ≡ x → fits_at_all (fits types (ty.Iterator item constant) x e.category) ≡ true
@@ -119,7 +117,6 @@ module _ (types : Types) (texts : ℕ) (fs : List Function) (f : Function) where
             (and_from (not (is_slot_at types id)) (takes types (ty_of types id) (type_in types f l.given)) (ap not plain) (ap (λ (w : Ty). takes types w (type_in types f l.given)) at ∙ ap (takes types t) h.0.typed ∙ taken)) h.1.fit;
         own = h.1.own;
         given = h.1.given;
-        served = and_from (is_served_argument (PointerOf l.given)) (list_all is_served_argument xs.given) h.0.served h.1.served;
       })
       (λ n k h. h)
 
@@ -146,9 +143,8 @@ module _ (types : Types) (texts : ℕ) (fs : List Function) (f : Function) where
           record {
             given = refl;
             formed = ap (λ (t : Ty). is_source_of types texts fs f t (Aimed o)) at ∙ bound_given a types texts fs f front target constant held o worth kept h;
-            served = h.served;
           },
-          record { typed = at; kept = register_there types f (length s.locals) (added place reference s) (b.locals (length s.locals) (added place reference s) (last_there s.locals (added place reference s))) refl; served = refl },
+          record { typed = at; kept = register_there types f (length s.locals) (added place reference s) (b.locals (length s.locals) (added place reference s) (last_there s.locals (added place reference s))) refl },
         ))
         (λ r n k e h. filling_fills f (λ p. Aim p (Aimed o)) n k (aimed_filling f o n k h) r e)
         (λ k lt e. record { local = w.given; is = refl; below = lt; held = e })

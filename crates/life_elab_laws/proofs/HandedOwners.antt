@@ -2,12 +2,11 @@
 use Rattle.std.proofs.Common.{◌≡◌, ℕ, Bool, true, false, List, ◌∷◌, None, Some, Option, slice_get, refl, sym, ap, ◌∙◌, subst, unwrap_or}
 use Rattle.std.proofs.lemmas.Bool.{and_from, false≢true}
 use Rattle.life_types.specs.Pointees.{or_void, ty_of}
-use Rattle.life_types.specs.TypeTests.{is_value}
 use Rattle.life_types.specs.Types.{Types, is_slot_type}
 use Rattle.life_types.specs.declared.ty.Ty.{Ty}
 use Rattle.life_types.specs.declared.ty.Ty.TheVariants as ty
 use Rattle.life_types.specs.declared.ty.TyId.{TyId}
-use Rattle.life_served.specs.Served.{is_owner_of_values, is_walker_of_values, owns_elements}
+use Rattle.life_served.specs.Served.{is_owner_of_values, is_walker_of_values}
 use Rattle.life_typed.specs.BaseTypes.{type_at}
 use Rattle.life_typed.specs.Conversions.{fits}
 use Rattle.life_typed.specs.Delimiters.{DelimitersForm, behind_first, behind_others}
@@ -28,7 +27,7 @@ use Rattle.life_writer.specs.Uses.{own}
 use Rattle.life_writer.specs.Using.{pointer, pointing, register_type}
 use Rattle.life_writer.specs.Writing.{Gives, State, ◌>>◌, mapped}
 use Rattle.life_elab_laws.proofs.ExpressionForms.{Standing, pointer_part}
-use Rattle.life_elab_laws.proofs.FormedFits.{IsBound, at_place, by_temporary, given_bound, given_raw, given_string, given_vector, given_walker}
+use Rattle.life_elab_laws.proofs.FormedFits.{given_raw, given_string, given_vector, given_walker}
 use Rattle.life_elab_laws.proofs.FormedVariables.{owner_no_value, owner_no_location}
 use Rattle.life_elab_laws.proofs.Gifts.{a_pointer, a_pointing, arguments, takes_from}
 use Rattle.life_elab_laws.proofs.GivenKinds.{given_number, given_pointer, given_view}
@@ -42,27 +41,27 @@ use Rattle.life_elab_laws.proofs.PointerForms.{own_typed}
 use Rattle.life_elab_laws.proofs.RowTypes.{sees}
 use Rattle.life_elab_laws.proofs.SeenForms.{string_points}
 use Rattle.life_elab_laws.proofs.Setting.{Setting}
-use Rattle.life_elab_laws.proofs.VariablePlaces.{stands_later, walker_is, owner_is}
+use Rattle.life_elab_laws.proofs.VariablePlaces.{stands_later, walker_is}
 use Rattle.life_elab_laws.proofs.WalkerForms.{IsWalker, vector_points, walker_pointer}
 use Rattle.life_elab_laws.proofs.WalkerSteps.{keeps_itself}
 use Rattle.life_elab_laws.proofs.WrittenLocals.{fits_register}
-use Rattle.life_elab_laws.proofs.AliasForms.{no_owner_given, owning_aliased, value_reference_refused}
+use Rattle.life_elab_laws.proofs.AliasForms.{owning_aliased, value_reference_refused, walker_reference_refused}
 use Rattle.life_elab_laws.proofs.Targets.{owner_target, value_target}
 use Rattle.life_elab_laws.proofs.Elements.{one_element}
 
 -- ---- what is handed to no such parameter
 
-owner_no_iterator : (types : Types) (t : Ty) (e : Typed) → is_owner_of_values types t ≡ true → (target : TyId) (constant : Bool) → fits_at_all (fits types (ty.Iterator target constant) (Of t) e.category) ≡ true → ⊥
+pub owner_no_iterator : (types : Types) (t : Ty) (e : Typed) → is_owner_of_values types t ≡ true → (target : TyId) (constant : Bool) → fits_at_all (fits types (ty.Iterator target constant) (Of t) e.category) ≡ true → ⊥
 owner_no_iterator types ty.Text e o target constant h = false≢true h
 owner_no_iterator types (ty.Vector item) e o target constant h = false≢true h
 owner_no_iterator types _ e o target constant h = false≢true o
 
-walker_no_raw : (types more : Types) (t : Ty) → is_walker_of_values types t ≡ true → (target : TyId) (constant : Bool) → takes_from more (ty.Raw target constant) (Of t) ≡ true → ⊥
+pub walker_no_raw : (types more : Types) (t : Ty) → is_walker_of_values types t ≡ true → (target : TyId) (constant : Bool) → takes_from more (ty.Raw target constant) (Of t) ≡ true → ⊥
 walker_no_raw types more (ty.Iterator item held) w target constant h = false≢true h
 walker_no_raw types more (ty.Span item held) w target constant h = false≢true h
 walker_no_raw types more _ w target constant h = false≢true w
 
-walker_no_text : (types : Types) (t : Ty) → is_walker_of_values types t ≡ true → sees (Of t) ≡ true → ⊥
+pub walker_no_text : (types : Types) (t : Ty) → is_walker_of_values types t ≡ true → sees (Of t) ≡ true → ⊥
 walker_no_text types (ty.Iterator item held) w h = false≢true h
 walker_no_text types (ty.Span item held) w h = false≢true h
 walker_no_text types _ w h = false≢true w
@@ -161,22 +160,5 @@ module _ (a : Around) (visible : List ℕ) (types : Types) (texts : ℕ) (fs : L
       go (a_walker (ty.Iterator item constant) at w) = walks (ty.Iterator item constant) at w refl refl
       go (a_walker (ty.Span item constant) at w) = walks (ty.Span item constant) at w refl refl
       go (a_walker _ at w) = absurd (false≢true w)
-      go (an_alias target constant at owned) = refused (given_bound a.program.types target constant (typed_in e) (owner_target a.program.types (type_at a.program.types target) owned) (given_as (ty.Reference target constant) at))
-        where
-          same : {u w : Ty} → Of u ≡ Of w → u ≡ w
-          same e = cc
-
-          refused : IsBound a.program.types target constant (typed_in e) → Hands (id ∷ ids) s (giving.arguments a (all_uses a (e ⨟ es)) d (id ∷ ids) s)
-          refused (at_place there) =
-              let own_one = same (sym (from.place target there.held there.place) ∙ from.is) in
-              absurd (false≢true (sym (walker_is a.program.types from.ty from.walker).owner ∙ ap owns_elements (sym own_one) ∙ owner_is a.program.types (type_at a.program.types target) owned))
-          refused (by_temporary none initial) =
-              absurd (no_owner_given a.program.types (type_at a.program.types target) owned from.ty (walker_is a.program.types from.ty from.walker).owner (typed_in e).category
-              (subst (λ (x : ExprType). fits_at_all (fits a.program.types (type_at a.program.types target) x (typed_in e).category) ≡ true) from.is initial))
-      go (a_reference target constant at worth) = bound (given_bound a.program.types target constant (typed_in e) (value_target a.program.types (type_at a.program.types target) worth) (given_as (ty.Reference target constant) at))
-        where
-          bound : IsBound a.program.types target constant (typed_in e) → Hands (id ∷ ids) s (giving.arguments a (all_uses a (e ⨟ es)) d (id ∷ ids) s)
-          bound (at_place there) =
-              let own_one : Of (type_at a.program.types target) ≡ Of from.ty = sym (from.place target there.held there.place) ∙ from.is in
-              absurd (false≢true (sym (walker_is a.program.types from.ty from.walker).value ∙ sym (subst (λ (x : ExprType). is_number x ≡ is_value from.ty) (sym own_one) refl) ∙ worth))
-          bound (by_temporary none initial) = absurd (no_number (given_number a.program.types (type_at a.program.types target) (typed_in e) worth initial))
+      go (an_alias target constant at owned) = absurd (walker_reference_refused a visible types texts fs f setting e target constant (owner_target a.program.types (type_at a.program.types target) owned) (given_as (ty.Reference target constant) at) from)
+      go (a_reference target constant at worth) = absurd (walker_reference_refused a visible types texts fs f setting e target constant (value_target a.program.types (type_at a.program.types target) worth) (given_as (ty.Reference target constant) at) from)

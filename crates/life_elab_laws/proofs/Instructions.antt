@@ -16,7 +16,6 @@ use Rattle.life_typed.specs.declared.typed_expr.ExprType.TheVariants.{NullPointe
 use Rattle.life_core.specs.Function.{Function}
 use Rattle.life_core.specs.Kinds.{is_register_at}
 use Rattle.life_core.specs.Operands.{Location, Operand, whole}
-use Rattle.life_core_served.specs.Served.{is_served_location}
 use Rattle.life_core.specs.Step.{Same, Step}
 use Rattle.life_core.specs.Touched.{operation_uses, place_uses, touched_by}
 use Rattle.life_core.specs.Tree.{Acts, trees}
@@ -52,7 +51,7 @@ use Rattle.life_elab_laws.proofs.Locations.{is_location}
 use Rattle.life_elab_laws.proofs.Making.{IsOpen, IsPointer, Keeps, keeps_all, Alive}
 use Rattle.life_elab_laws.proofs.OperandsThere.{number_any, number_there, number_typed, register_there, type_there, value_same}
 use Rattle.life_elab_laws.proofs.Parts.{Makes, Part, Runs, and_part, gives_part, then_part}
-use Rattle.life_elab_laws.proofs.Shaping.{IsFineStep, fine_acts, is_no_object, keeps_its_target}
+use Rattle.life_elab_laws.proofs.Shaping.{IsFineStep, fine_acts, is_no_object, step_keeps}
 use Rattle.life_elab_laws.proofs.Types.{same_types, type_added}
 use Rattle.life_elab_laws.proofs.WrittenLocals.{fits_register, registers_none}
 use Rattle.life_elab_laws.proofs.StillThere.{alive_grown, alive_same, alive_set}
@@ -117,7 +116,7 @@ module _ (types : Types) (texts : ℕ) (fs : List Function) (f : Function) where
               then_opens f s s w.state (looked_of (trees (Acts place (step w.given) ∷ []))) (given_of (trees (Acts place (step w.given) ∷ []))) t.grown.count
               (λ y o. elim o [ inl m ↦ inl (inl (subst (Among y) t.grown.living m)) | inr m ↦ inl (inr (subst (Among y) t.level m)) ]) below
               (step_apart f types (step w.given) place s k alive (fills w.given (length s.locals) k (nameless_register f w.given is) p).ready
-              (and_parts (list_all (is_no_object types f) (given_step (step w.given))) (keeps_its_target (step w.given)) fine.0.given).0 below);
+              (and_parts (list_all (is_no_object types f) (given_step (step w.given))) (step_keeps f (step w.given)) fine.0.given).0 below);
         };
       }
 
@@ -154,7 +153,6 @@ module _ (types : Types) (texts : ℕ) (fs : List Function) (f : Function) where
       formed =
           and_from (is_number types f r) (is_operation_of types texts fs f (type_at types f r) o) (number_any types f t r e)
           (subst (λ (u : Ty). is_operation_of types texts fs f u o ≡ true) (number_typed types f t r e) (formed p));
-      served = refl;
     };
   }
 
@@ -171,7 +169,7 @@ module _ (types : Types) (texts : ℕ) (fs : List Function) (f : Function) where
       computed_part (nothing types texts fs f) tt into t place values.input s (ap is_value long) wanted
       (record {
         fills = λ r n k e p. record { ready = refl; after = refl };
-        fine = λ r e p. record { given = refl; formed = subst (λ (u : Ty). is_number_of types f u r ≡ true) long e; served = refl };
+        fine = λ r e p. record { given = refl; formed = subst (λ (u : Ty). is_number_of types f u r ≡ true) long e };
       })
 
   -- ---- from one register
@@ -217,7 +215,7 @@ module _ (types : Types) (texts : ℕ) (fs : List Function) (f : Function) where
       computed_part (a_place types texts fs f t constant) o into t place (load o) s v wanted
       (record {
         fills = λ r n k e p. record { ready = uses_ready k (place_uses o) (r ∷ []) (place_there o n k p); after = refl };
-        fine = λ r e h. record { given = refl; formed = subst (λ (u : Ty). is_number_of types f u r ≡ true) (sym h.typed) e; served = h.served };
+        fine = λ r e h. record { given = refl; formed = subst (λ (u : Ty). is_number_of types f u r ≡ true) (sym h.typed) e };
       })
 
   -- ---- behind other parts
@@ -285,7 +283,6 @@ module _ (types : Types) (texts : ℕ) (fs : List Function) (f : Function) where
       record {
         typed = type_there types f _ l t (b.locals _ l (last_there s.locals l)) (b.table l.ty.0 t (type_added s.types.types t)) (location_no_reference t loc);
         kept = register_there types f _ l (b.locals _ l (last_there s.locals l)) refl;
-        served = refl;
       }
 
   -- a variable is where it is, and anything else comes into a register that takes it
@@ -328,7 +325,6 @@ module _ (types : Types) (texts : ℕ) (fs : List Function) (f : Function) where
           formed =
               and_from (is_number_of types f ty.Bool r) (operands.are_compared types (type_in types f x.0) (type_in types f x.1)) (subst (λ (u : Ty). is_number_of types f u r ≡ true) bool e)
               (ap (λ (u : Ty). operands.are_compared types u (type_in types f x.1)) h.0.typed ∙ ap (operands.are_compared types ty.View) h.1.typed);
-          served = and_from (is_served_location x.0) (is_served_location x.1) h.0.served h.1.served;
         };
       })
     where
@@ -355,7 +351,7 @@ module _ (types : Types) (texts : ℕ) (fs : List Function) (f : Function) where
         keeps = subst (Keeps f (length s.locals) None k) (sym here.1) (keeps_all f (length s.locals) None k);
         gives = tt;
         alive = subst (Alive f s) (sym here.1) alive;
-        apart = step_apart f types i place s k alive here.0 (and_parts (list_all (is_no_object types f) (given_step i)) (keeps_its_target i) is.0.given).0;
+        apart = step_apart f types i place s k alive here.0 (and_parts (list_all (is_no_object types f) (given_step i)) (step_keeps f i) is.0.given).0;
       };
     };
   }
@@ -377,7 +373,7 @@ module _ (types : Types) (texts : ℕ) (fs : List Function) (f : Function) where
         keeps = after h (length s.locals) (length s.locals) k p;
         gives = tt;
         alive = alive_same f s k (known_after (touched_by f i) k) (after h (length s.locals) zero k p).sized (λ y. (after h (length s.locals) (suc y) k p).below y (omega arith) tt) alive;
-        apart = step_apart f types i place s k alive (ready h (length s.locals) k p) (and_parts (list_all (is_no_object types f) (given_step i)) (keeps_its_target i) (fine h).given).0;
+        apart = step_apart f types i place s k alive (ready h (length s.locals) k p) (and_parts (list_all (is_no_object types f) (given_step i)) (step_keeps f i) (fine h).given).0;
       };
     };
   }

@@ -28,19 +28,18 @@ use Rattle.life_elab_laws.proofs.PlainActs.{copied_at_plain, joined_plain, set_p
 use Rattle.life_elab_laws.proofs.Parts.{Part, and_part, gives_part, keep_part, then_part, under_part}
 use Rattle.life_elab_laws.proofs.Setting.{Setting}
 use Rattle.life_elab_laws.proofs.VariablePlaces.{stands_later}
-use Rattle.life_core_served.specs.Served.{are_served_characters}
 
 -- a string takes characters whole, or gains them
 pub record IsTaking (types : Types) (texts : ℕ) (fs : List Function) (f : Function) (change : Characters → Change) : Type 0 where
   pub formed : (c : Characters) → are_characters types texts fs f c ≡ true → is_change_of types texts fs f ty.Text (change c) ≡ true
-  pub takes : (c : Characters) → are_served_characters c ≡ true → Takes types f (change c) (characters_uses c)
+  pub takes : (c : Characters) → Takes types f (change c) (characters_uses c)
 
 module _ (types : Types) (texts : ℕ) (fs : List Function) (f : Function) where
   abbrev G : Type 0 → Type 1
   G A = Gift types texts fs f A
 
   pub sets : IsTaking types texts fs f Set
-  sets = record { formed = λ c h. h; takes = λ c served. record { uses = refl; leaves = refl; writes = refl; given = refl; served = served } }
+  sets = record { formed = λ c h. h; takes = λ c. record { uses = refl; leaves = refl; writes = refl; given = refl } }
 
   pub gains : IsTaking types texts fs f Append
   gains = record { formed = λ c h. h; takes = append_takes types texts fs f }
@@ -58,7 +57,7 @@ module _ (types : Types) (texts : ℕ) (fs : List Function) (f : Function) where
       let all = keep_part types texts fs f P x s (gives x s) c P C opened here found in
       then_part types texts fs f P x None s (gives (x, c.given) c.state) _ D (no_gift types texts fs f) opened all
       (changes_part types texts fs f D (x, c.given) ty.Text to (change c.given) (characters_uses c.given) place c.state
-      (λ h. ((typed h.0).1, taking.formed c.given h.1.0, taking.takes c.given h.1.1))
+      (λ h. ((typed h.0).1, taking.formed c.given h.1, taking.takes c.given))
       (λ n k q. ((ready n k q.0).1, characters_there types texts fs f c.given n k q.1)))
 
 module _ (a : Around) (visible : List ℕ) (types : Types) (texts : ℕ) (fs : List Function) (f : Function) (setting : Setting a types fs f) where

@@ -13,7 +13,7 @@ use Rattle.life_core.specs.Tree.{Node, Action, Spot, spots}
 use Rattle.life_proper.specs.GivenOver.{all_keep_given, given_in, is_kept, is_kept_argument, is_kept_base, is_kept_change, is_kept_place, is_kept_source, keeps_given, keeps_target, node_keeps_given, spot_keeps_given}
 use Rattle.life_elab_laws.proofs.Among.{Among, among_left, among_right}
 use Rattle.life_elab_laws.proofs.GivenApart.{given_of, looked_argument, looked_base, looked_change, looked_node, looked_of, looked_place, looked_source, looked_spot, looked_step}
-use Rattle.life_elab_laws.proofs.Shaping.{keeps_its_target, node_keeps_target, spot_keeps_target, tree_keeps_target}
+use Rattle.life_elab_laws.proofs.Shaping.{ends_lasting, keeps_its_target, node_keeps, spot_keeps, tree_keeps}
 
 any_among : (x : ℕ) (xs : List ℕ) → list_any (nat_eq x) xs ≡ true → Among x xs
 any_among x [] h = absurd (false≢true h)
@@ -59,25 +59,25 @@ module _ (types : Types) (f : Function) (apart : (x : ℕ) → is_object_at f x 
   kept_change o (Erase at into) h = kept_place o h
   kept_change o _ h = refl
 
-  step_keeps : (i : Step) → Looks (looked_step i) → keeps_its_target i ≡ true → keeps_given types f i ≡ true
-  step_keeps (Move to y) h keeps = kept y (h y (inl refl))
-  step_keeps (Aim p s) h keeps = kept_source s h
-  step_keeps (Element p b which) h keeps = kept_base b h
-  step_keeps (Cursor p b end) h keeps = kept_base b h
-  step_keeps (Changes o c) h keeps = kept_change o c h
-  step_keeps (Call target g xs) h keeps = and_from (list_all (is_kept_argument types f) xs) (keeps_target target xs) (kept_arguments xs h) keeps
-  step_keeps _ h keeps = refl
+  step_kept : (i : Step) → Looks (looked_step i) → keeps_its_target i ≡ true → keeps_given types f i ≡ true
+  step_kept (Move to y) h keeps = kept y (h y (inl refl))
+  step_kept (Aim p s) h keeps = kept_source s h
+  step_kept (Element p b which) h keeps = kept_base b h
+  step_kept (Cursor p b end) h keeps = kept_base b h
+  step_kept (Changes o c) h keeps = kept_change o c h
+  step_kept (Call target g xs) h keeps = and_from (list_all (is_kept_argument types f) xs) (keeps_target target xs) (kept_arguments xs h) keeps
+  step_kept _ h keeps = refl
 
-  node_keeps : (n : Node) → Looks (looked_node n) → node_keeps_target n ≡ true → node_keeps_given types f n ≡ true
-  node_keeps (Action i) h keeps = step_keeps i h keeps
-  node_keeps _ h keeps = refl
+  node_kept : (n : Node) → Looks (looked_node n) → node_keeps f n ≡ true → node_keeps_given types f n ≡ true
+  node_kept (Action i) h keeps = step_kept i h (and_parts (ends_lasting f i) (keeps_its_target i) keeps).1
+  node_kept _ h keeps = refl
 
-  spots_keep : (xs : List Spot) → Looks (flat_map looked_spot xs) → list_all spot_keeps_target xs ≡ true → list_all (spot_keeps_given types f) xs ≡ true
+  spots_keep : (xs : List Spot) → Looks (flat_map looked_spot xs) → list_all (spot_keeps f) xs ≡ true → list_all (spot_keeps_given types f) xs ≡ true
   spots_keep [] h keeps = refl
   spots_keep (x ∷ xs) h keeps =
-      let parts = and_parts (spot_keeps_target x) (list_all spot_keeps_target xs) keeps in
-      and_from (spot_keeps_given types f x) (list_all (spot_keeps_given types f) xs) (node_keeps x.node (λ y m. h y (among_left (looked_spot x) (flat_map looked_spot xs) y m)) parts.0)
+      let parts = and_parts (spot_keeps f x) (list_all (spot_keeps f) xs) keeps in
+      and_from (spot_keeps_given types f x) (list_all (spot_keeps_given types f) xs) (node_kept x.node (λ y m. h y (among_left (looked_spot x) (flat_map looked_spot xs) y m)) parts.0)
       (spots_keep xs (λ y m. h y (among_right (looked_spot x) (flat_map looked_spot xs) y m)) parts.1)
 
-  pub keeps_all : tree_keeps_target f.body ≡ true → all_keep_given types f ≡ true
+  pub keeps_all : tree_keeps f f.body ≡ true → all_keep_given types f ≡ true
   keeps_all keeps = spots_keep (spots f.body) (λ x m. m) keeps

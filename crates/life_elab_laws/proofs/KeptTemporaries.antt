@@ -49,7 +49,7 @@ use Rattle.life_elab_laws.proofs.Growing.{Begins}
 use Rattle.life_elab_laws.proofs.PointerForms.{result_later}
 use Rattle.life_elab_laws.proofs.Saving.{saved_falls, saved_fine}
 use Rattle.life_elab_laws.proofs.Setting.{Setting}
-use Rattle.life_elab_laws.proofs.Shaping.{IsFineStep, fine_acts, fine_append, is_no_object, keeps_its_target}
+use Rattle.life_elab_laws.proofs.Shaping.{IsFineStep, fine_acts, fine_append, is_no_object, step_keeps}
 use Rattle.life_elab_laws.proofs.Types.{same_types}
 use Rattle.life_elab_laws.proofs.Values.{by_values}
 use Rattle.life_types.specs.declared.ty.Ty.TheVariants as ty
@@ -114,7 +114,7 @@ module _ (a : Around) (types : Types) (texts : ℕ) (fs : List Function) (f : Fu
       (λ b q m alive r blank.
       kept_then a types texts fs f e.place t (inl worth) w.state (value_below w.state.types t worth) (looked_of (trees calls)) (given_of (trees calls))
       (step_apart f types (called c.function w.given (whole x)) e.place w.state m alive (born_fills f c.function ids w.given x m r x blank).ready
-      (and_parts (list_all (is_no_object types f) (given_step (called c.function w.given (whole x)))) (keeps_its_target (called c.function w.given (whole x))) (fits b q).given).0)))
+      (and_parts (list_all (is_no_object types f) (given_step (called c.function w.given (whole x)))) (step_keeps f (called c.function w.given (whole x))) (fits b q).given).0)))
 
   kept_does : Born (Kept (call_for e t))
   kept_does = go (compared.eq (own_type e.ty) t) refl (not (is_place e.category)) refl

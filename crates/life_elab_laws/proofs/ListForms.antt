@@ -80,7 +80,7 @@ module _ (a : Around) (visible : List ℕ) (types : Types) (texts : ℕ) (fs : L
         let r = reserved opening (length (all_uses a es)) to s in
         let first =
         taking_part a visible types texts fs f setting P x to ready vector typed opening ty.Size (λ s. computed None ty.Size opening (constant (pos (length (all_uses a es)))) s) Reserve s stands.opened
-        (constant_part types texts fs f None ty.Size opening (pos (length (all_uses a es))) s refl tt) (λ r number. (number, record { uses = refl; leaves = refl; writes = refl; given = refl; served = refl })) in
+        (constant_part types texts fs f None ty.Size opening (pos (length (all_uses a es))) s refl tt) (λ r number. (number, record { uses = refl; leaves = refl; writes = refl; given = refl })) in
         writes_then s r (pushed t to (all_uses a es) d r) stands.opened first (elements_part es d r givings all (stands_later a visible s r first.grown stands))
 
   -- ---- the list

@@ -1,5 +1,5 @@
--- An owner is moved from a temporary to a place.
-use Rattle.std.proofs.Common.{◌≡◌, ◌&&◌, ℕ, Bool, true, false, if◌then◌else◌, not, nat_eq, List, [], ◌∷◌, Option, Some, None, slice_get, refl, sym, ap, ◌∙◌, subst, arith}
+-- An owner is moved from an object to a place.
+use Rattle.std.proofs.Common.{◌≡◌, ◌&&◌, ℕ, Bool, true, false, not, if◌then◌else◌, nat_eq, List, [], ◌∷◌, Option, Some, None, slice_get, refl, sym, ap, ◌∙◌, subst, arith}
 use Rattle.std.proofs.lemmas.Bool.{and_from, false≢true}
 use Rattle.std.proofs.lemmas.Bool.Decides.{nat_tests}
 use Rattle.life_served.specs.Served.{is_owner_of_values}
@@ -28,15 +28,21 @@ use Rattle.life_elab_laws.proofs.Gifts.{Gift, IsPlaceOf, nothing}
 use Rattle.life_elab_laws.proofs.Held.{place_there}
 use Rattle.life_elab_laws.proofs.Instructions.{acted_part}
 use Rattle.life_elab_laws.proofs.Making.{IsPlace, keeps_all}
-use Rattle.life_elab_laws.proofs.OwnerSteps.{owner_same}
+use Rattle.life_elab_laws.proofs.Types.{same_type}
 use Rattle.life_elab_laws.proofs.Parts.{Part}
 use Rattle.life_elab_laws.proofs.Shaping.{IsFineStep}
 
 -- what may be moved
-owner_moves : (table : Types) (t : Ty) → is_owner_of_values table t ≡ true → is_owner t ≡ true
+pub owner_moves : (table : Types) (t : Ty) → is_owner_of_values table t ≡ true → is_owner t ≡ true
 owner_moves table ty.Text o = refl
 owner_moves table (ty.Vector item) o = refl
 owner_moves table _ o = absurd (false≢true o)
+
+moved_same : (t : Ty) → is_owner t ≡ true → same t t ≡ true
+moved_same ty.Text o = same_type ty.Text
+moved_same (ty.Vector item) o = same_type (ty.Vector item)
+moved_same (ty.Unique target) o = same_type (ty.Unique target)
+moved_same _ o = absurd (false≢true o)
 
 module _ (types : Types) (texts : ℕ) (fs : List Function) (f : Function)
     (registers : (l : Local) → slice_get f.locals f.parameters ≡ Some l → is_void (ty_of types f.result) ≡ false → l.kind ≡ Register) where
@@ -45,12 +51,15 @@ module _ (types : Types) (texts : ℕ) (fs : List Function) (f : Function)
     pub object : object_at types f y ≡ true
     pub typed : placed.type_at types f y ≡ t
 
-  pub owner_there : (table : Types) (t : Ty) (y : ℕ) → is_owner_of_values table t ≡ true → IsPlaceOf types texts fs f t false (object_named y) → IsOwnerThere t y
-  owner_there table t y o is = go (object_at types f y) refl is.typed
+  pub moved_there : (t : Ty) (y : ℕ) → is_owner t ≡ true → IsPlaceOf types texts fs f t false (object_named y) → IsOwnerThere t y
+  moved_there t y o is = go (object_at types f y) refl is.typed
     where
       go : (b : Bool) → object_at types f y ≡ b → (if b then placed.type_at types f y else ty.Void) ≡ t → IsOwnerThere t y
       go true at typed = record { object = at; typed = typed }
-      go false at typed = absurd (false≢true (subst (λ (u : Ty). is_owner_of_values table u ≡ true) (sym typed) o))
+      go false at typed = absurd (false≢true (subst (λ (u : Ty). is_owner u ≡ true) (sym typed) o))
+
+  pub owner_there : (table : Types) (t : Ty) (y : ℕ) → is_owner_of_values table t ≡ true → IsPlaceOf types texts fs f t false (object_named y) → IsOwnerThere t y
+  owner_there table t y o is = moved_there t y (owner_moves table t o) is
 
   -- .. and not the result, which is a register
   no_result : (y : ℕ) → object_at types f y ≡ true → not (result_at types f y) ≡ true
@@ -68,26 +77,25 @@ module _ (types : Types) (texts : ℕ) (fs : List Function) (f : Function)
       go false false vs es = refl
       go false true vs es = absurd (clash vs (slice_get f.locals f.parameters) refl (subst (λ (n : ℕ). object_at types f n ≡ true) (one y f.parameters es) object))
 
-  move_fine : (table : Types) (t : Ty) (to : Operand) (y : ℕ) → is_owner_of_values table t ≡ true → IsPlaceOf types texts fs f t false to → IsPlaceOf types texts fs f t false (object_named y) → is_itself types texts fs f y to ≡ false
+  move_fine : (t : Ty) (to : Operand) (y : ℕ) → is_owner t ≡ true → IsPlaceOf types texts fs f t false to → IsPlaceOf types texts fs f t false (object_named y) → is_itself types texts fs f y to ≡ false
       → IsFineStep types texts fs f (Move to y)
-  move_fine table t to y o place from apart =
-      let is = owner_there table t y o from in
+  move_fine t to y o place from apart =
+      let is = moved_there t y o from in
       record {
         given = refl;
         formed =
-            and_from (is_owner (type_of types f to)) _ (ap is_owner place.typed ∙ owner_moves table t o)
+            and_from (is_owner (type_of types f to)) _ (ap is_owner place.typed ∙ o)
             (and_from (object_at types f y) _ is.object
-            (and_from (same (type_of types f to) (placed.type_at types f y)) _ (ap (λ (u : Ty). same u (placed.type_at types f y)) place.typed ∙ ap (same t) is.typed ∙ owner_same table t o)
+            (and_from (same (type_of types f to) (placed.type_at types f y)) _ (ap (λ (u : Ty). same u (placed.type_at types f y)) place.typed ∙ ap (same t) is.typed ∙ moved_same t o)
             (and_from (not (result_at types f y)) _ (no_result y is.object)
             (and_from (not (is_itself types texts fs f y to)) (not (is_const_place types f to)) (ap not apart) place.held))));
-        served = place.served;
       }
 
-  pub moves_part : {A : Type 0} (P : Gift types texts fs f A) (x : A) (table : Types) (t : Ty) (to : Operand) (y : ℕ) (place : Place) (s : State) → is_owner_of_values table t ≡ true
+  pub moves_part : {A : Type 0} (P : Gift types texts fs f A) (x : A) (t : Ty) (to : Operand) (y : ℕ) (place : Place) (s : State) → is_owner t ≡ true
       → (P.typed x → IsPlaceOf types texts fs f t false to × IsPlaceOf types texts fs f t false (object_named y)) → ((n : ℕ) (k : List Known) → P.ready x n k → IsPlace to n k × IsPlace (object_named y) n k) → is_itself types texts fs f y to ≡ false
       → Part types texts fs f P x None s (gives tt (emit place (Move to y) s)) (nothing types texts fs f)
-  moves_part P x table t to y place s o typed ready apart =
+  moves_part P x t to y place s o typed ready apart =
       acted_part types texts fs f P x place (Move to y) s
-      (λ h. let both = typed h in move_fine table t to y o both.0 both.1 apart)
+      (λ h. let both = typed h in move_fine t to y o both.0 both.1 apart)
       (λ n k q. let both = ready n k q in uses_ready k (y ∷ place_uses to) [] (both_known known.Ready k (y ∷ []) (place_uses to) (place_there (object_named y) n k both.1) (place_there to n k both.0)))
       (λ n m k q. keeps_all f m None k)

@@ -71,7 +71,6 @@ module _ (a : Around) (types : Types) (texts : ℕ) (fs : List Function) (f : Fu
         formed =
             and_from (is_number_of types f (placed.type_of types f (object_named (length s.locals))) r) true
             (ap (λ (t : Ty). is_number_of types f t r) (object_place types texts fs f (length s.locals) (type_at a.program.types v.ty) false object_declared type_declared).typed ∙ h) refl;
-        served = refl;
       }
 
       -- a call brings it to life
@@ -90,12 +89,22 @@ module _ (a : Around) (types : Types) (texts : ℕ) (fs : List Function) (f : Fu
         (object_there types f (length s.locals) (variable_local a v) there (ap (λ (u : Option Ty). kind (class u)) found ∙ owner_kind a.program.types t o))
         (type_there types f (length s.locals) (variable_local a v) t there (front v.ty.0 t found) (owner_no_reference a.program.types t o))
 
+    -- anything else that is an object
+    pub object_lives : (t : Ty) → slice_get a.program.types.types v.ty.0 ≡ Some t → kind (class (Some t)) ≡ Object → can_live types texts fs f (length s.locals) ≡ true
+    object_lives t found object =
+        or_left (object_at types f (length s.locals)) _ (object_there types f (length s.locals) (variable_local a v) there (ap (λ (u : Option Ty). kind (class u)) found ∙ object))
+
+    pub object_placed : (t : Ty) → slice_get a.program.types.types v.ty.0 ≡ Some t → kind (class (Some t)) ≡ Object → is_reference t ≡ false → IsPlaceOf types texts fs f t false (object_named (length s.locals))
+    object_placed t found object plain =
+        object_place types texts fs f (length s.locals) t false
+        (object_there types f (length s.locals) (variable_local a v) there (ap (λ (u : Option Ty). kind (class u)) found ∙ object))
+        (type_there types f (length s.locals) (variable_local a v) t there (front v.ty.0 t found) plain)
+
     -- of the type of a raw pointer or a view
     pub location_declared : (t : Ty) → is_location t ≡ true → slice_get a.program.types.types v.ty.0 ≡ Some t → IsAt types texts fs f t (whole (length s.locals))
     location_declared t loc found = record {
       typed = type_there types f (length s.locals) (variable_local a v) t there (front v.ty.0 t found) (location_no_reference t loc);
       kept = register_there types f (length s.locals) (variable_local a v) there (ap (λ (o : Option Ty). kind (class o)) found ∙ location_kind t loc);
-      served = refl;
     }
 
     -- .. it can live where it is no reference

@@ -47,7 +47,7 @@ use Rattle.life_elab_laws.proofs.PointerForms.{own_typed, placed_operand, pointe
 use Rattle.life_elab_laws.proofs.Setting.{Setting}
 use Rattle.life_elab_laws.proofs.TypedKinds.{a_number as is_number_kind, owner_named, place_same, value_place, walker_named}
 use Rattle.life_elab_laws.proofs.Values.{by_values}
-use Rattle.life_elab_laws.proofs.VariablePlaces.{IsVariableType, a_raw, a_reference, a_value, a_view, an_owner, kind_is, owner_kind, place_is, stands_later, variable_there, variable_type, a_walker, walker_is, an_alias}
+use Rattle.life_elab_laws.proofs.VariablePlaces.{a_raw, a_reference, a_unique, a_value, a_view, a_walker, an_alias, an_owner, IsVariableType, kind_is, owner_kind, place_is, stands_later, variable_there, variable_type, walker_is}
 use Rattle.life_well_typed.specs.Given.{is_number}
 use Rattle.life_elab_laws.proofs.Targets.{owner_target, target_no_void}
 use Rattle.life_elab_laws.proofs.Elements.{element_held, element_target, element_there, owner_element, plain_element}
@@ -66,7 +66,7 @@ owner_type TextLiteral n = absurd (false≢true n)
 owner_type (Of t) n = record { ty = t; is = refl; owner = n }
 
 -- two numbers that differ
-other_number : (n m : ℕ) → (n ≡ m → ⊥) → nat_eq n m ≡ false
+pub other_number : (n m : ℕ) → (n ≡ m → ⊥) → nat_eq n m ≡ false
 other_number n m other = go (nat_eq n m) refl
   where
     one : (a b : ℕ) → nat_eq a b ≡ true → a ≡ b
@@ -187,6 +187,7 @@ module _ (a : Around) (visible : List ℕ) (types : Types) (texts : ℕ) (fs : L
                     let v = stands.seen x l c found in
                     ap (is_itself types texts fs f y) (place_is a s x l v Register (kind_is a s x l v (ty.Reference target constant) at));
               }
+          kind (a_unique target at w) = other (ty.Unique target) (ap (λ (y : Typed). y.ty) (named (ty.Unique target) at) ∙ ap Of (typed (ty.Unique target) at)) refl
           kind (a_walker t at w) = other t (ap (λ (y : Typed). y.ty) (walker_named a.program.types e l.ty l.constant (local x) t w (named t at)) ∙ ap Of (typed t at)) (walker_is a.program.types t w).owner
           kind (an_owner t at o) = record {
             ty = t;
@@ -222,7 +223,7 @@ module _ (a : Around) (visible : List ℕ) (types : Types) (texts : ℕ) (fs : L
         subst (λ (w : Gives Base). Makes types texts fs f None s w (a_base types texts fs f ty.Char true)) (sym (ap (λ (x : Ty). base_by x (uses a base) s) (ap own_type (sym (own_typed a visible types texts fs f setting base) ∙ at))))
         (seen_part types texts fs f (no_gift types texts fs f) tt None s (pointer (uses a base) (own (uses a base)) s) (a_pointer types texts fs f ty.View) Pointer (a_base types texts fs f ty.Char true)
         (pointer_whole a visible types texts fs f setting base is ty.View at refl (own (uses a base)) s stands)
-        (λ b h. record { element = ap (seen_element types) h.typed; held = refl; served = h.served })
+        (λ b h. record { element = ap (seen_element types) h.typed; held = refl })
         (λ n k q. record { local = q.local; uses = ap (λ (l : Location). l.local ∷ []) q.is; below = q.below; held = q.held }));
   }
 
@@ -245,7 +246,7 @@ module _ (a : Around) (visible : List ℕ) (types : Types) (texts : ℕ) (fs : L
         subst (λ (w : Gives Base). Makes types texts fs f None s w (a_base types texts fs f (element_type a.program.types is.ty) is.constant)) (sym (owner_base base is s))
         (seen_part types texts fs f (no_gift types texts fs f) tt None s w (a_place types texts fs f is.ty is.constant) Owner (a_base types texts fs f (element_type a.program.types is.ty) is.constant)
         (is.names s stands)
-        (λ b h. record { element = ap (owned_element types) h.typed ∙ held is.ty is.owner; held = h.held; served = h.served })
+        (λ b h. record { element = ap (owned_element types) h.typed ∙ held is.ty is.owner; held = h.held })
         (λ n k q. record { local = q.local; uses = q.uses; below = q.below; held = q.held }));
   }
     where

@@ -72,14 +72,13 @@ module _ (a : Around) (visible : List ℕ) (types : Types) (texts : ℕ) (fs : L
         record {
           given = refl;
           formed = ap (λ (t : Ty). is_source_of types texts fs f t (Text (end_line a))) (at_view b) ∙ and_from true (nat_lt (end_line a) texts) refl few;
-          served = refl;
         },
         ap is_view (at_view b),
       ))
       (λ r n k e p. record { ready = refl; after = refl })
       (λ k lt e. (lt, e)))
       (acted_part types texts fs f a_view w.given place (Ports (WritesView (whole_local w.given))) aimed
-      (λ h. record { given = refl; formed = h; served = refl })
+      (λ h. record { given = refl; formed = h })
       (λ n k p. uses_ready k (w.given ∷ []) [] (one_there k w.given p.1))
       (λ n m k p. keeps_all f m None k))
     where
@@ -95,7 +94,7 @@ module _ (a : Around) (visible : List ℕ) (types : Types) (texts : ℕ) (fs : L
       let w = value u behind t None s in
       subst (λ (b : Bool). Acts a visible types texts fs f setting s (cond b (w >> λ r s. emit e.place (Ports (Writes r)) s) (seen u s >> λ x s. viewed x s >> λ l s. emit e.place (Ports (WritesView l)) s))) (sym (own_value e.ty n))
       (then_part types texts fs f (nothing types texts fs f) tt None s w _ (a_number types texts fs f t) (nothing types texts fs f) stands.opened (is.valued n behind t (own_value e.ty n) None s tt stands)
-      (acted_part types texts fs f (a_number types texts fs f t) w.given e.place (Ports (Writes w.given)) w.state (λ h. record { given = refl; formed = number_any types f t w.given h; served = refl })
+      (acted_part types texts fs f (a_number types texts fs f t) w.given e.place (Ports (Writes w.given)) w.state (λ h. record { given = refl; formed = number_any types f t w.given h })
       (λ n k p. uses_ready k (w.given ∷ []) [] (one_there k w.given p.1)) (λ n m k p. keeps_all f m None k)))
 
   -- characters that are seen
@@ -109,7 +108,7 @@ module _ (a : Around) (visible : List ℕ) (types : Types) (texts : ℕ) (fs : L
       subst (λ (b : Bool). Acts a visible types texts fs f setting s (cond b (value u behind (own_type e.ty) None s >> λ r s. emit e.place (Ports (Writes r)) s) (seen u s >> λ x s. viewed x s >> λ l s. emit e.place (Ports (WritesView l)) s))) (sym no_value)
       (then_part types texts fs f (nothing types texts fs f) tt None s l _ Q (nothing types texts fs f) stands.opened
       (then_part types texts fs f (nothing types texts fs f) tt None s x l P Q stands.opened (shows s stands) (viewed_part types texts fs f x.given x.state))
-      (acted_part types texts fs f Q l.given e.place (Ports (WritesView l.given)) l.state (λ h. record { given = refl; formed = ap is_view h.typed; served = h.served })
+      (acted_part types texts fs f Q l.given e.place (Ports (WritesView l.given)) l.state (λ h. record { given = refl; formed = ap is_view h.typed })
       (λ n k p. uses_ready k (l.given.local ∷ []) [] (one_there k l.given.local (ap (λ (q : Location). known_at k q.local) p.is ∙ p.held))) (λ n m k p. keeps_all f m None k)))
 
   -- what is printed and is no number has no value

@@ -32,7 +32,6 @@ use Rattle.life_elab_laws.proofs.Parts.{Part}
 use Rattle.life_elab_laws.proofs.Shaping.{IsFineStep}
 use Rattle.life_elab_laws.proofs.Types.{same_type}
 use Rattle.life_elab_laws.proofs.ViewSteps.{view_taker}
-use Rattle.life_core_served.specs.Served.{is_served_location, is_served_operand}
 
 -- ---- the types of owners
 
@@ -68,15 +67,14 @@ module _ (types : Types) (texts : ℕ) (fs : List Function) (f : Function) where
   -- ---- copies
 
   pub copy_fine : (table : Types) (t : Ty) (to from : Operand) → is_owner_of_values table t ≡ true → type_of types f to ≡ t → keeps_const false (is_const_place types f to) ≡ true → type_of types f from ≡ t
-      → is_served_operand to ≡ true → is_served_operand from ≡ true → IsFineStep types texts fs f (Copy to from)
-  copy_fine table t to from o at free source goal found = record {
+      → IsFineStep types texts fs f (Copy to from)
+  copy_fine table t to from o at free source = record {
     given = refl;
     formed =
         and_from (same (type_of types f to) (type_of types f from)) _ (ap (λ (u : Ty). same u (type_of types f from)) at ∙ ap (same t) source ∙ owner_same table t o)
         (and_from (not (is_pointer (type_of types f to))) _ (ap (λ (u : Ty). not (is_pointer u)) at ∙ owner_no_pointer table t o)
         (and_from (not (holds_unique (tree_if types (operand_type types f to)))) (not (is_const_place types f to))
         (ap not (no_unique table types (is_place types f to) (operand_type types f to) (ap (is_owner_of_values table) at ∙ o))) free));
-    served = and_from (is_served_operand to) (is_served_operand from) goal found;
   }
 
   pub copies_part : {A : Type 0} (P : Gift types texts fs f A) (x : A) (table : Types) (t : Ty) (constant : Bool) (to from : Operand) (place : Place) (s : State) → is_owner_of_values table t ≡ true
@@ -84,19 +82,18 @@ module _ (types : Types) (texts : ℕ) (fs : List Function) (f : Function) where
       → Part types texts fs f P x None s (gives tt (emit place (Copy to from) s)) (nothing types texts fs f)
   copies_part P x table t constant to from place s o typed ready =
       acted_part types texts fs f P x place (Copy to from) s
-      (λ h. let both = typed h in copy_fine table t to from o both.0.typed both.0.held both.1.typed both.0.served both.1.served)
+      (λ h. let both = typed h in copy_fine table t to from o both.0.typed both.0.held both.1.typed)
       (λ n k q. let both = ready n k q in uses_ready k (place_uses to ++ place_uses from) [] (both_known known.Ready k (place_uses to) (place_uses from) (place_there to n k both.0) (place_there from n k both.1)))
       (λ n m k q. keeps_all f m None k)
 
   -- ---- a view of the whole of a string
 
-  pub whole_given : (o : Operand) → type_of types f o ≡ ty.Text → is_served_operand o ≡ true → IsGivenAs types texts fs f (Of ty.View) (aimed (Whole o))
-  whole_given o text found = λ u l loc at taken. record {
+  pub whole_given : (o : Operand) → type_of types f o ≡ ty.Text → IsGivenAs types texts fs f (Of ty.View) (aimed (Whole o))
+  whole_given o text = λ u l loc at taken. record {
     given = refl;
     formed =
         ap (λ (t : Ty). is_source_of types texts fs f t (Whole o)) (at.typed ∙ view_taker types u loc taken)
         ∙ and_from (spans types ty.View (type_of types f o)) true (ap (spans types ty.View) text) refl;
-    served = and_from (is_served_location l) (is_served_operand o) at.served found;
   }
 
   pub whole_filling : (o : Operand) (n : ℕ) (k : List Known) → IsPlace o n k → IsFilling f (λ p. Aim p (Whole o)) n k

@@ -1,7 +1,6 @@
 -- What is done to an owner that has come to life, where no list builds it: it makes no temporaries, and looks at nothing but what was found before.
 use Rattle.std.proofs.Common.{◌≡◌, inl, inr, ℕ, List, [], ◌∷◌, ◌++◌, length, refl, ap, ◌∙◌, subst, append_assoc}
 use Rattle.life_types.specs.declared.place.Place.{Place}
-use Rattle.life_types.specs.declared.ty.Ty.TheVariants as ty
 use Rattle.life_core.specs.Operands.{Characters, Location, Operand, Single, View, Whole, whole}
 use Rattle.life_core.specs.Step.{Aim, Append, Change, Changes, Copy, Set}
 use Rattle.life_core.specs.Tree.{Acts, Tree, trees}

@@ -42,10 +42,10 @@ use Rattle.life_writer.specs.Variables.{variable, variable_place}
 use Rattle.life_writer.specs.Writing.{Gives, State, ◌>>◌, gives, mapped}
 use Rattle.life_elab_laws.proofs.Aiming.{literal_given, null_given, place_given}
 use Rattle.life_elab_laws.proofs.CallParts.{call_part}
-use Rattle.life_elab_laws.proofs.CalledPointers.{pointed_call, referred_call, viewed_call}
+use Rattle.life_elab_laws.proofs.CalledPointers.{pointed_call, referred_call, viewed_call, walked_call}
 use Rattle.life_elab_laws.proofs.ExpressionForms.{IsCall, IsForm, IsWhole, nullable_raw, of_number, place_form, pointer_form, pointer_own, pointing_itself, no_literal}
 use Rattle.life_elab_laws.proofs.ExpressionKinds.{IsAddressed, IsDereferenced, kind_local, variable_built}
-use Rattle.life_elab_laws.proofs.ExpressionTypes.{IsAnswered, answered_as, answers_nothing, answers_place, answers_raw, answers_value, answers_view, own_value, answers_owner}
+use Rattle.life_elab_laws.proofs.ExpressionTypes.{IsAnswered, answered_as, answers_nothing, answers_place, answers_raw, answers_value, answers_view, own_value, answers_owner, answers_walker}
 use Rattle.life_elab_laws.proofs.Filling.{aimed_filling, null_filling, text_filling}
 use Rattle.life_elab_laws.proofs.FormedVariables.{behind_place, const_same, pointer_formed, type_later, variable_formed, owner_no_value, value_no_void, owner_no_location}
 use Rattle.life_elab_laws.proofs.Gifts.{IsGivenAs, a_number, a_place, a_pointer, a_pointing, arguments}
@@ -58,8 +58,9 @@ use Rattle.life_elab_laws.proofs.ResultTypes.{result_is}
 use Rattle.life_elab_laws.proofs.RowTypes.{sees}
 use Rattle.life_elab_laws.proofs.Setting.{Setting}
 use Rattle.life_elab_laws.proofs.TypedKinds.{HasKind, IsKind, a_null, a_number as is_number_kind, a_pointer as is_pointer_kind, a_text, a_view, kind_of_place, kind_of_result, no_value, none_some, place_same, some_same, value_place}
-use Rattle.life_elab_laws.proofs.VariablePlaces.{Stands, named_pointer, pointer_there, stands_later, variable_there}
+use Rattle.life_elab_laws.proofs.VariablePlaces.{Stands, named_pointer, pointer_there, stands_later, variable_there, walker_is}
 use Rattle.life_elab_laws.proofs.Targets.{value_target}
+use Rattle.life_elab_laws.proofs.FormedFits.{walker_itself}
 
 module _ (a : Around) (visible : List ℕ) (types : Types) (texts : ℕ) (fs : List Function) (f : Function) (setting : Setting a types fs f) where
   abbrev Standing : State → Type 0
@@ -168,6 +169,7 @@ module _ (a : Around) (visible : List ℕ) (types : Types) (texts : ℕ) (fs : L
     computed (answers_value v own held) c n place into s wanted stands =
         call_part types texts fs f g is.of into (own_type e.ty) place s (handed s) (setting.callees g is.of is.there) (later ∙ sym (ap own_type own)) (own_value e.ty n) wanted stands.opened (is.hands s stands)
     computed (answers_raw target constant raw w own held) c n place into s wanted stands = absurd (false≢true (sym (ap is_number own) ∙ n))
+    computed (answers_walker w own held) c n place into s wanted stands = absurd (false≢true (sym (walker_is a.program.types (type_at a.program.types is.of.result) w).value ∙ sym (ap is_number own) ∙ n))
     computed (answers_view view own held) c n place into s wanted stands = absurd (false≢true (sym (ap is_number own) ∙ n))
     computed (answers_place target constant refers w own held) c n place into s wanted stands = absurd (value_place (sym c ∙ held))
     computed (answers_owner target constant refers o own held) c n place into s wanted stands = absurd (value_place (sym c ∙ held))
@@ -177,6 +179,7 @@ module _ (a : Around) (visible : List ℕ) (types : Types) (texts : ℕ) (fs : L
     named (answers_nothing void own held) id constant at v place s stands = absurd (value_place (sym held ∙ at))
     named (answers_value w own held) id constant at v place s stands = absurd (value_place (sym held ∙ at))
     named (answers_raw target d raw w own held) id constant at v place s stands = absurd (value_place (sym held ∙ at))
+    named (answers_walker w own held) id constant at v place s stands = absurd (value_place (sym held ∙ at))
     named (answers_view view own held) id constant at v place s stands = absurd (value_place (sym held ∙ at))
     named (answers_owner target d refers o own held) id constant at v place s stands = absurd (owner_no_value a.program.types (type_at a.program.types target) o (ap (λ (i : TyId). is_value (type_at a.program.types i)) (place_same target id d constant (sym held ∙ at)) ∙ v))
     named (answers_place target d refers w own held) id constant at v place s stands =
@@ -193,6 +196,9 @@ module _ (a : Around) (visible : List ℕ) (types : Types) (texts : ℕ) (fs : L
     pointed (answers_raw target constant raw w own held) p place s stands =
         subst (λ (t : ExprType). Points t s (mapped (λ (xs : List Argument). By (called g xs)) (handed s))) (sym own)
         (pointed_call types texts fs f g is.of (setting.callees g is.of is.there) s (handed s) (is.hands s stands) a.program.types setting.front target constant w (later ∙ raw))
+    pointed (answers_walker w own held) p place s stands =
+        subst (λ (t : ExprType). Points t s (mapped (λ (xs : List Argument). By (called g xs)) (handed s))) (sym own)
+        (walked_call types texts fs f g is.of (setting.callees g is.of is.there) s (handed s) (is.hands s stands) a.program.types (type_at a.program.types is.of.result) w later (walker_itself a.program.types types setting.front (type_at a.program.types is.of.result) w))
     pointed (answers_view view own held) p place s stands =
         subst (λ (t : ExprType). Points t s (mapped (λ (xs : List Argument). By (called g xs)) (handed s))) (sym own)
         (viewed_call types texts fs f g is.of (setting.callees g is.of is.there) s (handed s) (is.hands s stands) (later ∙ view))
@@ -201,6 +207,7 @@ module _ (a : Around) (visible : List ℕ) (types : Types) (texts : ℕ) (fs : L
     answers_no_literal (answers_nothing void own held) at = no_literal a visible types texts fs f setting ty.Void (sym own ∙ at)
     answers_no_literal (answers_value v own held) at = no_literal a visible types texts fs f setting (type_at a.program.types is.of.result) (sym own ∙ at)
     answers_no_literal (answers_raw target constant raw w own held) at = no_literal a visible types texts fs f setting (ty.Raw target constant) (sym own ∙ at)
+    answers_no_literal (answers_walker w own held) at = no_literal a visible types texts fs f setting (type_at a.program.types is.of.result) (sym own ∙ at)
     answers_no_literal (answers_view view own held) at = no_literal a visible types texts fs f setting ty.View (sym own ∙ at)
     answers_no_literal (answers_place target constant refers w own held) at = no_literal a visible types texts fs f setting (type_at a.program.types target) (sym own ∙ at)
     answers_no_literal (answers_owner target constant refers o own held) at = no_literal a visible types texts fs f setting (type_at a.program.types target) (sym own ∙ at)
@@ -322,8 +329,7 @@ module _ (a : Around) (visible : List ℕ) (types : Types) (texts : ℕ) (fs : L
       (λ b h. let later = type_later a.program.types types setting.front d.target d.worth in
       place_given types texts fs f (ty.Raw d.target d.constant) (operand (uses a inner) s).given
       (and_from (aims_at types (ty.Raw d.target d.constant) (placed.type_of types f (operand (uses a inner) s).given)) (keeps_const d.constant (is_const_place types f (operand (uses a inner) s).given))
-      (ap (aims_at types (ty.Raw d.target d.constant)) (h.typed ∙ sym later) ∙ value_same (ty_of types d.target) (ap is_value later ∙ d.worth)) h.held)
-      h.served)
+      (ap (aims_at types (ty.Raw d.target d.constant)) (h.typed ∙ sym later) ∙ value_same (ty_of types d.target) (ap is_value later ∙ d.worth)) h.held))
       (λ n k q. aimed_filling f (operand (uses a inner) s).given n k q)))
     where
       typed_as : e.ty ≡ Of (ty.Raw d.target d.constant)

@@ -1,10 +1,10 @@
--- The core program of a well typed program that is served and that passes no limit is proper.
+-- The core program of a well typed program that is served and that passes no limit is proper, and is served itself.
 use Rattle.std.proofs.Common.{◌≡◌, ◌&&◌, ◌+◌, true, [], ◌∷◌, length, sym, subst, ℕ, length-append}
 use Rattle.std.proofs.lemmas.Bool.{and_parts}
 use Rattle.life_served.specs.Served.{are_served_functions, has_no_structs, has_served_types, is_served}
 use Rattle.life_typed.specs.Programs.{ProgramForm}
 use Rattle.life_pset.specs.Limits.{IsProgramWithinLimits}
-use Rattle.life_core_served.specs.ProperPrograms.{IsProperProgram}
+use Rattle.life_core_served.specs.ProperPrograms.{IsProperProgram, IsServedProgram}
 use Rattle.life_proper.proofs.ProperFunctions.{ready_program}
 use Rattle.life_well_typed.specs.Functions.{IsWellTyped}
 use Rattle.life_well_typed.specs.Mains.{HasIntMain}
@@ -42,14 +42,19 @@ module _ (p : ProgramForm) (built : is_served p ≡ true) where
     breaks = program_breaks p typed served results table.chars mains;
     given = program_keeps p typed served results table.chars mains;
     limits = limits;
-    so_far = record {
-      structs = program_structs p typed served results table.chars mains (no_structs_there p.structs p.types.structs none table.structs);
-      serves = program_serves p typed served results table.chars mains;
-    };
+  }
+
+  pub served_served : IsWellTyped p → HasResults p → HasTable p → HasIntMain p → IsServedProgram (translated p)
+  served_served typed results table mains = record {
+    structs = program_structs p typed served results table.chars mains (no_structs_there p.structs p.types.structs none table.structs);
+    serves = program_serves p typed served results table.chars mains;
   }
 
 pub translation_proper : (p : ProgramForm) → IsWellTyped p → HasResults p → HasTable p → HasNames p → HasIntMain p → is_served p ≡ true → IsProgramWithinLimits (translated p) → IsProperProgram (translated p)
 translation_proper p typed results table names mains built limits = served_proper p built typed results table names mains limits
+
+pub translation_served : (p : ProgramForm) → IsWellTyped p → HasResults p → HasTable p → HasIntMain p → is_served p ≡ true → IsServedProgram (translated p)
+translation_served p typed results table mains built = served_served p built typed results table mains
 
 pub translation_short : (p : ProgramForm) → IsWellTyped p → HasResults p → HasTable p → is_served p ≡ true → HaveShortPlaces (translated p).types (translated p).functions
 translation_short p typed results table built = served_short p built typed results table

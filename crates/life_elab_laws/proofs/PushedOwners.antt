@@ -17,7 +17,6 @@ use Rattle.life_core.specs.Step.{Changes, PushBack, Live}
 use Rattle.life_core.specs.Touched.{place_uses, touched_by}
 use Rattle.life_core.specs.Tree.{Acts, Tree, trees}
 use Rattle.life_core.specs.declared.program.Local.{Local}
-use Rattle.life_core_served.specs.Served.{is_served_operand}
 use Rattle.life_proper.specs.Knowing.{known_at}
 use Rattle.life_proper.specs.OperandTypes.{same}
 use Rattle.life_proper.specs.Placed.{is_consumed, is_const_place, is_given, is_number_of, object_at, result_at, slot_at, type_of}
@@ -51,7 +50,7 @@ use Rattle.life_elab_laws.proofs.Parts.{Goes, Makes, Part, Runs}
 use Rattle.life_elab_laws.proofs.PendingTemporaries.{ArePendingIn, IsTemporary, temporary_later}
 use Rattle.life_elab_laws.proofs.PlainActs.{IsPlainAct, seen_names}
 use Rattle.life_elab_laws.proofs.Setting.{Setting}
-use Rattle.life_elab_laws.proofs.Shaping.{IsFine, fine_append, fine_gives}
+use Rattle.life_elab_laws.proofs.Shaping.{IsFine, fine_append, fine_gives, lasts_at}
 use Rattle.life_elab_laws.proofs.TemporaryEnds.{temporary_ends}
 
 -- ---- what is found before lies below
@@ -214,7 +213,7 @@ module _ (a : Around) (visible : List ℕ) (types : Types) (texts : ℕ) (fs : L
         object = (owner_there types texts fs f setting.registers a.program.types t x owner r.typed.0.1).object
 
         ends : can_end types texts fs f x ≡ true
-        ends = temporary_ends types texts fs f setting.registers x (temporary_later there.locals f.locals there.types.types types.types x b.locals b.table temporary)
+        ends = (and_parts (can_end types texts fs f x) (lasts_at f x) (temporary_ends types texts fs f setting.registers x (temporary_later there.locals f.locals there.types.types types.types x b.locals b.table temporary))).0
 
         given : is_given types f t x ≡ true
         given =
@@ -236,7 +235,6 @@ module _ (a : Around) (visible : List ℕ) (types : Types) (texts : ℕ) (fs : L
         push_fine =
             fine_gives types texts fs f at (Changes to (PushBack x)) refl
             (and_from (is_change_of types texts fs f (type_of types f to) (PushBack x)) (not (is_const_place types f to)) (ap (λ (u : Ty). is_change_of types texts fs f u (PushBack x)) place_is.typed ∙ taken) place_is.held)
-            (and_from (is_served_operand to) true place_is.served refl)
 
         -- ---- on a way
 

@@ -1,4 +1,4 @@
--- What a function gives back: nothing, a value, a raw pointer or a reference to a value or an owner, or a view; control doesn't run past the end of one that gives something back.
+-- What a function gives back: nothing, a value, a raw pointer or a reference to a value or an owner, a view, an iterator or a span; control doesn't run past the end of one that gives something back.
 use Rattle.std.proofs.Common.{◌≡◌, Bool, true, false, ◌||◌, None, refl, sym}
 use Rattle.std.proofs.lemmas.Bool.{false≢true}
 use Rattle.life_types.specs.TypeTests.{is_value, is_void}
@@ -6,21 +6,26 @@ use Rattle.life_types.specs.Types.{Types}
 use Rattle.life_types.specs.declared.ty.Ty.{Ty}
 use Rattle.life_types.specs.declared.ty.Ty.TheVariants as ty
 use Rattle.life_types.specs.declared.ty.TyId.{TyId}
-use Rattle.life_served.specs.Served.{is_owner_of_values, is_pointing, is_target}
+use Rattle.life_served.specs.Served.{is_owner_of_values, is_pointing, is_target, is_walker_of_values}
 use Rattle.life_typed.specs.BaseTypes.{type_at}
 use Rattle.life_type_stmt.specs.Bodies.{return_fault}
 use Rattle.life_elab_laws.proofs.Targets.{IsTarget, target_is, to_owner, to_value}
 
 abbrev pub gives_back : Types → Ty → Bool
-gives_back types t = is_void t || (is_value t || is_pointing types t)
+gives_back types t = is_void t || (is_value t || (is_pointing types t || is_walker_of_values types t))
 
 pub data IsResultType (types : Types) (t : Ty) : Type 0 where
   gives_nothing : t ≡ ty.Void → IsResultType types t
   gives_value : is_value t ≡ true → IsResultType types t
   gives_raw : (target : TyId) (constant : Bool) → t ≡ ty.Raw target constant → is_target types (type_at types target) ≡ true → IsResultType types t
   gives_view : t ≡ ty.View → IsResultType types t
+  gives_walker : is_walker_of_values types t ≡ true → IsResultType types t
   gives_reference : (target : TyId) (constant : Bool) → t ≡ ty.Reference target constant → is_value (type_at types target) ≡ true → IsResultType types t
   gives_alias : (target : TyId) (constant : Bool) → t ≡ ty.Reference target constant → is_owner_of_values types (type_at types target) ≡ true → IsResultType types t
+
+or_false : (b : Bool) → (b || false) ≡ true → b ≡ true
+or_false true e = refl
+or_false false e = e
 
 pub result_is : (types : Types) (t : Ty) → gives_back types t ≡ true → IsResultType types t
 result_is types ty.Void b = gives_nothing refl
@@ -29,9 +34,11 @@ result_is types ty.Char b = gives_value refl
 result_is types ty.Int b = gives_value refl
 result_is types ty.Long b = gives_value refl
 result_is types ty.Size b = gives_value refl
-result_is types (ty.Raw target constant) b = gives_raw target constant refl b
+result_is types (ty.Raw target constant) b = gives_raw target constant refl (or_false (is_target types (type_at types target)) b)
 result_is types ty.View b = gives_view refl
-result_is types (ty.Reference target constant) b = refers (target_is types (type_at types target) b)
+result_is types (ty.Iterator target constant) b = gives_walker b
+result_is types (ty.Span target constant) b = gives_walker b
+result_is types (ty.Reference target constant) b = refers (target_is types (type_at types target) (or_false (is_target types (type_at types target)) b))
   where
     refers : IsTarget types (type_at types target) → IsResultType types (ty.Reference target constant)
     refers (to_value v) = gives_reference target constant refl v

@@ -96,7 +96,7 @@ module _ (a : Around) (types : Types) (texts : ℕ) (fs : List Function) (f : Fu
   module _ (s : State) (h : Follows types f a v s) where
     pub break_does : in_loop ≡ true → (keyword : Place) → DoesLevel types texts fs f a v in_loop s (left s.outside keyword Breaks s)
     break_does e keyword = record {
-      does = left_does types texts fs f a setting v in_loop s h s.outside keyword Breaks (record { statement = refl; tests = refl; breaks = e; given = refl; formed = refl; served = refl })
+      does = left_does types texts fs f a setting v in_loop s h s.outside keyword Breaks (record { statement = refl; tests = refl; breaks = e; given = refl; formed = refl })
           (λ k knows. record {
             fine = refl;
             next = tt;
@@ -112,7 +112,7 @@ module _ (a : Around) (types : Types) (texts : ℕ) (fs : List Function) (f : Fu
 
     pub continue_does : in_loop ≡ true → (keyword : Place) → DoesLevel types texts fs f a v in_loop s (left s.outside keyword Continues s)
     continue_does e keyword = record {
-      does = left_does types texts fs f a setting v in_loop s h s.outside keyword Continues (record { statement = refl; tests = refl; breaks = e; given = refl; formed = refl; served = refl })
+      does = left_does types texts fs f a setting v in_loop s h s.outside keyword Continues (record { statement = refl; tests = refl; breaks = e; given = refl; formed = refl })
           (λ k knows. record {
             fine = refl;
             next = tt;
@@ -129,7 +129,7 @@ module _ (a : Around) (types : Types) (texts : ℕ) (fs : List Function) (f : Fu
     -- control returns where nothing has to be given back
     pub return_does : (GivesResult a → ⊥) → (keyword : Place) → DoesLevel types texts fs f a v in_loop s (left 0 keyword (Returns keyword) s)
     return_does never keyword = record {
-      does = left_does types texts fs f a setting v in_loop s h 0 keyword (Returns keyword) (record { statement = refl; tests = refl; breaks = refl; given = refl; formed = refl; served = refl }) (λ k knows. return_leaves s keyword k (unasked_ready never k)) (same_apart f s s refl refl refl) (λ gives o. absurd (never gives));
+      does = left_does types texts fs f a setting v in_loop s h 0 keyword (Returns keyword) (record { statement = refl; tests = refl; breaks = refl; given = refl; formed = refl }) (λ k knows. return_leaves s keyword k (unasked_ready never k)) (same_apart f s s refl refl refl) (λ gives o. absurd (never gives));
       level = left_level types texts fs f s 0 keyword (Returns keyword);
     }
 
@@ -260,7 +260,7 @@ module _ (a : Around) (types : Types) (texts : ℕ) (fs : List Function) (f : Fu
               stated =
                   stated_append types texts fs f in_loop all_code back ((full_fine types texts fs f a v in_loop into s w Q h can token made b).stated in_loop)
                   (stated_append types texts fs f in_loop d.code (Returns keyword ∷ []) ((past_fine types texts fs f a setting v r_state later b 0 keyword d).stated in_loop)
-                  (stated_alone types texts fs f in_loop (Returns keyword) (record { statement = refl; tests = refl; breaks = refl; given = refl; formed = refl; served = refl })));
+                  (stated_alone types texts fs f in_loop (Returns keyword) (record { statement = refl; tests = refl; breaks = refl; given = refl; formed = refl })));
               ways = leaves_may types f in_loop s.living w.state.living (take s.outside s.living) (trees (all_code ++ back)) (λ k known. leaves_there b k known);
               apart =
                   codes_apart f s r_state behind all_code back (full_apart types texts fs f a v in_loop into s w Q h can token made b)

@@ -32,7 +32,6 @@ module _ (types : Types) (texts : ℕ) (fs : List Function) (f : Function) where
   saved_fine t r o number at = record {
     given = refl;
     formed = and_from (is_number_of types f (type_of types f o) r) (not (is_const_place types f o)) (ap (λ (u : Ty). is_number_of types f u r) at.typed ∙ number) at.held;
-    served = at.served;
   }
 
   pub saved_part : {A : Type 0} (P : Gift types texts fs f A) (x : A) (t : Ty) (r : ℕ) (o : Operand) (place : Place) (s : State)

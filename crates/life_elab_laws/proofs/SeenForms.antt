@@ -72,7 +72,6 @@ module _ (types : Types) (texts : ℕ) (fs : List Function) (f : Function) where
         record {
           given = refl;
           formed = ap (λ (t : Ty). is_source_of types texts fs f t (Whole o)) at.typed ∙ and_from (spans types ty.View (type_of types f o)) true (ap (spans types ty.View) h.typed) refl;
-          served = h.served;
         },
         at,
       ))
@@ -102,7 +101,7 @@ module _ (a : Around) (visible : List ℕ) (types : Types) (texts : ℕ) (fs : L
       (sym (ap (λ (x : Ty). seen_by x (uses a form) s) (ap own_type (sym (own_typed a visible types texts fs f setting form) ∙ is.is) ∙ text)))
       (seen_part types texts fs f (no_gift types texts fs f) tt None s w (a_place types texts fs f is.ty is.constant) (InString (uses a form).place) (a_shown types texts fs f)
       (is.names s stands)
-      (λ b h. record { typed = h.typed ∙ text; held = refl; served = h.served }) (λ n k h. h))
+      (λ b h. record { typed = h.typed ∙ text; held = refl }) (λ n k h. h))
 
   -- .. which gives a view the whole of it
   pub string_points : (form : Form) → (is : IsOwner a visible types texts fs f setting form) → is.ty ≡ ty.Text → (s : State) → Standing a visible types texts fs f setting s
@@ -113,7 +112,7 @@ module _ (a : Around) (visible : List ℕ) (types : Types) (texts : ℕ) (fs : L
       (sym (ap (λ (x : Ty). pointing_by x (uses a form) s) (ap own_type (sym (own_typed a visible types texts fs f setting form) ∙ is.is) ∙ text)))
       (seen_part types texts fs f (no_gift types texts fs f) tt None s w (a_place types texts fs f is.ty is.constant) (λ o. aimed (Whole o)) (a_pointing types texts fs f (Of ty.View))
       (is.names s stands)
-      (λ b h. whole_given types texts fs f w.given (h.typed ∙ text) h.served) (λ n k h. whole_filling types texts fs f w.given n k h))
+      (λ b h. whole_given types texts fs f w.given (h.typed ∙ text)) (λ n k h. whole_filling types texts fs f w.given n k h))
 
   -- ---- two of them are compared
 

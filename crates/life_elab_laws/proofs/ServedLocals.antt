@@ -1,15 +1,13 @@
--- The locals of a function that is translated are served, since none is a slot, and so is what it gives back.
+-- The locals of a function that is translated are served: none is a slot.
 use Rattle.std.proofs.Common.{◌≡◌, ℕ, zero, suc, Bool, true, false, not, List, [], ◌∷◌, slice_get, Option, Some, refl, ap, ◌∙◌}
 use Rattle.std.proofs.lemmas.Bool.{and_from}
 use Rattle.std.specs.List.{list_all}
 use Rattle.life_types.specs.Types.{Types, is_slot_type}
 use Rattle.life_types.specs.declared.ty.Ty.{Ty}
 use Rattle.life_types.specs.declared.ty.Ty.TheVariants as ty
-use Rattle.life_core_served.specs.Served.{is_served_local, is_served_return}
+use Rattle.life_core_served.specs.Served.{is_served_local}
 use Rattle.life_core.specs.declared.program.Local.{Local}
 use Rattle.life_elab_laws.proofs.Targets.{reference_no_slot}
-use Rattle.life_elab_laws.proofs.ResultTypes.{IsResultType, gives_alias, gives_nothing, gives_raw, gives_reference, gives_value, gives_view}
-use Rattle.life_elab_laws.proofs.Values.{by_values}
 use Rattle.life_elab_laws.proofs.WrittenLocals.{fits_local}
 
 -- what each of a list passes, all do
@@ -24,12 +22,3 @@ module _ (types : Types) where
 
   pub local_served : (l : Local) (t : Ty) → slice_get types.types l.ty.0 ≡ Some t → fits_local types t ≡ true → is_served_local types l ≡ true
   local_served l t at fits = ap (λ (o : Option Ty). not (is_slot_type types o)) at ∙ ap not (no_slot t fits)
-
-  -- what is given back
-  pub return_served : (t : Ty) → IsResultType types t → is_served_return (Some t) ≡ true
-  return_served t (gives_nothing void) = ap (λ (u : Ty). is_served_return (Some u)) void
-  return_served t (gives_value v) = by_values (λ u. is_served_return (Some u) ≡ true) refl refl refl refl refl t v
-  return_served t (gives_raw target constant raw w) = ap (λ (u : Ty). is_served_return (Some u)) raw
-  return_served t (gives_view view) = ap (λ (u : Ty). is_served_return (Some u)) view
-  return_served t (gives_reference target constant refers w) = ap (λ (u : Ty). is_served_return (Some u)) refers
-  return_served t (gives_alias target constant refers o) = ap (λ (u : Ty). is_served_return (Some u)) refers

@@ -1,6 +1,6 @@
--- The locals of a function: one without a name is a register or a temporary, and what is no register without a name has the type of a variable that is reached.
+-- The locals of a function: what isn't passing is a variable or a temporary, and has the type of a variable that is reached.
 use Rattle.std.proofs.Common.{◌≡◌, inl, inr, ℕ, zero, suc, Bool, true, false, ◌||◌, List, [], ◌∷◌, slice_get, Option, Some, None, refl, ap, ◌∙◌, unwrap_or, ◌&&◌, not, is_none}
-use Rattle.std.proofs.lemmas.Bool.{false≢true}
+use Rattle.std.proofs.lemmas.Bool.{false≢true, or_cases, or_left, or_right}
 use Rattle.life_types.specs.Pointees.{ty_of}
 use Rattle.life_types.specs.TypeTests.{is_value}
 use Rattle.life_types.specs.Types.{Types}
@@ -8,10 +8,9 @@ use Rattle.life_types.specs.declared.ty.NameId.{NameId}
 use Rattle.life_types.specs.declared.ty.Ty.{Ty}
 use Rattle.life_types.specs.declared.ty.Ty.TheVariants as ty
 use Rattle.life_types.specs.declared.ty.TyId.{TyId}
-use Rattle.life_served.specs.Served.{is_owner_of_values, is_pointing, is_served_variable, is_target, is_walker_of_values, is_element, is_inner_owner}
+use Rattle.life_served.specs.Served.{is_element, is_owner_of_values, is_owner_within, is_pointing, is_served_variable, is_target, is_unique_of_value, is_walker_of_values}
 use Rattle.life_typed.specs.BaseTypes.{type_at}
 use Rattle.life_core.specs.declared.program.Local.{Local}
-use Rattle.life_proper.specs.Knowing.{is_intermediate}
 use Rattle.life_elab_laws.proofs.Fronts.{IsFront, each_at}
 use Rattle.life_elab_laws.proofs.ServedTypes.{IsServedType, serves, type_serves, variable_found}
 use Rattle.life_elab_laws.proofs.Targets.{IsTarget, owner_target, target_is, target_type, to_owner, to_value, value_target}
@@ -28,17 +27,33 @@ module _ (few more : Types) (front : IsFront few.types more.types) where
       go None at w = absurd (false≢true w)
       go (Some t) at w = ap (λ (o : Option Ty). is_value (unwrap_or o ty.Void)) (front id.0 t at) ∙ w
 
-  inner_later : (t : Ty) → is_inner_owner few t ≡ true → is_inner_owner more t ≡ true
-  inner_later ty.Text o = refl
-  inner_later (ty.Vector element) o = value_later element o
-  inner_later _ o = absurd (false≢true o)
+  -- an owner, as deep as it is
+  void_within : (n : ℕ) → is_owner_within n few ty.Void ≡ true → ⊥
+  void_within zero o = false≢true o
+  void_within (suc n) o = false≢true o
+
+  within_there : (n : ℕ) → ((t : Ty) → is_owner_within n few t ≡ true → is_owner_within n more t ≡ true) → (id : TyId) → is_owner_within n few (type_at few id) ≡ true → is_owner_within n more (type_at more id) ≡ true
+  within_there n further id o = go (slice_get few.types id.0) refl o
+    where
+      go : (x : Option Ty) → slice_get few.types id.0 ≡ x → is_owner_within n few (unwrap_or x ty.Void) ≡ true → is_owner_within n more (type_at more id) ≡ true
+      go None at o = absurd (void_within n o)
+      go (Some t) at o = ap (λ (x : Option Ty). is_owner_within n more (unwrap_or x ty.Void)) (front id.0 t at) ∙ further t o
+
+  within_later : (n : ℕ) (t : Ty) → is_owner_within n few t ≡ true → is_owner_within n more t ≡ true
+  within_later zero t o = absurd (false≢true o)
+  within_later (suc n) ty.Text o = refl
+  within_later (suc n) (ty.Vector element) o = elim (or_cases (is_value (type_at few element)) (is_owner_within n few (type_at few element)) o) [
+    | inl v ↦ or_left (is_value (type_at more element)) (is_owner_within n more (type_at more element)) (value_later element v)
+    | inr inner ↦ or_right (is_value (type_at more element)) (is_owner_within n more (type_at more element)) (within_there n (within_later n) element inner)
+  ]
+  within_later (suc n) _ o = absurd (false≢true o)
 
   pub element_further : (t : Ty) → is_element few t ≡ true → is_element more t ≡ true
   element_further t h = go (element_is few t h)
     where
       go : IsElement few t → is_element more t ≡ true
       go (has_value v) = value_element more t v
-      go (has_owner o) = inner_element more t (inner_later t o)
+      go (has_owner o) = inner_element more t (within_later 7 t o)
 
   pub element_later : (id : TyId) → is_element few (type_at few id) ≡ true → is_element more (type_at more id) ≡ true
   element_later id h = go (slice_get few.types id.0) refl h
@@ -48,9 +63,7 @@ module _ (few more : Types) (front : IsFront few.types more.types) where
       go (Some t) at h = ap (λ (o : Option Ty). is_element more (unwrap_or o ty.Void)) (front id.0 t at) ∙ element_further t h
 
   pub owner_later : (t : Ty) → is_owner_of_values few t ≡ true → is_owner_of_values more t ≡ true
-  owner_later ty.Text o = refl
-  owner_later (ty.Vector element) o = element_later element o
-  owner_later _ o = absurd (false≢true o)
+  owner_later t o = within_later 8 t o
 
   pub target_further : (t : Ty) → is_target few t ≡ true → is_target more t ≡ true
   target_further t h = go (target_is few t h)
@@ -80,10 +93,15 @@ module _ (few more : Types) (front : IsFront few.types more.types) where
   walker_later (ty.Span target constant) w = element_later target w
   walker_later _ w = absurd (false≢true w)
 
+  pub unique_later : (t : Ty) → is_unique_of_value few t ≡ true → is_unique_of_value more t ≡ true
+  unique_later (ty.Unique target) u = value_later target u
+  unique_later _ u = absurd (false≢true u)
+
   served_later : (t : Ty) → IsServedType few t → IsServedType more t
   served_later t (inl b) = inl (type_later t b)
   served_later t (inr (inl o)) = inr (inl (owner_later t o))
-  served_later t (inr (inr w)) = inr (inr (walker_later t w))
+  served_later t (inr (inr (inl w))) = inr (inr (inl (walker_later t w)))
+  served_later t (inr (inr (inr u))) = inr (inr (inr (unique_later t u)))
 
   pub variable_later : (id : TyId) → is_served_variable few id ≡ true → is_served_variable more id ≡ true
   variable_later id b =
@@ -99,13 +117,9 @@ is_passing l = is_none l.name && not (is_object l.kind)
 pub named_lasts : (l : Local) (name : NameId) → l.name ≡ Some name → is_passing l ≡ false
 named_lasts l name e = ap (λ (o : Option NameId). is_none o && not (is_object l.kind)) e
 
--- a variable, a parameter or a temporary
-pub record IsVariable (types : Types) (l : Local) : Type 0 where
-  pub lasts : is_passing l ≡ false
-  pub built : is_served_variable types l.ty ≡ true
-
+-- a variable, a parameter or a temporary has such a type
 abbrev pub IsShaped : Types → Local → Type 0
-IsShaped types l = is_intermediate l ≡ false → IsVariable types l
+IsShaped types l = is_passing l ≡ false → is_served_variable types l.ty ≡ true
 
 abbrev pub AreShaped : Types → List Local → Type 0
 AreShaped types [] = Unit {0}

@@ -1,5 +1,5 @@
--- What is written is shaped: it is a register without a name, a temporary or a variable, each of a type that is reached.
-use Rattle.std.proofs.Common.{◌≡◌, inl, inr, true, false, ◌&&◌, not, Option, is_none, unwrap_or, sym, ap, ◌∙◌}
+-- What is written is shaped: it is passing, or a temporary or a variable of a type that is reached.
+use Rattle.std.proofs.Common.{◌≡◌, inl, inr, true, ◌&&◌, not, Option, is_none, unwrap_or, refl, sym, ap, ◌∙◌}
 use Rattle.std.proofs.lemmas.Bool.{false≢true, or_left}
 use Rattle.life_types.specs.TypeTests.{is_value}
 use Rattle.life_types.specs.Types.{Types}
@@ -7,15 +7,16 @@ use Rattle.life_types.specs.declared.ty.NameId.{NameId}
 use Rattle.life_types.specs.declared.ty.Ty.{Ty}
 use Rattle.life_types.specs.declared.ty.Ty.TheVariants as ty
 use Rattle.life_served.specs.Served.{are_served_variables, is_pointing, is_served_variable}
-use Rattle.life_core.specs.Kinds.{is_object, is_register}
+use Rattle.life_core.specs.Kinds.{is_object}
 use Rattle.life_core.specs.declared.program.Local.{Local}
 use Rattle.life_core.specs.declared.program.LocalKind.{LocalKind}
+use Rattle.life_core.specs.declared.program.LocalKind.TheVariants.{Range, Register}
 use Rattle.life_writer.specs.Around.{Around}
 use Rattle.life_writer.specs.Writing.{State}
 use Rattle.life_elab_laws.proofs.ExpressionKinds.{variable_built}
 use Rattle.life_elab_laws.proofs.Fronts.{IsFront}
 use Rattle.life_elab_laws.proofs.ServedTypes.{IsServedType, serves, type_serves}
-use Rattle.life_elab_laws.proofs.Shaped.{AreShaped, IsShaped, all_shaped, named_lasts, owner_later, variable_later}
+use Rattle.life_elab_laws.proofs.Shaped.{AreShaped, IsShaped, all_shaped, is_passing, owner_later, variable_later}
 use Rattle.life_elab_laws.proofs.WrittenLocals.{AreWrittenLocals, FitsNameless, FitsTemporary, IsIntermediate, IsOwn}
 
 -- .. in each table that the one so far begins
@@ -24,27 +25,25 @@ module _ (a : Around) (s : State) (whole : Types) (front : IsFront a.program.typ
   nameless_shaped : (l : Local) → IsIntermediate a.program.types s.types l → IsShaped whole l
   nameless_shaped l is = go is.fits
     where
-      go : FitsNameless a.program.types l.kind is.ty → IsShaped whole l
-      go (inl register) lasts =
-          absurd (false≢true (sym lasts ∙ ap (λ (k : LocalKind). is_register k && is_none l.name) register.0 ∙ ap (λ (o : Option NameId). is_none o) is.nameless))
-      go (inr temporary) lasts = record {
-        lasts = ap (λ (k : LocalKind). is_none l.name && not (is_object k)) temporary.0 ∙ ap (λ (o : Option NameId). is_none o && false) is.nameless;
-        built =
-            ap (λ (o : Option Ty). serves whole (unwrap_or o ty.Void)) (later l.ty.0 is.ty is.typed)
-            ∙ type_serves whole is.ty (reached temporary.1);
-      }
+      -- what is no object passes
+      passes : (k : LocalKind) → l.kind ≡ k → not (is_object k) ≡ true → is_passing l ≡ true
+      passes k same no_object = ap (λ (k : LocalKind). is_none l.name && not (is_object k)) same ∙ ap (λ (o : Option NameId). is_none o && not (is_object k)) is.nameless ∙ no_object
+
+      go : FitsNameless a.program.types s.types l.kind is.ty → IsShaped whole l
+      go (inl register) lasts = absurd (false≢true (sym lasts ∙ passes Register register.0 refl))
+      go (inr (inr hidden)) lasts = absurd (false≢true (sym lasts ∙ passes Range hidden.0 refl))
+      go (inr (inl temporary)) lasts =
+          ap (λ (o : Option Ty). serves whole (unwrap_or o ty.Void)) (later l.ty.0 is.ty is.typed)
+          ∙ type_serves whole is.ty (reached temporary.1)
         where
           reached : FitsTemporary a.program.types is.ty → IsServedType whole is.ty
           reached (inl value) = inl (or_left (is_value is.ty) (is_pointing whole is.ty) value)
           reached (inr owner) = inr (inl (owner_later a.program.types whole front is.ty owner))
 
   own_shaped : (l : Local) → IsOwn a l → IsShaped whole l
-  own_shaped l is lasts = record {
-    lasts = named_lasts l is.variable.name is.of.named;
-    built =
-        ap (is_served_variable whole) is.of.typed
-        ∙ variable_later a.program.types whole front is.variable.ty (variable_built a.program.types a.function.locals is.number is.variable variables is.there);
-  }
+  own_shaped l is lasts =
+      ap (is_served_variable whole) is.of.typed
+      ∙ variable_later a.program.types whole front is.variable.ty (variable_built a.program.types a.function.locals is.number is.variable variables is.there)
 
   pub written_shaped : AreWrittenLocals a.program.types a s → AreShaped whole s.locals
   written_shaped own = all_shaped whole s.locals (λ y l at. elim (own y l at) [ inl is ↦ nameless_shaped l is | inr is ↦ own_shaped l is ])

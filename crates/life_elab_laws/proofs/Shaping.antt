@@ -1,20 +1,21 @@
 -- The shape of what is written: statements and conditions where they belong, straight before tests, with no break or continue outside of a loop,
--- well formed, and, where the program is one that is served so far, served.
-use Rattle.std.proofs.Common.{◌≡◌, ℕ, Bool, true, false, ◌&&◌, not, List, [], ◌∷◌, ◌++◌, refl, sym, ◌∙◌}
+-- and well formed.
+use Rattle.std.proofs.Common.{◌≡◌, ℕ, Bool, true, false, ◌&&◌, not, List, [], ◌∷◌, ◌++◌, slice_get, Option, Some, None, refl, sym, ◌∙◌}
 use Rattle.std.proofs.lemmas.Bool.{and_from, and_parts, false≢true}
 use Rattle.std.proofs.lemmas.List.Folds.{list_all-append}
 use Rattle.std.specs.List.{list_all}
 use Rattle.life_types.specs.Types.{Types}
 use Rattle.life_types.specs.declared.place.Place.{Place}
 use Rattle.life_core.specs.Function.{Function}
-use Rattle.life_core_served.specs.Served.{is_served_spot, is_served_step, is_served_test}
 use Rattle.life_core.specs.Shape.{breaks_inside, is_condition, is_statement, is_straight, test_straight, tests_straight}
-use Rattle.life_core.specs.Step.{Call, Step, Test}
+use Rattle.life_core.specs.Step.{Call, End, Step, Test}
 use Rattle.life_core.specs.Tree.{Tree, Skip, Then, Acts, Asks, Both, Either, Negated, Choice, Turns, Breaks, Continues, Returns, Stops, Node, Action, Spot, spots, trees}
+use Rattle.life_core.specs.declared.program.Local.{Local}
 use Rattle.life_proper.specs.GivenOver.{given_step, keeps_target}
 use Rattle.life_proper.specs.Placed.{object_at}
 use Rattle.life_proper.specs.WellFormed.{is_well_formed_step, is_well_formed_test, is_well_formed_tree}
 use Rattle.life_proper.proofs.SpotTests.{three_parts, two_parts}
+use Rattle.life_elab_laws.proofs.Shaped.{is_passing}
 
 -- a test that holds of two parts where it holds of both
 module _ (P : Tree → Bool) (skip : P Skip ≡ true) (both : (a b : Tree) → P (Then a b) ≡ (P a && P b)) where
@@ -59,43 +60,49 @@ abbrev pub keeps_its_target : Step → Bool
 keeps_its_target (Call target g xs) = keeps_target target xs
 keeps_its_target _ = true
 
-abbrev pub node_keeps_target : Node → Bool
-node_keeps_target (Action i) = keeps_its_target i
-node_keeps_target _ = true
+-- what ends is a variable or a temporary: nothing that is passing does
+abbrev pub is_lasting : Option Local → Bool
+is_lasting None = false
+is_lasting (Some l) = not (is_passing l)
 
-abbrev pub spot_keeps_target : Spot → Bool
-spot_keeps_target s = node_keeps_target s.node
+abbrev pub lasts_at : Function → ℕ → Bool
+lasts_at f x = is_lasting (slice_get f.locals x)
 
-abbrev pub tree_keeps_target : Tree → Bool
-tree_keeps_target t = list_all spot_keeps_target (spots t)
+abbrev pub ends_lasting : Function → Step → Bool
+ends_lasting f (End xs) = list_all (lasts_at f) xs
+ends_lasting f _ = true
+
+-- both, of an instruction, of a point and of all that is written
+abbrev pub step_keeps : Function → Step → Bool
+step_keeps f i = ends_lasting f i && keeps_its_target i
+
+abbrev pub node_keeps : Function → Node → Bool
+node_keeps f (Action i) = step_keeps f i
+node_keeps f _ = true
+
+abbrev pub spot_keeps : Function → Spot → Bool
+spot_keeps f s = node_keeps f s.node
+
+abbrev pub tree_keeps : Function → Tree → Bool
+tree_keeps f t = list_all (spot_keeps f) (spots t)
 
 module _ (types : Types) (f : Function) where
-  -- what an instruction gives over is no object, and no member of what is given over is written
+  -- what an instruction gives over is no object, no member of what is given over is written, and nothing that is passing ends
   abbrev pub is_no_object : ℕ → Bool
   is_no_object x = not (object_at types f x)
 
   abbrev pub gives_values : Step → Bool
-  gives_values i = list_all is_no_object (given_step i) && keeps_its_target i
+  gives_values i = list_all is_no_object (given_step i) && step_keeps f i
 
 module _ (types : Types) (texts : ℕ) (fs : List Function) (f : Function) where
   abbrev is_formed : Tree → Bool
   is_formed t = is_well_formed_tree types texts fs f t
 
-  -- each point is served
-  abbrev pub is_served_tree : Tree → Bool
-  is_served_tree t = list_all (is_served_spot types f) (spots t)
+  given_both : (a b : Tree) → tree_keeps f a ≡ true → tree_keeps f b ≡ true → tree_keeps f (Then a b) ≡ true
+  given_both a b first second = two_parts (spot_keeps f) (spots a) (spots b) true true first second
 
-  served_both : (a b : Tree) → is_served_tree a ≡ true → is_served_tree b ≡ true → is_served_tree (Then a b) ≡ true
-  served_both a b first second = two_parts (is_served_spot types f) (spots a) (spots b) true true first second
-
-  served_all : (a b c : Tree) → is_served_tree a ≡ true → is_served_tree b ≡ true → is_served_tree c ≡ true → is_served_tree (Choice a b c) ≡ true
-  served_all a b c first second third = three_parts (is_served_spot types f) (spots a) (spots b) (spots c) true true true first second third
-
-  given_both : (a b : Tree) → tree_keeps_target a ≡ true → tree_keeps_target b ≡ true → tree_keeps_target (Then a b) ≡ true
-  given_both a b first second = two_parts (spot_keeps_target) (spots a) (spots b) true true first second
-
-  given_all : (a b c : Tree) → tree_keeps_target a ≡ true → tree_keeps_target b ≡ true → tree_keeps_target c ≡ true → tree_keeps_target (Choice a b c) ≡ true
-  given_all a b c first second third = three_parts (spot_keeps_target) (spots a) (spots b) (spots c) true true true first second third
+  given_all : (a b c : Tree) → tree_keeps f a ≡ true → tree_keeps f b ≡ true → tree_keeps f c ≡ true → tree_keeps f (Choice a b c) ≡ true
+  given_all a b c first second third = three_parts (spot_keeps f) (spots a) (spots b) (spots c) true true true first second third
 
   -- ---- conditions
 
@@ -103,12 +110,11 @@ module _ (types : Types) (texts : ℕ) (fs : List Function) (f : Function) where
     pub condition : is_condition t ≡ true
     pub straight : test_straight t ≡ true
     pub breaks : (in_loop : Bool) → breaks_inside in_loop t ≡ true
-    pub given : tree_keeps_target t ≡ true
+    pub given : tree_keeps f t ≡ true
     pub formed : is_well_formed_tree types texts fs f t ≡ true
-    pub served : is_served_tree t ≡ true
 
-  pub fine_asks : (place : Place) (t : Test) → is_well_formed_test types texts fs f t ≡ true → (is_served_test types f t ≡ true) → IsFineTest (Asks place t)
-  fine_asks place t e g = record { condition = refl; straight = refl; breaks = λ in_loop. refl; given = refl; formed = e; served = and_from (is_served_test types f t) true g refl }
+  pub fine_asks : (place : Place) (t : Test) → is_well_formed_test types texts fs f t ≡ true → IsFineTest (Asks place t)
+  fine_asks place t e = record { condition = refl; straight = refl; breaks = λ in_loop. refl; given = refl; formed = e }
 
   pub fine_both : (a b : Tree) → IsFineTest a → IsFineTest b → IsFineTest (Both a b)
   fine_both a b first second = record {
@@ -117,7 +123,6 @@ module _ (types : Types) (texts : ℕ) (fs : List Function) (f : Function) where
     breaks = λ in_loop. and_from (breaks_inside in_loop a) (breaks_inside in_loop b) (first.breaks in_loop) (second.breaks in_loop);
     given = given_both a b first.given second.given;
     formed = and_from (is_formed a) (is_formed b) first.formed second.formed;
-    served = served_both a b first.served second.served;
   }
 
   pub fine_either : (a b : Tree) → IsFineTest a → IsFineTest b → IsFineTest (Either a b)
@@ -127,11 +132,10 @@ module _ (types : Types) (texts : ℕ) (fs : List Function) (f : Function) where
     breaks = λ in_loop. and_from (breaks_inside in_loop a) (breaks_inside in_loop b) (first.breaks in_loop) (second.breaks in_loop);
     given = given_both a b first.given second.given;
     formed = and_from (is_formed a) (is_formed b) first.formed second.formed;
-    served = served_both a b first.served second.served;
   }
 
   pub fine_negated : (a : Tree) → IsFineTest a → IsFineTest (Negated a)
-  fine_negated a h = record { condition = h.condition; straight = h.straight; breaks = h.breaks; given = h.given; formed = h.formed; served = h.served }
+  fine_negated a h = record { condition = h.condition; straight = h.straight; breaks = h.breaks; given = h.given; formed = h.formed }
 
   -- ---- statements, in a loop or outside
 
@@ -139,12 +143,11 @@ module _ (types : Types) (texts : ℕ) (fs : List Function) (f : Function) where
     pub statement : is_statement t ≡ true
     pub tests : tests_straight t ≡ true
     pub breaks : breaks_inside in_loop t ≡ true
-    pub given : tree_keeps_target t ≡ true
+    pub given : tree_keeps f t ≡ true
     pub formed : is_well_formed_tree types texts fs f t ≡ true
-    pub served : is_served_tree t ≡ true
 
   pub stated_none : (in_loop : Bool) → IsStated in_loop Skip
-  stated_none in_loop = record { statement = refl; tests = refl; breaks = refl; given = refl; formed = refl; served = refl }
+  stated_none in_loop = record { statement = refl; tests = refl; breaks = refl; given = refl; formed = refl }
 
   pub stated_alone : (in_loop : Bool) (t : Tree) → IsStated in_loop t → IsStated in_loop (trees (t ∷ []))
   stated_alone in_loop t h = record {
@@ -153,7 +156,6 @@ module _ (types : Types) (texts : ℕ) (fs : List Function) (f : Function) where
     breaks = and_from (breaks_inside in_loop t) true h.breaks refl;
     given = given_both t Skip h.given refl;
     formed = and_from (is_formed t) true h.formed refl;
-    served = served_both t Skip h.served refl;
   }
 
   pub stated_append : (in_loop : Bool) (c d : List Tree) → IsStated in_loop (trees c) → IsStated in_loop (trees d) → IsStated in_loop (trees (c ++ d))
@@ -161,9 +163,8 @@ module _ (types : Types) (texts : ℕ) (fs : List Function) (f : Function) where
     statement = all_append is_statement refl (λ a b. refl) c d first.statement second.statement;
     tests = all_append tests_straight refl (λ a b. refl) c d first.tests second.tests;
     breaks = all_append (breaks_inside in_loop) refl (λ a b. refl) c d first.breaks second.breaks;
-    given = all_append (tree_keeps_target) refl (λ a b. list_all-append (spot_keeps_target) (spots a) (spots b)) c d first.given second.given;
+    given = all_append (tree_keeps f) refl (λ a b. list_all-append (spot_keeps f) (spots a) (spots b)) c d first.given second.given;
     formed = all_append (is_well_formed_tree types texts fs f) refl (λ a b. refl) c d first.formed second.formed;
-    served = all_append is_served_tree refl (λ a b. list_all-append (is_served_spot types f) (spots a) (spots b)) c d first.served second.served;
   }
 
   pub stated_choice : (in_loop : Bool) (t a b : Tree) → IsFineTest t → IsStated in_loop a → IsStated in_loop b → IsStated in_loop (Choice t a b)
@@ -173,7 +174,6 @@ module _ (types : Types) (texts : ℕ) (fs : List Function) (f : Function) where
     breaks = and_from (breaks_inside in_loop t) _ (test.breaks in_loop) (and_from (breaks_inside in_loop a) (breaks_inside in_loop b) first.breaks second.breaks);
     given = given_all t a b test.given first.given second.given;
     formed = and_from (is_formed t) _ test.formed (and_from (is_formed a) (is_formed b) first.formed second.formed);
-    served = served_all t a b test.served first.served second.served;
   }
 
   pub stated_turns : (in_loop : Bool) (t body step : Tree) → IsFineTest t → IsStated true body → IsStated false step → IsStated in_loop (Turns t body step)
@@ -184,7 +184,6 @@ module _ (types : Types) (texts : ℕ) (fs : List Function) (f : Function) where
         (and_from (breaks_inside true body) (breaks_inside in_loop step) first.breaks (breaks_anywhere in_loop step second.breaks));
     given = given_all t body step test.given first.given second.given;
     formed = and_from (is_formed t) _ test.formed (and_from (is_formed body) (is_formed step) first.formed second.formed);
-    served = served_all t body step test.served first.served second.served;
   }
 
   -- ---- code of an expression
@@ -206,18 +205,17 @@ module _ (types : Types) (texts : ℕ) (fs : List Function) (f : Function) where
   pub record IsFineStep (i : Step) : Type 0 where
     pub given : gives_values types f i ≡ true
     pub formed : is_well_formed_step types texts fs f i ≡ true
-    pub served : is_served_step types f i ≡ true
 
   -- one that may give over an object too
-  pub fine_gives : (place : Place) (i : Step) → keeps_its_target i ≡ true → is_well_formed_step types texts fs f i ≡ true → is_served_step types f i ≡ true → IsFine (Acts place i ∷ [])
-  fine_gives place i keeps formed served = record {
+  pub fine_gives : (place : Place) (i : Step) → step_keeps f i ≡ true → is_well_formed_step types texts fs f i ≡ true → IsFine (Acts place i ∷ [])
+  fine_gives place i keeps formed = record {
     straight = refl;
     stated = λ in_loop. stated_alone in_loop (Acts place i)
-        (record { statement = refl; tests = refl; breaks = refl; given = and_from (keeps_its_target i) true keeps refl; formed = formed; served = and_from (is_served_step types f i) true served refl });
+        (record { statement = refl; tests = refl; breaks = refl; given = and_from (step_keeps f i) true keeps refl; formed = formed });
   }
 
   pub fine_acts : (place : Place) (i : Step) → IsFineStep i → IsFine (Acts place i ∷ [])
-  fine_acts place i is = fine_gives place i (and_parts (list_all (is_no_object types f) (given_step i)) (keeps_its_target i) is.given).1 is.formed is.served
+  fine_acts place i is = fine_gives place i (and_parts (list_all (is_no_object types f) (given_step i)) (step_keeps f i) is.given).1 is.formed
 
   -- a branch whose branches are straight
   pub fine_choice : (t : Tree) (a b : List Tree) → IsFineTest t → IsFine a → IsFine b → IsFine (Choice t (trees a) (trees b) ∷ [])
@@ -234,5 +232,4 @@ module _ (types : Types) (texts : ℕ) (fs : List Function) (f : Function) where
     breaks = λ in_loop. and_from (breaks_inside in_loop (trees c)) (breaks_inside in_loop t) (first.stated in_loop).breaks (second.breaks in_loop);
     given = given_both (trees c) t one.given second.given;
     formed = and_from (is_formed (trees c)) (is_formed t) one.formed second.formed;
-    served = served_both (trees c) t one.served second.served;
   }

@@ -1,8 +1,8 @@
--- The places of a function that is translated have a step at most: its objects are values and owners of values, and values and characters are behind its parameters.
-use Rattle.std.proofs.Common.{◌≡◌, ◌<◌, ◌+◌, inl, ℕ, zero, suc, Bool, true, false, ◌&&◌, ◌||◌, List, [], ◌∷◌, ◌++◌, if◌then◌else◌, flat_map, map, nat_lt, slice_get, Option, Some, None, is_none, refl, ap, ◌∙◌, subst, sym, unwrap_or, arith, inr}
-use Rattle.std.proofs.lemmas.Bool.{false≢true}
+-- The places of a function that is translated have eight steps at most: its objects are values and owners of values, which have no more, and such are behind its parameters.
+use Rattle.std.proofs.Common.{◌≡◌, ◌<◌, ◌≤◌, ◌+◌, inl, ℕ, zero, suc, Bool, true, false, ◌&&◌, ◌||◌, List, [], ◌∷◌, ◌++◌, if◌then◌else◌, flat_map, map, nat_lt, slice_get, Option, Some, None, is_none, not, refl, ap, ◌∙◌, subst, sym, unwrap_or, arith, inr}
+use Rattle.std.proofs.lemmas.Bool.{false≢true, or_cases}
 use Rattle.std.proofs.lemmas.Bool.Decides.{nat_tests}
-use Rattle.life_served.specs.Served.{is_served_variable, is_element, is_inner_owner, is_owner_of_values, is_target}
+use Rattle.life_served.specs.Served.{is_served_variable, is_element, is_owner_of_values, is_owner_within, is_target}
 use Rattle.life_types.specs.Pointees.{or_void, ty_of}
 use Rattle.life_types.specs.Trees.{tree_at, tree_of, tree_within}
 use Rattle.life_types.specs.TypeTests.{is_pointer, is_value}
@@ -19,7 +19,7 @@ use Rattle.life_core.specs.Tree.{Node, Action, Question, Return, Stop}
 use Rattle.life_core.specs.declared.program.Local.{Local}
 use Rattle.life_core.specs.declared.program.LocalKind.{LocalKind}
 use Rattle.life_core.specs.declared.program.LocalKind.TheVariants.{Object, Register, Range}
-use Rattle.life_core.specs.Kinds.{is_register}
+use Rattle.life_core.specs.Kinds.{is_object}
 use Rattle.life_pset.specs.Elements.{AreShort, Input, input_at, input_if, input_root, causes_of_end, caused_at, caused_elements, elements_of, end_elements, input_places, inputs_among, inputs_from, inputs_of, local_inputs, local_place, locations_in, node_elements, object_places, objects_from, places_in, pointers_in, step_elements}
 use Rattle.life_pset.specs.Shapes.{has_buffer, is_variable, shape, shape_if, target_of, tree_if, unslotted}
 use Rattle.life_pset.specs.declared.element.AbsPlace.{AbsPlace}
@@ -29,7 +29,7 @@ use Rattle.life_pset.specs.declared.element.Element.TheVariants as element
 use Rattle.life_elab_laws.proofs.ServedTypes.{IsServedType, serves, type_serves, value_serves}
 use Rattle.life_elab_laws.proofs.Shaped.{AreShaped, IsShaped}
 use Rattle.life_elab_laws.proofs.HandedTypes.{IsHandedType, a_raw, a_reference, a_value, a_view, a_walker, an_alias}
-use Rattle.life_pset.specs.Places.{owned_place, root_place}
+use Rattle.life_pset.specs.Places.{longer, owned_place, owned_step, root_place, too_long}
 use Rattle.life_elab_laws.proofs.Elements.{IsElement, has_owner, has_value, element_is, element_target}
 use Rattle.life_pset.specs.declared.element.Root.{Root}
 use Rattle.life_elab_laws.proofs.Targets.{IsTarget, owner_target, target_is, target_referred, to_owner, to_value, value_target}
@@ -91,22 +91,42 @@ module _ (types : Types) where
       parts (Some ty.Size) v = short
       parts _ v = absurd (false≢true v)
 
-  -- what a vector has has elements itself, where it is an owner
-  element_parts : (n : ℕ) (item : TyId) (at : AbsPlace) → AreShort (element.At at ∷ []) → AreShort (element.At (owned_place at) ∷ []) → is_element types (type_at types item) ≡ true → AreShort (map element.At (places_in at (tree_within n types item)))
-  element_parts n item at short deeper h = go (element_is types (type_at types item) h)
+  -- an owner has elements, and these have some themselves, as far as there is room
+  owned_room : (at : AbsPlace) (m : ℕ) → at.length + suc m ≤ 8 → (owned_place at).length + m ≤ 8
+  owned_room at m room = go (nat_lt at.length 8) refl
     where
-      inner : (n : ℕ) → is_inner_owner types (type_at types item) ≡ true → AreShort (map element.At (places_in at (tree_within n types item)))
-      inner zero o = short
-      inner (suc n) o = parts (slice_get types.types item.0) o
-        where
-          parts : (t : Option Ty) → is_inner_owner types (unwrap_or t ty.Void) ≡ true → AreShort (map element.At (places_in at (tree_of types (tree_within n types) t)))
-          parts (Some ty.Text) o = (short.0, deeper)
-          parts (Some (ty.Vector element)) o = (short.0, value_parts n element (owned_place at) deeper o)
-          parts _ o = absurd (false≢true o)
+      past : (a b : ℕ) → nat_lt a b ≡ false → b ≤ a
+      past a b h = grind (arith, nat_tests)
 
+      go : (b : Bool) → nat_lt at.length 8 ≡ b → (if b then longer at owned_step else too_long at).length + m ≤ 8
+      go true is = omega (arith, room)
+      go false is = absurd (omega (arith, room, past at.length 8 is))
+
+  owner_parts : (m n : ℕ) (at : AbsPlace) → at.length + suc m ≤ 8
+      → ((item : TyId) → is_owner_within m types (type_at types item) ≡ true → AreShort (map element.At (places_in (owned_place at) (tree_within n types item))))
+      → (t : Option Ty) → is_owner_within (suc m) types (unwrap_or t ty.Void) ≡ true → AreShort (map element.At (places_in at (tree_of types (tree_within n types) t)))
+  owner_parts m n at room inside (Some ty.Text) o = (omega (arith, room), (omega (arith, owned_room at m room), tt))
+  owner_parts m n at room inside (Some (ty.Vector item)) o = (
+    omega (arith, room),
+    elim (or_cases (is_value (type_at types item)) (is_owner_within m types (type_at types item)) o) [
+      | inl v ↦ value_parts n item (owned_place at) (omega (arith, owned_room at m room), tt) v
+      | inr inner ↦ inside item inner
+    ],
+  )
+  owner_parts m n at room inside _ o = absurd (false≢true o)
+
+  within_parts : (m n : ℕ) (item : TyId) (at : AbsPlace) → at.length + m ≤ 8 → is_owner_within m types (type_at types item) ≡ true → AreShort (map element.At (places_in at (tree_within n types item)))
+  within_parts m zero item at room o = (omega (arith, room), tt)
+  within_parts zero (suc n) item at room o = absurd (false≢true o)
+  within_parts (suc m) (suc n) item at room o =
+      owner_parts m n at room (λ inner. within_parts m n inner (owned_place at) (owned_room at m room)) (slice_get types.types item.0) o
+
+  element_parts : (n : ℕ) (item : TyId) (at : AbsPlace) → at.length + 7 ≤ 8 → is_element types (type_at types item) ≡ true → AreShort (map element.At (places_in at (tree_within n types item)))
+  element_parts n item at room h = go (element_is types (type_at types item) h)
+    where
       go : IsElement types (type_at types item) → AreShort (map element.At (places_in at (tree_within n types item)))
-      go (has_value v) = value_parts n item at short v
-      go (has_owner o) = inner n o
+      go (has_value v) = value_parts n item at (omega (arith, room), tt) v
+      go (has_owner o) = within_parts 7 n item at room o
 
   -- .. nor has a pointer, and an owner has its elements
   short_parts : (id : TyId) → is_served_variable types id ≡ true → (x : ℕ) → AreShort (map element.At (places_in (local_place x) (tree_at types id)))
@@ -119,8 +139,8 @@ module _ (types : Types) where
 
       go : (o : Option Ty) → serves types (unwrap_or o ty.Void) ≡ true → AreShort (map element.At (places_in (local_place x) (tree_of types (tree_within id.0 types) o)))
       go (Some ty.Text) b = (omega arith, (omega arith, tt))
-      go (Some (ty.Vector item)) b = (omega arith, element_parts id.0 item (owned_place (local_place x)) (omega arith, tt) (omega arith, tt) (plain (is_element types (type_at types item)) b))
-      go (Some (ty.Unique target)) b = absurd (false≢true b)
+      go (Some (ty.Vector item)) b = (omega arith, element_parts id.0 item (owned_place (local_place x)) (omega arith) (plain (is_element types (type_at types item)) b))
+      go (Some (ty.Unique target)) b = (omega arith, value_parts id.0 target (owned_place (local_place x)) (omega arith, tt) b)
       go (Some (ty.Struct number)) b = absurd (false≢true b)
       go _ b = (omega arith, tt)
 
@@ -142,9 +162,13 @@ module _ (types : Types) where
   short_object : (n x : ℕ) (l : Local) → IsShaped types l → AreShort (map element.At (object_places l.kind (tree_at types (shape types n x l)) x))
   short_object n x l shaped = go l.kind refl
     where
+      never : (b : Bool) → (b && false) ≡ false
+      never true = refl
+      never false = refl
+
       go : (k : LocalKind) → l.kind ≡ k → AreShort (map element.At (object_places k (tree_at types (shape types n x l)) x))
       go Object is =
-          let built = (shaped (ap (λ (k : LocalKind). is_register k && is_none l.name) is)).built in
+          let built = shaped (ap (λ (k : LocalKind). is_none l.name && not (is_object k)) is ∙ never (is_none l.name)) in
           subst (λ (id : TyId). AreShort (map element.At (places_in (local_place x) (tree_at types id)))) (sym (same_shape (nat_lt x n) l.ty built)) (short_parts l.ty built x)
       go Register is = tt
       go Range is = tt
@@ -219,7 +243,7 @@ module _ (types : Types) where
     where
       parts : (t : Option Ty) → is_owner_of_values types (unwrap_or t ty.Void) ≡ true → AreShort (map element.At (places_in (root_place r) (tree_of types (tree_within id.0 types) t)))
       parts (Some ty.Text) o = (omega arith, (omega arith, tt))
-      parts (Some (ty.Vector item)) o = (omega arith, element_parts id.0 item (owned_place (root_place r)) (omega arith, tt) (omega arith, tt) o)
+      parts (Some (ty.Vector item)) o = (omega arith, element_parts id.0 item (owned_place (root_place r)) (omega arith) o)
       parts _ o = absurd (false≢true o)
 
   target_short : (id : TyId) → is_target types (type_at types id) ≡ true → (r : Root) → AreShort (map element.At (places_in (root_place r) (tree_at types id)))
@@ -276,9 +300,9 @@ module _ (types : Types) where
   handed_inputs k x id (a_view at) =
       pointer_inputs k x id ty.View at (inl refl) refl (λ n place. refl) (λ r. subst (λ (o : Option Ty). AreShort (map element.At (places_in (root_place r) (tree_if types (target_of (or_void o)))))) (sym at) (omega arith, tt))
   handed_inputs k x id (a_walker (ty.Iterator target constant) at w) =
-      pointer_inputs k x id (ty.Iterator target constant) at (inr (inr w)) refl (λ n place. refl) (target_behind id (ty.Iterator target constant) target at refl (element_target types (type_at types target) w))
+      pointer_inputs k x id (ty.Iterator target constant) at (inr (inr (inl w))) refl (λ n place. refl) (target_behind id (ty.Iterator target constant) target at refl (element_target types (type_at types target) w))
   handed_inputs k x id (a_walker (ty.Span target constant) at w) =
-      pointer_inputs k x id (ty.Span target constant) at (inr (inr w)) refl (λ n place. refl) (target_behind id (ty.Span target constant) target at refl (element_target types (type_at types target) w))
+      pointer_inputs k x id (ty.Span target constant) at (inr (inr (inl w))) refl (λ n place. refl) (target_behind id (ty.Span target constant) target at refl (element_target types (type_at types target) w))
   handed_inputs k x id (a_walker _ at w) = absurd (false≢true w)
 
   local_short : (n x : ℕ) (l : Local) → (x < n → IsHandedType types l.ty) → AreShortInputs (local_inputs types n x l)

@@ -1,5 +1,5 @@
 -- Assignments, steps, and calls that stand alone.
-use Rattle.std.proofs.Common.{◌≡◌, inl, inr, ℕ, Bool, true, false, List, cond, length, not, Option, Some, None, refl, sym, ap, ◌∙◌, subst, ◌&&◌, ◌||◌}
+use Rattle.std.proofs.Common.{◌≡◌, inl, inr, ℕ, Bool, true, false, if◌then◌else◌, List, cond, is_none, length, not, Option, Some, None, refl, sym, ap, ◌∙◌, subst, ◌&&◌, ◌||◌}
 use Rattle.std.proofs.lemmas.Bool.{and_from, and_parts, false≢true, or_cases}
 use Rattle.std.specs.Prelude.{pos}
 use Rattle.life_types.specs.TypeTests.{is_value, is_void, is_text, is_view, is_iterator}
@@ -11,15 +11,16 @@ use Rattle.life_types.specs.declared.ty.Ty.{Ty}
 use Rattle.life_types.specs.declared.ty.Ty.TheVariants as ty
 use Rattle.life_tree.specs.declared.operator.CompoundOperator.{CompoundOperator}
 use Rattle.life_tree.specs.declared.operator.StepOperator.{StepOperator}
-use Rattle.life_served.specs.Served.{is_call, is_changing, is_erased, is_owner_of_values, is_owner_type, is_served_assigned, is_served_change, is_served_either, is_served_expression, is_served_object, is_served_owner, is_served_simple, is_served_walker, is_text_there, is_vector, is_walker_of_values, is_walker_type, form_type, is_served_any, is_served_target, is_vector_type, is_view_type, is_number_type, is_served_renewed, are_served_elements}
+use Rattle.life_served.specs.Served.{are_served_elements, calls_any, fills_owner, fills_unique, form_type, is_call, is_changing, is_number_type, is_owner_of_values, is_owner_type, is_served_any, is_served_assigned, is_served_change, is_served_either, is_served_expression, is_served_left, is_served_object, is_served_owner, is_served_renewed, is_served_reset, is_served_simple, is_served_target, is_served_unique, is_served_walker, is_vector, is_vector_type, is_view_type, is_walker_of_values, is_walker_type}
 use Rattle.life_typed.specs.Operators.{promoted}
 use Rattle.life_typed.specs.Statements.{can_step, compounded}
-use Rattle.life_typed.specs.TypedForm.{Form, Typed, call, forms, method, text, typed, whole as whole_form}
+use Rattle.life_typed.specs.TypedForm.{Form, Typed, call, forms, method, move, text, typed, whole as whole_form}
 use Rattle.life_typed.specs.TypedStatement.{ListForm, SimpleForm, assign, compound, discarded, one, several, step}
 use Rattle.life_typed.specs.declared.typed_expr.Category.{Category}
 use Rattle.life_typed.specs.declared.typed_expr.Category.TheVariants as category
 use Rattle.life_typed.specs.declared.typed_expr.ExprType.{ExprType}
 use Rattle.life_typed.specs.declared.typed_expr.ExprType.TheVariants.{Of, TextLiteral}
+use Rattle.life_typed.specs.declared.typed_expr.Method.{Method}
 use Rattle.life_typed.specs.declared.typed_expr.Method.TheVariants as methods
 use Rattle.life_type_expr.specs.Lists.{fits_at_all}
 use Rattle.life_core.specs.Function.{Function}
@@ -52,9 +53,9 @@ use Rattle.life_elab.specs.Simples.{compound_operator, held, put_back, step_oper
 use Rattle.life_elab_laws.proofs.Aiming.{literal_given, pointed_fine, pointed_keeps, pointed_ready}
 use Rattle.life_elab_laws.proofs.CallParts.{alone_fine}
 use Rattle.life_elab_laws.proofs.Calls.{alone_after, alone_ready}
-use Rattle.life_elab_laws.proofs.ExpressionTypes.{IsAnswered, answers_nothing, answers_place, answers_raw, answers_value, answers_view, own_no_iterator, own_no_text, own_value, seen_kind, answers_owner}
+use Rattle.life_elab_laws.proofs.ExpressionTypes.{IsAnswered, answers_nothing, answers_place, answers_raw, answers_value, answers_view, own_no_iterator, own_no_text, own_value, seen_kind, answers_owner, answers_walker}
 use Rattle.life_elab_laws.proofs.ExpressionForms.{IsCall, IsWhole}
-use Rattle.life_elab_laws.proofs.Expressions.{asked_expression, object_expression, owner_expression, walker_expression, whole_expression, givings}
+use Rattle.life_elab_laws.proofs.Expressions.{asked_expression, givings, named_unique, object_expression, owner_expression, walker_expression, whole_expression}
 use Rattle.life_elab_laws.proofs.PointerForms.{placed_operand, pointer_whole, points_whole, result_later}
 use Rattle.life_elab_laws.proofs.FormedFits.{given_raw, given_seen, given_owner, given_string, given_walker, given_vector}
 use Rattle.life_elab_laws.proofs.Filling.{text_filling}
@@ -67,29 +68,35 @@ use Rattle.life_elab_laws.proofs.Parts.{Makes, Part, and_part, gives_part, keep_
 use Rattle.life_elab_laws.proofs.RowTypes.{promoted_is}
 use Rattle.life_elab_laws.proofs.Setting.{Setting}
 use Rattle.life_elab_laws.proofs.SimpleTypes.{IsFree, compound_answer, compounded_numbers, free_place, own_counts, own_same, step_answer, step_value}
-use Rattle.life_elab_laws.proofs.TypedKinds.{HasKind, a_null, a_number as of_number, a_pointer as of_pointer, a_text, a_view as of_view, no_value, promoted_value, value_place, none_some, kind_no_owner}
+use Rattle.life_elab_laws.proofs.TypedKinds.{HasKind, a_null, a_number as of_number, a_pointer as of_pointer, a_text, a_view as of_view, no_value, promoted_value, value_place, none_some, kind_no_owner, kind_no_walker}
 use Rattle.life_elab_laws.proofs.Values.{by_values}
 use Rattle.life_elab_laws.proofs.VariablePlaces.{Stands, stands_later, walker_is}
 use Rattle.life_elab_laws.proofs.ChangeForms.{change_part}
 use Rattle.life_elab_laws.proofs.ElementForms.{either_served, operand_typed}
 use Rattle.life_elab_laws.proofs.AppendForms.{appended_part, text_gains}
 use Rattle.life_elab_laws.proofs.ComparedForms.{IsEither}
-use Rattle.life_type_stmt.specs.Simples.{is_place}
+use Rattle.life_type_stmt.specs.Simples.{is_place, moved_in, named_in, onto_itself, self_fault, whole_fault}
 use Rattle.life_type_expr.specs.Operands.{is_constant}
 use Rattle.life_elab_laws.proofs.ObjectForms.{IsObject, IsOwner}
 use Rattle.life_elab_laws.proofs.JoinedForms.{literal_builds}
 use Rattle.life_elab_laws.proofs.ListForms.{list_builds}
 use Rattle.life_elab_laws.proofs.Saving.{saved_part}
-use Rattle.life_elab_laws.proofs.MadeForms.{Builds, BuildsIn, IsOwning, is_made, stands_there, temporary_dead, temporary_made}
-use Rattle.life_elab_laws.proofs.MoveSteps.{moves_part}
+use Rattle.life_elab_laws.proofs.MadeForms.{Builds, BuildsIn, is_made, IsOwning, stands_there, temporary_dead, temporary_made}
+use Rattle.life_elab_laws.proofs.MovedOwners.{given_moved, IsNamedAt, moved_assigned_part, moved_from_variable}
+use Rattle.life_elab_laws.proofs.MoveSteps.{moves_part, owner_moves}
+use Rattle.life_elab_laws.proofs.NamedTargets.{named_target, named_unique_target}
+use Rattle.life_names.specs.declared.fault.IllKind.{IllKind}
 use Rattle.life_elab_laws.proofs.OwnerSteps.{copies_part}
 use Rattle.life_elab_laws.proofs.SeenForms.{string_points}
+use Rattle.life_elab_laws.proofs.UniqueStatements.{reset_part, unique_assigned_part}
 use Rattle.life_elab_laws.proofs.WalkerForms.{IsWalker, walker_pointer, walker_points, vector_points}
 use Rattle.life_elab_laws.proofs.WalkerSteps.{advance_filling, advance_given, keeps_itself}
 use Rattle.life_types.specs.Pointees.{ty_of}
 use Rattle.life_types.specs.declared.ty.TyId.{TyId}
 use Rattle.life_typed.specs.BaseTypes.{type_at}
 use Rattle.life_elab_laws.proofs.ViewForms.{asks_for, gives_as}
+use Rattle.life_typed.specs.Members.{answer, has_method, method_answer}
+use Rattle.life_elab_laws.proofs.ReferredOwners.{walker_value}
 use Rattle.life_well_typed.specs.Members.{IsCalled}
 use Rattle.life_typed.specs.Conversions.{fits}
 use Rattle.life_elab_laws.proofs.Elements.{one_element}
@@ -346,6 +353,7 @@ module _ (a : Around) (visible : List ℕ) (types : Types) (texts : ℕ) (fs : L
           (alone_part e (record { function = g; arguments = given; delimiters = d }) s is void stands)
       by_answer (answers_value v own held) = number_thrown e behind s (whole e b h) (ap is_number own ∙ v) stands
       by_answer (answers_raw target constant raw w own held) = pointer_thrown e behind s (whole e b h) target constant own held stands
+      by_answer (answers_walker w own held) = absurd (kind_no_walker a.program.types e (whole e b h).kind.kind (type_at a.program.types is.of.result) w own)
       by_answer (answers_view view own held) = view_thrown e behind s (whole e b h) own held stands
       by_answer (answers_place target constant refers w own held) = number_thrown e behind s (whole e b h) (ap is_number own ∙ w) stands
       by_answer (answers_owner target constant refers o own held) = absurd (kind_no_owner a.program.types e (whole e b h).kind.kind (type_at a.program.types target) o own)
@@ -356,6 +364,12 @@ module _ (a : Around) (visible : List ℕ) (types : Types) (texts : ℕ) (fs : L
         | inr seen ↦ view_thrown e behind s (whole e b h) seen.0 seen.1 stands
       ]
   discarded_part _ e behind s same b h calls stands = absurd (false≢true calls)
+
+  -- the owner that a call refers to isn't asked
+  object_thrown : (e : Typed) (behind : Place) (s : State) → (is : IsObject a visible types texts fs f setting (whole_form e)) → Standing s → Acts s (thrown e.category (uses a (whole_form e)) behind s)
+  object_thrown e behind s is stands =
+      subst (Acts s) (sym (ap (λ (k : Category). thrown k (uses a (whole_form e)) behind s) is.place))
+      (seen_part types texts fs f no_gift tt None s ((uses a (whole_form e)).at s) (a_place types texts fs f is.ty is.constant) (λ (o : Operand). tt) no_gift (is.names s stands) (λ b h. tt) (λ n k h. tt))
 
   -- ---- changes of owners
 
@@ -374,18 +388,10 @@ module _ (a : Around) (visible : List ℕ) (types : Types) (texts : ℕ) (fs : L
       (givings a visible types texts fs f setting given three.1 made.2) one.0 made.0 stands
   changed_statement _ e behind s same b h stands = absurd (false≢true b)
 
-  -- ---- an element is erased
+  -- ---- an iterator or a span that is left
 
-  erased_statement : (form : Form) (e : Typed) (behind : Place) (s : State) → e.form ≡ form → is_erased form ≡ true → is_served_walker texts (whole_form e) ≡ true → Whole e → Standing s → Acts s (thrown e.category (uses a (whole_form e)) behind s)
-  erased_statement (method base methods.Erase given d) e behind s same erases b h stands =
-      let is = walker_expression a visible types texts fs f setting (whole_form e) b h in
-      let parts = and_parts (is_walker_type e.ty) (is_served_walker texts e.form) b in
-      let told : is_served_walker texts (method base methods.Erase given d) ≡ true = ap (is_served_walker texts) (sym same) ∙ parts.1 in
-      let one = and_parts (is_owner_type (form_type base)) (is_served_object texts base && is_served_walker texts given) told in
-      let two = and_parts (is_served_object texts base) (is_served_walker texts given) one.1 in
-      let made : IsMadeOf a.program a.function.locals visible e (method base methods.Erase given d) = subst (IsMadeOf a.program a.function.locals visible e) same h in
-      let from = object_expression a visible types texts fs f setting base two.0 (ap is_owner_type (operand_typed base) ∙ one.0) made.1 in
-      let held = erased_value from.ty from.owner (subst (λ (x : ExprType). IsCalled a.program.types x (typed_in base).category methods.Erase given e) from.is made.0) in
+  walker_thrown : (e : Typed) (behind : Place) (s : State) → (is : IsWalker a visible types texts fs f setting (whole_form e)) → e.category ≡ category.Value → Standing s → Acts s (thrown e.category (uses a (whole_form e)) behind s)
+  walker_thrown e behind s is held stands =
       let u = uses a (whole_form e) in
       subst (Acts s)
       (sym (ap (λ (k : Category). thrown k u behind s) held
@@ -393,17 +399,48 @@ module _ (a : Around) (visible : List ℕ) (types : Types) (texts : ℕ) (fs : L
       ∙ by_walker is.ty is.walker))
       (seen_part types texts fs f no_gift tt None s (pointer u (own u) s) (a_pointer types texts fs f is.ty) (λ (l : Location). tt) no_gift (walker_pointer a visible types texts fs f setting (whole_form e) is (own u) s stands) (λ b h. tt) (λ n k h. tt))
     where
-      erased_value : (t : Ty) → is_owner_of_values a.program.types t ≡ true → IsCalled a.program.types (Of t) (typed_in base).category methods.Erase given e → e.category ≡ category.Value
-      erased_value ty.Text o c = absurd (none_some c.2)
-      erased_value (ty.Vector item) o c = (gives_as (Of (ty.Iterator item false), category.Value) e c.2).1
-      erased_value _ o c = absurd (false≢true o)
-
       by_walker : (t : Ty) → is_walker_of_values a.program.types t ≡ true → cond (is_void t) ((uses a (whole_form e)).alone s) (thrown_by (class (Some t)) (uses a (whole_form e)) behind s) ≡ (pointer (uses a (whole_form e)) (own (uses a (whole_form e))) s).state
       by_walker (ty.Iterator item constant) w = refl
       by_walker (ty.Span item constant) w = refl
       by_walker _ w = absurd (false≢true w)
-  erased_statement (method base _ given d) e behind s same erases b h stands = absurd (false≢true erases)
-  erased_statement _ e behind s same erases b h stands = absurd (false≢true erases)
+
+  -- it is a value, whichever call gives it
+  walker_left : (form : Form) (e : Typed) → e.form ≡ form → calls_any form ≡ true → is_served_walker texts (whole_form e) ≡ true → Whole e → e.category ≡ category.Value
+  walker_left (call g given d) e same calls b h =
+      let made : IsMadeOf a.program a.function.locals visible e (call g given d) = subst (IsMadeOf a.program a.function.locals visible e) same h in
+      walker_value a visible types texts fs f setting g e (and_parts (is_walker_type e.ty) (is_served_walker texts e.form) b).0 made.0
+  walker_left (method base m given d) e same calls b h =
+      let made : IsMadeOf a.program a.function.locals visible e (method base m given d) = subst (IsMadeOf a.program a.function.locals visible e) same h in
+      by_base (typed_in base).ty made.0
+    where
+      walks : is_served_walker texts (method base m given d) ≡ true
+      walks = ap (is_served_walker texts) (sym same) ∙ (and_parts (is_walker_type e.ty) (is_served_walker texts e.form) b).1
+
+      answered : (has : Bool) (x : ExprType × Category) → x.1 ≡ category.Value → (if has then Some x else None) ≡ Some (e.ty, e.category) → e.category ≡ category.Value
+      answered true x v is = (gives_as x e is).1 ∙ v
+      answered false x v is = absurd (none_some is)
+
+      by_member : (m : Method) → is_served_walker texts (method base m given d) ≡ true → (t : Ty) (constant : Bool) → method_answer a.program.types t constant m ≡ Some (e.ty, e.category) → e.category ≡ category.Value
+      by_member methods.Begin w t constant is = answered (has_method t methods.Begin) (answer a.program.types t constant methods.Begin) refl is
+      by_member methods.End w t constant is = answered (has_method t methods.End) (answer a.program.types t constant methods.End) refl is
+      by_member methods.Subspan w t constant is = answered (has_method t methods.Subspan) (answer a.program.types t constant methods.Subspan) refl is
+      by_member methods.Erase w t constant is = answered (has_method t methods.Erase) (answer a.program.types t constant methods.Erase) refl is
+      by_member _ w t constant is = absurd (false≢true w)
+
+      by_base : (x : ExprType) → IsCalled a.program.types x (typed_in base).category m given e → e.category ≡ category.Value
+      by_base (Of t) c = by_member m walks t (is_constant (typed_in base).category) c.2
+      by_base _ c = absurd c
+  walker_left _ e same calls b h = absurd (false≢true calls)
+
+  left_statement : (e : Typed) (behind : Place) (s : State) → is_served_left texts e ≡ true → Whole e → Standing s → Acts s (thrown e.category (uses a (whole_form e)) behind s)
+  left_statement e behind s b h stands =
+      let one = and_parts (calls_any e.form) (is_served_target texts e || is_served_walker texts (whole_form e)) b in
+      elim (or_cases (is_served_target texts e) (is_served_walker texts (whole_form e)) one.1) [
+        | inl owner ↦
+            let two = and_parts (is_owner_type e.ty) (is_served_object texts (whole_form e)) owner in
+            object_thrown e behind s (object_expression a visible types texts fs f setting (whole_form e) two.1 two.0 h) stands
+        | inr walks ↦ walker_thrown e behind s (walker_expression a visible types texts fs f setting (whole_form e) walks h) (walker_left e.form e refl one.0 walks h) stands
+      ]
 
   -- ---- assignments of owners
 
@@ -452,12 +489,13 @@ module _ (a : Around) (visible : List ℕ) (types : Types) (texts : ℕ) (fs : L
       ∙ ap (λ (r : Option (State → Gives Act)). acted (replaced_by r (temporary_of u to.ty) s) (target_of (uses a (whole_form target))) equals) plain))
       (then_part types texts fs f no_gift tt None s (gives (object_named w.given, o.given) o.state) _ (both_of P P) no_gift stands.opened
       (and_part types texts fs f no_gift tt s (mapped object_named w) o P P stands.opened first second)
-      (moves_part types texts fs f setting.registers (both_of P P) (object_named w.given, o.given) a.program.types to.ty o.given w.given equals o.state to.owner (λ h. (h.1, h.0)) (λ n k q. (q.1, q.0)) apart))
+      (moves_part types texts fs f setting.registers (both_of P P) (object_named w.given, o.given) to.ty o.given w.given equals o.state (owner_moves a.program.types to.ty to.owner) (λ h. (h.1, h.0)) (λ n k q. (q.1, q.0)) apart))
 
-  -- .. of a literal
-  literal_assigned_part : (target e : Typed) (equals behind : Place) (s : State) → (to : IsObject a visible types texts fs f setting (whole_form target)) → to.constant ≡ false → (form : Form) → e.form ≡ form → is_text_there texts form ≡ true
-      → is_given a.program.types to.ty e ≡ true → Whole e → Standing s → Acts s (assigned a target equals (one e) behind s)
-  literal_assigned_part target e equals behind s to free (text n) same few given h stands =
+  -- .. of a literal, or one that is moved
+  filled_part : (target e : Typed) (equals behind : Place) (s : State) → (to : IsObject a visible types texts fs f setting (whole_form target)) → to.constant ≡ false → (form : Form) → e.form ≡ form → fills_owner texts form ≡ true
+      → is_given a.program.types to.ty e ≡ true → Whole e → IsNamedAt a visible types texts fs f setting (named_in (whole_form target)) ((uses a (whole_form target)).at) → is_none (self_fault target.form (one e)) ≡ true → Standing s
+      → Acts s (assigned a target equals (one e) behind s)
+  filled_part target e equals behind s to free (text n) same few given h name other stands =
       let told : IsMadeOf a.program a.function.locals visible e (text n) = subst (IsMadeOf a.program a.function.locals visible e) same h in
       let string = string_only to.ty to.owner (subst (λ (x : ExprType). fits_at_all (fits a.program.types to.ty x e.category) ≡ true) told.0 given) in
       let w = located e.place ty.View (aimed (Text n)) s in
@@ -474,7 +512,16 @@ module _ (a : Around) (visible : List ℕ) (types : Types) (texts : ℕ) (fs : L
       string_only ty.Text o fit = refl
       string_only (ty.Vector item) o fit = absurd (false≢true fit)
       string_only _ o fit = absurd (false≢true o)
-  literal_assigned_part target e equals behind s to free _ same few given h stands = absurd (false≢true few)
+  filled_part target e equals behind s to free (move x) same few given h name other stands =
+      let told : IsMadeOf a.program a.function.locals visible e (move x) = subst (IsMadeOf a.program a.function.locals visible e) same h in
+      let is = moved_from_variable a visible types texts fs f setting x e told.1 in
+      let free_of : onto_itself (named_in (whole_form target)) (Some x) ≡ None = none_there (onto_itself (named_in target.form) (Some x)) (ap (λ (g : Form). is_none (onto_itself (named_in target.form) (moved_in g))) (sym same) ∙ other) in
+      moved_assigned_part a visible types texts fs f setting target x e equals behind s to free name free_of same told.0 is (given_moved a visible types texts fs f setting to.ty is.ty e (owner_moves a.program.types to.ty to.owner) is.owner is.is given) stands
+    where
+      none_there : (o : Option IllKind) → is_none o ≡ true → o ≡ None
+      none_there None e = refl
+      none_there (Some k) e = absurd (false≢true e)
+  filled_part target e equals behind s to free _ same few given h name other stands = absurd (false≢true few)
 
   -- an iterator or a span
   walker_assigned_part : (target e : Typed) (equals behind : Place) (s : State) → (to : IsWalker a visible types texts fs f setting (whole_form target)) → (from : IsWalker a visible types texts fs f setting (whole_form e)) → is_given a.program.types to.ty e ≡ true → Standing s
@@ -515,19 +562,21 @@ module _ (a : Around) (visible : List ℕ) (types : Types) (texts : ℕ) (fs : L
 
   -- an owner, by a copy of another one, or by one that is made
   owner_assigned_part : (target e : Typed) (equals behind : Place) (s : State)
-      → ((is_owner_type target.ty && is_served_object texts (whole_form target)) && ((is_owner_type e.ty && is_served_owner texts (whole_form e)) || (is_text_there texts e.form))) ≡ true
+      → ((is_owner_type target.ty && is_served_object texts (whole_form target)) && ((is_owner_type e.ty && is_served_owner texts (whole_form e)) || (fills_owner texts e.form))) ≡ true
       → IsSimple a.program a.function.locals a.function.result visible (assign target equals (one e)) → Standing s → Acts s (assigned a target equals (one e) behind s)
   owner_assigned_part target e equals behind s b h stands =
-      let both = and_parts (is_owner_type target.ty && is_served_object texts (whole_form target)) ((is_owner_type e.ty && is_served_owner texts (whole_form e)) || (is_text_there texts e.form)) b in
+      let both = and_parts (is_owner_type target.ty && is_served_object texts (whole_form target)) ((is_owner_type e.ty && is_served_owner texts (whole_form e)) || (fills_owner texts e.form)) b in
       let goal = and_parts (is_owner_type target.ty) (is_served_object texts (whole_form target)) both.0 in
       let to = object_expression a visible types texts fs f setting (whole_form target) goal.1 goal.0 h.0.1 in
       let free = to_free target.category to.constant (ap is_constant to.place) (and_parts (is_place target.ty target.category) (not (is_constant target.category)) h.0.0).1 in
       let given : is_given a.program.types to.ty e ≡ true = subst (λ (t : Ty). is_given a.program.types t e ≡ true) (own_same target.ty ∙ ap own_type to.is) h.1.0 in
-      elim (or_cases (is_owner_type e.ty && is_served_owner texts (whole_form e)) (is_text_there texts e.form) both.1) [
+      elim (or_cases (is_owner_type e.ty && is_served_owner texts (whole_form e)) (fills_owner texts e.form) both.1) [
         | inl owner ↦
             let source = and_parts (is_owner_type e.ty) (is_served_owner texts (whole_form e)) owner in
             from_owner to free given (owner_expression a visible types texts fs f setting (whole_form e) source.1 source.0 h.1.1)
-        | inr literal ↦ literal_assigned_part target e equals behind s to free e.form refl literal given h.1.1 stands
+        | inr fills ↦
+            filled_part target e equals behind s to free e.form refl fills given h.1.1 (named_target a visible types texts fs f setting (whole_form target) goal.1 goal.0 h.0.1)
+            (and_parts (is_none (whole_fault a.program.types target.category)) (is_none (self_fault target.form (one e))) h.2).1 stands
       ]
     where
       from_owner : (to : IsObject a visible types texts fs f setting (whole_form target)) → to.constant ≡ false → is_given a.program.types to.ty e ≡ true → IsOwning a visible types texts fs f setting (whole_form e) → Acts s (assigned a target equals (one e) behind s)
@@ -603,13 +652,32 @@ module _ (a : Around) (visible : List ℕ) (types : Types) (texts : ℕ) (fs : L
             span_assigned_part target e equals behind s to (asked_expression a visible types texts fs f setting (whole_form e) source.1 source.0 h.1.1) given stands
       ]
 
+  -- a unique_ptr
+  unique_reassigned_part : (target e : Typed) (equals behind : Place) (s : State) → (is_served_unique (whole_form target) && fills_unique texts e.form) ≡ true
+      → IsSimple a.program a.function.locals a.function.result visible (assign target equals (one e)) → Standing s → Acts s (assigned a target equals (one e) behind s)
+  unique_reassigned_part target e equals behind s b h stands =
+      let parts = and_parts (is_served_unique (whole_form target)) (fills_unique texts e.form) b in
+      let to = named_unique a visible types texts fs f setting (whole_form target) parts.0 h.0.1 in
+      unique_assigned_part a visible types texts fs f setting target e equals behind to e.form s refl parts.1 h.1.1 (subst (λ (t : Ty). is_given a.program.types t e ≡ true) (own_same target.ty ∙ ap own_type to.is) h.1.0)
+      (named_unique_target a visible types texts fs f setting (whole_form target) parts.0 h.0.1) (and_parts (is_none (whole_fault a.program.types target.category)) (is_none (self_fault target.form (one e))) h.2).1 stands
+
+  reset_statement : (form : Form) (e : Typed) (behind : Place) (s : State) → e.form ≡ form → is_served_reset form ≡ true → Whole e → Standing s → Acts s (thrown e.category (uses a (whole_form e)) behind s)
+  reset_statement (method base methods.Reset given d) e behind s same b h stands =
+      let made : IsMadeOf a.program a.function.locals visible e (method base methods.Reset given d) = subst (IsMadeOf a.program a.function.locals visible e) same h in
+      reset_part a visible types texts fs f setting base given d e behind s same (named_unique a visible types texts fs f setting base b made.1) made.0 stands
+  reset_statement (method base _ given d) e behind s same b h stands = absurd (false≢true b)
+  reset_statement _ e behind s same b h stands = absurd (false≢true b)
+
   reassigned_part : (target e : Typed) (equals behind : Place) (s : State) → is_served_renewed texts target e ≡ true → IsSimple a.program a.function.locals a.function.result visible (assign target equals (one e)) → Standing s
       → Acts s (assigned a target equals (one e) behind s)
-  reassigned_part target e equals behind s b h stands = elim (or_cases ((is_owner_type target.ty && is_served_object texts (whole_form target)) && ((is_owner_type e.ty && is_served_owner texts (whole_form e)) || (is_text_there texts e.form))) _ b) [
+  reassigned_part target e equals behind s b h stands = elim (or_cases ((is_owner_type target.ty && is_served_object texts (whole_form target)) && ((is_owner_type e.ty && is_served_owner texts (whole_form e)) || (fills_owner texts e.form))) _ b) [
     | inl owners ↦ owner_assigned_part target e equals behind s owners h stands
     | inr others ↦ elim (or_cases ((is_view_type target.ty && is_served_expression texts target) && (is_owner_type e.ty && is_served_owner texts (whole_form e))) _ others) [
       | inl views ↦ view_assigned_part target e equals behind s views h stands
-      | inr walks ↦ walker_reassigned_part target e equals behind s walks h stands
+      | inr others ↦ elim (or_cases (is_served_walker texts (whole_form target) && (is_served_walker texts (whole_form e) || (is_owner_type e.ty && is_served_owner texts (whole_form e)))) (is_served_unique (whole_form target) && fills_unique texts e.form) others) [
+        | inl walks ↦ walker_reassigned_part target e equals behind s walks h stands
+        | inr uniques ↦ unique_reassigned_part target e equals behind s uniques h stands
+      ]
     ]
   ]
 
@@ -708,18 +776,21 @@ module _ (a : Around) (visible : List ℕ) (types : Types) (texts : ℕ) (fs : L
   done_part (compound target o place e) behind s b h stands =
       elim (or_cases (is_served_expression texts target && is_served_expression texts e) (is_served_target texts target && is_served_any texts e) b) [ inl values ↦ counted_part target o place e behind s values h stands | inr texts_too ↦ gained_part target o place e behind s texts_too h stands ]
   done_part (step target o place) behind s b h stands = elim (or_cases (is_served_expression texts target) (is_served_walker texts (whole_form target)) b) [ inl value ↦ number_stepped_part target o place behind s value h stands | inr walks ↦ walker_stepped_part target o place behind s walks h stands ]
-  done_part (discarded e) behind s b h stands =
-      elim (or_cases (((is_call e.form || is_number_type e.ty) && is_served_expression texts e) || is_served_change texts e.form) (is_erased e.form && is_served_walker texts (whole_form e)) b) [
-        | inl others ↦ elim (or_cases ((is_call e.form || is_number_type e.ty) && is_served_expression texts e) (is_served_change texts e.form) others) [
-          | inl value ↦ let parts = and_parts (is_call e.form || is_number_type e.ty) (is_served_expression texts e) value in elim (or_cases (is_call e.form) (is_number_type e.ty) parts.0) [
-            | inl calls ↦ discarded_part e.form e behind s refl parts.1 h calls stands
-            | inr n ↦ number_thrown e behind s (whole e parts.1 h) (a_number e.ty n) stands
-          ]
-          | inr changes ↦ changed_statement e.form e behind s refl changes h stands
-        ]
-        | inr erases ↦ let parts = and_parts (is_erased e.form) (is_served_walker texts (whole_form e)) erases in erased_statement e.form e behind s refl parts.0 parts.1 h stands
-      ]
+  done_part (discarded e) behind s b h stands = elim (or_cases ((((is_call e.form || is_number_type e.ty) && is_served_expression texts e) || is_served_change texts e.form) || is_served_left texts e) (is_served_reset e.form) b) [ inl known ↦ known_part known | inr resets ↦ reset_statement e.form e behind s refl resets h stands ]
     where
       a_number : (t : ExprType) → is_number_type t ≡ true → is_number t ≡ true
       a_number (Of t) n = n
       a_number _ n = absurd (false≢true n)
+
+      known_part : ((((is_call e.form || is_number_type e.ty) && is_served_expression texts e) || is_served_change texts e.form) || is_served_left texts e) ≡ true → Acts s (done a (discarded e) behind s)
+      known_part b =
+          elim (or_cases (((is_call e.form || is_number_type e.ty) && is_served_expression texts e) || is_served_change texts e.form) (is_served_left texts e) b) [
+            | inl others ↦ elim (or_cases ((is_call e.form || is_number_type e.ty) && is_served_expression texts e) (is_served_change texts e.form) others) [
+              | inl value ↦ let parts = and_parts (is_call e.form || is_number_type e.ty) (is_served_expression texts e) value in elim (or_cases (is_call e.form) (is_number_type e.ty) parts.0) [
+                | inl calls ↦ discarded_part e.form e behind s refl parts.1 h calls stands
+                | inr n ↦ number_thrown e behind s (whole e parts.1 h) (a_number e.ty n) stands
+              ]
+              | inr changes ↦ changed_statement e.form e behind s refl changes h stands
+            ]
+            | inr left ↦ left_statement e behind s left h stands
+          ]

@@ -1,11 +1,13 @@
 -- What is written for a well typed statement is ready and well formed: by recursion over statements.
 use Rattle.std.specs.Prelude.{pos}
-use Rattle.std.proofs.Common.{◌≡◌, ℕ, Bool, true, false, ◌&&◌, List, [], ◌∷◌, drop, length, nat_lt, reverse, Option, Some, None, refl}
+use Rattle.std.proofs.Common.{◌≡◌, ℕ, Bool, true, false, ◌&&◌, List, [], ◌∷◌, drop, length, nat_lt, reverse, slice_get, Option, Some, None, refl}
 use Rattle.std.proofs.lemmas.Bool.{and_from, and_parts, false≢true, or_left}
-use Rattle.life_served.specs.Served.{is_served_expression, is_served_if_any, is_served_start, is_served_statement, is_served_step}
+use Rattle.life_served.specs.Served.{is_served_condition, is_served_condition_if, is_served_range, is_served_start, is_served_statement, is_served_step, takes_elements}
 use Rattle.life_types.specs.Types.{Types}
 use Rattle.life_types.specs.declared.place.Place.{Place}
 use Rattle.life_types.specs.declared.ty.Ty.TheVariants as ty
+use Rattle.life_typed.specs.Conversions.{is_const_place}
+use Rattle.life_typed.specs.Statements.{range_element}
 use Rattle.life_typed.specs.TypedForm.{Typed, whole as whole_form}
 use Rattle.life_typed.specs.TypedStatement.{StmtForm, ForStartForm, SimpleForm, declared_first, done_first, block, empty, sentence, branching, while_loop, for_loop, range_loop, loop_break, loop_continue, returned, print, assertion, branch, declaration, no_more, chain}
 use Rattle.life_core.specs.Function.{Function}
@@ -29,17 +31,20 @@ use Rattle.life_elab_laws.proofs.Branching.{asserted_does, branched_does, tested
 use Rattle.life_elab_laws.proofs.Conditions.{Tests, level_tests, non_zero_part}
 use Rattle.life_elab_laws.proofs.DeclarationWriting.{declaration_does}
 use Rattle.life_elab_laws.proofs.Doing.{Does, DoesLevel, does_nothing, does_then}
-use Rattle.life_elab_laws.proofs.Expressions.{whole_expression}
+use Rattle.life_elab_laws.proofs.Expressions.{deciding_expression}
 use Rattle.life_elab_laws.proofs.Following.{Follows, HasRegister, register_later, visible_again}
 use Rattle.life_elab_laws.proofs.Instructions.{constant_part}
 use Rattle.life_elab_laws.proofs.Leaving.{block_does, block_level}
-use Rattle.life_elab_laws.proofs.Looping.{inside, inside_follows, loop_does, past, step_follows}
+use Rattle.life_elab_laws.proofs.Looping.{looped_under}
 use Rattle.life_elab_laws.proofs.GivenResults.{returned_does}
+use Rattle.life_elab_laws.proofs.RangeStatements.{range_does}
 use Rattle.life_elab_laws.proofs.Returning.{break_does, continue_does}
 use Rattle.life_elab_laws.proofs.Setting.{Setting}
 use Rattle.life_elab_laws.proofs.SimpleStatements.{items_do, simple_does}
 use Rattle.life_elab_laws.proofs.Stopping.{still_stops, stops, stops_end, stops_right}
 use Rattle.life_elab_laws.proofs.TemporaryEnds.{temporary_ends}
+use Rattle.life_elab_laws.proofs.Under.{level_plain, level_under, nothing_more, nothing_stays, tests_under}
+use Rattle.life_elab_laws.proofs.UniqueTests.{deciding_condition}
 
 module _ (a : Around) (types : Types) (texts : ℕ) (fs : List Function) (f : Function) (setting : Setting a types fs f) (lines : nat_lt (end_line a) texts ≡ true) where
   abbrev IsTyped : StmtForm → Bool → Visible → Type 0
@@ -76,10 +81,10 @@ module _ (a : Around) (types : Types) (texts : ℕ) (fs : List Function) (f : Fu
 
   -- ---- the parts of loops
 
-  pub decided : (v : Visible) (e : Typed) (behind : Place) (s : State) → is_served_expression texts e ≡ true → Decides a.program a.function.locals a.function.result v.visible e → Follows types f a v s → Tests types texts fs f (Some behind) s (condition (uses a (whole_form e)) (ending behind) s)
-  decided v e behind s b h follows = (whole_expression a v.visible types texts fs f setting (whole_form e) b h.1).conditions h.0 (ending behind) s follows.stands
+  pub decided : (v : Visible) (e : Typed) (behind : Place) (s : State) → is_served_condition texts e ≡ true → Decides a.program a.function.locals a.function.result v.visible e → Follows types f a v s → Tests types texts fs f (Some behind) s (condition (uses a (whole_form e)) (ending behind) s)
+  decided v e behind s b h follows = deciding_condition a v.visible types texts fs f setting (whole_form e) (deciding_expression a v.visible types texts fs f setting (whole_form e) b h.1) h.0 (ending behind) s follows.stands
 
-  pub decided_or_true : (v : Visible) (keyword : Place) (e : Option Typed) (behind : Place) (s : State) → is_served_if_any texts e ≡ true → DecidesIfAny a.program a.function.locals a.function.result v.visible e → Follows types f a v s
+  pub decided_or_true : (v : Visible) (keyword : Place) (e : Option Typed) (behind : Place) (s : State) → is_served_condition_if texts e ≡ true → DecidesIfAny a.program a.function.locals a.function.result v.visible e → Follows types f a v s
       → Tests types texts fs f (Some behind) s (condition_or_true a keyword e behind s)
   decided_or_true v keyword None behind s b h follows =
       level_tests types texts fs f behind s (condition_or_true a keyword None behind s) refl
@@ -97,16 +102,14 @@ module _ (a : Around) (types : Types) (texts : ℕ) (fs : List Function) (f : Fu
   begun v in_loop (Some (done_first it)) place s b h follows = (simple_does a types texts fs f setting v in_loop it place s b h follows).does
 
   -- a loop whose body and step are done
-  pub loop_done : {ends : Place} (v u : Visible) (in_loop : Bool) (test : State → Gives Tree) (body step : State → State) (s : State) → Follows types f a v s → HasRegister a s → (h : Tests types texts fs f (Some ends) s (test s))
+  pub loop_done : {ends : Place} (v u : Visible) (in_loop : Bool) (test : State → Gives Tree) (body step : State → State) (s : State) → Follows types f a v s → HasRegister a s → Tests types texts fs f (Some ends) s (test s)
       → ((s : State) → Follows types f a v s → HasRegister a s → DoesLevel types texts fs f a u true s (body s)) → ((s : State) → Follows types f a (behind v u) s → DoesLevel types texts fs f a (behind v u) false s (step s))
       → DoesLevel types texts fs f a (behind v u) in_loop s (looped test body step s)
   loop_done v u in_loop test body step s follows register h inner last =
-      let w = test s in
-      let head = inside types texts fs f a v in_loop s w follows h setting.shaped in
-      let first = inner head (inside_follows types texts fs f a v in_loop s w follows h setting.shaped) (register_later a s head h.grown.locals h.grown.types register) in
-      let foot : State = with_code [] (past types texts fs f a v in_loop s w follows h setting.shaped (body head)) in
-      loop_does types texts fs f a v in_loop s w follows h setting.shaped u (behind v u) (body head) (step foot) first
-      (last foot (step_follows types texts fs f a v in_loop s w follows h setting.shaped u (body head) first))
+      level_plain types texts fs f a (behind v u) in_loop s (looped test body step s)
+      (looped_under types texts fs f nothing_more a v u in_loop test body step s (λ b. nothing_stays types f) follows register (tests_under types texts fs f nothing_more s (test s) h)
+      (λ t locals table later there. level_under types texts fs f nothing_more a u true t (body t) (inner t later there))
+      (λ t locals table later. level_under types texts fs f nothing_more a (behind v u) false t (step t) (last t later)))
 
   -- ---- any statement
 
@@ -134,7 +137,7 @@ module _ (a : Around) (types : Types) (texts : ℕ) (fs : List Function) (f : Fu
         record { does = level_of last in_loop (after branches v) t end h.1; stopped = end.over }) in
         done_alone (branching branches last) in_loop v s all.does all.stopped (λ before e. e)
     statement_does (while_loop keyword decides closing body) in_loop v s b h follows register =
-        let parts = and_parts (is_served_expression texts decides) (is_served_statement texts a.program.types a.function.locals body) b in
+        let parts = and_parts (is_served_condition texts decides) (is_served_statement texts a.program.types a.function.locals body) b in
         done_alone (while_loop keyword decides closing body) in_loop v s
         (loop_done v (after body v) in_loop (condition (uses a (whole_form decides)) (ending closing)) (statement a body) (λ t. t) s follows register (decided v decides closing s parts.0 h.0 follows)
         (λ t later there. level_of body true v t (statement_does body true v t parts.1 h.2 later there) h.1)
@@ -143,7 +146,7 @@ module _ (a : Around) (types : Types) (texts : ℕ) (fs : List Function) (f : Fu
         (λ before e. e)
     statement_does (for_loop keyword start first decides second stepping closing body) in_loop v s b h follows register =
         let one = and_parts (is_served_start texts a.program.types a.function.locals start) _ b in
-        let two = and_parts (is_served_if_any texts decides) _ one.1 in
+        let two = and_parts (is_served_condition_if texts decides) _ one.1 in
         let three = and_parts (is_served_step texts stepping) (is_served_statement texts a.program.types a.function.locals body) two.1 in
         let v1 = after_start start v in
         let begins = begun v in_loop start first s one.0 h.0 follows in
@@ -162,7 +165,14 @@ module _ (a : Around) (types : Types) (texts : ℕ) (fs : List Function) (f : Fu
         })
         (λ e. runs_on e)
         (λ before e. e)
-    statement_does (range_loop keyword x name colon range closing body) in_loop v s b h follows register = absurd (false≢true b)
+    statement_does (range_loop keyword x name colon range closing body) in_loop v s b h follows register =
+        let one = and_parts (is_served_range texts range) _ b in
+        let two = and_parts (takes_elements a.program.types (slice_get a.function.locals x) (range_element range.ty (is_const_place range.category))) (is_served_statement texts a.program.types a.function.locals body) one.1 in
+        done_alone (range_loop keyword x name colon range closing body) in_loop v s
+        (range_does a types texts fs f setting v (after body (with_next v)) in_loop x range colon closing (last_token body closing) (statement a body) s one.0 two.0 h.0 follows register
+        (λ t later there. level_of body true (with_next v) t (statement_does body true (with_next v) t two.1 h.2 later there) h.1))
+        (λ e. runs_on e)
+        (λ before e. e)
     statement_does (loop_break keyword semicolon) in_loop v s b h follows register =
         done_alone (loop_break keyword semicolon) in_loop v s (break_does a types texts fs f setting v in_loop s follows h keyword) (λ e. runs_on e) (λ before e. e)
     statement_does (loop_continue keyword semicolon) in_loop v s b h follows register =
@@ -205,8 +215,8 @@ module _ (a : Around) (types : Types) (texts : ℕ) (fs : List Function) (f : Fu
         → Follows types f a v s → HasRegister a s → (last : State → State) (x : Visible) (over : Bool)
         → ((t : State) → Follows types f a (after branches v) t → HasRegister a t → DoesOver x in_loop over t (last t)) → DoesOver x in_loop (all_end branches && over) s (branches_of a branches last s)
     branches_do (chain (branch keyword decides closing body) others) in_loop v s b h follows register last x over end =
-        let parts = and_parts (is_served_expression texts decides && is_served_statement texts a.program.types a.function.locals body) (is_served_statement texts a.program.types a.function.locals others) b in
-        let inner = and_parts (is_served_expression texts decides) (is_served_statement texts a.program.types a.function.locals body) parts.0 in
+        let parts = and_parts (is_served_condition texts decides && is_served_statement texts a.program.types a.function.locals body) (is_served_statement texts a.program.types a.function.locals others) b in
+        let inner = and_parts (is_served_condition texts decides) (is_served_statement texts a.program.types a.function.locals body) parts.0 in
         let w = condition (uses a (whole_form decides)) (ending closing) s in
         let test = decided v decides closing s inner.0 h.0 follows in
         let ready = tested_follows types texts fs f a v in_loop s w follows test in

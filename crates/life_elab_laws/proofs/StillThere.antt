@@ -34,9 +34,9 @@ module _ (f : Function) where
     blank = λ y l there lasts a b. h.blank y l there lasts (λ m. a (subst (Among y) (sym g.living) m)) (λ m. b (subst (Among y) (sym level) m));
   }
 
-  -- behind what writes a register
-  pub alive_set : (s : State) (k : List Known) (r : ℕ) → IsNameless f r → Alive f s k → Alive f s (slice_set k r known.Ready)
-  alive_set s k r is h = record {
+  -- behind what writes something passing
+  pub alive_passing : (s : State) (k : List Known) (r : ℕ) (here : Local) → slice_get f.locals r ≡ Some here → is_passing here ≡ true → Alive f s k → Alive f s (slice_set k r known.Ready)
+  alive_passing s k r here at passes h = record {
     sized = set_length k r known.Ready ∙ h.sized;
     living = λ y c. ready_set k r y lt (h.living y c);
     pending = λ y m. ready_set k r y lt (h.pending y m);
@@ -44,10 +44,14 @@ module _ (f : Function) where
   }
     where
       lt : r < length k
-      lt = omega (arith, h.sized, slice_get_within f.locals r is.local is.there)
+      lt = omega (arith, h.sized, slice_get_within f.locals r here at)
 
       beside : (y : ℕ) (l : Local) → slice_get f.locals y ≡ Some l → is_passing l ≡ false → r ≡ y → ⊥
-      beside y l there lasts e = false≢true (sym lasts ∙ nameless_passing r l is (ap (slice_get f.locals) e ∙ there))
+      beside y l there lasts e = false≢true (sym lasts ∙ ap (λ (u : Local). is_passing u) (same_Some l here (sym there ∙ ap (slice_get f.locals) (sym e) ∙ at)) ∙ passes)
+
+  -- .. a register
+  pub alive_set : (s : State) (k : List Known) (r : ℕ) → IsNameless f r → Alive f s k → Alive f s (slice_set k r known.Ready)
+  alive_set s k r is h = alive_passing s k r is.local is.there (nameless_passing r is.local is is.there) h
 
   -- .. or nothing
   pub alive_same : (s : State) (k j : List Known) → length j ≡ length k → ((y : ℕ) → known_at j y ≡ known_at k y) → Alive f s k → Alive f s j

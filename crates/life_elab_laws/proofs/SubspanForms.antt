@@ -45,7 +45,6 @@ use Rattle.life_elab_laws.proofs.ViewForms.{AreWhole, gives_as}
 use Rattle.life_elab_laws.proofs.ViewSteps.{IsCounted, a_count, pointer_is_held}
 use Rattle.life_elab_laws.proofs.WalkerForms.{IsWalker, IsWalkerAt, walker_pointer, no_place}
 use Rattle.life_elab_laws.proofs.WalkerSteps.{span_taker}
-use Rattle.life_core_served.specs.Served.{is_served_location}
 use Rattle.life_elab_laws.proofs.Elements.{one_element}
 
 module _ (types : Types) (texts : ℕ) (fs : List Function) (f : Function) where
@@ -65,7 +64,6 @@ module _ (types : Types) (texts : ℕ) (fs : List Function) (f : Function) where
             (ap (λ (t : Ty). takes types t (type_in types f x.0.0)) typed ∙ ap (takes types (ty.Span to.target to.held)) h.0.0.typed
             ∙ and_from (same (ty_of types to.target) (ty_of types item)) (keeps_const to.held constant) (ap (λ (t : Ty). same t (ty_of types item)) to.one ∙ v) to.kept)
             (and_from (is_number_of types f ty.Size x.0.1) (is_number_of_if types f ty.Size x.1) h.0.1 h.1));
-        served = and_from (is_served_location l) (is_served_location x.0.0) at.served h.0.0.served;
       }
 
   part_filling : (item : TyId) (constant : Bool) (x : (Location × ℕ) × Option ℕ) (n : ℕ) (k : List Known) → (SpanCuts item constant).ready x n k → IsFilling f (λ p. Cut p x.0.0 x.0.1 x.1) n k

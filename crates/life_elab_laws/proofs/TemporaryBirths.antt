@@ -42,7 +42,7 @@ use Rattle.life_elab_laws.proofs.OrderedTypes.{type_ordered}
 use Rattle.life_elab_laws.proofs.Parts.{Goes, Makes, Part}
 use Rattle.life_elab_laws.proofs.PendingTemporaries.{ArePending, ArePendingIn, IsTemporary, temporary_later}
 use Rattle.life_elab_laws.proofs.Saving.{live_fills}
-use Rattle.life_elab_laws.proofs.Shaping.{IsFineStep, fine_acts, is_no_object, keeps_its_target}
+use Rattle.life_elab_laws.proofs.Shaping.{IsFineStep, fine_acts, is_no_object, step_keeps}
 use Rattle.life_elab_laws.proofs.Types.{type_added, types_before}
 use Rattle.life_elab_laws.proofs.Values.{by_values}
 use Rattle.life_elab_laws.proofs.WrittenLocals.{AddsRegisters, FitsTemporary, register_pushed}
@@ -126,7 +126,7 @@ module _ (types : Types) (texts : ℕ) (fs : List Function) (f : Function) (plac
 
   registers : AddsRegisters types s born.state
   registers = (
-    register_pushed types begun.types s.locals l (record { nameless = refl; ty = t; typed = type_added s.types.types t; fits = inr (refl, fits) }),
+    register_pushed types begun.types s.locals l (record { nameless = refl; ty = t; typed = type_added s.types.types t; fits = inr (inl (refl, fits)) }),
     type_ordered s.types t within,
   )
 
@@ -168,7 +168,7 @@ module _ (types : Types) (texts : ℕ) (fs : List Function) (f : Function) (plac
       apart = λ under.
           then_opens f s s born.state (looked_of (trees (Acts place (step x) ∷ []))) (given_of (trees (Acts place (step x) ∷ []))) grows.count
           (λ y o. one_pending x (length born.state.locals) s.living s.pending y (omega (arith, length-append s.locals (l ∷ []))) o) under
-          (step_apart f types (step x) place s k alive (fills k q blank).ready (and_parts (list_all (is_no_object types f) (given_step (step x))) (keeps_its_target (step x)) (fine b p).given).0 under);
+          (step_apart f types (step x) place s k alive (fills k q blank).ready (and_parts (list_all (is_no_object types f) (given_step (step x))) (step_keeps f (step x)) (fine b p).given).0 under);
     }
       where
         lt : x < length k
@@ -205,7 +205,7 @@ module _ (types : Types) (texts : ℕ) (fs : List Function) (f : Function) (plac
   lived_there = born types texts fs f place lives t s fits opened before within
 
   pub lived_fine : Begins types f lived_there.state → IsFineStep types texts fs f (Live (length s.locals) form)
-  lived_fine b = record { given = refl; formed = born_lives types texts fs f place lives t s fits opened before within b; served = refl }
+  lived_fine b = record { given = refl; formed = born_lives types texts fs f place lives t s fits opened before within b }
 
   pub lived_part : Makes types texts fs f None s lived_there (a_place types texts fs f t false)
   lived_part =

@@ -18,7 +18,7 @@ use Rattle.life_typed.specs.declared.typed_expr.Category.TheVariants as category
 use Rattle.life_typed.specs.declared.typed_expr.ExprType.TheVariants.{Of, NullPointer, TextLiteral}
 use Rattle.life_type_expr.specs.Operands.{answer_of, combination, combined_to, place_of, value, variable_of}
 use Rattle.life_elab_laws.proofs.ServedTypes.{IsServedType}
-use Rattle.life_elab_laws.proofs.ResultTypes.{IsResultType, gives_alias, gives_nothing, gives_raw, gives_reference, gives_value, gives_view}
+use Rattle.life_elab_laws.proofs.ResultTypes.{IsResultType, gives_alias, gives_walker, gives_nothing, gives_raw, gives_reference, gives_value, gives_view}
 use Rattle.life_elab_laws.proofs.Targets.{IsTarget, target_is, to_owner, to_value}
 use Rattle.life_elab_laws.proofs.Values.{by_values}
 use Rattle.life_typed.specs.declared.typed_expr.ExprType.{ExprType}
@@ -155,6 +155,30 @@ kind_no_owner types e kind t o at = go kind
     go (no_value is v) = false≢true (as_owner ty.Void is)
     go (a_null is v) = no_null (sym is ∙ at)
 
+-- .. nor an iterator or a span
+pub kind_no_walker : (types : Types) (e : Typed) → HasKind types e → (t : Ty) → is_walker_of_values types t ≡ true → e.ty ≡ Of t → ⊥
+kind_no_walker types e kind t w at = go kind
+  where
+    same : {u w : Ty} → Of u ≡ Of w → u ≡ w
+    same e = cc
+
+    no_null : NullPointer ≡ Of t → ⊥
+    no_null e = cc
+
+    no_text : TextLiteral ≡ Of t → ⊥
+    no_text e = cc
+
+    as_walker : (u : Ty) → e.ty ≡ Of u → is_walker_of_values types u ≡ true
+    as_walker u is = subst (λ (x : Ty). is_walker_of_values types x ≡ true) (same (sym at ∙ is)) w
+
+    go : HasKind types e → ⊥
+    go (a_number u is v) = false≢true (sym (by_values (λ u. is_walker_of_values types u ≡ false) refl refl refl refl refl u v) ∙ as_walker u is)
+    go (a_pointer target constant is v) = false≢true (as_walker (ty.Raw target constant) is)
+    go (a_view is) = false≢true (as_walker ty.View is)
+    go (a_text is v) = no_text (sym is ∙ at)
+    go (no_value is v) = false≢true (as_walker ty.Void is)
+    go (a_null is v) = no_null (sym is ∙ at)
+
 -- ---- variables and results
 
 -- an owner that is named is a place of its type
@@ -182,7 +206,10 @@ walker_refused types _ w n = false≢true w
 
 pub kind_of_variable : (types : Types) (e : Typed) (id : TyId) (c : Bool) (form : Form) (t : Ty) → type_at types id ≡ t → IsServedType types t
     → is_plain_type e.ty ≡ true → e ≡ variable_of t types id c e.place form → IsKind types e
-kind_of_variable types e id c form t at (inr (inr w)) n is =
+kind_of_variable types e id c form (ty.Unique target) at (inr (inr (inr u))) n is =
+    absurd (false≢true (subst (λ (x : ExprType). is_plain_type x ≡ true) (ap (λ (x : Typed). x.ty) is ∙ ap Of at) n))
+kind_of_variable types e id c form _ at (inr (inr (inr u))) n is = absurd (false≢true u)
+kind_of_variable types e id c form t at (inr (inr (inl w))) n is =
     absurd (walker_refused types t w (subst (λ (x : ExprType). is_plain_type x ≡ true) (ap (λ (x : Typed). x.ty) (walker_named types e id c form t w is) ∙ ap Of at) n))
 kind_of_variable types e id c form t at (inr (inl o)) n is =
     absurd (owner_refused types t o (subst (λ (x : ExprType). is_plain_type x ≡ true) (ap (λ (x : Typed). x.ty) (owner_named types e id c form t o is) ∙ ap Of at) n))
@@ -218,6 +245,9 @@ kind_of_result types e t (gives_raw target constant raw w) plain is =
       kind = a_pointer target constant (ap (λ (x : Typed). x.ty) here) w;
       place = λ id c at. absurd (value_place (sym (ap (λ (x : Typed). x.category) here) ∙ at));
     }
+kind_of_result types e (ty.Iterator target constant) (gives_walker w) plain is = absurd (walker_refused types (ty.Iterator target constant) w (subst (λ (x : ExprType). is_plain_type x ≡ true) (ap (λ (x : Typed). x.ty) is) plain))
+kind_of_result types e (ty.Span target constant) (gives_walker w) plain is = absurd (walker_refused types (ty.Span target constant) w (subst (λ (x : ExprType). is_plain_type x ≡ true) (ap (λ (x : Typed). x.ty) is) plain))
+kind_of_result types e _ (gives_walker w) plain is = absurd (false≢true w)
 kind_of_result types e t (gives_view view) plain is =
     let here = is ∙ ap (λ (u : Ty). answer_of u types e.place e.form) view in
     record {

@@ -35,7 +35,7 @@ use Rattle.life_elab_laws.proofs.PendingTemporaries.{ArePending}
 
 -- ---- what a variable is
 
--- a value, or a pointer or reference to one or to an owner, a view, an iterator or a span, or an owner of values
+-- a value, or a pointer or reference to one or to an owner, a view, an iterator or a span, an owner of values, or a unique_ptr to a value
 pub data IsVariableType (types : Types) (id : TyId) : Type 0 where
   a_value : (t : Ty) → slice_get types.types id.0 ≡ Some t → is_value t ≡ true → IsVariableType types id
   a_raw : (target : TyId) (constant : Bool) → slice_get types.types id.0 ≡ Some (ty.Raw target constant) → is_target types (type_at types target) ≡ true → IsVariableType types id
@@ -44,13 +44,16 @@ pub data IsVariableType (types : Types) (id : TyId) : Type 0 where
   a_view : slice_get types.types id.0 ≡ Some ty.View → IsVariableType types id
   a_walker : (t : Ty) → slice_get types.types id.0 ≡ Some t → is_walker_of_values types t ≡ true → IsVariableType types id
   an_owner : (t : Ty) → slice_get types.types id.0 ≡ Some t → is_owner_of_values types t ≡ true → IsVariableType types id
+  a_unique : (target : TyId) → slice_get types.types id.0 ≡ Some (ty.Unique target) → is_value (type_at types target) ≡ true → IsVariableType types id
 
 pub variable_type : (types : Types) (id : TyId) → is_served_variable types id ≡ true → IsVariableType types id
 variable_type types id b = let found = variable_found types id b in go found.0 found.1 found.2
   where
     go : (t : Ty) → slice_get types.types id.0 ≡ Some t → IsServedType types t → IsVariableType types id
     go t at (inr (inl o)) = an_owner t at o
-    go t at (inr (inr w)) = a_walker t at w
+    go t at (inr (inr (inl w))) = a_walker t at w
+    go (ty.Unique target) at (inr (inr (inr u))) = a_unique target at u
+    go _ at (inr (inr (inr u))) = absurd (false≢true u)
     go ty.View at (inl b) = a_view at
     go ty.Bool at (inl b) = a_value ty.Bool at refl
     go ty.Char at (inl b) = a_value ty.Char at refl
@@ -99,6 +102,7 @@ pub record IsVariableAtBare (a : Around) (s : State) (x : ℕ) (v : TypedLocal) 
   pub there : slice_get s.locals (variable s x) ≡ Some local
   pub typed : local.ty ≡ v.ty
   pub kind : local.kind ≡ kind (class_at a.program.types v.ty)
+  pub named : local.name ≡ Some v.name
   pub lives : Contains s.living (variable s x)
 
 abbrev pub IsVariableAt : Around → State → ℕ → TypedLocal → Type 0
@@ -110,6 +114,8 @@ pub record StandsBare (a : Around) (visible : List ℕ) (s : State) : Type 0 whe
   pub opened : IsOpen s
   pub pends : ArePending s
   pub seen : (x : ℕ) (v : TypedLocal) → Contains visible x → slice_get a.function.locals x ≡ Some v → IsVariableAt a s x v
+  -- each has a local of its own
+  pub apart : (x y : ℕ) (v w : TypedLocal) → Contains visible x → slice_get a.function.locals x ≡ Some v → Contains visible y → slice_get a.function.locals y ≡ Some w → (x ≡ y → ⊥) → variable s x ≡ variable s y → ⊥
 
 abbrev pub Stands : Around → List ℕ → State → Type 0
 Stands a visible s = StandsBare a visible (bare s)
@@ -120,19 +126,21 @@ stands_later a visible s s' g h = record {
   opened = λ y c. omega (arith, h.opened y (subst (λ (ys : List ℕ). Contains ys y) g.living c), g.count);
   pends = g.pends h.pends;
   seen = λ x v c at. moved x v (h.seen x v c at);
+  apart = λ x y v w c at d there other e. h.apart x y v w c at d there other (sym (stays x) ∙ e ∙ stays y);
 }
   where
+    stays : (x : ℕ) → variable s' x ≡ variable s x
+    stays x = ap (λ (vs : List ℕ). unwrap_or (slice_get vs x) 0) g.variables
+
     moved : (x : ℕ) (v : TypedLocal) → IsVariableAt a s x v → IsVariableAt a s' x v
     moved x v there = record {
       local = there.local;
-      there = ap (slice_get s'.locals) same ∙ g.locals (variable s x) there.local there.there;
+      there = ap (slice_get s'.locals) (stays x) ∙ g.locals (variable s x) there.local there.there;
       typed = there.typed;
       kind = there.kind;
-      lives = subst (λ (ys : List ℕ). Contains ys (variable s' x)) (sym g.living) (subst (λ (y : ℕ). Contains s.living y) (sym same) there.lives);
+      named = there.named;
+      lives = subst (λ (ys : List ℕ). Contains ys (variable s' x)) (sym g.living) (subst (λ (y : ℕ). Contains s.living y) (sym (stays x)) there.lives);
     }
-      where
-        same : variable s' x ≡ variable s x
-        same = ap (λ (vs : List ℕ). unwrap_or (slice_get vs x) 0) g.variables
 
 -- ---- what is known of it
 
@@ -189,11 +197,16 @@ named_pointer types e v form reached is t of loc = go (variable_type types v.ty 
     not_owner (ty.Vector element) o at = false≢true (ap is_location (same (sym at ∙ of)) ∙ loc)
     not_owner _ o at = false≢true o
 
+    typed_unique : (target : TyId) → slice_get types.types v.ty.0 ≡ Some (ty.Unique target) → e.ty ≡ Of (ty.Unique target)
+    typed_unique target at = ap (λ (x : Typed). x.ty) (found (ty.Unique target) at) ∙ ap Of (typed (ty.Unique target) at)
+
     go : IsVariableType types v.ty → slice_get types.types v.ty.0 ≡ Some t
     go (a_value u at w) = absurd (not_value u w (plain u w (found u at) ∙ ap Of (typed u at)))
     go (a_raw target constant at w) = at ∙ ap Some (sym (same (sym of ∙ ap (λ (x : Typed). x.ty) (found (ty.Raw target constant) at) ∙ ap Of (typed (ty.Raw target constant) at))))
     go (a_reference target constant at w) = absurd (not_value (type_at types target) w (ap (λ (x : Typed). x.ty) (found (ty.Reference target constant) at)))
     go (an_alias target constant at o) = absurd (not_owner (type_at types target) o (ap (λ (x : Typed). x.ty) (found (ty.Reference target constant) at)))
     go (an_owner u at o) = absurd (not_owner u o (ap (λ (x : Typed). x.ty) (owner_named types e v.ty v.constant form u o (found u at)) ∙ ap Of (typed u at)))
+    go (a_unique target at w) =
+        absurd (false≢true (ap is_location (same (sym (typed_unique target at) ∙ of)) ∙ loc))
     go (a_walker u at w) = at ∙ ap Some (sym (same (sym of ∙ ap (λ (x : Typed). x.ty) (walker_named types e v.ty v.constant form u w (found u at)) ∙ ap Of (typed u at))))
     go (a_view at) = at ∙ ap Some (sym (same (sym of ∙ ap (λ (x : Typed). x.ty) (found ty.View at) ∙ ap Of (typed ty.View at))))

@@ -6,7 +6,6 @@ use Rattle.life_types.specs.declared.ty.Ty.{Ty}
 use Rattle.life_types.specs.declared.ty.Ty.TheVariants as ty
 use Rattle.life_typed.specs.declared.typed_expr.ExprType.TheVariants.{Of}
 use Rattle.life_core.specs.Function.{Function}
-use Rattle.life_core_served.specs.Served.{is_served_location}
 use Rattle.life_core.specs.Operands.{Location}
 use Rattle.life_core.specs.Step.{Cut}
 use Rattle.life_core.specs.Touched.{count_uses}
@@ -64,7 +63,6 @@ module _ (types : Types) (texts : ℕ) (fs : List Function) (f : Function) where
             and_from (is_range (type_in types f l)) _ (ap is_range view)
             (and_from (takes types (type_in types f l) (type_in types f x.0.0)) _ (ap (λ (t : Ty). takes types t (type_in types f x.0.0)) view ∙ ap (takes types ty.View) h.0.0.typed)
             (and_from (is_number_of types f ty.Size x.0.1) (is_number_of_if types f ty.Size x.1) h.0.1 h.1));
-        served = and_from (is_served_location l) (is_served_location x.0.0) at.served h.0.0.served;
       }
 
   pub cut_filling : (x : (Location × ℕ) × Option ℕ) (n : ℕ) (k : List Known) → Cuts.ready x n k → IsFilling f (λ p. Cut p x.0.0 x.0.1 x.1) n k

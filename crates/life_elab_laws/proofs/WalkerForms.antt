@@ -40,7 +40,7 @@ use Rattle.life_elab_laws.proofs.PointerForms.{own_typed}
 use Rattle.life_elab_laws.proofs.Setting.{Setting}
 use Rattle.life_elab_laws.proofs.TypedKinds.{owner_named, walker_named, place_same, value_place}
 use Rattle.life_elab_laws.proofs.Values.{by_values}
-use Rattle.life_elab_laws.proofs.VariablePlaces.{IsVariableType, a_raw, a_reference, a_value, a_view, a_walker, an_owner, pointer_there, variable_type, walker_is, an_alias}
+use Rattle.life_elab_laws.proofs.VariablePlaces.{a_raw, a_reference, a_unique, a_value, a_view, a_walker, an_alias, an_owner, IsVariableType, pointer_there, variable_type, walker_is}
 use Rattle.life_elab_laws.proofs.WalkerSteps.{cursor_filling, cursor_given, keeps_itself, span_given}
 use Rattle.life_elab_laws.proofs.WrittenLocals.{fits_register}
 use Rattle.life_types.specs.Pointees.{ty_of}
@@ -137,6 +137,7 @@ module _ (a : Around) (visible : List ℕ) (types : Types) (texts : ℕ) (fs : L
           kind (a_view at) = other ty.View (ap (λ (y : Typed). y.ty) (named ty.View at) ∙ ap Of (typed ty.View at)) refl
           kind (a_reference target constant at v) = other (type_at a.program.types target) (ap (λ (y : Typed). y.ty) (named (ty.Reference target constant) at)) (value_alone (type_at a.program.types target) v)
           kind (an_alias target constant at o) = other (type_at a.program.types target) (ap (λ (y : Typed). y.ty) (named (ty.Reference target constant) at)) (owner_alone (type_at a.program.types target) o)
+          kind (a_unique target at w) = other (ty.Unique target) (ap (λ (y : Typed). y.ty) (named (ty.Unique target) at) ∙ ap Of (typed (ty.Unique target) at)) refl
           kind (an_owner t at o) = other t (ap (λ (y : Typed). y.ty) (owner_named a.program.types e l.ty l.constant (local x) t o (named t at)) ∙ ap Of (typed t at)) (owner_alone t o)
           kind (a_walker t at w) = record {
             ty = t;
@@ -198,7 +199,7 @@ module _ (a : Around) (visible : List ℕ) (types : Types) (texts : ℕ) (fs : L
       (seen_part types texts fs f (no_gift types texts fs f) tt None s w (a_place types texts fs f is.ty is.constant) (λ o. aimed (Whole o)) (a_pointing types texts fs f (Of (ty.Span item constant)))
       (is.names s stands)
       (λ b h. span_given types texts fs f item constant item w.given refl worth
-      (record { typed = h.typed ∙ vector; held = keeps_further constant is.constant (is_const_place types f w.given) kept h.held; served = h.served }))
+      (record { typed = h.typed ∙ vector; held = keeps_further constant is.constant (is_const_place types f w.given) kept h.held }))
       (λ n k h. whole_filling types texts fs f w.given n k h))
     where
       worth : same (ty_of types item) (ty_of types item) ≡ true
@@ -214,7 +215,7 @@ module _ (a : Around) (visible : List ℕ) (types : Types) (texts : ℕ) (fs : L
         (sym (ap (λ (x : Ty). base_by x (uses a base) s) (ap own_type (sym (own_typed a visible types texts fs f setting base) ∙ is.is) ∙ span)))
         (seen_part types texts fs f (no_gift types texts fs f) tt None s (pointer (uses a base) (own (uses a base)) s) (a_pointer types texts fs f (ty.Span item constant)) Pointer (a_base types texts fs f (type_at a.program.types item) constant)
         (subst (λ (u : Ty). Makes types texts fs f None s (pointer (uses a base) (own (uses a base)) s) (a_pointer types texts fs f u)) span (walker_pointer base is (own (uses a base)) s stands))
-        (λ b h. record { element = ap (seen_element types) h.typed ∙ element_there a.program.types types setting.front item worth; held = ap (λ (t : Ty). keeps_const constant (is_constant t)) h.typed ∙ keeps_itself constant; served = h.served })
+        (λ b h. record { element = ap (seen_element types) h.typed ∙ element_there a.program.types types setting.front item worth; held = ap (λ (t : Ty). keeps_const constant (is_constant t)) h.typed ∙ keeps_itself constant })
         (λ n k q. record { local = q.local; uses = ap (λ (l : Location). l.local ∷ []) q.is; below = q.below; held = q.held }));
   }
     where

@@ -26,7 +26,6 @@ use Rattle.life_elab_laws.proofs.Locations.{is_location}
 use Rattle.life_elab_laws.proofs.Making.{AreHeld, IsFilling, IsHeld, IsPointer}
 use Rattle.life_elab_laws.proofs.OperandsThere.{number_any, same_is}
 use Rattle.life_elab_laws.proofs.ViewSteps.{pointer_is_held}
-use Rattle.life_core_served.specs.Served.{is_served_base, is_served_location, is_served_operand}
 
 -- what takes an iterator of a type is one of that type, which is const where that is
 pub record IsIteratorTo (types : Types) (item : TyId) (constant : Bool) (u : Ty) : Type 0 where
@@ -85,7 +84,6 @@ module _ (types : Types) (texts : ℕ) (fs : List Function) (f : Function) where
             and_from (walks types (type_in types f l) (element_of types f b)) (keeps_const (is_constant (type_in types f l)) (is_const_base types f b))
             (ap (λ (w : Ty). walks types w (element_of types f b)) typed ∙ ap (same (ty_of types to.target)) h.element ∙ ap (λ (w : Ty). same w t) (to.one ∙ later) ∙ v)
             (ap (λ (w : Ty). keeps_const (is_constant w) (is_const_base types f b)) typed ∙ keeps_further to.held constant (is_const_base types f b) to.kept h.held);
-        served = and_from (is_served_location l) (is_served_base b) at.served h.served;
       }
 
   pub cursor_filling : (b : Base) (end : RangeEnd) (n : ℕ) (k : List Known) → IsBase b n k → IsFilling f (λ p. Cursor p b end) n k
@@ -110,7 +108,6 @@ module _ (types : Types) (texts : ℕ) (fs : List Function) (f : Function) where
             (ap (λ (w : Ty). takes types w (type_in types f q)) typed ∙ ap (takes types (ty.Iterator to.target to.held)) source.typed
             ∙ and_from (same (ty_of types to.target) (ty_of types item)) (keeps_const to.held constant) (ap (λ (w : Ty). same w (ty_of types item)) to.one ∙ v) to.kept)
             (number_any types f t r number));
-        served = and_from (is_served_location l) (is_served_location q) at.served source.served;
       }
 
   pub advance_filling : (q : Location) (r : ℕ) (direction : Direction) (n : ℕ) (k : List Known) → IsPointer q n k → IsHeld r n k → IsFilling f (λ p. Advance p q r direction) n k
@@ -130,5 +127,4 @@ module _ (types : Types) (texts : ℕ) (fs : List Function) (f : Function) where
             ∙ and_from (spans types (ty.Span to.target to.held) (type_of types f o)) (keeps_const to.held (is_const_place types f o))
             (ap (spans types (ty.Span to.target to.held)) h.typed ∙ ap (λ (w : Ty). same w (ty_of types element)) to.one ∙ ap (same (ty_of types item)) one ∙ v)
             (keeps_further to.held constant (is_const_place types f o) to.kept h.held);
-        served = and_from (is_served_location l) (is_served_operand o) at.served h.served;
       }

@@ -1,5 +1,5 @@
 -- The core program of a well typed program that is served is well formed, is served itself, and leaves alone what is given over.
-use Rattle.std.proofs.Common.{◌≡◌, ◌⊎◌, inl, inr, ℕ, true, List, [], length, nat_le, slice_get, Some, refl, ap, ◌∙◌, ◌&&◌, subst}
+use Rattle.std.proofs.Common.{◌≡◌, ◌⊎◌, inl, inr, ℕ, true, List, [], length, nat_le, slice_get, Some, refl, ap, ◌∙◌, subst}
 use Rattle.std.specs.List.{list_all}
 use Rattle.std.proofs.lemmas.Bool.{and_from}
 use Rattle.life_types.specs.Trees.{IsOrdered}
@@ -8,8 +8,7 @@ use Rattle.life_types.specs.declared.ty.TyId.{TyId}
 use Rattle.life_served.specs.Served.{are_served_functions, has_no_structs}
 use Rattle.life_typed.specs.Programs.{FunctionForm, ProgramForm}
 use Rattle.life_core.specs.Function.{Function}
-use Rattle.life_core_served.specs.Served.{is_served, is_served_local, is_served_program, is_served_return, is_served_spot}
-use Rattle.life_core.specs.Tree.{spots}
+use Rattle.life_core_served.specs.Served.{is_served, is_served_local, is_served_program}
 use Rattle.life_core.specs.declared.program.Local.{Local}
 use Rattle.life_proper.specs.GivenOver.{all_keep_given, keeps_all_given}
 use Rattle.life_proper.specs.WellFormed.{is_well_formed_tree}
@@ -23,14 +22,13 @@ use Rattle.life_elab.specs.Programs.{around, texts_of}
 use Rattle.life_elab_laws.proofs.ExpressionKinds.{variable_built}
 use Rattle.life_elab_laws.proofs.Fronts.{IsFront}
 use Rattle.life_elab_laws.proofs.ServedTypes.{variable_found}
-use Rattle.life_elab_laws.proofs.ServedLocals.{all_pass, local_served, return_served}
+use Rattle.life_elab_laws.proofs.ServedLocals.{all_pass, local_served}
 use Rattle.life_elab_laws.proofs.KeptGiven.{keeps_all}
 use Rattle.life_elab_laws.proofs.ProgramNames.{no_members, own_names}
-use Rattle.life_elab_laws.proofs.Programs.{IsWritten, each_written, front, grows, of_program, one_body, one_head, passed_by_all, whole, whole_order, written_result}
-use Rattle.life_elab_laws.proofs.WrittenLocals.{IsIntermediate, IsOwn, fits_later, local_later, owner_local, register_local, value_fits}
+use Rattle.life_elab_laws.proofs.Programs.{IsWritten, each_written, front, grows, of_program, one_body, one_head, passed_by_all, whole, whole_order}
+use Rattle.life_elab_laws.proofs.WrittenLocals.{IsIntermediate, IsOwn, fits_later, hidden_later, hidden_local, local_later, owner_local, register_local, value_fits}
 use Rattle.life_typed.specs.BaseTypes.{type_at}
 use Rattle.life_elab_laws.proofs.FormedLocals.{variable_fits}
-use Rattle.life_elab_laws.proofs.ResultTypes.{result_is}
 use Rattle.life_elab_laws.proofs.Shaped.{owner_later}
 use Rattle.life_typed.specs.declared.basic.TheConstants.{CHAR}
 use Rattle.life_types.specs.declared.ty.Ty.TheVariants as ty
@@ -60,9 +58,12 @@ module _ (p : ProgramForm) (typed : IsWellTyped p) (built : are_served_functions
         go : IsIntermediate p.types (written (around p f) w.before).types l ⊎ IsOwn (around p f) l → is_served_local types l ≡ true
         go (inl is) = elim is.fits [
           | inl register ↦ local_served types l is.ty (w.later l.ty.0 is.ty is.typed) (register_local types is.ty (fits_later p.types types front_is is.ty register.1))
-          | inr temporary ↦ local_served types l is.ty (w.later l.ty.0 is.ty is.typed) (elim temporary.1 [
-            | inl value ↦ register_local types is.ty (value_fits types is.ty value)
-            | inr owner ↦ owner_local types is.ty (owner_later p.types types front_is is.ty owner)
+          | inr other ↦ local_served types l is.ty (w.later l.ty.0 is.ty is.typed) (elim other [
+            | inl temporary ↦ elim temporary.1 [
+              | inl value ↦ register_local types is.ty (value_fits types is.ty value)
+              | inr owner ↦ owner_local types is.ty (owner_later p.types types front_is is.ty owner)
+            ]
+            | inr hidden ↦ hidden_local types is.ty (hidden_later (written (around p f) w.before).types types w.later is.ty hidden.1)
           ])
         ]
         go (inr is) =
@@ -71,11 +72,7 @@ module _ (p : ProgramForm) (typed : IsWellTyped p) (built : are_served_functions
             (local_later p.types types front_is found.0 (variable_fits p.types found.0 found.2))
 
     one_served : is_served types core ≡ true
-    one_served =
-        and_from (list_all (is_served_local types) core.locals) (list_all (is_served_spot types core) (spots core.body) && is_served_return (slice_get types.types core.result.0)) (all_pass (is_served_local types) core.locals served_local)
-        (and_from (list_all (is_served_spot types core) (spots core.body)) (is_served_return (slice_get types.types core.result.0)) (one_body p typed built results chars n f at core w mains).stated.served
-        (ap is_served_return (written_result p typed built results chars n f at core w)
-        ∙ return_served p.types (type_at p.types f.result) (result_is p.types (type_at p.types f.result) (of_program p typed built results chars n f at).built.result)))
+    one_served = all_pass (is_served_local types) core.locals served_local
 
     body_formed : is_well_formed_tree types texts functions core core.body ≡ true
     body_formed = (one_body p typed built results chars n f at core w mains).stated.formed

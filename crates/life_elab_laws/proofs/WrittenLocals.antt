@@ -1,26 +1,26 @@
 -- The locals of a function while it is written: registers without names, and those of its variables.
-use Rattle.std.proofs.Common.{◌≡◌, ◌<◌, ◌≤◌, ◌⊎◌, inl, inr, ℕ, zero, suc, Bool, true, ◌||◌, List, [], ◌∷◌, ◌++◌, length, slice_get, Some, None, refl, subst, arith}
+use Rattle.std.proofs.Common.{◌≡◌, ◌<◌, ◌≤◌, ◌⊎◌, inl, inr, ℕ, zero, suc, Bool, true, false, ◌||◌, List, [], ◌∷◌, ◌++◌, length, slice_get, Option, Some, None, refl, ap, ◌∙◌, subst, unwrap_or, arith}
 use Rattle.std.proofs.lemmas.Bool.{false≢true}
 use Rattle.std.proofs.lemmas.Option.{none-some, same_Some}
 use Rattle.life_types.specs.Trees.{HasPartsBelow}
-use Rattle.life_types.specs.TypeTests.{is_value}
+use Rattle.life_types.specs.TypeTests.{is_pointer, is_value}
 use Rattle.life_types.specs.Types.{Types, class_at}
 use Rattle.life_types.specs.declared.ty.Ty.{Ty}
 use Rattle.life_types.specs.declared.ty.Ty.TheVariants as ty
 use Rattle.life_types.specs.declared.ty.TyId.{TyId}
-use Rattle.life_served.specs.Served.{is_owner_of_values, is_pointing, is_element}
+use Rattle.life_served.specs.Served.{is_element, is_owner_of_values, is_pointing, is_unique_of_value}
 use Rattle.life_typed.specs.BaseTypes.{type_at}
 use Rattle.life_typed.specs.declared.typed_program.TypedLocal.{TypedLocal}
 use Rattle.life_core.specs.declared.program.Local.{Local}
-use Rattle.life_core.specs.declared.program.LocalKind.TheVariants.{Register, Object}
+use Rattle.life_core.specs.declared.program.LocalKind.TheVariants.{Register, Object, Range}
 use Rattle.life_writer.specs.Around.{Around}
 use Rattle.life_writer.specs.Variables.{kind}
 use Rattle.life_writer.specs.Writing.{State}
 use Rattle.life_elab_laws.proofs.Fronts.{IsFront}
 use Rattle.life_elab_laws.proofs.OrderedTypes.{KeepsOrder, order_none, order_then}
 use Rattle.life_elab_laws.proofs.Elements.{element_target}
-use Rattle.life_elab_laws.proofs.Shaped.{element_later, target_later}
-use Rattle.life_elab_laws.proofs.Targets.{target_within}
+use Rattle.life_elab_laws.proofs.Shaped.{element_later, owner_later, target_later, value_later}
+use Rattle.life_elab_laws.proofs.Targets.{owner_target, target_within}
 use Rattle.life_elab_laws.proofs.Values.{by_values}
 use Rattle.life_core.specs.declared.program.LocalKind.{LocalKind}
 
@@ -46,16 +46,48 @@ fits_later few more front (ty.Iterator target constant) h = element_later few mo
 fits_later few more front (ty.Span target constant) h = element_later few more front target h
 fits_later few more front _ h = h
 
+-- ---- a hidden range or iterator: a reference to an owner, or a pointer to its elements
+
+abbrev pub fits_hidden : Types → Ty → Bool
+fits_hidden types (ty.Reference target constant) = is_owner_of_values types (type_at types target)
+fits_hidden types (ty.Iterator target constant) = is_element types (type_at types target)
+fits_hidden types (ty.Span target constant) = is_element types (type_at types target)
+fits_hidden types ty.View = true
+fits_hidden types _ = false
+
+pub owner_there_later : (few more : Types) → IsFront few.types more.types → (id : TyId) → is_owner_of_values few (type_at few id) ≡ true → is_owner_of_values more (type_at more id) ≡ true
+owner_there_later few more front id o = go (slice_get few.types id.0) refl o
+  where
+    go : (x : Option Ty) → slice_get few.types id.0 ≡ x → is_owner_of_values few (unwrap_or x ty.Void) ≡ true → is_owner_of_values more (type_at more id) ≡ true
+    go None at o = absurd (false≢true o)
+    go (Some t) at o = ap (λ (x : Option Ty). is_owner_of_values more (unwrap_or x ty.Void)) (front id.0 t at) ∙ owner_later few more front t o
+
+pub hidden_later : (few more : Types) → IsFront few.types more.types → (t : Ty) → fits_hidden few t ≡ true → fits_hidden more t ≡ true
+hidden_later few more front (ty.Reference target constant) h = owner_there_later few more front target h
+hidden_later few more front (ty.Iterator target constant) h = element_later few more front target h
+hidden_later few more front (ty.Span target constant) h = element_later few more front target h
+hidden_later few more front ty.View h = refl
+hidden_later few more front _ h = absurd (false≢true h)
+
+pub hidden_pointer : (types : Types) (t : Ty) → fits_hidden types t ≡ true → is_pointer t ≡ true
+hidden_pointer types (ty.Reference target constant) h = refl
+hidden_pointer types (ty.Iterator target constant) h = refl
+hidden_pointer types (ty.Span target constant) h = refl
+hidden_pointer types ty.View h = refl
+hidden_pointer types _ h = absurd (false≢true h)
+
 -- ---- what a local of any kind holds: an owner too
 
 abbrev pub fits_local : Types → Ty → Bool
 fits_local types ty.Text = true
 fits_local types (ty.Vector element) = is_element types (type_at types element)
+fits_local types (ty.Unique target) = is_value (type_at types target)
 fits_local types t = fits_register types t
 
 pub register_local : (types : Types) (t : Ty) → fits_register types t ≡ true → fits_local types t ≡ true
 register_local types ty.Text h = refl
 register_local types (ty.Vector element) h = absurd (false≢true h)
+register_local types (ty.Unique target) h = absurd (false≢true h)
 register_local types _ h = h
 
 pub owner_local : (types : Types) (t : Ty) → is_owner_of_values types t ≡ true → fits_local types t ≡ true
@@ -63,9 +95,21 @@ owner_local types ty.Text o = refl
 owner_local types (ty.Vector element) o = o
 owner_local types _ o = absurd (false≢true o)
 
+pub unique_local : (types : Types) (t : Ty) → is_unique_of_value types t ≡ true → fits_local types t ≡ true
+unique_local types (ty.Unique target) u = u
+unique_local types _ u = absurd (false≢true u)
+
+pub hidden_local : (types : Types) (t : Ty) → fits_hidden types t ≡ true → fits_local types t ≡ true
+hidden_local types (ty.Reference target constant) h = owner_target types (type_at types target) h
+hidden_local types (ty.Iterator target constant) h = h
+hidden_local types (ty.Span target constant) h = h
+hidden_local types ty.View h = refl
+hidden_local types _ h = absurd (false≢true h)
+
 pub local_later : (few more : Types) → IsFront few.types more.types → (t : Ty) → fits_local few t ≡ true → fits_local more t ≡ true
 local_later few more front ty.Text h = refl
 local_later few more front (ty.Vector element) h = element_later few more front element h
+local_later few more front (ty.Unique target) h = value_later few more front target h
 local_later few more front (ty.Raw target constant) h = target_later few more front target h
 local_later few more front (ty.Reference target constant) h = target_later few more front target h
 local_later few more front (ty.Iterator target constant) h = element_later few more front target h
@@ -95,23 +139,42 @@ owner_below few table le ty.Text o = tt
 owner_below few table le (ty.Vector element) o = omega (arith, le, element_within few element o)
 owner_below few table le _ o = absurd (false≢true o)
 
+-- .. and what is hidden
+pub hidden_below : (table : Types) (t : Ty) → fits_hidden table t ≡ true → HasPartsBelow table (length table.types) t
+hidden_below table (ty.Reference target constant) h = target_within table target (owner_target table (type_at table target) h)
+hidden_below table (ty.Iterator target constant) h = element_within table target h
+hidden_below table (ty.Span target constant) h = element_within table target h
+hidden_below table ty.View h = tt
+hidden_below table _ h = absurd (false≢true h)
+
 -- a temporary: a value, or an owner of values
 abbrev pub FitsTemporary : Types → Ty → Type 0
 FitsTemporary types t = (is_value t ≡ true) ⊎ (is_owner_of_values types t ≡ true)
 
--- a register, or a temporary
-abbrev pub FitsNameless : Types → LocalKind → Ty → Type 0
-FitsNameless types k t = ((k ≡ Register) × (fits_register types t ≡ true)) ⊎ ((k ≡ Object) × FitsTemporary types t)
+-- a register, or a temporary, or what is hidden, which may be of a type that only the table so far has
+abbrev pub FitsNameless : (types table : Types) → LocalKind → Ty → Type 0
+FitsNameless types table k t = ((k ≡ Register) × (fits_register types t ≡ true)) ⊎ (((k ≡ Object) × FitsTemporary types t) ⊎ ((k ≡ Range) × (fits_hidden table t ≡ true)))
 
 -- its type is in the table
 pub record IsIntermediate (types table : Types) (l : Local) : Type 0 where
   pub nameless : l.name ≡ None
   pub ty : Ty
   pub typed : slice_get table.types l.ty.0 ≡ Some ty
-  pub fits : FitsNameless types l.kind ty
+  pub fits : FitsNameless types table l.kind ty
 
 pub intermediate_later : (types few more : Types) (l : Local) → IsFront few.types more.types → IsIntermediate types few l → IsIntermediate types more l
-intermediate_later types few more l front is = record { nameless = is.nameless; ty = is.ty; typed = front l.ty.0 is.ty is.typed; fits = is.fits }
+intermediate_later types few more l front is = record {
+  nameless = is.nameless;
+  ty = is.ty;
+  typed = front l.ty.0 is.ty is.typed;
+  fits = elim is.fits [
+    | inl register ↦ inl register
+    | inr other ↦ elim other [
+      | inl temporary ↦ inr (inl temporary)
+      | inr hidden ↦ inr (inr (hidden.0, hidden_later few more front is.ty hidden.1))
+    ]
+  ];
+}
 
 -- ---- what a part of an expression adds
 

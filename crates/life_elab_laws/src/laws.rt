@@ -2,7 +2,7 @@
 ghost use Rattle.life_served.specs.Served.{is_served};
 ghost use Rattle.life_elab.specs.Bounds.{HaveShortPlaces};
 ghost use Rattle.life_elab.specs.ProgramForms.{translated};
-ghost use Rattle.life_core_served.specs.ProperPrograms.{IsProperProgram};
+ghost use Rattle.life_core_served.specs.ProperPrograms.{IsProperProgram, IsServedProgram};
 ghost use Rattle.life_pset.specs.Limits.{IsProgramWithinLimits};
 ghost use Rattle.life_typed.specs.Programs.{ProgramForm};
 ghost use Rattle.life_well_typed.specs.Functions.{IsWellTyped};
@@ -11,10 +11,11 @@ ghost use Rattle.life_well_typed.specs.Names.{HasNames};
 ghost use Rattle.life_well_typed.specs.Results.{HasResults, HasTable};
 ghost use Rattle.std.specs.Prelude.{IsTrue};
 
-/// The core program of a well typed program that is served is proper, where it passes no limit.
+/// The core program of a well typed program that is served is proper, where it passes no limit, and is served itself.
 pub fn translations_are_proper()
-    ensures { (p : ProgramForm) → IsWellTyped p → HasResults p → HasTable p → HasNames p → HasIntMain p → IsTrue (is_served p)
+    ensures proper { (p : ProgramForm) → IsWellTyped p → HasResults p → HasTable p → HasNames p → HasIntMain p → IsTrue (is_served p)
         → IsProgramWithinLimits (translated p) → IsProperProgram (translated p) }
+    ensures served { (p : ProgramForm) → IsWellTyped p → HasResults p → HasTable p → HasIntMain p → IsTrue (is_served p) → IsServedProgram (translated p) }
 {}
 
 /// Its places are short, as the rules ask: each has at most eight steps.

@@ -1,7 +1,8 @@
 -- What is told of each form, by what is told of its operand.
-use Rattle.std.proofs.Common.{◌≡◌, ℕ, Box, Vec, refl, sym, ap, ◌∙◌}
+use Rattle.std.proofs.Common.{ap, Box, None, Option, Some, sym, Vec, ℕ, ◌∙◌, ◌≡◌}
 use Rattle.std.specs.declared.alloc.Global.{Global}
 use Rattle.life_types.specs.declared.place.Place.{Place}
+use Rattle.life_types.specs.declared.ty.TyId.{TyId}
 use Rattle.life_typed.specs.TypedForm.{Form, form_view, forms, typed_view, typed_views, whole}
 use Rattle.life_typed.specs.declared.typed_expr.BinaryOperator.{BinaryOperator}
 use Rattle.life_typed.specs.declared.delimiters.Delimiters.{Delimiters}
@@ -10,8 +11,8 @@ use Rattle.life_typed.specs.declared.typed_expr.ExprForm.TheFolds.{fold-roll-Exp
 use Rattle.life_typed.specs.declared.typed_expr.ExprForm.TheVariants as form
 use Rattle.life_typed.specs.declared.typed_expr.Method.{Method}
 use Rattle.life_typed.specs.declared.typed_expr.TypedExpr.{TypedExpr}
-use Rattle.life_served.specs.Served.{are_served_arguments, is_served_form, is_served_walker}
-use Rattle.life_served.specs.Told.{answered, called, combined, dereferenced, indexed, made_text, named, parenthesised, told}
+use Rattle.life_served.specs.Served.{are_served_arguments, fills_unique, is_served_form, is_served_walker}
+use Rattle.life_served.specs.Told.{answered, called, combined, dereferenced, given_value, indexed, inverted, made_text, named, parenthesised, told}
 use Rattle.life_served.specs.declared.told.Told.{Told}
 
 module _ (texts : ℕ) (f : Form) where
@@ -26,6 +27,14 @@ module _ (texts : ℕ) (f : Form) where
 
   pub seen_text : (closing : Place) → seen (form.TextOf closing) ≡ made_text (told texts f)
   seen_text closing = ap seen (sym (form.rolls-TextOf closing)) ∙ rw fold-roll-ExprForm
+
+  pub seen_not : seen form.Not ≡ inverted (told texts f)
+  seen_not = ap seen (sym form.rolls-Not) ∙ rw fold-roll-ExprForm
+
+  -- what is made anew
+  pub seen_made : (element : TyId) (argument : Option (Box TypedExpr Global)) (closing : Place) → fills_unique texts (form_view (form.MakeUnique element argument closing) f) ≡ is_served_form texts (given_value argument)
+  seen_made element None closing = ap (λ (e : ExprForm). fills_unique texts (form_view e f)) (sym (form.rolls-MakeUnique element None closing)) ∙ rw fold-roll-ExprForm
+  seen_made element (Some e) closing = ap (λ (x : ExprForm). fills_unique texts (form_view x f)) (sym (form.rolls-MakeUnique element (Some e) closing)) ∙ rw fold-roll-ExprForm
 
   pub seen_dereference : seen form.Dereference ≡ dereferenced (told texts f)
   seen_dereference = ap seen (sym form.rolls-Dereference) ∙ rw fold-roll-ExprForm

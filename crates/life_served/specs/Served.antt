@@ -1,29 +1,37 @@
--- Which programs are served so far: values, strings, vectors of values, raw pointers and references to these, views of characters, literals, and iterators and spans.
-use Rattle.std.specs.Prelude.{ℕ, ◌+◌, ◌-◌, ◌^◌, Bool, true, false, ◌&&◌, ◌||◌, not, if◌then◌else◌, List, [], ◌∷◌, drop, take, length, nat_lt, Option, Some, None, slice_get}
-use Rattle.life_types.specs.TypeTests.{is_reference, is_value, is_view, is_void}
+-- Which programs are served so far: values, strings, vectors of values and of such owners, raw pointers and references to these, views of characters, literals, iterators and spans, and unique_ptrs to values.
+use Rattle.std.specs.Prelude.{ℕ, zero, suc, ◌+◌, ◌-◌, ◌^◌, Bool, true, false, ◌&&◌, ◌||◌, not, if◌then◌else◌, List, [], ◌∷◌, drop, take, length, nat_lt, Option, Some, None, slice_get}
+use Rattle.life_types.specs.TypeTests.{is_reference, is_unique, is_value, is_view, is_void}
 use Rattle.life_types.specs.Types.{Types}
 use Rattle.life_types.specs.declared.ty.Ty.{Ty}
 use Rattle.life_types.specs.declared.ty.Ty.TheVariants as ty
 use Rattle.life_types.specs.declared.ty.TyId.{TyId}
+use Rattle.life_types.specs.contracts.ty.TyIdPartialEq.TheImpl.{ghosts as id}
 use Rattle.life_typed.specs.BaseTypes.{type_at}
-use Rattle.life_typed.specs.TypedForm.{Form, Typed, number, character, boolean, text, null, local, call, paren, input, dereference, index, method, negate, not as negation, address_of, binary, text_of, typed, nothing, ◌⨟◌, whole, forms}
+use Rattle.life_typed.specs.Conversions.{is_const_place}
+use Rattle.life_typed.specs.Statements.{range_element}
+use Rattle.life_typed.specs.TypedForm.{address_of, binary, boolean, call, character, dereference, Form, forms, index, input, local, make_unique, method, move, negate, not as negation, nothing, null, number, paren, text, text_of, typed, Typed, whole, ◌⨟◌}
 use Rattle.life_typed.specs.TypedStatement.{StmtForm, DeclarationForm, ForStartForm, InitialForm, ItemForm, SimpleForm, one, several, assign, compound, step, discarded, declared_first, done_first, printed, line_end, block, empty, sentence, branching, while_loop, for_loop, range_loop, loop_break, loop_continue, returned, print, assertion, branch, declaration, no_more, chain}
 use Rattle.life_typed.specs.declared.typed_expr.BinaryOperator.{BinaryOperator}
-use Rattle.life_typed.specs.declared.typed_expr.BinaryOperator.TheVariants.{Equal, NotEqual}
+use Rattle.life_typed.specs.declared.typed_expr.BinaryOperator.TheVariants.{And, Equal, NotEqual, Or}
 use Rattle.life_typed.specs.declared.typed_expr.ExprType.{ExprType}
 use Rattle.life_typed.specs.declared.typed_expr.ExprType.TheVariants.{NullPointer, Of}
 use Rattle.life_typed.specs.declared.typed_expr.Method.{Method}
-use Rattle.life_typed.specs.declared.typed_expr.Method.TheVariants.{Back, Begin, Clear, Empty, End, Erase, Front, PopBack, PushBack, Reserve, Size, Subspan, Substr}
+use Rattle.life_typed.specs.declared.typed_expr.Method.TheVariants.{Back, Begin, Clear, Empty, End, Erase, Front, Get, PopBack, PushBack, Reserve, Reset, Size, Subspan, Substr}
 use Rattle.life_typed.specs.declared.typed_program.TypedLocal.{TypedLocal}
 use Rattle.life_typed.specs.Programs.{FunctionForm, ProgramForm, StructForm}
 
 -- ---- types
 
--- a string, or a vector of values
+-- a string, or a vector of values or of such owners, where no path into it has more steps
+abbrev pub is_owner_within : (steps : ℕ) → Types → Ty → Bool
+is_owner_within zero types t = false
+is_owner_within (suc n) types ty.Text = true
+is_owner_within (suc n) types (ty.Vector element) = is_value (type_at types element) || is_owner_within n types (type_at types element)
+is_owner_within (suc n) types _ = false
+
+-- a path has eight steps at most, one of them to an element
 abbrev pub is_inner_owner : Types → Ty → Bool
-is_inner_owner types ty.Text = true
-is_inner_owner types (ty.Vector element) = is_value (type_at types element)
-is_inner_owner types _ = false
+is_inner_owner types t = is_owner_within 7 types t
 
 -- what a vector has: values, or such owners
 abbrev pub is_element : Types → Ty → Bool
@@ -31,9 +39,7 @@ is_element types t = is_value t || is_inner_owner types t
 
 -- a string, or a vector
 abbrev pub is_owner_of_values : Types → Ty → Bool
-is_owner_of_values types ty.Text = true
-is_owner_of_values types (ty.Vector element) = is_element types (type_at types element)
-is_owner_of_values types _ = false
+is_owner_of_values types t = is_owner_within 8 types t
 
 -- what a raw pointer or a reference is to
 abbrev pub is_target : Types → Ty → Bool
@@ -52,9 +58,14 @@ is_walker_of_values types (ty.Iterator target constant) = is_element types (type
 is_walker_of_values types (ty.Span target constant) = is_element types (type_at types target)
 is_walker_of_values types _ = false
 
+-- a unique_ptr to a value
+abbrev pub is_unique_of_value : Types → Ty → Bool
+is_unique_of_value types (ty.Unique target) = is_value (type_at types target)
+is_unique_of_value types _ = false
+
 -- one that isn't among those that each table begins with
 abbrev pub is_served_type : Types → Ty → Bool
-is_served_type types t = is_pointing types t || (is_owner_of_values types t || is_walker_of_values types t)
+is_served_type types t = is_pointing types t || (is_owner_of_values types t || (is_walker_of_values types t || is_unique_of_value types t))
 
 abbrev pub are_served_types : Types → List Ty → Bool
 are_served_types types [] = true
@@ -80,9 +91,9 @@ abbrev pub are_served_variables : Types → List TypedLocal → Bool
 are_served_variables types [] = true
 are_served_variables types (v ∷ vs) = is_served_variable types v.ty && are_served_variables types vs
 
--- what is given back: a value, or what points to one, or nothing
+-- what is given back: a value, or what points to one or to an owner, an iterator or a span, or nothing
 abbrev pub is_served_result : Types → TyId → Bool
-is_served_result types id = is_void (type_at types id) || (is_value (type_at types id) || is_pointing types (type_at types id))
+is_served_result types id = is_void (type_at types id) || (is_value (type_at types id) || (is_pointing types (type_at types id) || is_walker_of_values types (type_at types id)))
 
 -- ---- kinds of types
 
@@ -106,9 +117,13 @@ abbrev pub is_walker_type : ExprType → Bool
 is_walker_type (Of t) = is_walker t
 is_walker_type _ = false
 
--- neither of these: they are served where something is asked of them, or they are changed
+abbrev pub is_unique_type : ExprType → Bool
+is_unique_type (Of t) = is_unique t
+is_unique_type _ = false
+
+-- none of these: they are served where something is asked of them, or they are changed
 abbrev pub is_plain_type : ExprType → Bool
-is_plain_type t = not (is_owner_type t || is_walker_type t)
+is_plain_type t = not (is_owner_type t || (is_walker_type t || is_unique_type t))
 
 -- a view
 abbrev pub is_view_type : ExprType → Bool
@@ -129,6 +144,10 @@ abbrev pub is_vector : Ty → Bool
 is_vector (ty.Vector element) = true
 is_vector _ = false
 
+-- .. also for a reference to it
+abbrev pub takes_list : Ty → Bool
+takes_list t = is_vector t || is_reference t
+
 abbrev pub is_vector_type : ExprType → Bool
 is_vector_type (Of t) = is_vector t
 is_vector_type _ = false
@@ -141,6 +160,30 @@ form_type _ = NullPointer
 abbrev pub is_number_type : ExprType → Bool
 is_number_type (Of t) = is_value t
 is_number_type _ = false
+
+-- ---- elements
+
+-- what is given an owner as such is given one, and a value a value
+abbrev pub takes_whole : (t element : Ty) → Bool
+takes_whole t element = if takes_owner t then owns_elements element else (is_value t && is_value element)
+
+-- .. and a reference is to an element itself, or to a temporary with its value
+abbrev pub takes_as : Types → Ty → TyId → Bool
+takes_as types (ty.Reference target constant) element = id.eq element target || (is_value (type_at types target) && is_value (type_at types element))
+takes_as types t element = takes_whole t (type_at types element)
+
+-- .. of what a vector has
+abbrev pub takes_element : Types → Ty → TyId × Bool → Bool
+takes_element types t element = is_element types (type_at types element.0) && takes_as types t element.0
+
+abbrev pub takes_elements_if : Types → Ty → Option (TyId × Bool) → Bool
+takes_elements_if types t None = false
+takes_elements_if types t (Some element) = takes_element types t element
+
+-- the variable of a loop over a range
+abbrev pub takes_elements : Types → Option TypedLocal → Option (TyId × Bool) → Bool
+takes_elements types None element = false
+takes_elements types (Some v) element = takes_elements_if types (type_at types v.ty) element
 
 -- ---- members and operators
 
@@ -181,6 +224,23 @@ abbrev pub is_erase : Method → Bool
 is_erase Erase = true
 is_erase _ = false
 
+-- what a unique_ptr owns
+abbrev pub is_get : Method → Bool
+is_get Get = true
+is_get _ = false
+
+abbrev pub is_reset : Method → Bool
+is_reset Reset = true
+is_reset _ = false
+
+-- what is decided by conditions, or by what is null
+abbrev pub is_testing : BinaryOperator → Bool
+is_testing Or = true
+is_testing And = true
+is_testing Equal = true
+is_testing NotEqual = true
+is_testing _ = false
+
 -- whether two are equal
 abbrev pub is_equality : BinaryOperator → Bool
 is_equality Equal = true
@@ -202,10 +262,23 @@ is_call (call f arguments delimiters) = true
 is_call (method base called arguments delimiters) = is_served_method called
 is_call _ = false
 
--- an element is erased
-abbrev pub is_erased : Form → Bool
-is_erased (method base called arguments delimiters) = is_erase called
-is_erased _ = false
+-- .. or of any member
+abbrev pub calls_any : Form → Bool
+calls_any (call f arguments delimiters) = true
+calls_any (method base called arguments delimiters) = true
+calls_any _ = false
+
+-- a unique_ptr that is named
+abbrev pub is_served_unique : Form → Bool
+is_served_unique (local x) = true
+is_served_unique (paren inner closing) = is_served_unique inner
+is_served_unique (typed place t category form) = is_unique_type t && is_served_unique form
+is_served_unique _ = false
+
+-- .. which owns nothing more; that stands alone
+abbrev pub is_served_reset : Form → Bool
+is_served_reset (method base called arguments delimiters) = is_reset called && is_served_unique base
+is_served_reset _ = false
 
 -- what is asked is an owner, which is served or not, or has a value, which is
 abbrev pub is_served_either : (base : Form) (owner value : Bool) → Bool
@@ -225,19 +298,21 @@ module _ (texts : ℕ) where
     is_served_form (call f arguments delimiters) = are_served_arguments arguments
     is_served_form (paren inner closing) = is_served_form inner
     is_served_form input = true
-    is_served_form (dereference e) = is_served_form e || is_served_walker e
+    is_served_form (dereference e) = is_served_form e || (is_served_walker e || is_served_unique e)
     is_served_form (index base position closing) =
         (is_served_either base (is_served_owner base) (is_served_form base) || is_served_walker base) && is_served_form position
     is_served_form (method base called arguments delimiters) =
-        is_asking called && ((is_served_either base (is_served_owner base) (is_served_form base) || is_served_walker base) && is_served_form arguments)
+        (is_asking called && ((is_served_either base (is_served_owner base) (is_served_form base) || is_served_walker base) && is_served_form arguments))
+        || (is_get called && is_served_unique base)
     is_served_form (negate e) = is_served_form e
-    is_served_form (negation e) = is_served_form e
+    is_served_form (negation e) = is_served_form e || is_served_unique e
     is_served_form (address_of e) = is_served_either e (is_served_object e) (is_served_form e)
     is_served_form (binary operator left right) =
         (is_served_form left && is_served_form right)
+        || ((is_testing operator && ((is_served_form left || is_served_unique left) && (is_served_form right || is_served_unique right)))
         || (is_equality operator
         && ((is_served_either left (is_served_owner left) (is_served_form left) && is_served_either right (is_served_owner right) (is_served_form right))
-        || (is_served_walker left && is_served_walker right)))
+        || (is_served_walker left && is_served_walker right))))
     is_served_form (typed place t category form) = is_plain_type t && is_served_form form
     is_served_form nothing = true
     is_served_form (e ⨟ es) = is_served_form e && is_served_form es
@@ -254,7 +329,7 @@ module _ (texts : ℕ) where
     is_served_object (local x) = true
     is_served_object (call f arguments delimiters) = are_served_arguments arguments
     is_served_object (paren inner closing) = is_served_object inner
-    is_served_object (dereference e) = is_served_form e || is_served_walker e
+    is_served_object (dereference e) = is_served_form e || (is_served_walker e || is_served_unique e)
     is_served_object (index base position closing) =
         (is_served_either base (is_served_owner base) (is_served_form base) || is_served_walker base) && is_served_form position
     is_served_object (method base called arguments delimiters) = is_edge called && (is_owner_type (form_type base) && is_served_owner base)
@@ -266,7 +341,7 @@ module _ (texts : ℕ) where
     is_served_owner (local x) = true
     is_served_owner (call f arguments delimiters) = are_served_arguments arguments
     is_served_owner (paren inner closing) = is_served_owner inner
-    is_served_owner (dereference e) = is_served_form e || is_served_walker e
+    is_served_owner (dereference e) = is_served_form e || (is_served_walker e || is_served_unique e)
     is_served_owner (index base position closing) =
         (is_served_either base (is_served_owner base) (is_served_form base) || is_served_walker base) && is_served_form position
     is_served_owner (method base called arguments delimiters) = is_edge called && (is_owner_type (form_type base) && is_served_owner base)
@@ -279,6 +354,7 @@ module _ (texts : ℕ) where
     -- an iterator or a span
     pub is_served_walker : Form → Bool
     is_served_walker (local x) = true
+    is_served_walker (call f arguments delimiters) = are_served_arguments arguments
     is_served_walker (paren inner closing) = is_served_walker inner
     is_served_walker (method base called arguments delimiters) =
         (is_end called && (is_owner_type (form_type base) && is_served_owner base))
@@ -302,30 +378,46 @@ module _ (texts : ℕ) where
   is_served_if_any None = true
   is_served_if_any (Some e) = is_served_expression e
 
+  -- one that decides: it has a value, or is a unique_ptr that is named
+  abbrev pub is_served_condition : Typed → Bool
+  is_served_condition e = is_served_expression e || is_served_unique (whole e)
+
+  abbrev pub is_served_condition_if : Option Typed → Bool
+  is_served_condition_if None = true
+  is_served_condition_if (Some e) = is_served_condition e
+
   -- an expression that is an owner
   abbrev pub is_served_owning : Typed → Bool
   is_served_owning e = is_owner_type e.ty && is_served_owner (whole e)
 
-  -- a literal that is there
-  abbrev pub is_text_there : Form → Bool
-  is_text_there (text n) = nat_lt n texts
-  is_text_there _ = false
+  -- what an owner is made of as a whole, beside other owners: a literal that is there, or what is moved out of a variable
+  abbrev pub fills_owner : Form → Bool
+  fills_owner (text n) = nat_lt n texts
+  fills_owner (move x) = true
+  fills_owner _ = false
+
+  -- what a unique_ptr is made of: nothing, a new value, or what is moved out of a variable
+  abbrev pub fills_unique : Form → Bool
+  fills_unique null = true
+  fills_unique (make_unique target argument closing) = is_served_form argument
+  fills_unique (move x) = true
+  fills_unique _ = false
 
   -- ---- declarations and simple statements
 
-  -- an owner, a view, a span or a reference is given an owner, an owner a literal, or an iterator or a span another one
+  -- an owner, a view, a span or a reference is given an owner, an owner a literal or what is moved, an iterator or a span another one, or a unique_ptr what it owns
   abbrev pub is_served_owned : Ty → Typed → Bool
   is_served_owned t e =
       (takes_owner t && is_served_owning e)
-      || ((owns_elements t && is_text_there e.form) || (is_walker t && is_served_walker (whole e)))
+      || ((owns_elements t && fills_owner e.form) || ((is_walker t && is_served_walker (whole e)) || (is_unique t && fills_unique e.form)))
 
   abbrev pub is_served_given : Ty → Typed → Bool
-  is_served_given t e = (not (owns_elements t || is_walker t) && is_served_expression e) || is_served_owned t e
+  is_served_given t e = (not (owns_elements t || (is_walker t || is_unique t)) && is_served_expression e) || is_served_owned t e
 
   abbrev pub is_served_initial : Ty → Option InitialForm → Bool
   is_served_initial t None = true
   is_served_initial t (Some (one e)) = is_served_given t e
-  is_served_initial t (Some (several list)) = is_vector t && are_served_elements (forms list.elements)
+  is_served_initial t (Some (several list)) = takes_list t && are_served_elements (forms list.elements)
 
   abbrev pub is_served_declared : Types → Option TypedLocal → Option InitialForm → Bool
   is_served_declared types None value = true
@@ -335,12 +427,12 @@ module _ (texts : ℕ) where
   abbrev pub is_served_target : Typed → Bool
   is_served_target e = is_owner_type e.ty && is_served_object (whole e)
 
-  -- an owner is copied or made, also of a literal, a view sees a string, a span a vector, or an iterator or a span becomes another one
+  -- an owner is copied or made, also of a literal, or is given what is moved, a view sees a string, a span a vector, an iterator or a span becomes another one, or a unique_ptr owns another value
   abbrev pub is_served_renewed : (target e : Typed) → Bool
   is_served_renewed target e =
-      (is_served_target target && (is_served_owning e || is_text_there e.form))
+      (is_served_target target && (is_served_owning e || fills_owner e.form))
       || (((is_view_type target.ty && is_served_expression target) && is_served_owning e)
-      || (is_served_walker (whole target) && (is_served_walker (whole e) || is_served_owning e)))
+      || ((is_served_walker (whole target) && (is_served_walker (whole e) || is_served_owning e)) || (is_served_unique (whole target) && fills_unique e.form)))
 
   -- .. or anything else a value, or a vector elements
   abbrev pub is_served_assigned : Typed → InitialForm → Bool
@@ -359,7 +451,7 @@ module _ (texts : ℕ) where
   -- what is given back
   abbrev pub is_served_returned : Option Typed → Bool
   is_served_returned None = true
-  is_served_returned (Some e) = is_served_any e
+  is_served_returned (Some e) = is_served_any e || is_served_walker (whole e)
 
   -- of numbers, or a string gains characters
   abbrev pub is_served_compound : (target e : Typed) → Bool
@@ -368,9 +460,13 @@ module _ (texts : ℕ) where
   abbrev pub is_served_stepped : Typed → Bool
   is_served_stepped target = is_served_expression target || is_served_walker (whole target)
 
-  -- a call, a number that is left, a change of an owner, or an element that is erased
+  -- a call that gives an owner at a place, an iterator or a span
+  abbrev pub is_served_left : Typed → Bool
+  is_served_left e = calls_any e.form && (is_served_target e || is_served_walker (whole e))
+
+  -- a call, a number that is left, or a change of an owner or of a unique_ptr
   abbrev pub is_served_alone : Typed → Bool
-  is_served_alone e = (((is_call e.form || is_number_type e.ty) && is_served_expression e) || is_served_change e.form) || (is_erased e.form && is_served_walker (whole e))
+  is_served_alone e = ((((is_call e.form || is_number_type e.ty) && is_served_expression e) || is_served_change e.form) || is_served_left e) || is_served_reset e.form
 
   abbrev pub is_served_simple : SimpleForm → Bool
   is_served_simple (assign target equals initial) = is_served_assigned target initial
@@ -390,6 +486,12 @@ module _ (texts : ℕ) where
   are_served_items [] = true
   are_served_items (i ∷ is) = is_served_item i && are_served_items is
 
+  -- ---- loops over ranges
+
+  -- an owner that is there or made, a view or a span
+  abbrev pub is_served_range : Typed → Bool
+  is_served_range e = is_served_owning e || ((is_view_type e.ty && is_served_expression e) || is_served_walker (whole e))
+
   -- ---- statements
 
   -- in a function with these parameters and variables
@@ -407,16 +509,17 @@ module _ (texts : ℕ) where
     is_served_statement (empty place) = true
     is_served_statement (sentence it semicolon) = is_served_simple it
     is_served_statement (branching branches last) = is_served_statement branches && is_served_statement last
-    is_served_statement (while_loop keyword decides closing body) = is_served_expression decides && is_served_statement body
+    is_served_statement (while_loop keyword decides closing body) = is_served_condition decides && is_served_statement body
     is_served_statement (for_loop keyword start first decides second stepping closing body) =
-        is_served_start start && (is_served_if_any decides && (is_served_step stepping && is_served_statement body))
-    is_served_statement (range_loop keyword x name colon range closing body) = false
+        is_served_start start && (is_served_condition_if decides && (is_served_step stepping && is_served_statement body))
+    is_served_statement (range_loop keyword x name colon range closing body) =
+        is_served_range range && (takes_elements types (slice_get locals x) (range_element range.ty (is_const_place range.category)) && is_served_statement body)
     is_served_statement (loop_break keyword semicolon) = true
     is_served_statement (loop_continue keyword semicolon) = true
     is_served_statement (returned keyword value semicolon) = is_served_returned value
     is_served_statement (print items semicolon) = are_served_items items
-    is_served_statement (assertion keyword decides closing semicolon) = is_served_expression decides
-    is_served_statement (branch keyword decides closing body) = is_served_expression decides && is_served_statement body
+    is_served_statement (assertion keyword decides closing semicolon) = is_served_condition decides
+    is_served_statement (branch keyword decides closing body) = is_served_condition decides && is_served_statement body
     is_served_statement (declaration d semicolon) = is_served_declaration d
     is_served_statement no_more = true
     is_served_statement (chain first others) = is_served_statement first && is_served_statement others

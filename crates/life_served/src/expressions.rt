@@ -1,14 +1,14 @@
 // Which expressions are served, from the innermost operand on.
-ghost use Rattle.std.specs.Prelude.{◌≡◌};
+ghost use Rattle.std.specs.Prelude.{◌≡◌, ℕ};
 ghost use Rattle.life_typed.specs.TypedForm.{Form, form_view, forms, typed_view, typed_views, whole};
 ghost use Rattle.life_typed.specs.TypedStatement.{optional_view};
 ghost use Rattle.life_served.specs.Served as spec;
 ghost use Rattle.life_served.specs.Told as telling;
 
-use crate::kinds::{is_changing, is_erase, is_served_method};
+use crate::kinds::{is_changing, is_erase, is_reset, is_served_method};
 use crate::told::{
-    Told, addressed, answered, asked, combined, dereferenced, either, erased, indexed, made_text,
-    named, parenthesised, typed_as, value_alone,
+    Told, addressed, answered, asked, combined, dereferenced, either, erased, indexed, inverted,
+    made_text, named, parenthesised, tests, typed_as, value_alone,
 };
 use life_typed::{ExprForm, TypedExpr, TypedOperand};
 
@@ -35,7 +35,7 @@ fn told_within(texts: usize, operands: &[TypedOperand]) -> Told
 
 // What a form makes of an operand, by what is told of that.
 #[cycle(expressions)]
-#[tactic(auto, using(crate::proofs::Tellings::tells_negate, crate::proofs::Tellings::tells_not, crate::proofs::Tellings::tells_address))]
+#[tactic(auto, using(crate::proofs::Tellings::tells_negate, crate::proofs::Tellings::tells_address))]
 fn told_by(texts: usize, form: &ExprForm, operand: Told) -> Told
     ensures { (f : Form) → telling.told texts f ≡ operand → result ≡ telling.told texts (form_view form.now f) }
 {
@@ -52,7 +52,8 @@ fn told_by(texts: usize, form: &ExprForm, operand: Told) -> Told
         ExprForm::TextOf { .. } => made_text(operand),
         ExprForm::Dereference => dereferenced(operand),
         ExprForm::AddressOf => addressed(operand),
-        ExprForm::Negate | ExprForm::Not => value_alone(operand.value),
+        ExprForm::Negate => value_alone(operand.value),
+        ExprForm::Not => inverted(operand),
         ExprForm::Index { index, .. } => indexed(operand, told_of(texts, index).value),
         ExprForm::Method {
             method,
@@ -129,6 +130,22 @@ pub fn is_served_expression(texts: usize, expression: &TypedExpr) -> bool
     told_of(texts, expression).value
 }
 
+/// One that decides.
+pub fn is_served_condition(texts: usize, expression: &TypedExpr) -> bool
+    ensures { result ≡ spec.is_served_condition texts (typed_view expression.now) }
+{
+    tests(told_of(texts, expression))
+}
+
+pub fn is_served_condition_if(texts: usize, expression: &Option<TypedExpr>) -> bool
+    ensures { result ≡ spec.is_served_condition_if texts (optional_view typed_view expression.now) }
+{
+    match expression {
+        Some(expression) => is_served_condition(texts, expression),
+        None => true,
+    }
+}
+
 pub fn is_served_if_any(texts: usize, expression: &Option<TypedExpr>) -> bool
     ensures { result ≡ spec.is_served_if_any texts (optional_view typed_view expression.now) }
 {
@@ -168,14 +185,21 @@ pub fn is_served_change(texts: usize, expression: &TypedExpr) -> bool
     )
 }
 
-/// An element is erased.
-pub fn is_erased(form: &ExprForm) -> bool
-    ensures { (f : Form) → result ≡ spec.is_erased (form_view form.now f) }
+/// A unique_ptr owns nothing more, by what is told of what the form is applied to.
+fn is_reset_of(form: &ExprForm, base: Told) -> bool
+    ensures { (texts : ℕ) (f : Form) → telling.told texts f ≡ base → result ≡ spec.is_served_reset (form_view form.now f) }
 {
     match form {
-        ExprForm::Method { method, .. } => is_erase(*method),
+        ExprForm::Method { method, .. } => is_reset(*method) && base.unique,
         _ => false,
     }
+}
+
+/// A unique_ptr owns nothing more.
+pub fn is_served_reset(texts: usize, expression: &TypedExpr) -> bool
+    ensures { result ≡ spec.is_served_reset (typed_view expression.now).form }
+{
+    is_reset_of(&expression.form, told_within(texts, &expression.within))
 }
 
 /// A call of a function, or of a member that gives a number or a view.
@@ -189,12 +213,47 @@ pub fn is_call(form: &ExprForm) -> bool
     }
 }
 
-/// A literal that is there.
-pub fn is_text_there(texts: usize, form: &ExprForm) -> bool
-    ensures { (f : Form) → result ≡ spec.is_text_there texts (form_view form.now f) }
+/// A call of a function, or of any member.
+pub fn calls_any(form: &ExprForm) -> bool
+    ensures { (f : Form) → result ≡ spec.calls_any (form_view form.now f) }
+{
+    match form {
+        ExprForm::Call { .. } => true,
+        ExprForm::Method { .. } => true,
+        _ => false,
+    }
+}
+
+// What a new value is given, if anything.
+fn is_served_operand(texts: usize, operand: &Option<Box<TypedExpr>>) -> bool
+    ensures { result ≡ spec.is_served_form texts (telling.given_value operand.now) }
+{
+    match operand {
+        Some(operand) => is_served_expression(texts, operand),
+        None => true,
+    }
+}
+
+/// What a unique_ptr is made of: nothing, a new value, or what is moved out of a variable.
+pub fn fills_unique(texts: usize, form: &ExprForm) -> bool
+    ensures { (f : Form) → result ≡ spec.fills_unique texts (form_view form.now f) }
+{
+    match form {
+        ExprForm::Null => true,
+        ExprForm::MakeUnique { argument, .. } => is_served_operand(texts, argument),
+        ExprForm::Move(_) => true,
+        _ => false,
+    }
+}
+
+/// What an owner is made of as a whole, beside other owners: a literal that is there, or what is moved out of
+/// a variable.
+pub fn fills_owner(texts: usize, form: &ExprForm) -> bool
+    ensures { (f : Form) → result ≡ spec.fills_owner texts (form_view form.now f) }
 {
     match form {
         ExprForm::Text(number) => (*number as usize) < texts,
+        ExprForm::Move(_) => true,
         _ => false,
     }
 }

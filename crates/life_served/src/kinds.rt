@@ -5,10 +5,16 @@ ghost use Rattle.life_typed.specs.BaseTypes.{type_at as type_there};
 ghost use Rattle.life_served.specs.Served as spec;
 
 use life_typed::{BinaryOperator, ExprType, Method};
-use life_types::{Ty, TyId, TypeTable, is_value, is_view, is_void};
+use life_types::{Ty, TyId, TypeTable, is_unique, is_value, is_view, is_void};
 
 // How many types each table begins with.
 const BASE_TYPES: u32 = 8;
+
+// How many steps a path may have.
+const STEPS: u32 = 8;
+
+// How many it may have from an element on.
+const INNER_STEPS: u32 = 7;
 
 pub fn type_at(types: &TypeTable, id: TyId) -> Ty
     ensures { result ≡ type_there types.now id }
@@ -21,33 +27,35 @@ pub fn type_at(types: &TypeTable, id: TyId) -> Ty
 
 // ---- types that are served
 
-// A string, or a vector of values.
-fn is_inner_owner(types: &TypeTable, ty: Ty) -> bool
-    ensures { result ≡ spec.is_inner_owner types.now ty }
+// A string, or a vector of values or of such owners, where no path into it has more steps.
+fn is_owner_within(steps: u32, types: &TypeTable, ty: Ty) -> bool
+    ensures { result ≡ spec.is_owner_within steps types.now ty }
 {
+    if steps == 0 {
+        return false;
+    }
     match ty {
         Ty::Text => true,
-        Ty::Vector(element) => is_value(type_at(types, element)),
+        Ty::Vector(element) => {
+            let inner = type_at(types, element);
+            is_value(inner) || is_owner_within(steps - 1, types, inner)
+        }
         _ => false,
     }
 }
 
-// What a vector has: values, or such owners.
-fn is_element(types: &TypeTable, ty: Ty) -> bool
+/// What a vector has: values, or such owners.
+pub fn is_element(types: &TypeTable, ty: Ty) -> bool
     ensures { result ≡ spec.is_element types.now ty }
 {
-    is_value(ty) || is_inner_owner(types, ty)
+    is_value(ty) || is_owner_within(INNER_STEPS, types, ty)
 }
 
 // A string, or a vector.
 fn is_owner_of_values(types: &TypeTable, ty: Ty) -> bool
     ensures { result ≡ spec.is_owner_of_values types.now ty }
 {
-    match ty {
-        Ty::Text => true,
-        Ty::Vector(element) => is_element(types, type_at(types, element)),
-        _ => false,
-    }
+    is_owner_within(STEPS, types, ty)
 }
 
 // What a raw pointer or a reference is to.
@@ -80,10 +88,22 @@ fn is_walker_of_values(types: &TypeTable, ty: Ty) -> bool
     }
 }
 
+// A unique_ptr to a value.
+fn is_unique_of_value(types: &TypeTable, ty: Ty) -> bool
+    ensures { result ≡ spec.is_unique_of_value types.now ty }
+{
+    match ty {
+        Ty::Unique(target) => is_value(type_at(types, target)),
+        _ => false,
+    }
+}
+
 fn is_served_type(types: &TypeTable, ty: Ty) -> bool
     ensures { result ≡ spec.is_served_type types.now ty }
 {
-    is_pointing(types, ty) || (is_owner_of_values(types, ty) || is_walker_of_values(types, ty))
+    is_pointing(types, ty)
+        || (is_owner_of_values(types, ty)
+            || (is_walker_of_values(types, ty) || is_unique_of_value(types, ty)))
 }
 
 /// All types beside those that each table begins with. A table that is full counts as not served.
@@ -116,12 +136,12 @@ pub fn is_served_variable(types: &TypeTable, id: TyId) -> bool
     is_value(ty) || is_served_type(types, ty)
 }
 
-/// What is given back: a value, or what points to one, or nothing.
+/// What is given back: a value, or what points to one or to an owner, an iterator or a span, or nothing.
 pub fn is_served_result(types: &TypeTable, id: TyId) -> bool
     ensures { result ≡ spec.is_served_result types.now id }
 {
     let ty = type_at(types, id);
-    is_void(ty) || (is_value(ty) || is_pointing(types, ty))
+    is_void(ty) || (is_value(ty) || (is_pointing(types, ty) || is_walker_of_values(types, ty)))
 }
 
 // ---- kinds of types
@@ -174,6 +194,13 @@ pub fn is_vector(ty: Ty) -> bool
     }
 }
 
+/// What a list in braces is given to: a vector, or a reference to one.
+pub fn takes_list(ty: Ty) -> bool
+    ensures { result ≡ spec.takes_list ty }
+{
+    is_vector(ty) || is_reference(ty)
+}
+
 pub fn is_span(ty: Ty) -> bool
     ensures { result ≡ spec.is_span ty }
 {
@@ -201,11 +228,20 @@ pub fn is_walker_type(ty: ExprType) -> bool
     }
 }
 
-/// Neither of these.
+pub fn is_unique_type(ty: ExprType) -> bool
+    ensures { result ≡ spec.is_unique_type ty }
+{
+    match ty {
+        ExprType::Of(ty) => is_unique(ty),
+        _ => false,
+    }
+}
+
+/// None of these.
 pub fn is_plain_type(ty: ExprType) -> bool
     ensures { result ≡ spec.is_plain_type ty }
 {
-    !(is_owner_type(ty) || is_walker_type(ty))
+    !(is_owner_type(ty) || (is_walker_type(ty) || is_unique_type(ty)))
 }
 
 pub fn is_view_type(ty: ExprType) -> bool
@@ -312,6 +348,38 @@ pub fn is_erase(method: Method) -> bool
 {
     match method {
         Method::Erase => true,
+        _ => false,
+    }
+}
+
+/// What a unique_ptr owns.
+pub fn is_get(method: Method) -> bool
+    ensures { result ≡ spec.is_get method }
+{
+    match method {
+        Method::Get => true,
+        _ => false,
+    }
+}
+
+pub fn is_reset(method: Method) -> bool
+    ensures { result ≡ spec.is_reset method }
+{
+    match method {
+        Method::Reset => true,
+        _ => false,
+    }
+}
+
+/// What is decided by conditions, or by what is null.
+pub fn is_testing(operator: BinaryOperator) -> bool
+    ensures { result ≡ spec.is_testing operator }
+{
+    match operator {
+        BinaryOperator::Or => true,
+        BinaryOperator::And => true,
+        BinaryOperator::Equal => true,
+        BinaryOperator::NotEqual => true,
         _ => false,
     }
 }

@@ -3,6 +3,7 @@
 
 mod expressions;
 mod kinds;
+mod ranges;
 mod served;
 mod statements;
 mod told;

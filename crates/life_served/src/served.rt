@@ -1,5 +1,5 @@
-// Which programs are served so far: values, strings, vectors of values, raw pointers and references to
-// these, views of characters, literals, and iterators and spans.
+// Which programs are served so far: values, strings, vectors of values and of such owners, raw pointers
+// and references to these, views of characters, literals, iterators and spans, and unique_ptrs to values.
 ghost use Rattle.std.specs.Prelude.{◌≡◌, ◌+◌, length, map, take};
 ghost use Rattle.life_typed.specs.Programs.{function_view, program_view};
 ghost use Rattle.life_served.specs.Served as spec;
@@ -53,10 +53,12 @@ fn is_served_function(texts: usize, types: &TypeTable, function: &TypedFunction)
 }
 
 /// Whether a program is served: each type in it is `void`, a value type, `std::string`, a `std::vector` of
-/// values, a raw pointer or a reference to one of these, `std::string_view`, or an iterator or a span of
-/// values; no function takes a string or a vector by value, or gives one so, or an iterator or a span; no
-/// vector is made but by a declaration or an assignment, and no string but by these, for a reference to
-/// const, by `+` or by `std::string(..)`; there is no struct, and no loop over a range. A table of types
+/// values, of strings or of vectors, one in the other down to eight, a raw pointer or a reference to one of
+/// these, `std::string_view`, an iterator or a span, or a `std::unique_ptr` to a value; no function takes an
+/// owner by value, or gives one so; no unique_ptr is made but by a declaration or an assignment, no vector
+/// but by these or for a reference to const, and no string but by these, by `+` or by `std::string(..)`; a
+/// loop over a range goes over a string, a vector, a view or a span, and its variable is an element's copy, a
+/// reference to it or to its value, or a view or a span of it; and there is no struct. A table of types
 /// without numbers that are left counts as not served.
 pub fn is_served(typed: &Typed) -> bool
     ensures { result ≡ spec.is_served (program_view typed.now) }

@@ -5,19 +5,20 @@ ghost use Rattle.life_typed.specs.TypedStatement.{block_item_view, block_view, b
 ghost use Rattle.life_served.specs.Served as spec;
 
 use crate::expressions::{
-    are_served_elements, is_call, is_erased, is_served_change, is_served_expression,
-    is_served_if_any, is_text_there, told_of,
+    are_served_elements, calls_any, fills_owner, fills_unique, is_call, is_served_change,
+    is_served_condition, is_served_condition_if, is_served_if_any, is_served_reset, told_of,
 };
 use crate::kinds::{
-    is_number_type, is_vector, is_vector_type, is_view_type, is_walker, owns_elements, takes_owner,
-    type_at,
+    is_number_type, is_vector_type, is_view_type, is_walker, owns_elements, takes_list,
+    takes_owner, type_at,
 };
+use crate::ranges::{element_of, is_served_range, takes_elements};
 use crate::told::{Told, either};
 use life_typed::{
     TypedBlock, TypedBlockItem, TypedBranch, TypedDeclaration, TypedExpr, TypedForStart,
     TypedInitial, TypedItem, TypedLocal, TypedSimple, TypedStmt,
 };
-use life_types::{Ty, TypeTable};
+use life_types::{Ty, TypeTable, is_unique};
 
 // ---- declarations
 
@@ -28,9 +29,11 @@ fn is_served_given(texts: usize, ty: Ty, value: &TypedExpr) -> bool
     let told = told_of(texts, value);
     let owns = owns_elements(ty);
     let walks = is_walker(ty);
-    (!(owns | walks) & told.value)
+    let unique = is_unique(ty);
+    (!(owns | (walks | unique)) & told.value)
         | ((takes_owner(ty) & (told.owns & told.owner))
-            | ((owns & is_text_there(texts, &value.form)) | (walks & told.walker)))
+            | ((owns & fills_owner(texts, &value.form))
+                | ((walks & told.walker) | (unique & fills_unique(texts, &value.form)))))
 }
 
 fn is_served_initial(texts: usize, ty: Ty, value: &Option<TypedInitial>) -> bool
@@ -40,7 +43,7 @@ fn is_served_initial(texts: usize, ty: Ty, value: &Option<TypedInitial>) -> bool
         None => true,
         Some(TypedInitial::Expr(value)) => is_served_given(texts, ty, value),
         Some(TypedInitial::List(list)) => {
-            is_vector(ty) && are_served_elements(texts, &list.elements)
+            takes_list(ty) && are_served_elements(texts, &list.elements)
         }
     }
 }
@@ -82,9 +85,10 @@ fn is_served_by_one(texts: usize, target: &TypedExpr, value: &TypedExpr) -> bool
     let from = told_of(texts, value);
     let owning = is_owning(from);
     (to.value & from.value)
-        | ((is_target(to) & (owning | is_text_there(texts, &value.form)))
+        | ((is_target(to) & (owning | fills_owner(texts, &value.form)))
             | (((is_view_type(target.ty) & to.value) & owning)
-                | (to.walker & (from.walker | owning))))
+                | ((to.walker & (from.walker | owning))
+                    | (to.unique & fills_unique(texts, &value.form)))))
 }
 
 fn is_served_assigned(texts: usize, target: &TypedExpr, value: &TypedInitial) -> bool
@@ -116,14 +120,23 @@ fn is_served_stepped(texts: usize, target: &TypedExpr) -> bool
     told.value | told.walker
 }
 
-// A call, a number that is left, a change of an owner, or an element that is erased.
+// A call that gives an owner at a place, an iterator or a span.
+fn is_served_left(texts: usize, expression: &TypedExpr) -> bool
+    ensures { result ≡ spec.is_served_left texts (typed_view expression.now) }
+{
+    let told = told_of(texts, expression);
+    calls_any(&expression.form) & (is_target(told) | told.walker)
+}
+
+// A call, a number that is left, or a change of an owner or of a unique_ptr.
 fn is_served_alone(texts: usize, expression: &TypedExpr) -> bool
     ensures { result ≡ spec.is_served_alone texts (typed_view expression.now) }
 {
     let told = told_of(texts, expression);
     let stands = is_call(&expression.form) | is_number_type(expression.ty);
-    ((stands & told.value) | is_served_change(texts, expression))
-        | (is_erased(&expression.form) & told.walker)
+    (((stands & told.value) | is_served_change(texts, expression))
+        | is_served_left(texts, expression))
+        | is_served_reset(texts, expression)
 }
 
 fn is_served_simple(texts: usize, simple: &TypedSimple) -> bool
@@ -175,7 +188,10 @@ fn is_served_returned(texts: usize, value: &Option<TypedExpr>) -> bool
     ensures { result ≡ spec.is_served_returned texts (optional_view typed_view value.now) }
 {
     match value {
-        Some(value) => either(told_of(texts, value)),
+        Some(value) => {
+            let told = told_of(texts, value);
+            either(told) | told.walker
+        }
         None => true,
     }
 }
@@ -222,21 +238,29 @@ fn is_served_statement(
             body,
             ..
         } => {
-            is_served_expression(texts, condition)
-                && is_served_statement(body, texts, types, locals)
+            is_served_condition(texts, condition) && is_served_statement(body, texts, types, locals)
         }
         TypedStmt::For { head, body, .. } => {
             is_served_start(texts, types, locals, &head.start)
-                && (is_served_if_any(texts, &head.condition)
+                && (is_served_condition_if(texts, &head.condition)
                     && (is_served_step(texts, &head.step)
                         && is_served_statement(body, texts, types, locals)))
         }
-        TypedStmt::RangeFor { .. } => false,
+        TypedStmt::RangeFor {
+            local,
+            range,
+            body,
+            ..
+        } => {
+            is_served_range(texts, range)
+                && (takes_elements(types, locals, *local, element_of(range))
+                    && is_served_statement(body, texts, types, locals))
+        }
         TypedStmt::Break { .. } => true,
         TypedStmt::Continue { .. } => true,
         TypedStmt::Return { value, .. } => is_served_returned(texts, value),
         TypedStmt::Print { items, .. } => are_served_items(texts, items),
-        TypedStmt::Assert { condition, .. } => is_served_expression(texts, condition),
+        TypedStmt::Assert { condition, .. } => is_served_condition(texts, condition),
     }
 }
 
@@ -300,6 +324,6 @@ fn is_served_branch(
 ) -> bool
     ensures { result ≡ spec.is_served_statement texts types.now locals.now (branch_view branch.now) }
 {
-    is_served_expression(texts, &branch.condition)
+    is_served_condition(texts, &branch.condition)
         && is_served_statement(&branch.body, texts, types, locals)
 }

@@ -3,8 +3,8 @@ ghost use Rattle.std.specs.Prelude.{◌≡◌};
 ghost use Rattle.life_served.specs.Told as spec;
 
 use crate::kinds::{
-    is_asking, is_edge, is_end, is_equality, is_owner_type, is_plain_type, is_subspan,
-    is_walker_type,
+    is_asking, is_edge, is_end, is_equality, is_get, is_owner_type, is_plain_type, is_subspan,
+    is_testing, is_unique_type, is_walker_type,
 };
 use life_typed::{BinaryOperator, ExprType, Method};
 
@@ -21,6 +21,8 @@ pub struct Told {
     pub object: bool,
     /// And whether it is an owner.
     pub owns: bool,
+    /// As a unique_ptr that is named.
+    pub unique: bool,
 }
 
 pub fn value_alone(value: bool) -> Told
@@ -32,6 +34,7 @@ pub fn value_alone(value: bool) -> Told
         walker: false,
         object: false,
         owns: false,
+        unique: false,
     }
 }
 
@@ -52,6 +55,7 @@ pub fn named() -> Told
         walker: true,
         object: true,
         owns: false,
+        unique: true,
     }
 }
 
@@ -65,6 +69,7 @@ pub fn parenthesised(inner: Told) -> Told
         walker: inner.walker,
         object: inner.object,
         owns: false,
+        unique: inner.unique,
     }
 }
 
@@ -78,6 +83,7 @@ pub fn typed_as(ty: ExprType, form: Told) -> Told
         walker: is_walker_type(ty) & form.walker,
         object: form.object,
         owns: is_owner_type(ty),
+        unique: is_unique_type(ty) & form.unique,
     }
 }
 
@@ -91,13 +97,28 @@ fn placed(there: bool) -> Told
         walker: false,
         object: there,
         owns: false,
+        unique: false,
     }
 }
 
 pub fn dereferenced(inner: Told) -> Told
     ensures { result ≡ spec.dereferenced inner }
 {
-    placed(inner.value | inner.walker)
+    placed(inner.value | (inner.walker | inner.unique))
+}
+
+/// What decides: a value, or a unique_ptr that is named.
+pub fn tests(told: Told) -> bool
+    ensures { result ≡ spec.tests told }
+{
+    told.value | told.unique
+}
+
+/// `!e`.
+pub fn inverted(inner: Told) -> Told
+    ensures { result ≡ spec.inverted inner }
+{
+    value_alone(tests(inner))
 }
 
 pub fn addressed(inner: Told) -> Told
@@ -110,11 +131,18 @@ pub fn addressed(inner: Told) -> Told
     })
 }
 
-/// A call answers a value, or the owner that a reference refers to.
+/// A call answers a value, an iterator or a span, or the owner that a reference refers to.
 pub fn answered(given: bool) -> Told
     ensures { result ≡ spec.answered given }
 {
-    placed(given)
+    Told {
+        value: given,
+        owner: given,
+        walker: given,
+        object: given,
+        owns: false,
+        unique: false,
+    }
 }
 
 pub fn indexed(base: Told, position: bool) -> Told
@@ -129,11 +157,13 @@ pub fn asked(method: Method, base: Told, arguments: bool) -> Told
 {
     let owning = base.owns & base.owner;
     Told {
-        value: is_asking(method) & ((either(base) | base.walker) & arguments),
+        value: (is_asking(method) & ((either(base) | base.walker) & arguments))
+            | (is_get(method) & base.unique),
         owner: is_edge(method) & owning,
         walker: (is_end(method) & owning) | (is_subspan(method) & (base.walker & arguments)),
         object: is_edge(method) & owning,
         owns: false,
+        unique: false,
     }
 }
 
@@ -147,6 +177,7 @@ pub fn erased(base: Told, walks: bool) -> Told
         walker: base.owns & (base.object & walks),
         object: false,
         owns: false,
+        unique: false,
     }
 }
 
@@ -154,13 +185,16 @@ pub fn combined(operator: BinaryOperator, left: Told, right: Told) -> Told
     ensures { result ≡ spec.combined operator left right }
 {
     let either_of_both = either(left) & either(right);
+    let both_test = tests(left) & tests(right);
     Told {
         value: (left.value & right.value)
-            | (is_equality(operator) & (either_of_both | (left.walker & right.walker))),
+            | ((is_testing(operator) & both_test)
+                | (is_equality(operator) & (either_of_both | (left.walker & right.walker)))),
         owner: either_of_both,
         walker: left.walker & right.value,
         object: false,
         owns: false,
+        unique: false,
     }
 }
 
@@ -174,5 +208,6 @@ pub fn made_text(inner: Told) -> Told
         walker: false,
         object: false,
         owns: false,
+        unique: false,
     }
 }

@@ -4,9 +4,9 @@ use Rattle.life_typed.specs.declared.typed_expr.ExprForm.{ExprForm}
 use Rattle.life_typed.specs.declared.typed_expr.TypedExpr.{TypedExpr, out-TypedExpr}
 use Rattle.life_typed.specs.declared.typed_expr.TypedOperand.{TypedOperand, out-TypedOperand}
 use Rattle.life_served.specs.Served.{is_served_form, is_served_walker}
-use Rattle.life_served.specs.Told.{asked, combined, dereferenced, erased, indexed, inside, made_text, parenthesised, told, typed_as, within}
+use Rattle.life_served.specs.Told.{asked, combined, dereferenced, erased, indexed, inside, inverted, made_text, parenthesised, told, typed_as, within}
 use Rattle.life_served.specs.declared.told.Told.{Told}
-use Rattle.life_served.proofs.Arms.{seen_binary, seen_dereference, seen_index, seen_local, seen_method, seen_paren, seen_text}
+use Rattle.life_served.proofs.Arms.{seen_binary, seen_dereference, seen_index, seen_local, seen_method, seen_not, seen_paren, seen_text}
 use Rattle.life_served.proofs.Inside.{all_told, further_told, whole_seen}
 use Rattle.life_served.proofs.Tellings.{asked_called, erased_called}
 use Rattle.life_served.proofs.expressions.+expressions.Goals as goal
@@ -42,6 +42,9 @@ told_by-returns-in-TextOf t c = λ f h. c.made_text.ensures ∙ ap made_text (sy
 
 pub told_by-returns-in-Dereference : goal.told_by-returns-in-Dereference
 told_by-returns-in-Dereference t c = λ f h. c.dereferenced.ensures ∙ ap dereferenced (sym h) ∙ sym (seen_dereference c.args.texts f) ∙ sym (ap (λ (x : ExprForm). told c.args.texts (form_view x f)) c.in-Dereference.is)
+
+pub told_by-returns-in-Not : goal.told_by-returns-in-Not
+told_by-returns-in-Not t c = λ f h. c.inverted.ensures ∙ ap inverted (sym h) ∙ sym (seen_not c.args.texts f) ∙ sym (ap (λ (x : ExprForm). told c.args.texts (form_view x f)) c.in-Not.is)
 
 pub told_by-returns-in-Index : goal.told_by-returns-in-Index
 told_by-returns-in-Index t c = λ f h.
