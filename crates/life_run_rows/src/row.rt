@@ -150,8 +150,6 @@ fn compare_runs(
 
 fn part_name(part: Part) -> &'static str {
     match part {
-        Part::Served => "served",
-        Part::Structs => "structs",
         Part::WellFormed => "well-formed",
         Part::Given => "given",
         Part::Breaks => "breaks",
