@@ -1,5 +1,5 @@
 -- What a test for null asks, by what is read of a location.
-use Rattle.std.proofs.Common.{◌≡◌, ℕ, Bool, true, false, List, [], ◌∷◌, Option, Some, None, Result, Err, refl, sym, ap, ◌∙◌}
+use Rattle.std.proofs.Common.{◌≡◌, ℕ, true, false, List, [], ◌∷◌, Option, Some, None, Err, refl, sym, ap, ◌∙◌}
 use Rattle.std.proofs.lemmas.Bool.{false≢true}
 use Rattle.life_types.specs.Types.{Types}
 use Rattle.life_types.specs.Trees.{members_at}
@@ -11,14 +11,13 @@ use Rattle.life_core.specs.Operands.{Location}
 use Rattle.life_store.specs.Content.{Content}
 use Rattle.life_store.specs.Doing.{owned_pointer}
 use Rattle.life_store.specs.Edits.{owned_at}
-use Rattle.life_store.specs.Effects.{Attempt, Got, GotFault, GotLost, GotTrap}
+use Rattle.life_store.specs.Effects.{Got, GotLost}
 use Rattle.life_store.specs.Meaning.{member_tested, tested}
 use Rattle.life_store.specs.Parts.{Parts, Single, Raw, Iterates, Views, Text, Vector, Unique, Member, NoMember, local_type, location_parts, parts_of, struct_of, word_within}
 use Rattle.life_store.specs.Places.{Spot, member_cell, owner_spot_if}
-use Rattle.life_store.specs.State.{Cell, Empty, Named, Number, Pointer, Points}
+use Rattle.life_store.specs.State.{Cell, Empty, Named, Number, Points}
 use Rattle.life_pointers.specs.Attempts.{tried}
 use Rattle.life_pointers.specs.Owned.{spot_seen}
-use Rattle.life_pointers.specs.declared.owned.Spot as machine
 use Rattle.life_pointers.specs.declared.stop.Stop.{Stop}
 use Rattle.life_pointers.specs.declared.stop.Stop.TheVariants as stop
 use Rattle.life_cells.specs.Asked.{is_owning_one, is_unique}

@@ -40,6 +40,7 @@ pub enum Cell {
 const _: () = prove!(size_of::<Cell>() == 40);
 
 /// The cell that holds the pointer.
+#[inline(always)]
 pub fn holding(pointer: Pointer) -> Cell
     ensures is { cell_seen result ≡ state.Points (pointer_seen pointer) }
     ensures fits { (c : Content) (rows : Rows) → PointerFits c rows pointer → CellFits c rows result }
@@ -65,6 +66,7 @@ pub fn holding(pointer: Pointer) -> Cell
 }
 
 /// The pointer that the cell holds, if it holds one.
+#[inline(always)]
 pub fn pointer_of(cell: Cell) -> Option<Pointer>
     ensures is { option_map pointer_seen result ≡ pointer_in (Some (cell_seen cell)) }
     ensures fits { (c : Content) (rows : Rows) → CellFits c rows cell → IfSome result (PointerFits c rows) }

@@ -1,5 +1,5 @@
 // Elements of what has some.
-ghost use Rattle.std.specs.Prelude.{◌≡◌, IfOk, IfSome, OnOk};
+ghost use Rattle.std.specs.Prelude.{◌≡◌, IfOk, IfSome, OnErr, OnOk};
 ghost use Rattle.life_core.specs.Function.{Function};
 ghost use Rattle.life_core.specs.Operands.{base_of, location_of, operand_of, Owner, Pointer as Leading};
 ghost use Rattle.life_types.specs.Types.{Types};
@@ -28,6 +28,7 @@ use life_pointers::{
 use life_store::Store;
 
 /// Makes a pointer point to an element.
+#[inline(always)]
 pub fn element<S: Store>(
     scope: &Scope<'_>,
     store: &mut S,
@@ -42,6 +43,8 @@ pub fn element<S: Store>(
     ensures step { Comes (spec.element (types_in scope.now) (function_in scope.now) (location_of pointer.now) (base_of base.now) which) (meant (types_in scope.now) (S.content store.old) (S.rows store.old)) cells.old.items (meant (types_in scope.now) (S.content store.new) (S.rows store.new)) cells.new.items result }
     ensures fits { OnOk result (IsFit (types_in scope.now) (S.content store.new) (S.rows store.new) cells.new.items) }
     ensures keeps { Keeps (S.content store.old) (S.content store.new) (S.rows store.old) (S.rows store.new) }
+    ensures stays { OnErr result (cells.new ≡ cells.old) }
+    ensures content_stays { OnErr result (S.content store.new ≡ S.content store.old) }
     ensures limit { S.limit store.new ≡ S.limit store.old }
 {
     let to = chosen(scope, store, cells, base, which)?;
@@ -49,6 +52,7 @@ pub fn element<S: Store>(
 }
 
 // The element.
+#[inline(always)]
 fn chosen<S: Store>(
     scope: &Scope<'_>,
     store: &S,
@@ -68,6 +72,7 @@ fn chosen<S: Store>(
 }
 
 // An element of what an operand names.
+#[inline(always)]
 fn of_owner<S: Store>(
     scope: &Scope<'_>,
     store: &S,
@@ -87,6 +92,7 @@ fn of_owner<S: Store>(
 }
 
 // An element of an owner.
+#[inline(always)]
 fn of_spot<S: Store>(
     scope: &Scope<'_>,
     store: &S,

@@ -13,6 +13,7 @@ use life_pointers::Pointer;
 use life_store::ObjRef;
 
 /// What the local holds, if the frame has it.
+#[inline(always)]
 pub fn cell_at(cells: &[Cell], local: u32) -> Option<Cell>
     ensures { result ≡ slice_get cells.now local }
 {
@@ -20,6 +21,7 @@ pub fn cell_at(cells: &[Cell], local: u32) -> Option<Cell>
 }
 
 /// Sets what the local holds, if the frame has it.
+#[inline(always)]
 pub fn put_cell(cells: &mut Vec<Cell>, local: u32, cell: Cell)
     ensures { cells.new.items ≡ slice_set cells.old.items local cell }
 {
@@ -27,6 +29,7 @@ pub fn put_cell(cells: &mut Vec<Cell>, local: u32, cell: Cell)
 }
 
 /// .. by an index.
+#[inline(always)]
 #[tactic(auto, using(std::proofs::lemmas::List::set_past))]
 pub fn put_at(cells: &mut Vec<Cell>, local: usize, cell: Cell)
     ensures { cells.new.items ≡ slice_set cells.old.items local cell }
@@ -37,6 +40,7 @@ pub fn put_at(cells: &mut Vec<Cell>, local: usize, cell: Cell)
 }
 
 /// The value that the local holds, if it holds one.
+#[inline(always)]
 pub fn number_at(cells: &[Cell], local: u32) -> Option<i64>
     ensures { result ≡ number_in (slice_get (cells_seen cells.now) local) }
 {
@@ -53,6 +57,7 @@ pub fn number_at(cells: &[Cell], local: u32) -> Option<i64>
 }
 
 /// The object of the local, if it has one.
+#[inline(always)]
 pub fn object_at(cells: &[Cell], local: u32) -> Option<ObjRef>
     ensures is { option_map number_of result ≡ object_in (slice_get (cells_seen cells.now) local) }
     ensures held { IfSome result (λ r. slice_get cells.now local ≡ Some (held.Object r)) }
@@ -70,6 +75,7 @@ pub fn object_at(cells: &[Cell], local: u32) -> Option<ObjRef>
 }
 
 /// The pointer that the local holds itself, if it holds one.
+#[inline(always)]
 pub fn own_pointer(cells: &[Cell], local: u32) -> Option<Pointer>
     ensures is { option_map pointer_seen result ≡ pointer_in (slice_get (cells_seen cells.now) local) }
     ensures fits { (c : Content) (rows : Rows) → CellsFit c rows cells.now → IfSome result (PointerFits c rows) }

@@ -1,5 +1,5 @@
 // Locations of pointers: locals that hold one themselves, and members of objects.
-ghost use Rattle.std.specs.Prelude.{◌≡◌, [], option_map, IfSome, OnOk};
+ghost use Rattle.std.specs.Prelude.{◌≡◌, [], option_map, IfSome, OnErr, OnOk};
 ghost use Rattle.life_core.specs.Operands.{location_of};
 ghost use Rattle.life_store.specs.Held as words;
 ghost use Rattle.life_store.specs.Kinds.{Pointing};
@@ -21,6 +21,7 @@ use life_pointers::{Pointer, Stop, read_pointer, write_pointer};
 use life_store::{ObjRef, Store};
 
 /// The pointer that the location holds, if it holds one.
+#[inline(always)]
 pub fn pointer_at<S: Store>(
     scope: &Scope<'_>,
     store: &S,
@@ -59,6 +60,7 @@ fn member_pointer<S: Store>(
 }
 
 /// Gives the location a pointer.
+#[inline(always)]
 pub fn point<S: Store>(
     scope: &Scope<'_>,
     store: &mut S,
@@ -72,6 +74,8 @@ pub fn point<S: Store>(
     ensures step { Comes (pointed (types_in scope.now) (function_in scope.now) (location_of location.now) (pointer_seen pointer)) (meant (types_in scope.now) (S.content store.old) (S.rows store.old)) cells.old.items (meant (types_in scope.now) (S.content store.new) (S.rows store.new)) cells.new.items result }
     ensures fits { OnOk result (IsFit (types_in scope.now) (S.content store.new) (S.rows store.new) cells.new.items) }
     ensures keeps { Keeps (S.content store.old) (S.content store.new) (S.rows store.old) (S.rows store.new) }
+    ensures stays { OnErr result (cells.new ≡ cells.old) }
+    ensures content_stays { OnErr result (S.content store.new ≡ S.content store.old) }
     ensures limit { S.limit store.new ≡ S.limit store.old }
 {
     if is_whole(location) {
@@ -109,6 +113,7 @@ fn write_member<S: Store>(
 }
 
 // Whether the location is a local itself.
+#[inline(always)]
 pub(crate) fn is_whole(location: &Location) -> bool
     ensures { result ≡ is_nil (location_of location.now).members }
 {

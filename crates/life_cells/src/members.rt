@@ -9,6 +9,7 @@ ghost use Rattle.life_values.specs.Layouts.{width_at};
 ghost use Rattle.life_cells.specs.Scopes.{function_in, types_in};
 ghost use Rattle.life_cells.specs.Typed.{member_of};
 
+use crate::locations::is_whole;
 use crate::scope::Scope;
 use life_core::Location;
 use life_types::{Ty, TyId};
@@ -108,6 +109,7 @@ pub fn type_within(scope: &Scope<'_>, ty: Option<TyId>, members: &[u32]) -> Opti
 }
 
 /// The word at which a member begins in a value of the type.
+#[inline(always)]
 pub fn word_within(scope: &Scope<'_>, ty: Option<TyId>, members: &[u32]) -> u32
     requires { parts.word_within (types_in scope.now) ty members.now < 2 ^ 32 }
     ensures { result ≡ parts.word_within (types_in scope.now) ty members.now }
@@ -127,10 +129,14 @@ pub fn word_within(scope: &Scope<'_>, ty: Option<TyId>, members: &[u32]) -> u32
 }
 
 /// The word at which what a location names begins in the object of its local.
+#[inline(always)]
 pub fn member_word(scope: &Scope<'_>, location: &Location) -> u32
     requires { member_of (types_in scope.now) (function_in scope.now) (location_of location.now) < 2 ^ 32 }
     ensures { result ≡ member_of (types_in scope.now) (function_in scope.now) (location_of location.now) }
 {
+    if is_whole(location) {
+        return 0;
+    }
     word_within(scope, local_type(scope, location.local), &location.members)
 }
 

@@ -22,6 +22,7 @@ use life_pointers::{Place, Spot, Stop};
 use life_store::Store;
 
 /// The owner that the operand names.
+#[inline(always)]
 pub fn owner_at<S: Store>(
     scope: &Scope<'_>,
     store: &S,

@@ -21,6 +21,7 @@ use life_pointers::{Place, Spot, Stop, behind};
 use life_store::{ObjRef, Store};
 
 /// What the operand names: a word of a slot that is there, or characters that never end.
+#[inline(always)]
 pub fn locate<S: Store>(
     scope: &Scope<'_>,
     store: &S,
@@ -41,6 +42,7 @@ pub fn locate<S: Store>(
 }
 
 // An object of the function, or a member of it.
+#[inline(always)]
 fn named<S: Store>(
     scope: &Scope<'_>,
     store: &S,
@@ -71,6 +73,7 @@ fn named<S: Store>(
 }
 
 // The first slot, if the object lives and has one.
+#[inline(always)]
 fn first_slot<S: Store>(store: &S, object: ObjRef) -> Result<Spot, Stop>
     ensures { (kinds : Kinds) → IsHoused kinds (S.content store.now) (S.rows store.now) → IsRef (S.content store.now) (S.rows store.now) object
         → MatchResult result
@@ -94,6 +97,7 @@ fn first_slot<S: Store>(store: &S, object: ObjRef) -> Result<Spot, Stop>
 }
 
 // What a pointer points to, or a member of that.
+#[inline(always)]
 fn through<S: Store>(
     scope: &Scope<'_>,
     store: &S,

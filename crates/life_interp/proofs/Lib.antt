@@ -26,6 +26,7 @@ pub mod NumberPlaces
 pub mod Others
 pub mod OwnerPlaces
 pub mod PointLemmas
+pub mod QuickSteps
 pub mod Quiet
 pub mod RowsStaying
 pub mod RunLemmas

@@ -1,5 +1,5 @@
 -- What the machine's functions do is what the steps of the meaning do.
-use Rattle.std.proofs.Common.{◌≡◌, ℕ, List, Option, Some, None, Result, Ok, Err, OnOk, sym, ap, subst, ◌∙◌}
+use Rattle.std.proofs.Common.{◌≡◌, ℕ, List, Option, Some, None, Result, Ok, Err, OnErr, OnOk, sym, ap, subst, ◌∙◌}
 use Rattle.std.proofs.lemmas.Option.{none-some, same_Some, slice_get-map}
 use Rattle.std.specs.Prelude.{ℤ, slice_get, option_map}
 use Rattle.life_store.specs.Content.{Content}
@@ -56,6 +56,10 @@ ok_settled (Err e) P h = tt
 pub ok_holds : {A E : Type 0} (r : Result A E) (P : Type 0) → P → OnOk r P
 ok_holds (Ok a) P h = h
 ok_holds (Err e) P h = tt
+
+pub err_holds : {A E : Type 0} (r : Result A E) (P : Type 0) → P → OnErr r P
+err_holds (Ok a) P h = tt
+err_holds (Err e) P h = h
 
 -- .. and what holds with it
 pub ok_so : {A E : Type 0} (r : Result A E) (P Q : Type 0) → (P → Q) → OnOk r P → OnOk r Q

@@ -7,6 +7,7 @@ pub mod Fits
 pub mod Frames
 pub mod Layouts
 pub mod Near
+pub mod Quick
 pub mod Returning
 pub mod Runs
 pub mod Sound

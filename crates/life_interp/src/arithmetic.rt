@@ -12,6 +12,7 @@ use life_types::Ty;
 /// # Errors
 ///
 /// `Overflow` where an `int` or a `long` is out of range, `ZeroDivisor` for a division by 0.
+#[inline(always)]
 pub(crate) fn combined(
     ty: Option<Ty>,
     operator: Operator,
@@ -51,6 +52,7 @@ pub(crate) fn zero_test(value: i64) -> Result<i64, TrapKind>
 }
 
 // Numbers with a sign.
+#[inline(always)]
 fn with_sign(ty: Option<Ty>, operator: Operator, left: i64, right: i64) -> Result<i64, TrapKind>
     ensures { result ≡ spec.with_sign ty operator left right }
 {
@@ -70,6 +72,7 @@ fn with_sign(ty: Option<Ty>, operator: Operator, left: i64, right: i64) -> Resul
 }
 
 // 1 for what holds, else 0.
+#[inline(always)]
 fn truth(holds: bool) -> i64
     ensures { Ok result ≡ spec.truth holds }
 {
@@ -77,6 +80,7 @@ fn truth(holds: bool) -> i64
 }
 
 // The number, if the type has it.
+#[inline(always)]
 fn in_range(ty: Option<Ty>, value: i64) -> Result<i64, TrapKind>
     ensures { result ≡ spec.checked ty value }
 {
@@ -92,6 +96,7 @@ fn in_range(ty: Option<Ty>, value: i64) -> Result<i64, TrapKind>
     }
 }
 
+#[inline(always)]
 fn sum(ty: Option<Ty>, left: i64, right: i64) -> Result<i64, TrapKind>
     ensures { result ≡ spec.checked ty (left +ℤ right) }
 {
@@ -101,6 +106,7 @@ fn sum(ty: Option<Ty>, left: i64, right: i64) -> Result<i64, TrapKind>
     }
 }
 
+#[inline(always)]
 fn difference(ty: Option<Ty>, left: i64, right: i64) -> Result<i64, TrapKind>
     ensures { result ≡ spec.checked ty (left -ℤ right) }
 {
@@ -110,6 +116,7 @@ fn difference(ty: Option<Ty>, left: i64, right: i64) -> Result<i64, TrapKind>
     }
 }
 
+#[inline(always)]
 fn product(ty: Option<Ty>, left: i64, right: i64) -> Result<i64, TrapKind>
     ensures { result ≡ spec.checked ty (left *ℤ right) }
 {
@@ -119,6 +126,7 @@ fn product(ty: Option<Ty>, left: i64, right: i64) -> Result<i64, TrapKind>
     }
 }
 
+#[inline(always)]
 fn quotient(ty: Option<Ty>, left: i64, right: i64) -> Result<i64, TrapKind>
     ensures { result ≡ spec.quotient ty left right }
 {
@@ -131,6 +139,7 @@ fn quotient(ty: Option<Ty>, left: i64, right: i64) -> Result<i64, TrapKind>
     }
 }
 
+#[inline(always)]
 fn remainder(ty: Option<Ty>, left: i64, right: i64) -> Result<i64, TrapKind>
     ensures { result ≡ spec.remainder ty left right }
 {
@@ -142,6 +151,7 @@ fn remainder(ty: Option<Ty>, left: i64, right: i64) -> Result<i64, TrapKind>
 }
 
 // Whether it is 0.
+#[inline(always)]
 fn is_zero(value: i64) -> bool
     ensures { result ≡ spec.is_zero value }
 {
@@ -149,6 +159,7 @@ fn is_zero(value: i64) -> bool
 }
 
 // Numbers without a sign.
+#[inline(always)]
 fn without_sign(operator: Operator, left: u64, right: u64) -> Result<i64, TrapKind>
     ensures { result ≡ spec.without_sign operator left right }
 {

@@ -16,6 +16,7 @@ use life_pointers::Pointer;
 use life_store::Store;
 
 /// Whether the test holds, if there is what it asks.
+#[inline(always)]
 pub(crate) fn ask<S: Store>(
     scope: &Scope<'_>,
     store: &S,

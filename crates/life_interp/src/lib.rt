@@ -21,6 +21,7 @@ mod machine;
 mod outcome;
 mod point;
 mod ports;
+mod quick;
 mod reaching;
 mod run;
 mod sort;

@@ -6,6 +6,7 @@ ghost use Rattle.life_core.specs.Linked.{numbered};
 use life_core::LinkRef;
 
 /// What stands at the point with this number, if there is one.
+#[inline(always)]
 pub(crate) fn link_at<'a>(code: &[LinkRef<'a>], point: Option<u32>) -> Option<LinkRef<'a>>
     ensures { option_map link_seen result ≡ option_and_then (numbered (map link_seen code.now)) point }
 {
@@ -21,6 +22,7 @@ pub(crate) fn link_at<'a>(code: &[LinkRef<'a>], point: Option<u32>) -> Option<Li
     }
 }
 
+#[inline(always)]
 fn nth<'a>(code: &[LinkRef<'a>], index: u32) -> Option<LinkRef<'a>>
     ensures { result ≡ slice_get code.now index }
 {

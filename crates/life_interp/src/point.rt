@@ -1,5 +1,5 @@
 // One point.
-ghost use Rattle.std.specs.Prelude.{◌≡◌, ◌<◌, ◌⊎◌, drop, map, List, OnOk, ℤ};
+ghost use Rattle.std.specs.Prelude.{◌≡◌, ◌<◌, ◌⊎◌, drop, map, List, OnErr, OnOk, ℤ};
 ghost use Rattle.life_core.specs.Function.{program_of};
 ghost use Rattle.life_core.specs.Link.{leads_seen};
 ghost use Rattle.life_core.specs.Linked.{code_of, goes};
@@ -32,6 +32,7 @@ use life_types::Place;
 use std::alloc::Global;
 
 /// Does what stands at the point of the frame at hand, and goes on to the next.
+#[inline(never)]
 pub(crate) fn pass<'p, S: Store, O: Sink>(
     alloc: Global,
     program: &'p CoreProgram,
@@ -159,8 +160,9 @@ fn act<'p, S: Store, O: Sink>(
     }
 }
 
-// Goes on by whether a test holds.
-fn choose<S: Store>(
+/// Goes on by whether a test holds.
+#[inline(always)]
+pub(crate) fn choose<S: Store>(
     program: &CoreProgram,
     layouts: &Layouts,
     store: &S,
@@ -178,6 +180,7 @@ fn choose<S: Store>(
     ensures function { frames.new.function ≡ frames.old.function }
     ensures cells { frames.new.cells ≡ frames.old.cells }
     ensures waiting { frames.new.waiting ≡ frames.old.waiting }
+    ensures stays { OnErr result (frames.new ≡ frames.old) }
 {
     let f = &program.functions[frames.function as usize];
     let scope = Scope {
@@ -196,6 +199,7 @@ fn choose<S: Store>(
 }
 
 // The way on from a test.
+#[inline(always)]
 fn way_on(leads: Leads, holds: bool) -> Option<u32>
     ensures { result ≡ way_on holds (leads_seen leads) }
 {
@@ -206,8 +210,9 @@ fn way_on(leads: Leads, holds: bool) -> Option<u32>
     }
 }
 
-// The way on where there is one alone, or where a test held.
-fn first_way(leads: Leads) -> Option<u32>
+/// The way on where there is one alone, or where a test held.
+#[inline(always)]
+pub(crate) fn first_way(leads: Leads) -> Option<u32>
     ensures { result ≡ first_way (leads_seen leads) }
 {
     match leads {
@@ -218,6 +223,7 @@ fn first_way(leads: Leads) -> Option<u32>
 }
 
 // The way on where a test didn't hold.
+#[inline(always)]
 fn second_way(leads: Leads) -> Option<u32>
     ensures { result ≡ second_way (leads_seen leads) }
 {

@@ -1,5 +1,5 @@
 // Instructions that compute, read and write values.
-ghost use Rattle.std.specs.Prelude.{◌≡◌, ◌<◌, ◌^◌, pos, OnOk};
+ghost use Rattle.std.specs.Prelude.{◌≡◌, ◌<◌, ◌^◌, pos, OnErr, OnOk};
 ghost use Rattle.life_core.specs.Function.{function_of};
 ghost use Rattle.life_core.specs.Operands.{operand_of};
 ghost use Rattle.life_cells.specs.Cells.{state_in};
@@ -22,6 +22,7 @@ use life_types::{Ty, TypeTable};
 use life_words::{number, put_number};
 
 /// Gives a register a value.
+#[inline(always)]
 pub(crate) fn evaluate(
     types: &TypeTable,
     f: &CoreFn,
@@ -31,6 +32,7 @@ pub(crate) fn evaluate(
 ) -> Result<(), Ending>
     ensures step { (c : Content) → LeavesCells (evaluated types.now (function_of f.now) into operation) c cells.old.items cells.new.items result }
     ensures fits { (c : Content) (rows : Rows) → CellsFit c rows cells.old.items → OnOk result (CellsFit c rows cells.new.items) }
+    ensures stays { OnErr result (cells.new ≡ cells.old) }
 {
     match operation {
         Operation::Number(value) => {
@@ -71,6 +73,7 @@ pub(crate) fn evaluate(
 }
 
 // Gives a register what was computed.
+#[inline(always)]
 fn put_computed(
     cells: &mut Vec<Cell>,
     into: u32,
@@ -78,6 +81,7 @@ fn put_computed(
 ) -> Result<(), Ending>
     ensures step { (c : Content) → LeavesCells (computed_into into computed) c cells.old.items cells.new.items result }
     ensures fits { (c : Content) (rows : Rows) → CellsFit c rows cells.old.items → OnOk result (CellsFit c rows cells.new.items) }
+    ensures stays { OnErr result (cells.new ≡ cells.old) }
 {
     match computed {
         Ok(value) => {
@@ -89,6 +93,7 @@ fn put_computed(
 }
 
 /// The type of a local.
+#[inline(always)]
 pub(crate) fn type_at(types: &TypeTable, f: &CoreFn, local: u32) -> Option<Ty>
     ensures { result ≡ type_of types.now (function_of f.now) local }
 {
@@ -99,6 +104,7 @@ pub(crate) fn type_at(types: &TypeTable, f: &CoreFn, local: u32) -> Option<Ty>
 }
 
 /// The value as one of the type.
+#[inline(always)]
 pub(crate) fn converted(ty: Option<Ty>, value: i64) -> i64
     ensures { result ≡ converted ty value }
 {
@@ -134,6 +140,7 @@ fn as_int(value: i64) -> i64
 }
 
 /// Reads a value into a register.
+#[inline(always)]
 pub(crate) fn load<S: Store>(
     scope: &Scope<'_>,
     store: &S,
@@ -146,6 +153,7 @@ pub(crate) fn load<S: Store>(
     ensures step { (s : Setting) → s.texts ≡ texts_in scope.now
         → Comes (loaded s (types_in scope.now) (function_in scope.now) into (operand_of from.now)) (meant (types_in scope.now) (S.content store.now) (S.rows store.now)) cells.old.items (meant (types_in scope.now) (S.content store.now) (S.rows store.now)) cells.new.items result }
     ensures fits { OnOk result (IsFit (types_in scope.now) (S.content store.now) (S.rows store.now) cells.new.items) }
+    ensures stays { OnErr result (cells.new ≡ cells.old) }
 {
     let value = value_at(scope, store, cells, from)?;
     put_cell(cells, into, Cell::Number(value));
@@ -153,6 +161,7 @@ pub(crate) fn load<S: Store>(
 }
 
 // The value at a place, or a character of a text.
+#[inline(always)]
 fn value_at<S: Store>(
     scope: &Scope<'_>,
     store: &S,
@@ -174,6 +183,7 @@ fn value_at<S: Store>(
 }
 
 /// Writes a register's value to a place. A character of a text isn't written.
+#[inline(always)]
 pub(crate) fn save<S: Store>(
     scope: &Scope<'_>,
     store: &mut S,
@@ -186,6 +196,7 @@ pub(crate) fn save<S: Store>(
     ensures step { Comes (stored (types_in scope.now) (function_in scope.now) (operand_of to.now) from) (meant (types_in scope.now) (S.content store.old) (S.rows store.old)) cells.now (meant (types_in scope.now) (S.content store.new) (S.rows store.new)) cells.now result }
     ensures fits { OnOk result (IsFit (types_in scope.now) (S.content store.new) (S.rows store.new) cells.now) }
     ensures keeps { Keeps (S.content store.old) (S.content store.new) (S.rows store.old) (S.rows store.new) }
+    ensures stays { OnErr result (S.content store.new ≡ S.content store.old) }
     ensures limit { S.limit store.new ≡ S.limit store.old }
 {
     match number_at(cells, from) {

@@ -16,7 +16,7 @@ ghost use Rattle.life_store.specs.Doing.{Setting};
 use crate::ending::Halt;
 use crate::frames::Frames;
 use crate::layouts::Layouts;
-use crate::point::pass;
+use crate::quick::pass_on;
 use life_base::Sink;
 use life_core::{CoreProgram, LinkRef};
 use life_store::{Growth, Store};
@@ -52,7 +52,7 @@ pub(crate) fn walk<'p, S: Store, O: Sink>(
 {
     let mut left = steps;
     while left > 0 {
-        match pass(
+        match pass_on(
             alloc, program, code, layouts, growth, depth, store, frames, input, taken, out,
         ) {
             Ok(()) => {}

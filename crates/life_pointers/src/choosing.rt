@@ -19,6 +19,7 @@ pub enum Choice {
 }
 
 // The index of the element, of so many.
+#[inline(always)]
 pub(crate) fn chosen(choice: Choice, size: u64) -> Result<u64, Stop>
     ensures is { tried itself result ≡ chosen_by choice size }
     ensures within { IfOk result (λ index. index < size) }
@@ -30,6 +31,7 @@ pub(crate) fn chosen(choice: Choice, size: u64) -> Result<u64, Stop>
     }
 }
 
+#[inline(always)]
 fn below(index: u64, size: u64) -> Result<u64, Stop>
     ensures is { tried itself result ≡ spec.below index size }
     ensures within { IfOk result (λ index. index < size) }

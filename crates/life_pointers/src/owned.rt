@@ -32,6 +32,7 @@ pub struct Spot {
 }
 
 /// What the owner owns, if it owns something.
+#[inline(always)]
 pub fn owned_by<S: Store>(store: &S, owner: Spot) -> Option<ObjRef>
     requires { IfSome (object_of (S.content store.now) (S.rows store.now) owner.object) (HasWord owner.index owner.word) }
     ensures is { (kinds : Kinds) (o : Object) → IsOwner kinds (S.content store.now) (S.rows store.now) owner.object owner.word o
@@ -43,6 +44,7 @@ pub fn owned_by<S: Store>(store: &S, owner: Spot) -> Option<ObjRef>
 }
 
 /// The buffer of a vector or a string, which one that was moved from doesn't have.
+#[inline(always)]
 pub fn buffer<S: Store>(store: &S, owner: Spot) -> Result<ObjRef, Stop>
     requires { IfSome (object_of (S.content store.now) (S.rows store.now) owner.object) (HasWord owner.index owner.word) }
     ensures is { (kinds : Kinds) (o : Object) → IsOwner kinds (S.content store.now) (S.rows store.now) owner.object owner.word o
@@ -71,6 +73,7 @@ pub fn place_pointer(now: u64, place: Spot) -> Pointer
 }
 
 // A pointer of this moment to so many positions of an object.
+#[inline(always)]
 fn pointer_to(now: u64, object: ObjRef, index: u32, count: u32) -> Pointer
     ensures is { pointer_seen result ≡ To (record { object = object.birth; index = index; word = 0; count = count; moment = now }) }
     ensures fits { (c : Content) (rows : Rows) → IsRef c rows object → now + 1 < 2 ^ 64 → PointerFits c rows result }
@@ -85,6 +88,7 @@ fn pointer_to(now: u64, object: ObjRef, index: u32, count: u32) -> Pointer
 }
 
 /// An element of a vector or a string.
+#[inline(always)]
 pub fn owned_element<S: Store>(store: &S, owner: Spot, choice: Choice) -> Result<Pointer, Stop>
     requires { IfSome (object_of (S.content store.now) (S.rows store.now) owner.object) (HasWord owner.index owner.word) }
     ensures is { (kinds : Kinds) (o : Object) → IsOwner kinds (S.content store.now) (S.rows store.now) owner.object owner.word o
@@ -96,6 +100,7 @@ pub fn owned_element<S: Store>(store: &S, owner: Spot, choice: Choice) -> Result
     element_in(store, buffer, choice)
 }
 
+#[inline(always)]
 fn element_in<S: Store>(store: &S, buffer: ObjRef, choice: Choice) -> Result<Pointer, Stop>
     ensures is { (kinds : Kinds) → IsHoused kinds (S.content store.now) (S.rows store.now) → IsRef (S.content store.now) (S.rows store.now) buffer
         → tried pointer_seen result ≡ element_in (seen kinds (S.content store.now) (S.rows store.now)) choice buffer.birth }

@@ -25,6 +25,7 @@ pub enum Place {
 }
 
 /// What is behind the pointer, if that may be used and stands at no end.
+#[inline(always)]
 pub fn behind<S: Store>(store: &S, pointer: Pointer) -> Result<Place, Stop>
     ensures is { (kinds : Kinds) → IsHoused kinds (S.content store.now) (S.rows store.now) → PointerFits (S.content store.now) (S.rows store.now) pointer
         → MatchResult result
@@ -63,6 +64,7 @@ pub fn behind<S: Store>(store: &S, pointer: Pointer) -> Result<Place, Stop>
 }
 
 // The position of an object that lives, if it isn't the end.
+#[inline(always)]
 fn reached<S: Store>(store: &S, spot: Spot) -> Result<Place, Stop>
     requires { IsSome (object_of (S.content store.now) (S.rows store.now) spot.object) }
     ensures is { (kinds : Kinds) → IsHoused kinds (S.content store.now) (S.rows store.now) → IsRef (S.content store.now) (S.rows store.now) spot.object

@@ -17,6 +17,7 @@ use crate::stop::Stop;
 use life_store::{FaultKind, ObjRef, Store};
 
 /// How many slots the object has, and 0 where it doesn't live.
+#[inline(always)]
 pub fn length<S: Store>(store: &S, object: ObjRef) -> u32
     ensures is { (kinds : Kinds) → IsHoused kinds (S.content store.now) (S.rows store.now) → IsRef (S.content store.now) (S.rows store.now) object
         → result ≡ size_of (seen kinds (S.content store.now) (S.rows store.now)) object.birth }

@@ -1,14 +1,15 @@
 -- What the calls of the plain store do to its rows, and what that says of its content.
-use Rattle.std.proofs.Common.{◌≡◌, ℕ, suc, ◌+◌, ◌^◌, ◌≤◌, ◌<◌, min, List, [], ◌∷◌, ◌++◌, length, Some, None, sym, ap, subst, ◌∙◌, arith, ⊎_elim}
+use Rattle.std.proofs.Common.{◌≡◌, ℕ, suc, ◌+◌, ◌^◌, ◌≤◌, ◌<◌, min, List, [], ◌∷◌, ◌++◌, length, Option, Some, None, IfSome, false, true, refl, sym, ap, subst, ◌∙◌, arith, ⊎_elim}
+use Rattle.std.proofs.lemmas.Bool.{false≢true}
 use Rattle.std.proofs.lemmas.Bool.Decides.{leb_tells}
 use Rattle.std.proofs.lemmas.List.{length-set, set-set}
 use Rattle.std.proofs.lemmas.Option.{none-some, same_Some, slice_get_past, slice_get_within}
-use Rattle.std.specs.Prelude.{slice_get, slice_set, option_map}
+use Rattle.std.specs.Prelude.{slice_get, slice_set, is_some, option_map}
 use Rattle.life_store.specs.Cells.{set, unset}
 use Rattle.life_store.specs.Content.{Object, cost, live_words_of}
 use Rattle.life_store.specs.PlainRows.{Row, objects_in, rows_in, cost_in, IsAbsent, AreNumbered, AreTaken, entry_at, Table, content_of, rows_of}
 use Rattle.life_store.specs.PlainStore.{table_in, IsSound}
-use Rattle.life_store.specs.References.{object_of, IsFreeRow}
+use Rattle.life_store.specs.References.{object_of, HasWord, IsFreeRow}
 use Rattle.life_store.specs.declared.object.ObjRef.{ObjRef}
 use Rattle.life_store.specs.declared.plain.PlainStore.TheInside.{Inside}
 use Rattle.life_store.specs.declared.plain_rows.Entry.{Entry}
@@ -31,6 +32,26 @@ missing a t r ok is h =
     ap (λ (x : Table). object_of (content_of x) (rows_of x) r) (sym is)
     ∙ object_is (table_in a) r ok.numbered
     ∙ ap (option_map (λ (x : Entry). x.object)) h
+
+-- what has a word of an object that lives has it where that lies
+held_there : (slot word : ℕ) (there : Option Entry) → IfSome (option_map (λ (e : Entry). e.object) there) (HasWord slot word) → IfSome there (λ (e : Entry). HasWord slot word e.object)
+held_there slot word None h = tt
+held_there slot word (Some e) h = h
+
+pub word_there : (a : Inside) (t : Table) (r : ObjRef) (slot word : ℕ) → IsSound a → table_in a ≡ t → IfSome (object_of (content_of t) (rows_of t) r) (HasWord slot word)
+    → IfSome (entry_at a.rows.items r) (λ (e : Entry). HasWord slot word e.object)
+word_there a t r slot word ok is h =
+    held_there slot word (entry_at a.rows.items r)
+    (subst (λ (o : Option Object). IfSome o (HasWord slot word)) (ap (λ (x : Table). object_of (content_of x) (rows_of x) r) (sym is) ∙ object_is (table_in a) r ok.numbered) h)
+
+-- what is there isn't missing, and what holds of it if it is there holds of it
+pub none_there : (there : Option Entry) → is_some there ≡ false → there ≡ None
+none_there None h = refl
+none_there (Some e) h = absurd (false≢true (sym h))
+
+pub some_there : (there : Option Entry) (P : Entry → Type 0) → is_some there ≡ true → IfSome there P → (e : Entry) × (there ≡ Some e) × P e
+some_there None P h k = absurd (false≢true h)
+some_there (Some e) P h k = (e, refl, k)
 
 -- the row of an entry is one of the rows
 pub row_within : (rows : List Row) (r : ObjRef) (e : Entry) → entry_at rows r ≡ Some e → r.row < length rows

@@ -4,7 +4,7 @@ ghost use Rattle.life_store.specs.PlainRows.{content_of, rows_of};
 
 use crate::object::{BirthFault, Dead, ObjRef, Shape};
 use crate::plain_object::PlainObject;
-use crate::plain_rows::{Entry, entry_at, fill_row, put_entry, take_entry, vacant_row};
+use crate::plain_rows::{Entry, entry_at, fill_row, put_entry, put_word, take_entry, vacant_row};
 use crate::store::Store;
 use life_types::TyId;
 use std::alloc::Global;
@@ -109,6 +109,7 @@ impl Store for PlainStore {
         Ok(())
     }
 
+    #[inline(always)]
     fn get(&self, object: ObjRef, slot: u32, word: u64) -> Result<u64, Dead> {
         match entry_at(&self.rows, object) {
             None => Err(Dead),
@@ -116,15 +117,15 @@ impl Store for PlainStore {
         }
     }
 
+    #[inline(always)]
     fn put(&mut self, object: ObjRef, slot: u32, word: u64, value: u64) -> Result<(), Dead> {
-        let Some(mut entry) = take_entry(&mut self.rows, object) else {
+        if !put_word(&mut self.rows, object, slot, word, value) {
             return Err(Dead);
-        };
-        entry.object.put(slot, word, value);
-        put_entry(&mut self.rows, object.row, entry);
+        }
         Ok(())
     }
 
+    #[inline(always)]
     fn shape(&self, object: ObjRef) -> Result<Shape, Dead> {
         match entry_at(&self.rows, object) {
             None => Err(Dead),
@@ -132,6 +133,7 @@ impl Store for PlainStore {
         }
     }
 
+    #[inline(always)]
     fn living(&self, row: u32) -> Option<ObjRef> {
         let at = row as usize;
         if at < self.rows.len() {
@@ -145,6 +147,7 @@ impl Store for PlainStore {
         None
     }
 
+    #[inline(always)]
     fn valid(&self, object: ObjRef, first: u32, count: u32, moment: u64) -> bool {
         match entry_at(&self.rows, object) {
             None => false,
@@ -152,6 +155,7 @@ impl Store for PlainStore {
         }
     }
 
+    #[inline(always)]
     fn now(&self) -> u64 {
         self.clock
     }

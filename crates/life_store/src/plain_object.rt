@@ -66,6 +66,7 @@ impl PlainObject {
     }
 
     /// Its shape. Its slots are at least a word wide.
+    #[inline(always)]
     pub(crate) fn shape(&self) -> Shape
         ensures shape { result ≡ shape_of self.now }
         ensures wide { 1 ≤ self.now.width }
@@ -91,6 +92,7 @@ impl PlainObject {
     }
 
     /// A word of a slot.
+    #[inline(always)]
     pub(crate) fn get(&self, slot: u32, word: u64) -> u64
         requires { HasWord slot word self.now }
         ensures { result ≡ word_at self.now slot word }
@@ -99,6 +101,7 @@ impl PlainObject {
     }
 
     /// Sets a word of a slot.
+    #[inline(always)]
     pub(crate) fn put(&mut self, slot: u32, word: u64, value: u64)
         requires { HasWord slot word self.old }
         ensures { self.new ≡ with_word slot word value self.old }
@@ -108,6 +111,7 @@ impl PlainObject {
     }
 
     /// Whether the `count` positions from `first` on are there, the end being one, and have stood there since the moment.
+    #[inline(always)]
     pub(crate) fn are_settled(&self, first: u32, count: u32, moment: u64) -> bool
         ensures { result ≡ are_settled self.now first count moment }
     {

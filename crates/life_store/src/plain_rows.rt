@@ -1,7 +1,8 @@
 // The rows of the plain store: where each object lies while it lives.
 ghost use Rattle.std.specs.Option.{option_copied};
-ghost use Rattle.std.specs.Prelude.{◌≡◌, ◌≤◌, ◌<◌, ◌++◌, ◌∷◌, [], length, slice_get, slice_set, MatchOption, None, OnErr, OnOk, Some};
-ghost use Rattle.life_store.specs.PlainRows.{entry_at, AreTaken};
+ghost use Rattle.std.specs.Prelude.{◌≡◌, ◌≤◌, ◌<◌, ◌++◌, ◌∷◌, [], length, slice_get, slice_set, false, is_some, IfSome, MatchOption, None, OnErr, OnOk, Some};
+ghost use Rattle.life_store.specs.PlainRows.{entry_at, entry_with, AreTaken};
+ghost use Rattle.life_store.specs.References.{HasWord};
 
 use crate::object::ObjRef;
 use crate::plain_object::PlainObject;
@@ -15,6 +16,7 @@ pub(crate) struct Entry {
 }
 
 /// The object to which the reference refers, if that lives.
+#[inline(always)]
 pub(crate) fn entry_at(rows: &[Option<Entry>], object: ObjRef) -> Option<&Entry>
     ensures { option_copied result ≡ entry_at rows.now object }
 {
@@ -52,6 +54,43 @@ pub(crate) fn put_entry(rows: &mut Vec<Option<Entry>>, row: u32, entry: Entry)
     ensures { rows.new.items ≡ slice_set rows.old.items row (Some entry) }
 {
     rows[row as usize] = Some(entry);
+}
+
+/// Sets a word of the object to which the reference refers, where that lies, if it lives.
+#[inline(always)]
+pub(crate) fn put_word(
+    rows: &mut Vec<Option<Entry>>,
+    object: ObjRef,
+    slot: u32,
+    word: u64,
+    value: u64,
+) -> bool
+    requires { IfSome (entry_at rows.old.items object) (λ e. HasWord slot word e.object) }
+    ensures lives { result ≡ is_some (entry_at rows.old.items object) }
+    ensures put { IfSome (entry_at rows.old.items object) (λ e. rows.new.items ≡ slice_set rows.old.items object.row (Some (entry_with slot word value e))) }
+    ensures stays { result ≡ false → rows.new.items ≡ rows.old.items }
+{
+    let row = object.row as usize;
+    if row < rows.len() {
+        if let Some(entry) = &rows[row] {
+            if entry.birth == object.birth {
+                put_in_row(&mut rows[row], slot, word, value);
+                return true;
+            }
+        }
+    }
+    false
+}
+
+// The same in its row.
+#[inline(always)]
+fn put_in_row(row: &mut Option<Entry>, slot: u32, word: u64, value: u64)
+    requires { IfSome row.old (λ e. HasWord slot word e.object) }
+    ensures { IfSome row.old (λ e. row.new ≡ Some (entry_with slot word value e)) }
+{
+    if let Some(entry) = row {
+        entry.object.put(slot, word, value);
+    }
 }
 
 /// The lowest row from this one on that is vacant, which may be the first behind all rows.

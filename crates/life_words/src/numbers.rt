@@ -12,6 +12,7 @@ ghost use Rattle.life_words.specs.Numbers.{HasWords, IsPlain, Wrote};
 use life_store::{ObjRef, Store};
 
 /// A word that is a number.
+#[inline(always)]
 pub fn number<S: Store>(store: &S, object: ObjRef, slot: u32, word: u64) -> u64
     requires { IfSome (object_of (S.content store.now) (S.rows store.now) object) (HasWord slot word) }
     ensures { (kinds : Kinds) (o : Object) → IsPlain kinds (S.content store.now) (S.rows store.now) object word o
@@ -24,6 +25,7 @@ pub fn number<S: Store>(store: &S, object: ObjRef, slot: u32, word: u64) -> u64
 }
 
 /// Sets a word that is a number.
+#[inline(always)]
 pub fn put_number<S: Store>(store: &mut S, object: ObjRef, slot: u32, word: u64, value: u64)
     requires { IfSome (object_of (S.content store.old) (S.rows store.old) object) (HasWord slot word) }
     ensures shows { (kinds : Kinds) (o : Object) → IsPlain kinds (S.content store.old) (S.rows store.old) object word o

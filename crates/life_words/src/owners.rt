@@ -10,6 +10,7 @@ ghost use Rattle.life_words.specs.Owning.{number_of, with_owner, CanOwn, Holds, 
 use life_store::{ObjRef, Store};
 
 /// What the word owns, if it owns something.
+#[inline(always)]
 pub fn owned<S: Store>(store: &S, object: ObjRef, slot: u32, word: u64) -> Option<ObjRef>
     requires { IfSome (object_of (S.content store.now) (S.rows store.now) object) (HasWord slot word) }
     ensures { (kinds : Kinds) (o : Object) → IsOwner kinds (S.content store.now) (S.rows store.now) object word o
@@ -69,6 +70,7 @@ fn held_word(owned: Option<ObjRef>) -> u64
 }
 
 // The object in the row that the word names, if it names one.
+#[inline(always)]
 fn living<S: Store>(store: &S, word: u64) -> Option<ObjRef>
     ensures { IsNamedBy (S.rows store.now) word result }
 {

@@ -1,7 +1,7 @@
 use Rattle.std.proofs.Common.{sym, ◌∙◌}
 use Rattle.life_core.specs.Operands.{location_of}
 use Rattle.life_store.specs.Effects.{cell}
-use Rattle.life_cells.specs.Cells.{pointer_in, state_in}
+use Rattle.life_cells.specs.Cells.{state_in}
 use Rattle.life_cells.specs.Fits.{meant}
 use Rattle.life_cells.specs.Scopes.{function_in, types_in}
 use Rattle.life_cells.proofs.LocationLemmas.{nil}

@@ -3,7 +3,6 @@ use Rattle.life_core.specs.Operands.{location_of}
 use Rattle.life_store.specs.Effects.{cell}
 use Rattle.life_store.specs.Content.{Object}
 use Rattle.life_store.specs.References.{HasWord}
-use Rattle.life_store.specs.State.{Pointer}
 use Rattle.life_seen.specs.Kinds.{kinds_of}
 use Rattle.life_pointers.specs.Owned.{spot_seen}
 use Rattle.life_cells.specs.Cells.{pointer_in, state_in}

@@ -4,6 +4,7 @@ use Rattle.life_core.specs.Operands.{location_of}
 use Rattle.life_store.specs.Parts.{local_type, word_within}
 use Rattle.life_cells.specs.Scopes.{function_in, types_in}
 use Rattle.life_cells.specs.Typed.{member_of}
+use Rattle.life_cells.proofs.LocationLemmas.{nil}
 use Rattle.life_cells.proofs.members.member_word.Goals as goal
 
 pub word_within-requires : goal.word_within-requires
@@ -20,3 +21,10 @@ returns c =
     let f = function_in c.args.scope.now in
     let l = location_of c.args.location.now in
     c.word_within.ensures ∙ ap (λ (ty : Option TyId). word_within types ty c.deref.result.now) c.local_type.ensures ∙ ap (λ (ms : List ℕ). word_within types (local_type types f l.local) ms) c.deref.ensures.value
+
+pub returns-then-is_whole : goal.returns-then-is_whole
+returns-then-is_whole c =
+    let types = types_in c.args.scope.now in
+    let f = function_in c.args.scope.now in
+    let l = location_of c.args.location.now in
+    sym (ap (λ (ms : List ℕ). word_within types (local_type types f l.local) ms) (nil l.members (sym c.is_whole.ensures ∙ c.if-is_whole.true)))

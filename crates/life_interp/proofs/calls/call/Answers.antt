@@ -1,7 +1,7 @@
 use Rattle.std.proofs.Common.{◌≡◌, ◌+◌, ◌<◌, List, [], ℕ, Some, length, map, ap, refl, subst, sym, ◌∙◌, arith}
 use Rattle.std.proofs.lemmas.List.{length-map}
 use Rattle.std.proofs.lemmas.Option.{slice_get-map, slice_get_read}
-use Rattle.std.specs.Prelude.{ℤ, option_map}
+use Rattle.std.specs.Prelude.{option_map}
 use Rattle.life_core.specs.Function.{Function, function_of, program_of}
 use Rattle.life_core.specs.Operands.{argument_of, location_of}
 use Rattle.life_core.specs.Step.{Call}

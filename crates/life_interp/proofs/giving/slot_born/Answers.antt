@@ -1,4 +1,4 @@
-use Rattle.std.proofs.Common.{◌+◌, [], ap, inr, refl, subst, sym, ◌∙◌, arith}
+use Rattle.std.proofs.Common.{[], ap, inr, refl, subst, sym, ◌∙◌, arith}
 use Rattle.std.specs.Prelude.{option_map}
 use Rattle.life_store.specs.Content.{Content}
 use Rattle.life_store.specs.Effects.{Next, on_got, put_cell, put_content}

@@ -1,4 +1,4 @@
-use Rattle.std.proofs.Common.{List, Ok, Err, ap, rules, subst, sym, ◌∙◌}
+use Rattle.std.proofs.Common.{List, Ok, Err, ap, refl, rules, subst, sym, ◌∙◌}
 use Rattle.std.proofs.lemmas.Int.{to_z-of_z}
 use Rattle.std.proofs.lemmas.Result.{err_from_is_err_and}
 use mir.Val.{SFits}
@@ -18,6 +18,7 @@ use Rattle.life_cells.proofs.FitLemmas.{other_cells, set_fits}
 use Rattle.life_cells.proofs.LocationLemmas.{put_now}
 use Rattle.life_cells.proofs.StepLemmas.{stopped}
 use Rattle.life_interp.specs.Steps.{Reads}
+use Rattle.life_interp.proofs.StepLemmas.{err_holds}
 use Rattle.life_interp.proofs.values.load.Goals as goal
 
 pub returns-in_err-value-clause-step : goal.returns-in_err-value-clause-step
@@ -51,3 +52,6 @@ returns-clause-fits g c =
     let rows = g.S.Store.rows c.args.store.now in
     other_cells types content rows c.args.cells.now.items c.put_cell.new.cells.items c.requires.fits
     (subst (CellsFit content rows) (sym c.put_cell.ensures) (set_fits content rows c.args.cells.now.items c.args.into (held.Number _) c.requires.fits.held tt))
+
+pub returns-in_err-value-clause-stays : goal.returns-in_err-value-clause-stays
+returns-in_err-value-clause-stays g c = err_holds c.from_residual.result _ refl

@@ -104,6 +104,7 @@ returns-in-Ok-Here g c =
         held = cells_later content d rows new (later_kept content d rows new keeps) c.args.cells.now c.requires.fits.held;
       };
       keeps = keeps;
+      stays = tt;
       limit = c.put_number.ensures.limit;
     }
 

@@ -25,8 +25,8 @@ loop-left-init g c = record {
   walked = λ s set growing depth. ([], untouched (g.O.Sink.taken c.args.out.now) (g.O.Sink.faults c.args.out.now), refl);
 }
 
-pub pass-requires : goal.pass-requires
-pass-requires g c =
+pub pass_on-requires : goal.pass_on-requires
+pass_on-requires g c =
     let h = c.loop-left.invariant in
     record {
       linked = c.requires.linked;
@@ -52,7 +52,7 @@ returns-in-Err g c = λ s set growing depth.
     ends_there s p at.frames (meant p.types (content at.store) (rows at.store)) (drop at.taken c.args.input.now)
     (from p.functions c.args.frames.now (meant p.types (content c.args.store.now) (rows c.args.store.now)) (drop c.args.taken.now c.args.input.now) (walk s p c.args.steps) c.args.steps [])
     at.left c.in-Err.halt
-    (taken c.args.out.now) (taken at.out) (taken c.pass.new.out) (faults c.args.out.now) (faults at.out) (faults c.pass.new.out)
+    (taken c.args.out.now) (taken at.out) (taken c.pass_on.new.out) (faults c.args.out.now) (faults at.out) (faults c.pass_on.new.out)
     went.0 c.loop-left-test.true went.1 went.2
     (c.in-Err.ensures.step s (record { cells = set.cells ∙ sym at.invariant.limit; texts = set.texts }) growing depth)
 
@@ -69,15 +69,15 @@ loop-left-preserved g c =
       sound = q.sound;
       bounded =
           let p = program_of c.args.program.now in
-          subst (λ n. IsBounded n (meant p.types (g.S.Store.content c.pass.new.store) (g.S.Store.rows c.pass.new.store))) (sym c.pass.ensures.limit) q.bounded;
+          subst (λ n. IsBounded n (meant p.types (g.S.Store.content c.pass_on.new.store) (g.S.Store.rows c.pass_on.new.store))) (sym c.pass_on.ensures.limit) q.bounded;
       countable = record { births = omega (arith, h.countable.births, q.grows.births, c.loop-left-test.true); clock = omega (arith, h.countable.clock, q.grows.clock, c.loop-left-test.true) };
-      limit = c.pass.ensures.limit ∙ h.limit;
+      limit = c.pass_on.ensures.limit ∙ h.limit;
       walked = λ s set growing depth.
           let p = program_of c.args.program.now in
           let went = h.walked s set growing depth in
           let did = q.step s (record { cells = set.cells ∙ sym h.limit; texts = set.texts }) growing depth in (
             went.0 ++ did.0,
-            takes_on (taken c.args.out.now) (taken at.out) (taken c.pass.new.out) (faults c.args.out.now) (faults at.out) (faults c.pass.new.out) went.0 did.0 went.1 did.1,
+            takes_on (taken c.args.out.now) (taken at.out) (taken c.pass_on.new.out) (faults c.args.out.now) (faults at.out) (faults c.pass_on.new.out) went.0 did.0 went.1 did.1,
             went.2
                 ∙ a_step s p at.frames (meant p.types (g.S.Store.content at.store) (g.S.Store.rows at.store)) (drop at.taken c.args.input.now) at.left went.0 c.loop-left-test.true
                 ∙ did.2 (walk s p (at.left - 1)) (at.left - 1) went.0,
