@@ -25,11 +25,11 @@ use Rattle.life_store.proofs.MapLemmas.{one_or_apart}
 use Rattle.life_cover.specs.Covers.{Covers, IsCovered}
 use Rattle.life_cover.specs.Frames.{FrameCovered, RootStands, look_at}
 use Rattle.life_cover.proofs.Edges.{Passes}
-use Rattle.life_cover.proofs.InertParts.{nullable_alone}
+use Rattle.life_cover.proofs.SingleParts.{nullable_alone}
 use Rattle.life_cover.proofs.KnownFrames.{whole_location}
 use Rattle.life_cover.proofs.Putting.{other_local}
 use Rattle.life_cover.specs.Inputs.{StandsAt, may_change}
-use Rattle.life_cover.specs.Members.{HaveInertMembers}
+use Rattle.life_cover.specs.Members.{HaveUntoldMembers}
 use Rattle.life_cover.specs.Regions.{Region}
 
 -- the pointers of the state are covered by the facts of the branch
@@ -130,8 +130,8 @@ module _ (types : Types) (f : Function) (inputs : Root → Option Region) (S : F
           unlike : (v : Pointer) → Points v ≡ Named m → ⊥
           unlike v h = cc
 
-    pub test_covered : HaveInertMembers types → (texts : ℕ) (fs : List Function) (t : Test) (n : ℕ) → is_well_formed_test types texts fs f t ≡ true → Passes t true S H → Passes t false S F → IsCoveredBy types f inputs H F (test_at types f t n st)
-    test_covered inert texts fs (NonZero r) n e held failed = number_covered r held failed n (cell st r)
-    test_covered inert texts fs (NotNull l) n e held failed =
-        subst (λ (q : Location). Passes (NotNull q) true S H → Passes (NotNull q) false S F → IsCoveredBy types f inputs H F (test_at types f (NotNull q) n st)) (whole_location types inert f l (nullable_alone (type_in types f l) e))
+    pub test_covered : HaveUntoldMembers types → (texts : ℕ) (fs : List Function) (t : Test) (n : ℕ) → is_well_formed_test types texts fs f t ≡ true → Passes t true S H → Passes t false S F → IsCoveredBy types f inputs H F (test_at types f t n st)
+    test_covered untold texts fs (NonZero r) n e held failed = number_covered r held failed n (cell st r)
+    test_covered untold texts fs (NotNull l) n e held failed =
+        subst (λ (q : Location). Passes (NotNull q) true S H → Passes (NotNull q) false S F → IsCoveredBy types f inputs H F (test_at types f (NotNull q) n st)) (whole_location types untold f l (nullable_alone (type_in types f l) e))
         (λ h g. null_covered l.local h g n (cell st l.local) refl) held failed

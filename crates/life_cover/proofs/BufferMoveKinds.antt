@@ -1,6 +1,6 @@
 -- A vector or a string that is a whole local takes the buffer of another one: there is no fault, the facts behind it cover all pointers of the frame,
 -- it has a buffer, and the other one may be bare.
-use Rattle.std.proofs.Common.{◌≡◌, ◌≢◌, ◌⊎◌, inl, inr, ⊎_elim, ℕ, suc, ◌<◌, true, List, [], ◌∷◌, length, Option, Some, None, refl, sym, ap, subst, ◌∙◌, arith}
+use Rattle.std.proofs.Common.{◌≡◌, ◌≢◌, ◌⊎◌, inl, inr, ⊎_elim, ℕ, suc, ◌<◌, ◌≤◌, true, List, [], ◌∷◌, length, Option, Some, None, refl, sym, ap, subst, ◌∙◌, arith}
 use Rattle.std.specs.Prelude.{slice_get}
 use Rattle.life_types.specs.Types.{Types}
 use Rattle.life_types.specs.declared.place.Place.{Place}
@@ -23,7 +23,7 @@ use Rattle.life_store.specs.Places.{spot_words}
 use Rattle.life_store.specs.State.{Cell, Empty, Named, Number, Points, State}
 use Rattle.life_store.proofs.CellLemmas.{some_same}
 use Rattle.life_forest.specs.Forest.{Touches}
-use Rattle.life_forest.specs.Kinds.{kinds_of}
+use Rattle.life_forest.specs.Kinds.{kinds_of, rank_of}
 use Rattle.life_forest.specs.Owned.{times}
 use Rattle.life_forest.specs.Values.{owned_of}
 use Rattle.life_forest.specs.Within.{LiesWithin}
@@ -88,11 +88,14 @@ module _ (types : Types) (f : Function) (rest : ℕ → ℕ) (inputs : Root → 
     slot : 0 < length u.variable.object.slots
     slot = let e = ap length u.variable.one in omega (arith, e)
 
+    high : rank_of types u.number ≤ rank_of types u.variable.object.ty
+    high = let e = ap (rank_of types) u.type in omega (arith, e)
+
     not_x : has.held ≢ n
-    not_x = not_given types f rest inputs S st k sigs number place S' (named.Name (whole x)) y right buffer_y m named_y u.number typed_y n u.variable.object u.variable.there u.type
+    not_x = not_given types f rest inputs S st k sigs number place S' (named.Name (whole x)) y right buffer_y m named_y u.number typed_y n u.variable.object u.variable.there high
 
     free : times (owned_of (parts_at types u.number) (spot_words st.world.content (record { object = m; index = 0; word = 0 }) (width_at types u.number))) n ≡ 0
-    free = given_free types f rest inputs S st k sigs number place S' (named.Name (whole x)) y right buffer_y m named_y u.number typed_y n u.variable.object u.variable.there u.type
+    free = given_free types f rest inputs S st k sigs number place S' (named.Name (whole x)) y right buffer_y m named_y u.number typed_y n u.variable.object u.variable.there high
 
     abbrev behind : Content
     behind = moved_to (parts_at types u.number) (record { object = n; index = 0; word = 0 }) m (taken (parts_at types u.number) (suc has.held ∷ []) st.world.content)

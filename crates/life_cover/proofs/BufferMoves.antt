@@ -9,9 +9,9 @@ use Rattle.life_store.specs.Held.{owned_in, owner_word, with_words, wrote, wrote
 use Rattle.life_store.specs.Owners.{Words, ended, renamed_if, taken}
 use Rattle.life_store.specs.Parts.{Parts, Text, Vector, parts_at, width}
 use Rattle.life_store.specs.Places.{spot_words}
-use Rattle.life_store.proofs.CellLemmas.{none_some, set_cases, some_same}
+use Rattle.life_store.proofs.CellLemmas.{none_some, some_same}
 use Rattle.life_cover.specs.Buffered.{AreBut, HasBuffers}
-use Rattle.life_cover.proofs.Buffering.{AllSome, Have, IsBufferOwner, IsOwnerAt, but_more, but_one, ended_but, ended_leaves, owns_but, rename_but, set_but, some_written}
+use Rattle.life_cover.proofs.Buffering.{Have, IsOwnerAt, but_more, but_one, ended_but, ended_leaves, owns_but, rename_but, set_but}
 use Rattle.life_cover.proofs.OwnersStay.{read_word}
 use Rattle.life_cover.proofs.Recopying.{one_written}
 
@@ -68,26 +68,11 @@ module _ (types : Types) (bare : ℕ → Type 0) (b : ℕ) (clear : bare b → �
 
     -- ---- a place takes it, and nobody asks whether what that lies in is bare
 
-    module _ (n i : ℕ) (n_born : n < c.births) (other : b ≢ n) (owner : IsOwnerAt types c n) where
-      left_owner : IsOwnerAt types left n
-      left_owner o there = go (at v.1.objects m) refl there
-        where
-          go : (x : Option Object) → at v.1.objects m ≡ x → at (wrote_if x m 0 0 (owner_word None ∷ []) (taken p (suc b ∷ []) c).1).objects n ≡ Some o → IsBufferOwner types (parts_at types o.ty) × AllSome types o.slots
-          go None e here = owner o (sym (over.others n n_born other) ∙ here)
-          go (Some x) e here =
-              ⊎_elim
-              (λ same.
-              let was = owner x (sym (over.others n n_born other) ∙ ap (at v.1.objects) (sym same.0) ∙ e) in
-              subst (λ (q : Object). IsBufferOwner types (parts_at types q.ty) × AllSome types q.slots) (some_same (sym same.1 ∙ here)) (was.0, some_written types x.slots 0 0 was.1))
-              (λ apart. owner o (sym (over.others n n_born other) ∙ sym apart.1 ∙ here))
-              (set_cases v.1.objects m n (with_words 0 0 (owner_word None ∷ []) x))
-
-      pub placed_buffered : AreBut types (λ k. bare k ⊎ (k ≡ m)) (moved_to p (record { object = n; index = i; word = 0 }) m (taken p (suc b ∷ []) c))
-      placed_buffered =
-          let e = ended p (spot_words left (record { object = n; index = i; word = 0 }) (width p)) left in
-          subst (λ (ws : List ℕ). AreBut types (λ k. bare k ⊎ (k ≡ m)) (wrote_if (at (ended p (spot_words left (record { object = n; index = i; word = 0 }) (width p)) left).objects n) n i 0 ws (ended p (spot_words left (record { object = n; index = i; word = 0 }) (width p)) left))) (sym over.row)
-          (owns_but types (λ k. bare k ⊎ (k ≡ m)) n i over.number e (λ o there. left_owner o (ended_leaves types p (spot_words left (record { object = n; index = i; word = 0 }) (width p)) left n o there))
-          (ended_but types (λ k. bare k ⊎ (k ≡ m)) p (spot_words left (record { object = n; index = i; word = 0 }) (width p)) left emptied))
+    pub placed_buffered : (n i w : ℕ) → AreBut types (λ k. bare k ⊎ (k ≡ m)) (moved_to p (record { object = n; index = i; word = w }) m (taken p (suc b ∷ []) c))
+    placed_buffered n i w =
+        let e = ended p (spot_words left (record { object = n; index = i; word = w }) (width p)) left in
+        subst (λ (ws : List ℕ). AreBut types (λ k. bare k ⊎ (k ≡ m)) (wrote_if (at (ended p (spot_words left (record { object = n; index = i; word = w }) (width p)) left).objects n) n i w ws (ended p (spot_words left (record { object = n; index = i; word = w }) (width p)) left))) (sym over.row)
+        (owns_but types (λ k. bare k ⊎ (k ≡ m)) n i w over.number e (ended_but types (λ k. bare k ⊎ (k ≡ m)) p (spot_words left (record { object = n; index = i; word = w }) (width p)) left emptied))
 
     -- ---- all of an object of one slot takes it
 

@@ -14,8 +14,8 @@ use Rattle.life_store.proofs.CellLemmas.{cell_cases, none_some, set_cases, some_
 use Rattle.life_store.proofs.MapLemmas.{one_or_apart}
 use Rattle.life_forest.proofs.Coming.{IfGot}
 use Rattle.life_cover.specs.Buffered.{AreBut, HasBuffers}
-use Rattle.life_cover.proofs.InertParts.{AreSingle, single_has}
-use Rattle.life_cover.proofs.OwnersStay.{read_word}
+use Rattle.life_cover.proofs.BufferWords.{bufferless, set_has}
+use Rattle.life_cover.proofs.SingleParts.{AreSingle, single_has}
 
 -- ---- slots
 
@@ -83,10 +83,10 @@ module _ (types : Types) where
 
   -- values have none
   pub single_have : (o : Object) → parts_at types o.ty ≡ Single → Have o
-  single_have o single i s e = subst (λ (p : Parts). HasBuffers p s.words) (sym single) tt
+  single_have o single i s e = subst (λ (p : Parts). HasBuffers p s.words) (sym single) (bufferless Single (λ u. refl) s.words)
 
-  pub inert_have : (o : Object) → AreSingle (parts_at types o.ty) → Have o
-  inert_have o single i s e = single_has (parts_at types o.ty) single s.words
+  pub alone_have : (o : Object) → AreSingle (parts_at types o.ty) → Have o
+  alone_have o single i s e = single_has (parts_at types o.ty) single s.words
 
   -- more may be left out
   pub but_more : (out more : ℕ → Type 0) (c : Content) → ((n : ℕ) → out n → more n) → AreBut types out c → AreBut types more c
@@ -217,20 +217,20 @@ module _ (types : Types) where
   abbrev pub IsOwnerAt : Content → ℕ → Type 0
   IsOwnerAt c n = (o : Object) → at c.objects n ≡ Some o → IsBufferOwner (parts_at types o.ty) × AllSome o.slots
 
-  pub owns_but : (out : ℕ → Type 0) (n i m : ℕ) (c : Content) → IsOwnerAt c n → AreBut types out c → AreBut types out (owns (record { object = n; index = i; word = 0 }) m c)
-  owns_but out n i m c is h = go (at c.objects n) refl
+  -- an owner that owns something may be written anywhere
+  pub owns_but : (out : ℕ → Type 0) (n i w m : ℕ) (c : Content) → AreBut types out c → AreBut types out (owns (record { object = n; index = i; word = w }) m c)
+  owns_but out n i w m c h = go (at c.objects n) refl
     where
-      at_slots : (o : Object) → at c.objects n ≡ Some o → (free : out n → ⊥) → Have (with_word i 0 (suc m) o)
-      at_slots o there free =
-          each_written (HasBuffers (parts_at types o.ty)) o.slots i 0 (suc m) (λ s e. (is o there).0 (slice_set s.words 0 (suc m)) m (ap owned_in (read_word s.words 0 (suc m) ((is o there).1 i s e)))) (λ j s e. h n j o s free there e)
+      at_slots : (o : Object) → at c.objects n ≡ Some o → (free : out n → ⊥) → Have (with_word i w (suc m) o)
+      at_slots o there free = each_written (HasBuffers (parts_at types o.ty)) o.slots i w (suc m) (λ s e. set_has (parts_at types o.ty) s.words w m (h n i o s free there e)) (λ j s e. h n j o s free there e)
 
-      go : (o : Option Object) → at c.objects n ≡ o → AreBut types out (wrote_if o n i 0 (suc m ∷ []) c)
+      go : (o : Option Object) → at c.objects n ≡ o → AreBut types out (wrote_if o n i w (suc m ∷ []) c)
       go None e k j q s free there slot = h k j q s free there slot
       go (Some o) e k j q s free there slot =
           ⊎_elim
           (λ same. subst (λ (x : Object). (t : ℕ) (u : Slot) → slice_get x.slots t ≡ Some u → HasBuffers (parts_at types x.ty) u.words) (some_same (sym same.1 ∙ there)) (at_slots o e (λ gone. free (subst out same.0 gone))) j s slot)
           (λ other. h k j q s free (sym other.1 ∙ there) slot)
-          (set_cases c.objects n k (with_word i 0 (suc m) o))
+          (set_cases c.objects n k (with_word i w (suc m) o))
 
   -- all slots of an object get rows that have their buffers
   pub filled_but : (out : ℕ → Type 0) (n : ℕ) (rows : List (List ℕ)) (c : Content) → ((o : Object) → at c.objects n ≡ Some o → length o.slots ≤ length rows) → ((o : Object) → at c.objects n ≡ Some o → (i : ℕ) (ws : List ℕ) → slice_get rows i ≡ Some ws → HasBuffers (parts_at types o.ty) ws)

@@ -1,6 +1,6 @@
 -- Behind a call each vector and each string has its buffer that had it before: what waits, and what inputs stand for, keeps what it owns, or may be
 -- changed by the callee, which leaves it with its buffer.
-use Rattle.std.proofs.Common.{◌≡◌, ◌⊎◌, inl, inr, ⊎_elim, ℕ, ◌+◌, ◌<◌, Bool, true, false, List, length, Option, Some, None, refl, sym, ap, subst, ◌∙◌, arith}
+use Rattle.std.proofs.Common.{◌≡◌, ◌⊎◌, inl, inr, ℕ, ◌+◌, ◌<◌, Bool, true, false, List, length, Option, Some, None, refl, sym, ap, subst, ◌∙◌, arith}
 use Rattle.std.specs.Prelude.{Contains, option_map, slice_get, slice_index}
 use Rattle.std.specs.List.{list_any}
 use Rattle.life_types.specs.Types.{Types}
@@ -9,8 +9,8 @@ use Rattle.life_pset.specs.declared.element.Root.{Root}
 use Rattle.life_store.specs.Cells.{at}
 use Rattle.life_store.specs.Content.{Slot, Object, Content, word_in}
 use Rattle.life_store.specs.Held.{owned_in}
-use Rattle.life_store.specs.Kinds.{is_value, kind_in}
-use Rattle.life_store.specs.Parts.{Parts, Single, Raw, Iterates, Views, Text, Vector, Unique, Member, NoMember, parts_at}
+use Rattle.life_store.specs.Kinds.{is_value}
+use Rattle.life_store.specs.Parts.{parts_at}
 use Rattle.life_store.proofs.CellLemmas.{none_some, some_same}
 use Rattle.life_store.proofs.MapLemmas.{one_or_apart}
 use Rattle.life_forest.specs.Forest.{Beneath, Touches}
@@ -19,56 +19,19 @@ use Rattle.life_forest.specs.Owned.{spared, times}
 use Rattle.life_forest.specs.Typed.{IsStore}
 use Rattle.life_forest.proofs.Below.{positive_is, lives}
 use Rattle.life_forest.proofs.Steps.{alive_le}
-use Rattle.life_cover.specs.Buffered.{AreBut, HasBuffers}
+use Rattle.life_cover.specs.Buffered.{AreBut, HasBuffers, is_buffer_at}
 use Rattle.life_cover.specs.Inputs.{foot_with}
 use Rattle.life_cover.specs.Lacking.{IsSpared}
-use Rattle.life_cover.specs.Members.{HaveInertMembers}
 use Rattle.life_cover.specs.Regions.{Region, is_in_region}
 use Rattle.life_cover.proofs.Beside.{kept_object, Keeps}
-use Rattle.life_cover.proofs.Copies.{IsWhole, slot_within, whole_parts}
-use Rattle.life_cover.proofs.InertParts.{single_has}
+use Rattle.life_cover.proofs.BufferWords.{buffer_owner}
+use Rattle.life_cover.proofs.Copies.{slot_within}
 use Rattle.life_cover.proofs.Inside.{region_within}
 use Rattle.life_cover.proofs.Mutated.{which_passes}
 use Rattle.life_cover.proofs.Opening.{slot_there}
 use Rattle.life_cover.proofs.Remade.{hand_apart}
 
--- ---- a value has its buffers by its first word, as no member of a struct owns anything
-
-module _ (p : Parts) (whole : IsWhole p) where
-  first_word : (ws vs : List ℕ) → (is_value (kind_in p 0) ≡ false → slice_index vs 0 ≡ slice_index ws 0) → HasBuffers p ws → HasBuffers p vs
-  first_word ws vs = go p whole
-    where
-      go : (q : Parts) → IsWhole q → (is_value (kind_in q 0) ≡ false → slice_index vs 0 ≡ slice_index ws 0) → HasBuffers q ws → HasBuffers q vs
-      go (Text ty) w same h = (h.0, ap owned_in (same refl) ∙ h.1)
-      go (Vector ty element) w same h = (h.0, ap owned_in (same refl) ∙ h.1)
-      go (Member first others) w same h = single_has (Member first others) w vs
-      go Single w same h = tt
-      go Raw w same h = tt
-      go Iterates w same h = tt
-      go Views w same h = tt
-      go (Unique ty target) w same h = tt
-      go NoMember w same h = tt
-
--- .. which it has or not
-has_or_not : (p : Parts) → IsWhole p → (ws : List ℕ) → HasBuffers p ws ⊎ (HasBuffers p ws → ⊥)
-has_or_not p whole ws = go p whole
-  where
-    owner : (o : Option ℕ) → owned_in (slice_index ws 0) ≡ o → ((m : ℕ) × (owned_in (slice_index ws 0) ≡ Some m)) ⊎ (((m : ℕ) × (owned_in (slice_index ws 0) ≡ Some m)) → ⊥)
-    owner (Some m) e = inl (m, e)
-    owner None e = inr (λ h. none_some (sym e ∙ h.1))
-
-    go : (q : Parts) → IsWhole q → HasBuffers q ws ⊎ (HasBuffers q ws → ⊥)
-    go (Text ty) w = owner (owned_in (slice_index ws 0)) refl
-    go (Vector ty element) w = owner (owned_in (slice_index ws 0)) refl
-    go (Member first others) w = inl (single_has (Member first others) w ws)
-    go Single w = inl tt
-    go Raw w = inl tt
-    go Iterates w = inl tt
-    go Views w = inl tt
-    go (Unique ty target) w = inl tt
-    go NoMember w = inl tt
-
-module _ (types : Types) (inert : HaveInertMembers types) (waiting : ℕ → ℕ) (regions : List Region) (over : List ℕ) (c d : Content) (store : IsStore types (λ j. times over j + waiting j) c) (touch : Touches (kinds_of types) (foot_with types regions over) c d)
+module _ (types : Types) (waiting : ℕ → ℕ) (regions : List Region) (over : List ℕ) (c d : Content) (store : IsStore types (λ j. times over j + waiting j) c) (touch : Touches (kinds_of types) (foot_with types regions over) c d)
     (bare loose : ℕ → Type 0) (before : AreBut types bare c) (behind : AreBut types loose d) (seen : (a : Region) → Contains regions a → loose a.object → ⊥) where
   -- what waits isn't beneath what is given over, nor beneath what the callee may change
   waits_apart : (n : ℕ) → 0 < waiting n → Beneath (kinds_of types) c (foot_with types regions over) n → ⊥
@@ -83,26 +46,32 @@ module _ (types : Types) (inert : HaveInertMembers types) (waiting : ℕ → ℕ
 
   -- an object that is kept has what it had, or is one that the callee leaves with its buffer
   same_kept : (n i : ℕ) (q : Object) (t : Slot) → (bare n → ⊥) → at d.objects n ≡ Some q → slice_get q.slots i ≡ Some t → (o : Object) → at c.objects n ≡ Some o → Keeps (kinds_of types) (λ u. list_any (λ a. is_in_region types a n u) regions) d n o → HasBuffers (parts_at types q.ty) t.words
-  same_kept n i q t free there slot o at_c k = by_region (list_any (λ a. is_in_region types a n 0) regions) refl
+  same_kept n i q t free there slot o at_c k u e = by_region (list_any (λ a. is_in_region types a n u) regions) refl
     where
       same : k.object ≡ q
       same = some_same (sym k.there ∙ there)
 
-      by_region : (b : Bool) → list_any (λ a. is_in_region types a n 0) regions ≡ b → HasBuffers (parts_at types q.ty) t.words
-      by_region true e =
-          let a = which_passes (λ b. is_in_region types b n 0) regions e in
-          behind n i q t (λ l. seen a.0 a.1 (subst loose (region_within types a.0 n 0 a.2).object l)) there slot
-      by_region false e =
-          let s = slot_there o.slots i (let l = slot_within q.slots i t slot in let e = ap (λ (x : Object). length x.slots) same in let size = k.count in omega (arith, l, e, size)) in
-          let ty : o.ty ≡ q.ty = sym k.type ∙ ap (λ (x : Object). x.ty) same in
-          subst (λ (id : TyId). HasBuffers (parts_at types id) t.words) ty
-          (first_word (parts_at types o.ty) (whole_parts types inert o.ty) s.0.words t.words
-          (λ value.
-          sym (ap (λ (x : Option Slot). word_in x 0) slot)
-          ∙ ap (λ (x : Object). word_in (slice_get x.slots i) 0) (sym same)
-          ∙ k.words i 0 value e
-          ∙ ap (λ (x : Option Slot). word_in x 0) s.1)
-          (before n i o s.0 free at_c s.1))
+      ty : o.ty ≡ q.ty
+      ty = sym k.type ∙ ap (λ (x : Object). x.ty) same
+
+      s : (x : Slot) × (slice_get o.slots i ≡ Some x)
+      s = slot_there o.slots i (let l = slot_within q.slots i t slot in let e = ap (λ (x : Object). length x.slots) same in let size = k.count in omega (arith, l, e, size))
+
+      here : is_buffer_at (parts_at types o.ty) u ≡ true
+      here = ap (λ (id : TyId). is_buffer_at (parts_at types id) u) ty ∙ e
+
+      by_region : (b : Bool) → list_any (λ a. is_in_region types a n u) regions ≡ b → (m : ℕ) × (owned_in (slice_index t.words u) ≡ Some m)
+      by_region true within =
+          let a = which_passes (λ b. is_in_region types b n u) regions within in
+          behind n i q t (λ l. seen a.0 a.1 (subst loose (region_within types a.0 n u a.2).object l)) there slot u e
+      by_region false within =
+          let b = before n i o s.0 free at_c s.1 u here in (
+            b.0,
+            ap owned_in (sym (ap (λ (x : Option Slot). word_in x u) slot)
+                ∙ ap (λ (x : Object). word_in (slice_get x.slots i) u) (sym same)
+                ∙ k.words i u (ap is_value (buffer_owner (parts_at types o.ty) u here)) within
+                ∙ ap (λ (x : Option Slot). word_in x u) s.1) ∙ b.1,
+          )
 
   waiting_buffered : (n i : ℕ) (q : Object) (t : Slot) → 0 < waiting n → (bare n → ⊥) → at d.objects n ≡ Some q → slice_get q.slots i ≡ Some t → HasBuffers (parts_at types q.ty) t.words
   waiting_buffered n i q t lt free there slot =
@@ -126,9 +95,10 @@ module _ (types : Types) (inert : HaveInertMembers types) (waiting : ℕ → ℕ
 
     -- what may be bare was so before, or is what the callee left so, to which nobody comes here either
     pub called_spared : AreBut types (λ n. bare n ⊎ (loose n × (waiting n ≡ 0) × IsSpared inputs n)) d
-    called_spared n i q t free there slot = ⊎_elim
-        (λ h. h)
-        (λ none. one_or_apart (waiting n) 0
-        (λ z. behind n i q t (λ l. free (inr (l, z, λ r a stands same. none (input_buffered n i q t (λ b. free (inl b)) there slot r a stands same)))) there slot)
-        (λ nz. waiting_buffered n i q t (omega (arith, nz)) (λ b. free (inl b)) there slot))
-        (has_or_not (parts_at types q.ty) (whole_parts types inert q.ty) t.words)
+    called_spared n i q t free there slot u e = go (owned_in (slice_index t.words u)) refl
+      where
+        go : (x : Option ℕ) → owned_in (slice_index t.words u) ≡ x → (m : ℕ) × (owned_in (slice_index t.words u) ≡ Some m)
+        go (Some m) is = (m, is)
+        go None is = one_or_apart (waiting n) 0
+            (λ z. behind n i q t (λ l. free (inr (l, z, λ r a stands same. none_some (sym is ∙ (input_buffered n i q t (λ b. free (inl b)) there slot r a stands same u e).1)))) there slot u e)
+            (λ nz. waiting_buffered n i q t (omega (arith, nz)) (λ b. free (inl b)) there slot u e)

@@ -32,7 +32,7 @@ use Rattle.life_cover.specs.Covers.{IsSeenAs}
 use Rattle.life_cover.specs.Frames.{FrameCovered}
 use Rattle.life_cover.proofs.ChangeKinds.{IsGiven, not_pushed, text_append, text_clear, text_push, text_set, vector_clear, vector_pop, vector_push, vector_reserve}
 use Rattle.life_cover.proofs.EraseKinds.{vector_erase}
-use Rattle.life_cover.proofs.InertParts.{pointer_alone}
+use Rattle.life_cover.proofs.SingleParts.{pointer_alone}
 use Rattle.life_cover.proofs.KnownFrames.{at_pointer, IsKnownFrame, IsRight, object_uncounted, whole_location}
 use Rattle.life_cover.proofs.Looks.{view_range, given_type, seen_at, walks_single}
 use Rattle.life_cover.proofs.Pointers.{OnRight}
@@ -50,7 +50,7 @@ module _ (types : Types) (f : Function) (rest : ℕ → ℕ) (inputs : Root → 
     given_whole : (given : Characters) → are_characters types texts fs f given ≡ true → IsGiven types f rest inputs S st k sigs n place S' s o free given
     given_whole (named.Single r) e = tt
     given_whole (named.View l) e =
-        let is = whole_location types k.inert f l (pointer_alone (type_in types f l) (range_points (type_in types f l) (view_range (type_in types f l) e))) in
+        let is = whole_location types k.untold f l (pointer_alone (type_in types f l) (range_points (type_in types f l) (view_range (type_in types f l) e))) in
         (is, subst (λ (q : Location). is_range (type_in types f q) ≡ true) (sym is) (view_range (type_in types f l) e))
 
     text_step : (c : Change) → type_of types f o ≡ ty.Text → Right (Changes o c) → is_change_of types texts fs f ty.Text c ≡ true → Covers (Changes o c)

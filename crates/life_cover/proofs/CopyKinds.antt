@@ -1,12 +1,12 @@
 -- A value, a vector, a string or a struct of values is copied, by names or through pointers: there is no fault, and the facts behind it cover all
 -- pointers of the frame.
-use Rattle.std.proofs.Common.{◌≡◌, inl, inr, ℕ, ◌<◌, Bool, true, false, ◌&&◌, List, [], ◌∷◌, length, Option, Some, None, refl, sym, ap, subst, ◌∙◌, ◌≢◌}
-use Rattle.std.specs.Prelude.{if◌then◌else◌, slice_get, slice_index, take, drop}
+use Rattle.std.proofs.Common.{◌≡◌, inl, inr, ℕ, ◌<◌, Bool, true, false, ◌&&◌, List, [], ◌∷◌, Option, Some, None, refl, sym, ap, subst, ◌∙◌, arith, ◌≢◌, ◌+◌}
+use Rattle.std.specs.Prelude.{if◌then◌else◌, slice_get, slice_index, drop}
 use Rattle.std.proofs.lemmas.Bool.{false≢true, ne_eqb}
 use Rattle.std.proofs.lemmas.List.Elements.{Contains-append_left, Contains-append_right}
 use Rattle.life_types.specs.Pointees.{or_void}
 use Rattle.life_types.specs.Trees.{IsOrdered, holds_owner, members_at, tree_at, tree_of}
-use Rattle.life_types.specs.TypeTests.{is_pointer, is_value, is_void}
+use Rattle.life_types.specs.TypeTests.{is_pointer, is_void}
 use Rattle.life_types.specs.Types.{Types}
 use Rattle.life_types.specs.declared.place.Place.{Place}
 use Rattle.life_types.specs.declared.ty.Ty.{Ty}
@@ -19,7 +19,7 @@ use Rattle.life_core.specs.Operands as named
 use Rattle.life_core.specs.Step.{Copy}
 use Rattle.life_pset.specs.Elements.{local_place}
 use Rattle.life_pset.specs.Places.{begins, is_within, path}
-use Rattle.life_pset.specs.Shapes.{has_buffer, tree_if}
+use Rattle.life_pset.specs.Shapes.{tree_if}
 use Rattle.life_pset.specs.Shapes as shapes
 use Rattle.life_pset.specs.contracts.element.RootPartialEq.TheImpl.{ghosts as compared}
 use Rattle.life_pset.specs.declared.element.AbsPlace.{AbsPlace}
@@ -35,46 +35,49 @@ use Rattle.life_rules.specs.Diagnosing.{used_in}
 use Rattle.life_rules.specs.Keeping.{kept_through}
 use Rattle.life_store.specs.Content.{Slot, Object, Content}
 use Rattle.life_store.specs.Doing.{copied_to, does, on_character, replaced}
-use Rattle.life_store.specs.Effects.{Attempt, Got, GotTrap, GotFault, GotLost, Effect, Next, Setting, cell, put_content, word_of_number, on_got}
-use Rattle.life_store.specs.Held.{slots_if, words_at, words_if}
+use Rattle.life_store.specs.Effects.{Attempt, Got, GotTrap, GotFault, GotLost, Effect, Next, Setting, cell, put_content, word_of_number}
+use Rattle.life_store.specs.Held.{slot_words, slots_if, words_at, words_if}
 use Rattle.life_store.specs.Owners.{copied, Words}
-use Rattle.life_store.specs.Parts.{Parts, Single, characters_type, operand_parts, operand_type, parts_at, parts_if, parts_of, width}
+use Rattle.life_store.specs.Parts.{Parts, Single, operand_parts, operand_type, parts_at, parts_if, parts_of, width, width_at}
 use Rattle.life_store.specs.Parts as parts
 use Rattle.life_store.specs.Places.{Spot, locate, on_place, operand_word, spot_words, wrote_spot}
 use Rattle.life_store.specs.State.{Named, Pointer, Points, State}
 use Rattle.life_store.proofs.CellLemmas.{some_same}
 use Rattle.life_forest.specs.Forest.{Touches}
-use Rattle.life_forest.specs.Kinds.{kinds_of}
+use Rattle.life_forest.specs.Kinds.{kinds_of, rank_of}
 use Rattle.life_forest.specs.Owned.{alive, times}
 use Rattle.life_forest.specs.Typed.{IsStore}
 use Rattle.life_forest.specs.Values.{Known, owned_of}
 use Rattle.life_forest.proofs.Coming.{IfGot}
-use Rattle.life_forest.proofs.Laying.{parts_made}
+use Rattle.life_forest.proofs.Laying.{IsMade, made_at, parts_made}
 use Rattle.life_forest.proofs.OneNumber.{IsOfType}
 use Rattle.life_forest.proofs.Placed.{AreCopied, place_copied}
-use Rattle.life_forest.proofs.SeenTypes.{parts_typed}
+use Rattle.life_forest.proofs.SeenTypes.{character_parts, parts_typed}
+use Rattle.life_forest.proofs.Stores.{if_such}
 use Rattle.life_forest.proofs.TypedSteps.{operand_of, operand_same}
-use Rattle.life_cover.proofs.InertParts.{AreSingle, single_copied, single_copied_wide, single_ended}
-use Rattle.life_cover.proofs.MemberReach.{no_struct}
+use Rattle.life_cover.proofs.Behind.{both_got}
+use Rattle.life_cover.proofs.BufferWords.{drop_index, take_index}
+use Rattle.life_cover.proofs.Full.{filled}
+use Rattle.life_cover.proofs.SingleParts.{AreSingle, single_copied, single_ended, unowned_single}
+use Rattle.life_cover.proofs.Recopying.{copied_but, IsCopied, more_self}
 use Rattle.life_cover.proofs.Unkept.{members_root, reached_owning}
 use Rattle.life_cover.specs.Covers.{IsCovered, IsSeenAs, Look}
 use Rattle.life_cover.specs.Frames.{FrameCovered, RootStands, look_at}
-use Rattle.life_cover.specs.Inputs.{IsAllOf, StandsAt, may_change, owning}
+use Rattle.life_cover.specs.Inputs.{StandsAt, may_change, owning}
 use Rattle.life_cover.specs.Kills.{Closed}
-use Rattle.life_cover.specs.Members.{is_inert}
-use Rattle.life_cover.specs.Regions.{IsAt, Region, foot_of, owned_in_type}
+use Rattle.life_cover.specs.Members.{is_untold}
+use Rattle.life_cover.specs.Regions.{IsAt, Region, foot_of}
 use Rattle.life_cover.specs.Roots.{AreRooted}
 use Rattle.life_cover.specs.Lacking.{MayLack}
 use Rattle.life_cover.proofs.Copied.{copy_named, copy_through, copy_touches}
-use Rattle.life_cover.proofs.Copies.{IsWhole, copied_right, now, whole_parts}
+use Rattle.life_cover.proofs.Copies.{copied_right, now, IsFull}
 use Rattle.life_cover.proofs.KnownFrames.{IsKnownFrame, IsRight, hand_of, reach_at, rooted_of, store_of, used_right}
 use Rattle.life_cover.proofs.NumberKinds.{character_right}
-use Rattle.life_cover.proofs.Opening.{region_all, slot_there, IsTyped, owner_typed}
-use Rattle.life_cover.proofs.OwnerElements.{first_of}
+use Rattle.life_cover.proofs.Opening.{slot_there, region_part}
 use Rattle.life_cover.proofs.OwnerKinds.{right_got}
 use Rattle.life_cover.proofs.Pointers.{IfRight, OnRight, right_then}
 use Rattle.life_cover.proofs.Reaching.{IsReached, Reach, by_reach, on_place_right, spot_is}
-use Rattle.life_cover.proofs.SaveKinds.{region_within, singles_touch, struct_alone, struct_operand, struct_owns, struct_parts, value_there, words_touches}
+use Rattle.life_cover.proofs.SaveKinds.{region_within, singles_touch}
 use Rattle.life_cover.proofs.Unkilled.{no_foot, unkilled_cover}
 use Rattle.life_cover.proofs.Using.{Faultless}
 use Rattle.life_cover.proofs.Lacking.{low_whole, owner_whole}
@@ -157,190 +160,167 @@ module _ (types : Types) (f : Function) (rest : ℕ → ℕ) (inputs : Root → 
   pub reached_holds : (r : IsReached types f st (StandsAt inputs) (may_change types f) S to) → holds_owner (tree_if types (shapes.operand_type types f to)) ≡ true → holds_owner (tree_at types r.region.ty) ≡ true
   reached_holds r holds = seen_holds types k.ordered (operand_type types f to) r.region.ty r.seen (ap (λ (id : Option TyId). holds_owner (tree_if types id)) (sym (operand_same types k.ordered k.once 0 [] f k.shaped to)) ∙ holds)
 
-  -- ---- whatever holds where a value is written, or what is owned there is touched
+  -- ---- the words that are copied
 
-  module _ (Q : State → Type 0)
-      (written : (r : IsReached types f st (StandsAt inputs) (may_change types f) S to) → holds_owner (tree_if types (shapes.operand_type types f to)) ≡ false → (d : Content) → Touches (kinds_of types) no_foot st.world.content d → Q (put_content d st))
-      (changed : (r : IsReached types f st (StandsAt inputs) (may_change types f) S to) → holds_owner (tree_if types (shapes.operand_type types f to)) ≡ true → (d : Content) → Touches (kinds_of types) (foot_of types r.region) st.world.content d → Q (put_content d st)) where
-    -- ---- its type
+  -- what is seen has the parts of what sees it
+  seen_parts : (o : Operand) (h : IsReached types f st (StandsAt inputs) (may_change types f) S o) → parts_at types h.region.ty ≡ operand_parts types f o
+  seen_parts o h = go (operand_type types f o) h.seen
+    where
+      go : (t : Option TyId) → IsSeenAs types t h.region.ty → parts_at types h.region.ty ≡ parts_if types t
+      go None seen = absurd seen
+      go (Some t) (inl same) = ap (parts_at types) (sym same)
+      go (Some t) (inr character) = ap (parts_at types) character.1 ∙ character_parts types k.ordered ∙ sym character.0
 
-    module _ (u : Ty) (is : type_of types f to ≡ u) where
-      solid : is_void u ≡ false
-      solid = ap is_void (sym is) ∙ solid_to
+  -- both are of one type
+  typed_parts : (o : Operand) (u : Ty) → type_of types f o ≡ u → is_void u ≡ false → operand_parts types f o ≡ parts_of types (parts_at types) (Some u)
+  typed_parts o u is solid =
+      let of = operand_of types k.ordered k.once 0 [] f k.shaped o u is solid in
+      ap (parts_if types) of.is ∙ parts_typed types k.ordered of.number u of.there
 
-      of : IsOfType types (operand_type types f to) u
-      of = operand_of types k.ordered k.once 0 [] f k.shaped to u is solid
+  abbrev p : Parts
+  p = operand_parts types f to
 
-      holds_is : holds_owner (tree_if types (shapes.operand_type types f to)) ≡ holds_owner (tree_of types (tree_at types) (Some u))
-      holds_is =
-          ap (λ (id : Option TyId). holds_owner (tree_if types id)) (operand_same types k.ordered k.once 0 [] f k.shaped to ∙ of.is)
-          ∙ ap holds_owner (tree_made types k.ordered of.number ∙ ap (tree_of types (tree_at types)) of.there)
+  from_is : operand_parts types f from ≡ operand_parts types f to
+  from_is = typed_parts from (type_of types f to) (sym alike) solid_to ∙ sym (typed_parts to (type_of types f to) refl solid_to)
 
-      parts_are : operand_parts types f to ≡ parts_of types (parts_at types) (Some u)
-      parts_are = ap (parts_if types) of.is ∙ parts_typed types k.ordered of.number u of.there
+  module _ (h : IsReached types f st (StandsAt inputs) (may_change types f) S from) where
+    abbrev ws : List ℕ
+    ws = words_at st.world.content h.region.object h.index h.region.word (width (operand_parts types f to))
 
-      -- ---- a value
+    from_parts : parts_at types h.region.ty ≡ operand_parts types f to
+    from_parts = seen_parts from h ∙ from_is
 
-      module _ (value : is_value u ≡ true) (single : parts_of types (parts_at types) (Some u) ≡ Single) (holds : holds_owner (tree_of types (tree_at types) (Some u)) ≡ false) (r : IsReached types f st (StandsAt inputs) (may_change types f) S to) where
-        value_copied : (ws : List ℕ) → length ws ≡ 1 → OnRight (copied_to s Single (record { object = r.region.object; index = r.index; word = r.region.word }) ws st) Q
-        value_copied ws one =
-            written r (holds_is ∙ holds) (wrote_spot (record { object = r.region.object; index = r.index; word = r.region.word }) ws st.world.content)
-            (words_touches types f rest inputs S st k to r (subst (λ (t : Ty). is_value t ≡ true) (sym is) value) ws one)
+    are : AreCopied types st.world.content (operand_parts types f to) (words_at st.world.content h.region.object h.index h.region.word (width (operand_parts types f to)))
+    are =
+        place_copied types k.ordered (hand_of rest st) st.world.content (store_of types f rest inputs S st k) h.region.ty h.region.object h.index h.region.word h.holder (record { there = h.there; slot = h.small; within = region_within types f rest inputs S st k from h })
+        (operand_parts types f to) from_parts
 
-        value_from : OnRight (on_place (locate types f from st) (λ m i object. copied_to s (operand_parts types f to) (record { object = r.region.object; index = r.index; word = r.region.word }) (words_at st.world.content m i (operand_word types f from st) (width (operand_parts types f to))) st)
-            (λ c. on_character s.texts c (λ z. copied_to s (operand_parts types f to) (record { object = r.region.object; index = r.index; word = r.region.word }) (word_of_number z ∷ []) st))) Q
-        value_from =
-            subst (λ (p : Parts). OnRight (on_place (locate types f from st) (λ m i object. copied_to s p (record { object = r.region.object; index = r.index; word = r.region.word }) (words_at st.world.content m i (operand_word types f from st) (width p)) st)
-            (λ c. on_character s.texts c (λ z. copied_to s p (record { object = r.region.object; index = r.index; word = r.region.word }) (word_of_number z ∷ []) st))) Q) (sym (parts_are ∙ single))
-            (on_place_right types f st (StandsAt inputs) (may_change types f) S from reach_from
-            (λ m i object. copied_to s Single (record { object = r.region.object; index = r.index; word = r.region.word }) (words_at st.world.content m i (operand_word types f from st) 1) st)
-            (λ c. on_character s.texts c (λ z. copied_to s Single (record { object = r.region.object; index = r.index; word = r.region.word }) (word_of_number z ∷ []) st)) Q
-            (λ h. value_copied (words_at st.world.content h.region.object h.index (operand_word types f from st) 1)
-            (subst (λ w. length (words_at st.world.content h.region.object h.index w 1) ≡ 1) (sym h.word)
-            (place_copied types k.ordered (hand_of rest st) st.world.content (store_of types f rest inputs S st k) h.region.ty h.region.object h.index h.region.word h.holder (record { there = h.there; slot = h.small; within = region_within types f rest inputs S st k from h }) Single
-            (value_there types f rest inputs S st k from h (subst (λ (t : Ty). is_value t ≡ true) (sym is ∙ alike) value))).wide))
-            (λ c one. character_right s.texts c (λ z. copied_to s Single (record { object = r.region.object; index = r.index; word = r.region.word }) (word_of_number z ∷ []) st) Q (λ z. value_copied (word_of_number z ∷ []) refl)))
+    t : (x : Slot) × (slice_get h.holder.slots h.index ≡ Some x)
+    t = slot_there h.holder.slots h.index h.small
 
-      -- ---- a vector or a string
+    read : (u : ℕ) → u < width_at types h.region.ty → slice_index (words_at st.world.content h.region.object h.index h.region.word (width (operand_parts types f to))) u ≡ slice_index t.0.words (h.region.word + u)
+    read u lt =
+        take_index (drop h.region.word (slot_words st.world.content h.region.object h.index)) (width (operand_parts types f to)) u (let e = ap width from_parts in omega (arith, lt, e))
+        ∙ drop_index (slot_words st.world.content h.region.object h.index) h.region.word u (h.region.word + u) refl
+        ∙ ap (λ (x : Option Object). slice_index (words_if (slice_get (slots_if x) h.index)) (h.region.word + u)) h.there
+        ∙ ap (λ (x : Option Slot). slice_index (words_if x) (h.region.word + u)) t.1
 
-      module _ (item : TyId) (owned : owned_in_type types (Some u) ≡ Some item) (buffer : has_buffer u ≡ true) (alone : is_inert u ≡ false) (one : width (parts_of types (parts_at types) (Some u)) ≡ 1) (no_value : parts_of types (parts_at types) (Some u) ≡ Single → ⊥) (holds : holds_owner (tree_of types (tree_at types) (Some u)) ≡ true)
-          (r : IsReached types f st (StandsAt inputs) (may_change types f) S to) where
-        into : IsTyped types f rest inputs S st k to r u
-        into = owner_typed types f rest inputs S st k to r u item is (ap is_void (sym is) ∙ solid_to) owned
+    -- they have their buffers
+    full : IsFull st.world.content (operand_parts types f to) (words_at st.world.content h.region.object h.index h.region.word (width (operand_parts types f to)))
+    full =
+        subst (λ (q : Parts). IsFull st.world.content q (words_at st.world.content h.region.object h.index h.region.word (width (operand_parts types f to)))) from_parts
+        (filled types k.ordered (hand_of rest st) st.world.content (store_of types f rest inputs S st k) (MayLack types f inputs S st) k.buffered (low_whole types f rest inputs S st k) h.region.ty h.region.object h.index h.region.word h.holder t.0
+        (owner_whole types f rest inputs S st k from h solid_from sigs n place (Copy to from) S' right (at_head from [])) h.there t.1 (region_part types f rest inputs S st k from h h.holder h.there)
+        (words_at st.world.content h.region.object h.index h.region.word (width (operand_parts types f to))) read)
 
-        into_parts : parts_at types r.region.ty ≡ parts_of types (parts_at types) (Some u)
-        into_parts = parts_typed types k.ordered r.region.ty u into.there
+  -- ---- what is written
 
-        owner_copied : (h : IsReached types f st (StandsAt inputs) (may_change types f) S from)
-            → OnRight (copied_to s (parts_of types (parts_at types) (Some u)) (record { object = r.region.object; index = r.index; word = r.region.word }) (spot_words st.world.content (record { object = h.region.object; index = h.index; word = h.region.word }) (width (parts_of types (parts_at types) (Some u)))) st) Q
-        owner_copied h =
-            right_then (copied s (parts_of types (parts_at types) (Some u)) ws st.world.content) (λ v. Next (put_content (replaced (parts_of types (parts_at types) (Some u)) spot v) st))
-            (λ v. Touches (kinds_of types) (foot_of types r.region) st.world.content (replaced (parts_of types (parts_at types) (Some u)) spot v)) Q
-            (right_got (copied s (parts_of types (parts_at types) (Some u)) ws st.world.content) (λ v. Touches (kinds_of types) (foot_of types r.region) st.world.content (replaced (parts_of types (parts_at types) (Some u)) spot v))
-            (subst (λ (q : Parts). IfGot (copied s q ws st.world.content) (λ v. Touches (kinds_of types) (foot_of types r.region) st.world.content (replaced q spot v))) into_parts
-            (copy_touches types k.ordered (hand_of rest st) st.world.content (store_of types f rest inputs S st k) r.region.object r.index r.region.word r.region.ty r.holder r.there (region_within types f rest inputs S st k to r) r.small s ws
-            (subst (λ (q : Parts). length ws ≡ width q) (sym into_parts) are.wide) (subst (λ (q : Parts). Known (kinds_of types) st.world.content q ws) (sym into_parts) are.known)
-            (subst (λ (q : Parts). (j : ℕ) → 0 < times (owned_of q ws) j → 0 < alive st.world.content j) (sym into_parts) are.living)))
-            (faultless_of (copied s (parts_of types (parts_at types) (Some u)) ws st.world.content) _
-            (copied_right types k.ordered (hand_of rest st) st.world.content (store_of types f rest inputs S st k) (MayLack types f inputs S st) k.buffered (low_whole types f rest inputs S st k) s (parts_of types (parts_at types) (Some u)) (subst IsWhole into_parts (whole_parts types k.inert r.region.ty))
-            h.region.object h.index h.holder t.0 (owner_whole types f rest inputs S st k from h solid_from sigs n place (Copy to from) S' right (at_head from [])) (ap (parts_at types) (all.type h.holder h.there) ∙ from_parts) h.there t.1 ws first st.world.content (now types k.ordered (hand_of rest st) st.world.content (store_of types f rest inputs S st k) (MayLack types f inputs S st) k.buffered (low_whole types f rest inputs S st k) s))))
-            (λ v touch. changed r (holds_is ∙ holds) (replaced (parts_of types (parts_at types) (Some u)) spot v) touch)
-          where
-            spot : Spot
-            spot = record { object = r.region.object; index = r.index; word = r.region.word }
+  -- a copy of which all is known
+  pub record IsWritten (r : IsReached types f st (StandsAt inputs) (may_change types f) S to) (v : Words) : Type 0 where
+    pub copied : IsCopied types k.ordered s (operand_parts types f to) (MayLack types f inputs S st) st.world.content v
+    pub touches : Touches (kinds_of types) (foot_of types r.region) st.world.content (replaced (operand_parts types f to) (record { object = r.region.object; index = r.index; word = r.region.word }) v)
+    pub single : AreSingle (operand_parts types f to) → v.1 ≡ st.world.content
 
-            ws : List ℕ
-            ws = spot_words st.world.content (record { object = h.region.object; index = h.index; word = h.region.word }) (width (parts_of types (parts_at types) (Some u)))
+  module _ (r : IsReached types f st (StandsAt inputs) (may_change types f) S to) where
+    abbrev into_spot : Spot
+    into_spot = record { object = r.region.object; index = r.index; word = r.region.word }
 
-            out : IsTyped types f rest inputs S st k from h u
-            out = owner_typed types f rest inputs S st k from h u item (sym alike ∙ is) (ap is_void (sym is) ∙ solid_to) owned
+    pub into_parts : parts_at types r.region.ty ≡ operand_parts types f to
+    into_parts = seen_parts to r
 
-            from_parts : parts_at types h.region.ty ≡ parts_of types (parts_at types) (Some u)
-            from_parts = parts_typed types k.ordered h.region.ty u out.there
+    -- values alone touch nothing that is owned
+    pub single_written : (v : Words) → IsWritten r v → AreSingle (operand_parts types f to) → Touches (kinds_of types) no_foot st.world.content (replaced (operand_parts types f to) (record { object = r.region.object; index = r.index; word = r.region.word }) v)
+    single_written v written alone =
+        subst (Touches (kinds_of types) no_foot st.world.content)
+        (ap (wrote_spot into_spot v.0) (sym (single_ended (operand_parts types f to) alone (spot_words v.1 into_spot (width (operand_parts types f to))) v.1 ∙ written.single alone)))
+        (singles_touch types f rest inputs S st k to r (operand_parts types f to) into_parts alone v.0 written.copied.wide)
 
-            are : AreCopied types st.world.content (parts_of types (parts_at types) (Some u)) (spot_words st.world.content (record { object = h.region.object; index = h.index; word = h.region.word }) (width (parts_of types (parts_at types) (Some u))))
-            are =
-                place_copied types k.ordered (hand_of rest st) st.world.content (store_of types f rest inputs S st k) h.region.ty h.region.object h.index h.region.word h.holder (record { there = h.there; slot = h.small; within = region_within types f rest inputs S st k from h })
-                (parts_of types (parts_at types) (Some u)) from_parts
+    -- ---- whatever holds behind it
 
-            all : IsAllOf st.world.content h.region
-            all = region_all types f rest inputs S st k from h (ap (λ (t : Option Ty). is_inert (or_void t)) out.there ∙ alone)
-
-            t : (x : Slot) × (slice_get h.holder.slots h.index ≡ Some x)
-            t = slot_there h.holder.slots h.index h.small
-
-            first : slice_index (spot_words st.world.content (record { object = h.region.object; index = h.index; word = h.region.word }) (width (parts_of types (parts_at types) (Some u)))) 0 ≡ slice_index t.0.words 0
-            first =
-                ap (λ w. slice_index (spot_words st.world.content (record { object = h.region.object; index = h.index; word = h.region.word }) w) 0) one
-                ∙ ap (λ (x : Option Object). slice_index (take 1 (drop h.region.word (words_if (slice_get (slots_if x) h.index)))) 0) h.there
-                ∙ first_of (words_if (slice_get h.holder.slots h.index)) h.region.word
-                ∙ ap (λ (x : Option Slot). slice_index (words_if x) h.region.word) t.1
-                ∙ ap (slice_index t.0.words) all.word
-
-        owner_from : OnRight (on_place (locate types f from st) (λ m i object. copied_to s (operand_parts types f to) (record { object = r.region.object; index = r.index; word = r.region.word }) (words_at st.world.content m i (operand_word types f from st) (width (operand_parts types f to))) st)
-            (λ c. on_character s.texts c (λ z. copied_to s (operand_parts types f to) (record { object = r.region.object; index = r.index; word = r.region.word }) (word_of_number z ∷ []) st))) Q
-        owner_from =
-            subst (λ (q : Parts). OnRight (on_place (locate types f from st) (λ m i object. copied_to s q (record { object = r.region.object; index = r.index; word = r.region.word }) (words_at st.world.content m i (operand_word types f from st) (width q)) st)
-            (λ c. on_character s.texts c (λ z. copied_to s q (record { object = r.region.object; index = r.index; word = r.region.word }) (word_of_number z ∷ []) st))) Q) (sym parts_are)
-            (on_place_right types f st (StandsAt inputs) (may_change types f) S from reach_from
-            (λ m i object. copied_to s (parts_of types (parts_at types) (Some u)) (record { object = r.region.object; index = r.index; word = r.region.word }) (words_at st.world.content m i (operand_word types f from st) (width (parts_of types (parts_at types) (Some u)))) st)
-            (λ c. on_character s.texts c (λ z. copied_to s (parts_of types (parts_at types) (Some u)) (record { object = r.region.object; index = r.index; word = r.region.word }) (word_of_number z ∷ []) st)) Q
-            (λ h. subst (λ w. OnRight (copied_to s (parts_of types (parts_at types) (Some u)) (record { object = r.region.object; index = r.index; word = r.region.word }) (words_at st.world.content h.region.object h.index w (width (parts_of types (parts_at types) (Some u)))) st) Q) (sym h.word) (owner_copied h))
-            (λ c single. absurd (no_value (sym from_typed ∙ single))))
-          where
-            from_typed : parts_if types (operand_type types f from) ≡ parts_of types (parts_at types) (Some u)
-            from_typed =
-                let out = operand_of types k.ordered k.once 0 [] f k.shaped from u (sym alike ∙ is) solid in
-                ap (parts_if types) out.is ∙ parts_typed types k.ordered out.number u out.there
-
-    -- ---- a struct of values
-
-    module _ (number : ℕ) (is : type_of types f to ≡ ty.Struct number) (r : IsReached types f st (StandsAt inputs) (may_change types f) S to) where
-      abbrev p : Parts
-      p = parts_of types (parts_at types) (Some (ty.Struct number))
-
-      abbrev into_spot : Spot
-      into_spot = record { object = r.region.object; index = r.index; word = r.region.word }
-
-      alone : AreSingle (parts_of types (parts_at types) (Some (ty.Struct number)))
-      alone = struct_alone types f rest inputs S st k to r number is
-
-      struct_copied : (ws : List ℕ) → length ws ≡ width p → OnRight (copied_to s p into_spot ws st) Q
-      struct_copied ws wide =
-          subst (λ (x : Attempt Words). OnRight (on_got x (λ v. Next (put_content (replaced p into_spot v) st))) Q) (sym (single_copied s p alone ws st.world.content).1)
-          (subst (λ (d : Content). Q (put_content (wrote_spot into_spot (single_copied s p alone ws st.world.content).0 d) st)) (sym (single_ended p alone (spot_words st.world.content into_spot (width p)) st.world.content))
-          (written r (holds_is (ty.Struct number) is ∙ struct_owns types f rest inputs S st k to r number is) (wrote_spot into_spot (single_copied s p alone ws st.world.content).0 st.world.content)
-          (singles_touch types f rest inputs S st k to r p (struct_parts types f rest inputs S st k to r number is) alone (single_copied s p alone ws st.world.content).0 (single_copied_wide s p alone ws st.world.content wide))))
-
-      struct_from : OnRight (on_place (locate types f from st) (λ m i object. copied_to s (operand_parts types f to) into_spot (words_at st.world.content m i (operand_word types f from st) (width (operand_parts types f to))) st)
-          (λ c. on_character s.texts c (λ z. copied_to s (operand_parts types f to) into_spot (word_of_number z ∷ []) st))) Q
-      struct_from =
-          subst (λ (q : Parts). OnRight (on_place (locate types f from st) (λ m i object. copied_to s q into_spot (words_at st.world.content m i (operand_word types f from st) (width q)) st)
-          (λ c. on_character s.texts c (λ z. copied_to s q into_spot (word_of_number z ∷ []) st))) Q) (sym (struct_operand types f rest inputs S st k to r number is))
-          (on_place_right types f st (StandsAt inputs) (may_change types f) S from reach_from (λ m i object. copied_to s p into_spot (words_at st.world.content m i (operand_word types f from st) (width p)) st)
-          (λ c. on_character s.texts c (λ z. copied_to s p into_spot (word_of_number z ∷ []) st)) Q
-          (λ h. struct_copied (words_at st.world.content h.region.object h.index (operand_word types f from st) (width p))
-          (subst (λ w. length (words_at st.world.content h.region.object h.index w (width p)) ≡ width p) (sym h.word)
-          (place_copied types k.ordered (hand_of rest st) st.world.content (store_of types f rest inputs S st k) h.region.ty h.region.object h.index h.region.word h.holder (record { there = h.there; slot = h.small; within = region_within types f rest inputs S st k from h }) p
-          (struct_parts types f rest inputs S st k from h number (sym alike ∙ is))).wide))
-          (λ c single. absurd (no_struct types (parts_at types) (members_at types number) (sym from_typed ∙ single))))
+    module _ (Q : State → Type 0) (each : (v : Words) → IsWritten r v → Q (put_content (replaced (operand_parts types f to) (record { object = r.region.object; index = r.index; word = r.region.word }) v) st)) where
+      words_copied : (us : List ℕ) → AreCopied types st.world.content (operand_parts types f to) us → IsFull st.world.content (operand_parts types f to) us → OnRight (copied_to s (operand_parts types f to) into_spot us st) Q
+      words_copied us known has =
+          right_then (copied s p us st.world.content) (λ v. Next (put_content (replaced p into_spot v) st)) (IsWritten r) Q
+          (right_got (copied s p us st.world.content) (IsWritten r)
+          (if_such (copied s p us st.world.content) (λ v. IsCopied types k.ordered s p (MayLack types f inputs S st) st.world.content v × (Touches (kinds_of types) (foot_of types r.region) st.world.content (replaced p into_spot v) × (AreSingle p → v.1 ≡ st.world.content))) (IsWritten r)
+          (both_got (copied s p us st.world.content) (IsCopied types k.ordered s p (MayLack types f inputs S st) st.world.content) (λ v. Touches (kinds_of types) (foot_of types r.region) st.world.content (replaced p into_spot v) × (AreSingle p → v.1 ≡ st.world.content))
+          (copied_but types k.ordered s st.world.content p (rank_of types r.region.ty) (subst (IsMade types k.ordered (rank_of types r.region.ty)) into_parts (made_at types k.ordered r.region.ty)) us known.wide has (MayLack types f inputs S st) st.world.content (more_self st.world.content) k.buffered)
+          (both_got (copied s p us st.world.content) (λ v. Touches (kinds_of types) (foot_of types r.region) st.world.content (replaced p into_spot v)) (λ v. AreSingle p → v.1 ≡ st.world.content)
+          (subst (λ (q : Parts). IfGot (copied s q us st.world.content) (λ v. Touches (kinds_of types) (foot_of types r.region) st.world.content (replaced q into_spot v))) into_parts
+          (copy_touches types k.ordered (hand_of rest st) st.world.content (store_of types f rest inputs S st k) r.region.object r.index r.region.word r.region.ty r.holder r.there (region_within types f rest inputs S st k to r) r.small s us
+          (known.wide ∙ ap width (sym into_parts)) (subst (λ (q : Parts). Known (kinds_of types) st.world.content q us) (sym into_parts) known.known)
+          (subst (λ (q : Parts). (j : ℕ) → 0 < times (owned_of q us) j → 0 < alive st.world.content j) (sym into_parts) known.living)))
+          (single_stays (copied s p us st.world.content) refl)))
+          (λ v h. record { copied = h.0; touches = h.1.0; single = h.1.1 }))
+          (faultless_of (copied s p us st.world.content) _ (copied_right st.world.content s p us has st.world.content (now st.world.content s))))
+          each
         where
-          from_typed : parts_if types (operand_type types f from) ≡ parts_of types (parts_at types) (Some (ty.Struct number))
-          from_typed =
-              let out = operand_of types k.ordered k.once 0 [] f k.shaped from (ty.Struct number) (sym alike ∙ is) refl in
-              ap (parts_if types) out.is ∙ parts_typed types k.ordered out.number (ty.Struct number) out.there
+          single_stays : (x : Attempt Words) → copied s (operand_parts types f to) us st.world.content ≡ x → IfGot x (λ v. AreSingle (operand_parts types f to) → v.1 ≡ st.world.content)
+          single_stays (Got v) e = λ alone. ap (λ (w : Words). w.1) (got_same (sym e ∙ (single_copied s (operand_parts types f to) alone us st.world.content).1))
+            where
+              got_same : {a b : Words} → Got a ≡ Got b → a ≡ b
+              got_same h = cc
+          single_stays (GotTrap kind) e = tt
+          single_stays (GotFault kind) e = tt
+          single_stays GotLost e = tt
 
-    -- ---- the kind
+      -- a character of a text has one word
+      character_copied : operand_parts types f to ≡ Single → (c : _) → OnRight (on_character s.texts c (λ z. copied_to s (operand_parts types f to) into_spot (word_of_number z ∷ []) st)) Q
+      character_copied one c =
+          character_right s.texts c (λ z. copied_to s (operand_parts types f to) into_spot (word_of_number z ∷ []) st) Q
+          (λ z. words_copied (word_of_number z ∷ [])
+          (record {
+            wide = sym (ap width one);
+            known = subst (λ (q : Parts). Known (kinds_of types) st.world.content q (word_of_number z ∷ [])) (sym one) tt;
+            living = λ j lt. absurd (none_owned (subst (λ (q : Parts). 0 < times (owned_of q (word_of_number z ∷ [])) j) one lt));
+          })
+          (subst (λ (q : Parts). IsFull st.world.content q (word_of_number z ∷ [])) (sym one) tt))
+        where
+          none_owned : 0 < 0 → ⊥
+          none_owned lt = omega (arith, lt)
 
-    copies_from : (r : IsReached types f st (StandsAt inputs) (may_change types f) S to) (u : Ty) → type_of types f to ≡ u → is_pointer u ≡ false → IsCopyable u
-        → OnRight (on_place (locate types f from st) (λ m i object. copied_to s (operand_parts types f to) (record { object = r.region.object; index = r.index; word = r.region.word }) (words_at st.world.content m i (operand_word types f from st) (width (operand_parts types f to))) st)
-        (λ c. on_character s.texts c (λ z. copied_to s (operand_parts types f to) (record { object = r.region.object; index = r.index; word = r.region.word }) (word_of_number z ∷ []) st))) Q
-    copies_from r ty.Bool is pointer can = value_from ty.Bool is refl refl refl r
-    copies_from r ty.Char is pointer can = value_from ty.Char is refl refl refl r
-    copies_from r ty.Int is pointer can = value_from ty.Int is refl refl refl r
-    copies_from r ty.Long is pointer can = value_from ty.Long is refl refl refl r
-    copies_from r ty.Size is pointer can = value_from ty.Size is refl refl refl r
-    copies_from r ty.Text is pointer can = owner_from ty.Text is (characters_type types) refl refl refl refl (λ h. cc) refl r
-    copies_from r (ty.Vector element) is pointer can = owner_from (ty.Vector element) is element refl refl refl refl (λ h. cc) holds_vector r
-      where
-        holds_vector : holds_owner (tree_of types (tree_at types) (Some (ty.Vector element))) ≡ true
-        holds_vector = refl
-    copies_from r (ty.Unique target) is pointer can = absurd can
-    copies_from r (ty.Struct number) is pointer can = struct_from number is r
-    copies_from r ty.Void is pointer can = absurd (false≢true (sym solid_to ∙ ap is_void is))
-    copies_from r _ is pointer can = absurd (false≢true (sym pointer))
+      copied_from : OnRight (on_place (locate types f from st) (λ m i object. copied_to s (operand_parts types f to) into_spot (words_at st.world.content m i (operand_word types f from st) (width (operand_parts types f to))) st)
+          (λ c. on_character s.texts c (λ z. copied_to s (operand_parts types f to) into_spot (word_of_number z ∷ []) st))) Q
+      copied_from =
+          on_place_right types f st (StandsAt inputs) (may_change types f) S from reach_from (λ m i object. copied_to s (operand_parts types f to) into_spot (words_at st.world.content m i (operand_word types f from st) (width (operand_parts types f to))) st)
+          (λ c. on_character s.texts c (λ z. copied_to s (operand_parts types f to) into_spot (word_of_number z ∷ []) st)) Q
+          (λ h. subst (λ w. OnRight (copied_to s (operand_parts types f to) into_spot (words_at st.world.content h.region.object h.index w (width (operand_parts types f to))) st) Q) (sym h.word) (words_copied (ws h) (are h) (full h)))
+          (λ c single. character_copied (sym from_is ∙ single) c)
 
-    pub copy_right : is_pointer (type_of types f to) ≡ false → IsCopyable (type_of types f to) → OnRight (does s types f (Copy to from) st) Q
-    copy_right pointer can = by_reach types f st (StandsAt inputs) (may_change types f) S to reach_to go Q (λ r. subst (λ e. OnRight e Q) (sym (spot_is types f st (StandsAt inputs) (may_change types f) S to r go)) (copies_from r (type_of types f to) refl pointer can))
-      where
-        go : Spot → Effect
-        go spot =
-            on_place (locate types f from st) (λ m i object. copied_to s (operand_parts types f to) spot (words_at st.world.content m i (operand_word types f from st) (width (operand_parts types f to))) st)
-            (λ c. on_character s.texts c (λ z. copied_to s (operand_parts types f to) spot (word_of_number z ∷ []) st))
+  -- ---- the kind
+
+  pub copy_right : (Q : State → Type 0) → ((r : IsReached types f st (StandsAt inputs) (may_change types f) S to) (v : Words) → IsWritten r v → Q (put_content (replaced (operand_parts types f to) (record { object = r.region.object; index = r.index; word = r.region.word }) v) st))
+      → OnRight (does s types f (Copy to from) st) Q
+  copy_right Q each =
+      by_reach types f st (StandsAt inputs) (may_change types f) S to reach_to go Q (λ r. subst (λ e. OnRight e Q) (sym (spot_is types f st (StandsAt inputs) (may_change types f) S to r go)) (copied_from r Q (each r)))
+    where
+      go : Spot → Effect
+      go spot =
+          on_place (locate types f from st) (λ m i object. copied_to s (operand_parts types f to) spot (words_at st.world.content m i (operand_word types f from st) (width (operand_parts types f to))) st)
+          (λ c. on_character s.texts c (λ z. copied_to s (operand_parts types f to) spot (word_of_number z ∷ []) st))
+
+  -- what holds no owner has values alone
+  pub copied_single : is_pointer (type_of types f to) ≡ false → IsCopyable (type_of types f to) → holds_owner (tree_if types (shapes.operand_type types f to)) ≡ false → AreSingle (operand_parts types f to)
+  copied_single pointer can none =
+      subst AreSingle (sym (ap (parts_if types) of.is))
+      (unowned_single types k.untold k.ordered of.number (ap (λ (t : Option Ty). is_untold (or_void t)) of.there ∙ untold_of (type_of types f to) pointer can)
+      (sym (ap (λ (id : Option TyId). holds_owner (tree_if types id)) (operand_same types k.ordered k.once 0 [] f k.shaped to ∙ of.is)) ∙ none))
+    where
+      of : IsOfType types (operand_type types f to) (type_of types f to)
+      of = operand_of types k.ordered k.once 0 [] f k.shaped to (type_of types f to) refl solid_to
+
+      untold_of : (u : Ty) → is_pointer u ≡ false → IsCopyable u → is_untold u ≡ true
+      untold_of ty.View q c = absurd (false≢true (sym q))
+      untold_of (ty.Unique target) q c = absurd c
+      untold_of (ty.Raw target constant) q c = absurd (false≢true (sym q))
+      untold_of (ty.Reference target constant) q c = absurd (false≢true (sym q))
+      untold_of (ty.Iterator target constant) q c = absurd (false≢true (sym q))
+      untold_of (ty.Span target constant) q c = absurd (false≢true (sym q))
+      untold_of _ q c = refl
 
   -- .. as that the facts cover all pointers
   pub copy_kind : is_pointer (type_of types f to) ≡ false → IsCopyable (type_of types f to) → OnRight (does s types f (Copy to from) st) (FrameCovered types f inputs S')
-  copy_kind = copy_right (FrameCovered types f inputs S') value_written owner_written
+  copy_kind pointer can = copy_right (FrameCovered types f inputs S') (λ r v written. by_holds r v written (holds_owner (tree_if types (shapes.operand_type types f to))) refl)
     where
       value_written : (r : IsReached types f st (StandsAt inputs) (may_change types f) S to) → holds_owner (tree_if types (shapes.operand_type types f to)) ≡ false → (d : Content) → Touches (kinds_of types) no_foot st.world.content d → FrameCovered types f inputs S' (put_content d st)
       value_written r holds d touch x v e =
@@ -354,3 +334,8 @@ module _ (types : Types) (f : Function) (rest : ℕ → ℕ) (inputs : Root → 
       owner_written r holds d touch x w e =
           operand_copied types k.ordered f (hand_of rest st) st (store_of types f rest inputs S st k) (StandsAt inputs) (may_change types f) (owning types f) (rooted_of types f rest inputs S st k) sigs place from S S' to r (reached_owning sigs types n f place (Copy to from) S right.clean to (λ x. ap (λ b. if b then kept_through types n f place x to else []) holds) k.ordered inputs st k.given.each r (r.change free) (reached_holds r holds)) right.closed holds d touch
           (local_place x) (look_at types f x) w (not_written to r x w e) (k.covered x w e)
+
+      by_holds : (r : IsReached types f st (StandsAt inputs) (may_change types f) S to) (v : Words) → IsWritten r v → (b : Bool) → holds_owner (tree_if types (shapes.operand_type types f to)) ≡ b
+          → FrameCovered types f inputs S' (put_content (replaced (operand_parts types f to) (record { object = r.region.object; index = r.index; word = r.region.word }) v) st)
+      by_holds r v written true holds = owner_written r holds (replaced (operand_parts types f to) (record { object = r.region.object; index = r.index; word = r.region.word }) v) written.touches
+      by_holds r v written false holds = value_written r holds (replaced (operand_parts types f to) (record { object = r.region.object; index = r.index; word = r.region.word }) v) (single_written r v written (copied_single pointer can holds))

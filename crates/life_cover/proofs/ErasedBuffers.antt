@@ -13,7 +13,6 @@ use Rattle.life_store.proofs.CellLemmas.{none_some, some_same}
 use Rattle.life_forest.proofs.Widths.{count-resized}
 use Rattle.life_cover.specs.Buffered.{AreBut, HasBuffers}
 use Rattle.life_cover.proofs.Buffering.{Each, each_append, each_stamped, each_take, ended_but, ended_leaves, have_in, none_left, set_but}
-use Rattle.life_cover.proofs.Copies.{IsWhole}
 use Rattle.life_cover.proofs.Rebuffering.{AreFree, AreTaken, slots_taken}
 
 -- ---- slots
@@ -105,7 +104,7 @@ module _ (types : Types) where
   free_drop p out (suc n) [] h = h
   free_drop p out (suc n) (t ∷ ss) h = free_drop p out n ss (λ i u e. h (suc i) u e)
 
-  module _ (bare : ℕ → Type 0) (p : Parts) (whole : IsWhole p) (b index : ℕ) (c : Content) (h : AreBut types bare c) (o : Object) (there : at c.objects b ≡ Some o) (typed : parts_at types o.ty ≡ p) (free : AreFree types p (λ k. bare k ⊎ (k ≡ b)) o.slots) (born : b < c.births) (lt : index < length o.slots) where
+  module _ (bare : ℕ → Type 0) (p : Parts) (b index : ℕ) (c : Content) (h : AreBut types bare c) (o : Object) (there : at c.objects b ≡ Some o) (typed : parts_at types o.ty ≡ p) (free : AreFree types p (λ k. bare k ⊎ (k ≡ b)) o.slots) (born : b < c.births) (lt : index < length o.slots) where
     module _ (gone : List ℕ) where
       abbrev left : Content
       left = ended p gone c
@@ -118,7 +117,7 @@ module _ (types : Types) where
 
       took : AreTaken types p (λ k. bare k ⊎ (k ≡ b)) b (length (drop (index + 1) o.slots)) (ended p gone c) (taken_slots p (drop (index + 1) o.slots) (ended p gone c))
       took =
-          slots_taken types p whole (λ k. bare k ⊎ (k ≡ b)) b (inr refl) (drop (index + 1) o.slots) (free_drop p (λ k. bare k ⊎ (k ≡ b)) (index + 1) o.slots free) (ended p gone c) (let e = ended_unborn p gone c in omega (arith, e, born))
+          slots_taken types p (λ k. bare k ⊎ (k ≡ b)) b (inr refl) (drop (index + 1) o.slots) (free_drop p (λ k. bare k ⊎ (k ≡ b)) (index + 1) o.slots free) (ended p gone c) (let e = ended_unborn p gone c in omega (arith, e, born))
           (ended_but types (λ k. bare k ⊎ (k ≡ b)) p gone c (λ k j q t out is slot. h k j q t (λ gone. out (inl gone)) is slot))
 
       rows_count : length rows ≡ length o.slots - 1

@@ -1,4 +1,4 @@
--- At each point of a proper function whose structs hold values alone that is reached with what is known of its frame: an instruction at which nothing
+-- At each point of a proper function whose structs hold no pointers and no unique_ptrs that is reached with what is known of its frame: an instruction at which nothing
 -- is wrong makes no fault and doesn't stray, and all of this is known behind it.
 use Rattle.std.proofs.Common.{◌≡◌, ℕ, true, List, Some, subst, Option}
 use Rattle.life_types.specs.Trees.{IsOrdered}
@@ -35,7 +35,7 @@ use Rattle.life_cover.specs.Inputs.{AreGiven, frame_foot}
 use Rattle.life_cover.specs.Buffered.{AreBut}
 use Rattle.life_cover.proofs.GivenOn.{given_behind}
 use Rattle.life_cover.specs.Lacking.{MayLack}
-use Rattle.life_cover.specs.Members.{HaveInertMembers}
+use Rattle.life_cover.specs.Members.{HaveUntoldMembers}
 use Rattle.life_cover.specs.Uniques.{UniquesTold}
 use Rattle.life_cover.proofs.FrameSteps.{IsSpoken}
 use Rattle.life_cover.proofs.Behind.{IsBehind, any_local}
@@ -95,12 +95,12 @@ goes_safe types f rest inputs S before bits store given (Faults kind) goes right
 goes_safe types f rest inputs S before bits store given Strays goes right = goes
 
 module _ (types : Types) (ordered : IsOrdered types) (once : HasEachOnce types) (some : HaveMembers types) (names texts : ℕ) (fs : List Function) (f : Function) (formed : is_well_formed_function types names texts fs f ≡ true) (points : ArePointsFormed types texts fs f)
-    (ready : HasReadyWays types f) (inert : HaveInertMembers types) (short : AreShort (elements_of types f)) where
+    (ready : HasReadyWays types f) (untold : HaveUntoldMembers types) (short : AreShort (elements_of types f)) where
   pub known : (rest : ℕ → ℕ) (inputs : Root → Option Region) (S : Fact → Type 0) (st : State) → IsSafe types f rest inputs S st → IsKnownFrame types f rest inputs S st
   known rest inputs S st safe = record {
     ordered = ordered;
     once = once;
-    inert = inert;
+    untold = untold;
     shaped = locals_shaped types ordered names f (formed_parts types names texts fs f formed).locals;
     stand = locals_stand types ordered once some names texts fs f formed points ready;
     short = short;

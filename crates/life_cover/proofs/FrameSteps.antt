@@ -51,7 +51,7 @@ use Rattle.life_cover.proofs.ChangeSteps.{change_step}
 use Rattle.life_cover.proofs.CopyKinds.{copy_kind}
 use Rattle.life_cover.proofs.Copyable.{copied_type}
 use Rattle.life_cover.proofs.EndKinds.{end_kind}
-use Rattle.life_cover.proofs.InertParts.{pointer_alone, unique_alone}
+use Rattle.life_cover.proofs.SingleParts.{pointer_alone, unique_alone}
 use Rattle.life_cover.proofs.KnownFrames.{at_pointer, IsKnownFrame, IsRight, reach_at, used_right, whole_location, typed}
 use Rattle.life_cover.proofs.LiveKinds.{live_kind}
 use Rattle.life_cover.proofs.MakeKinds.{IsMade}
@@ -161,7 +161,7 @@ module _ (types : Types) (f : Function) (rest : ℕ → ℕ) (inputs : Root → 
       let seen = aims_seen types k.ordered k.once (type_at types f p) (owned_target types (type_in types f u)) (gets_aims types (type_at types f p) (owned_target types (type_in types f u)) e) in
       let unique = target_unique types (type_in types f u) (also_solid (ty_of types seen.target) (owned_target types (type_in types f u)) seen.is) in
       subst (λ (q : Location). Right (Aim (whole p) (named.Get q)) → is_unique (type_in types f q) ≡ true → aims_at types (type_at types f p) (owned_target types (type_in types f q)) ≡ true → Covers (Aim (whole p) (named.Get q)))
-      (whole_location types k.inert f u (unique_alone (type_in types f u) unique))
+      (whole_location types k.untold f u (unique_alone (type_in types f u) unique))
       (λ now is aims. get_kind types f rest inputs S st k sigs n place S' s p seen.pointer (aims_single types (type_at types f p) (owned_target types (type_in types f u)) (gets_aims types (type_at types f p) (owned_target types (type_in types f u)) e)) u.local is k.told (sees_target p u.local is aims) now)
       right unique (gets_aims types (type_at types f p) (owned_target types (type_in types f u)) e)
 
@@ -243,7 +243,7 @@ module _ (types : Types) (f : Function) (rest : ℕ → ℕ) (inputs : Root → 
       by_operand pointer single (named.Name l) now at is =
           let same_type : type_in types f l ≡ type_of types f (named.Name l) = typed types f rest inputs S st k (named.Name l) (unique_solid (type_of types f (named.Name l)) is) in
           subst (λ (q : Location). Right (step.Element (whole p) (named.Owner (named.Name q)) which.Target) → is_unique (type_in types f q) ≡ true → aims_at types (type_at types f p) (owned_target types (type_in types f q)) ≡ true → Covers (step.Element (whole p) (named.Owner (named.Name q)) which.Target))
-          (whole_location types k.inert f l (unique_alone (type_in types f l) (ap is_unique same_type ∙ is)))
+          (whole_location types k.untold f l (unique_alone (type_in types f l) (ap is_unique same_type ∙ is)))
           (λ here unique aims_l. target_kind types f rest inputs S st k sigs n place S' s p pointer single l.local unique k.told (sees_target p l.local unique aims_l) here)
           now (ap is_unique same_type ∙ is) (subst (λ (t : Ty). aims_at types (type_at types f p) (owned_target types t) ≡ true) (sym same_type) at)
 
@@ -303,7 +303,7 @@ module _ (types : Types) (f : Function) (rest : ℕ → ℕ) (inputs : Root → 
   port_whole (Writes r) e = tt
   port_whole (Takes r) e = number_any types f ty.Long r e
   port_whole (WritesView l) e =
-      let is = whole_location types k.inert f l (pointer_alone (type_in types f l) (range_points (type_in types f l) (view_range (type_in types f l) e))) in
+      let is = whole_location types k.untold f l (pointer_alone (type_in types f l) (range_points (type_in types f l) (view_range (type_in types f l) e))) in
       (is, subst (λ (q : Location). is_range (type_in types f q) ≡ true) (sym is) (view_range (type_in types f l) e))
 
   -- ---- each instruction
@@ -330,8 +330,8 @@ module _ (types : Types) (f : Function) (rest : ℕ → ℕ) (inputs : Root → 
       (λ x now unique alike other. right_weaker (does s types f (Move (named.Name (whole x)) y) st) (IsMade types f inputs S' (MayLack types f inputs S st) no_local (λ z. (x ≡ z) ⊎ (y ≡ z)) st) (FrameCovered types f inputs S') (move_kind types f rest inputs S st k sigs n place S' s x y now unique alike other) (λ after h. h.0))
       (λ x now buffer alike other.
       right_weaker (does s types f (Move (named.Name (whole x)) y) st) (IsMade types f inputs S' (MovedBare types f rest inputs S st k x y) no_local no_local st) (FrameCovered types f inputs S') (buffer_move_kind types f rest inputs S st k sigs n place S' s x y now buffer alike other) (λ after h. h.0))
-      (λ p members now buffer alike const.
-      right_weaker (does s types f (Move (named.Through p members) y) st) (IsMade types f inputs S' (GivenBare types f rest inputs S st k y) no_local no_local st) (FrameCovered types f inputs S') (placed_move_kind types f rest inputs S st k sigs n place S' s p members y now buffer alike const) (λ after h. h.0))
+      (λ o beside now buffer alike const.
+      right_weaker (does s types f (Move o y) st) (IsMade types f inputs S' (GivenBare types f rest inputs S st k y) no_local no_local st) (FrameCovered types f inputs S') (placed_move_kind types f rest inputs S st k sigs n place S' s o y beside now buffer alike const) (λ after h. h.0))
       to right e
   step_covered (Aim p sr) spoken right e free ready =
       to_pointer p (source_points (type_in types f p) sr e) (λ q. Right (Aim q sr) → is_source_of types texts fs f (type_in types f q) sr ≡ true → Covers (Aim q sr)) (λ q now here. aim_step q sr now here) right e

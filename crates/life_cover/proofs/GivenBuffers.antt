@@ -1,5 +1,5 @@
 -- A local that is a vector or a string gives its buffer where it is moved: it has one, since nothing is wrong with the move, and that is beneath it alone.
-use Rattle.std.proofs.Common.{◌≡◌, ◌≢◌, ℕ, suc, ◌<◌, true, false, List, [], ◌∷◌, length, Option, Some, refl, sym, ap, subst, ◌∙◌, arith}
+use Rattle.std.proofs.Common.{◌≡◌, ◌≢◌, ℕ, suc, ◌<◌, ◌≤◌, true, false, List, [], ◌∷◌, length, Option, Some, refl, sym, ap, subst, ◌∙◌, arith}
 use Rattle.std.specs.Prelude.{slice_get, slice_index}
 use Rattle.std.proofs.lemmas.Bool.{false≢true}
 use Rattle.life_types.specs.TypeTests.{is_void}
@@ -45,6 +45,7 @@ use Rattle.life_cover.specs.Buffered.{HasBuffers}
 use Rattle.life_cover.specs.Lacking.{MayLack}
 use Rattle.life_cover.specs.Regions.{Region, foot_of, IsPart, itself}
 use Rattle.life_cover.proofs.BufferMoves.{IsBufferParts}
+use Rattle.life_cover.proofs.BufferWords.{text_has, vector_has}
 use Rattle.life_cover.proofs.Buffering.{IsBufferOwner}
 use Rattle.life_cover.proofs.Buffers.{buffer_low, foot_covers}
 use Rattle.life_cover.proofs.Inside.{beneath_lesser}
@@ -72,13 +73,13 @@ module _ (types : Types) where
   one_word _ is = absurd is
 
   pub its_buffer : (p : Parts) → IsBufferParts p → IsBufferOwner types p
-  its_buffer (Text id) is ws m e = (m, e)
-  its_buffer (Vector id element) is ws m e = (m, e)
+  its_buffer (Text id) is ws m e = text_has id ws m e
+  its_buffer (Vector id element) is ws m e = vector_has id element ws m e
   its_buffer _ is ws m e = absurd is
 
   has_one : (p : Parts) → IsBufferParts p → (ws : List ℕ) → HasBuffers p ws → (b : ℕ) × (owned_in (slice_index ws 0) ≡ Some b)
-  has_one (Text id) is ws h = h
-  has_one (Vector id element) is ws h = h
+  has_one (Text id) is ws h = h 0 refl
+  has_one (Vector id element) is ws h = h 0 refl
   has_one _ is ws h = absurd is
 
   owns_one : (p : Parts) → IsBufferParts p → (ws : List ℕ) (b : ℕ) → owned_in (slice_index ws 0) ≡ Some b → owned_of p ws ≡ b ∷ []
@@ -205,20 +206,20 @@ module _ (types : Types) (f : Function) (rest : ℕ → ℕ) (inputs : Root → 
           (ap (owned_of (parts_at types id)) words ∙ owns_one types (parts_at types id) given_is (suc b.0 ∷ []) b.0 refl)
 
   -- what it has is of a lesser type
-  lesser : (n : ℕ) (o : Object) → at st.world.content.objects n ≡ Some o → o.ty ≡ id → Beneath (kinds_of types) st.world.content (foot_of types from) n → ⊥
-  lesser n o there same low =
+  lesser : (n : ℕ) (o : Object) → at st.world.content.objects n ≡ Some o → rank_of types id ≤ rank_of types o.ty → Beneath (kinds_of types) st.world.content (foot_of types from) n → ⊥
+  lesser n o there high low =
       let less = beneath_lesser types k.ordered (hand_of rest st) st.world.content (store_of types f rest inputs S st k) from n low given_object.object o given_object.there there in
-      let e = ap (rank_of types) (same ∙ sym given_object.type) in
-      omega (arith, less, e)
+      let e = ap (rank_of types) given_object.type in
+      omega (arith, less, e, high)
 
-  pub not_given : (n : ℕ) (o : Object) → at st.world.content.objects n ≡ Some o → o.ty ≡ id → given_buffer.held ≢ n
-  not_given n o there same e = lesser n o there same (subst (Beneath (kinds_of types) st.world.content (foot_of types from)) e given_buffer.low)
+  pub not_given : (n : ℕ) (o : Object) → at st.world.content.objects n ≡ Some o → rank_of types id ≤ rank_of types o.ty → given_buffer.held ≢ n
+  not_given n o there high e = lesser n o there high (subst (Beneath (kinds_of types) st.world.content (foot_of types from)) e given_buffer.low)
 
-  pub given_free : (n : ℕ) (o : Object) → at st.world.content.objects n ≡ Some o → o.ty ≡ id → times (owned_of (parts_at types id) (spot_words st.world.content (record { object = m; index = 0; word = 0 }) (width_at types id))) n ≡ 0
-  given_free n o there same =
+  pub given_free : (n : ℕ) (o : Object) → at st.world.content.objects n ≡ Some o → rank_of types id ≤ rank_of types o.ty → times (owned_of (parts_at types id) (spot_words st.world.content (record { object = m; index = 0; word = 0 }) (width_at types id))) n ≡ 0
+  given_free n o there high =
       one_or_apart (times (owned_of (parts_at types id) (spot_words st.world.content (record { object = m; index = 0; word = 0 }) (width_at types id))) n) 0 (λ z. z)
       (λ nz.
-      absurd (lesser n o there same
+      absurd (lesser n o there high
       (value_beneath (kinds_of types) st.world.content (record { object = m; index = 0; word = 0 }) (parts_at types id) given_object.object
       (lies_at types k.ordered (hand_of rest st) st.world.content (store_of types f rest inputs S st k) m 0 0 id given_object.object given_object.there given_object.within given_object.slot) (foot_of types from) (foot_covers types m 0 0 id (parts_at types id) refl) n (omega (arith, nz)))))
 

@@ -33,8 +33,7 @@ use Rattle.life_forest.proofs.Spots.{lies_at}
 use Rattle.life_forest.proofs.Steps.{owned_held, touches_then}
 use Rattle.life_cover.specs.Buffered.{AreBut, HasBuffers}
 use Rattle.life_cover.proofs.Buffering.{without_but}
-use Rattle.life_cover.proofs.Copies.{IsWhole}
-use Rattle.life_cover.proofs.PushedBuffers.{taken_wide, value_put, wide_at}
+use Rattle.life_cover.proofs.PushedBuffers.{value_put, wide_at}
 use Rattle.life_cover.proofs.Rebuffering.{IsFree, IsSized, IsTaken, sized_but, taken_but}
 use Rattle.life_cover.proofs.Recopying.{written_in}
 
@@ -135,14 +134,14 @@ module _ (types : Types) (ordered : IsOrdered types) (hand : ℕ → ℕ) (c : C
 
   -- ---- buffers
 
-  module _ (bare : ℕ → Type 0) (is : IsWhole (parts_at types ty)) (has : HasBuffers (parts_at types ty) sl.words) (free : (f : ℕ) → c.births ≤ f → IsFree types (parts_at types ty) (λ k. bare k ⊎ (k ≡ f)) sl.words) where
+  module _ (bare : ℕ → Type 0) (has : HasBuffers (parts_at types ty) sl.words) (free : (f : ℕ) → c.births ≤ f → IsFree types (parts_at types ty) (λ k. bare k ⊎ (k ≡ f)) sl.words) where
     module _ (f : ℕ × Content) (sized : IsSized c ty (width (parts_at types ty)) 1 f) (buffers : AreBut types (λ k. bare k ⊎ (k ≡ f.0)) f.1) where
       words : slot_words f.1 m 0 ≡ sl.words
       words = ap (λ (x : Option Object). words_if (slice_get (slots_if x) 0)) (sized.others m m_born ∙ m_there) ∙ ap (λ (ss : List Slot). words_if (slice_get ss 0)) one_slot
 
       took : IsTaken types (parts_at types ty) (λ k. bare k ⊎ (k ≡ f.0)) f.0 f.1 (taken (parts_at types ty) sl.words f.1)
       took =
-          taken_but types (parts_at types ty) is (λ k. bare k ⊎ (k ≡ f.0)) f.0 (inr refl) sl.words has (free f.0 (let n = sized.number in omega (arith, n))) f.1 (let n = sized.number in let b = sized.births in omega (arith, n, b)) buffers
+          taken_but types (parts_at types ty) (λ k. bare k ⊎ (k ≡ f.0)) f.0 (inr refl) sl.words given_wide has (free f.0 (let n = sized.number in omega (arith, n))) f.1 (let n = sized.number in let b = sized.births in omega (arith, n, b)) buffers
 
       there : at (without m (taken (parts_at types ty) sl.words f.1).1).objects f.0 ≡ Some sized.object
       there = at-unset_other (taken (parts_at types ty) sl.words f.1).1.objects m f.0 (λ e. let n = sized.number in let l = m_born in absurd (omega (arith, e, n, l))) ∙ took.same ∙ sized.there
@@ -153,9 +152,9 @@ module _ (types : Types) (ordered : IsOrdered types) (hand : ℕ → ℕ) (c : C
           (written_in types ordered s bare f.0 (taken (parts_at types ty) sl.words f.1).0 (without m (taken (parts_at types ty) sl.words f.1).1)
           (λ o e.
           let same : sized.object ≡ o = some_same (sym there ∙ e) in
-          value_put types (parts_at types ty) is o 0 (taken (parts_at types ty) sl.words f.1).0 (sym (ap (λ (x : Object). parts_at types x.ty) same) ∙ ap (parts_at types) sized.type) (λ i t lt k. absurd (omega (arith, lt)))
+          value_put types (parts_at types ty) o 0 (taken (parts_at types ty) sl.words f.1).0 (sym (ap (λ (x : Object). parts_at types x.ty) same) ∙ ap (parts_at types) sized.type) (λ i t lt k. absurd (omega (arith, lt)))
           (let n = ap (λ (x : Object). length x.slots) same in let one = sized.count in omega (arith, n, one))
-          (λ t k. wide_at (width (parts_at types ty)) 0 o.slots t (subst (λ (x : Object). AllWide (width (parts_at types ty)) x.slots) same sized.wide) k) took.has (taken_wide (parts_at types ty) is sl.words f.1 given_wide))
+          (λ t k. wide_at (width (parts_at types ty)) 0 o.slots t (subst (λ (x : Object). AllWide (width (parts_at types ty)) x.slots) same sized.wide) k) took.has took.wide)
           (without_but types (λ k. bare k ⊎ (k ≡ f.0)) m (taken (parts_at types ty) sl.words f.1).1 took.buffers))
 
     pub given_buffered : AreBut types bare c → IfGot (object_with s ty (parts_at types ty) (λ d. Got (consumed (parts_at types ty) m d)) c) (λ b. AreBut types bare b.1)

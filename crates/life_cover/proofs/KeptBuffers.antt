@@ -4,8 +4,6 @@ use Rattle.std.proofs.Common.{◌≡◌, ◌≢◌, ⊎_elim, ℕ, zero, suc, �
 use Rattle.std.specs.Prelude.{ℤ, slice_get, ◌||◌, nat_eq}
 use Rattle.std.specs.Int.{cast_unsigned, w64}
 use Rattle.std.specs.List.{list_any}
-use Rattle.life_types.specs.declared.ty.Ty.{Ty}
-use Rattle.life_types.specs.Pointees.{or_void}
 use Rattle.life_types.specs.Types.{Types}
 use Rattle.life_types.specs.declared.ty.Ty.TheVariants as ty
 use Rattle.life_types.specs.declared.ty.TyId.{TyId}
@@ -25,7 +23,7 @@ use Rattle.life_store.specs.Effects.{Attempt, GotFault, GotLost, Effect, Next, T
 use Rattle.life_store.specs.Held.{slots_at, words_if, slots_if}
 use Rattle.life_store.specs.Iterators.{erasable, iterator}
 use Rattle.life_store.specs.Owners.{ended}
-use Rattle.life_store.specs.Parts.{Parts, Single, Text, Vector, characters_type, local_parts, operand_parts, parts_at, parts_if, width}
+use Rattle.life_store.specs.Parts.{Parts, Single, Text, Vector, characters_type, local_parts, operand_parts, parts_at, parts_if}
 use Rattle.life_store.specs.Places.{Spot, location_cell, on_found, on_spot, operand_word, pointed}
 use Rattle.life_store.specs.State.{Cell, Empty, Named, Number, Pointer, Points, State}
 use Rattle.life_store.specs.Views.{seen_words, used}
@@ -45,18 +43,16 @@ use Rattle.life_forest.proofs.StandingChanges.{on_got_each, on_number_next}
 use Rattle.life_forest.proofs.Following.{in_hand}
 use Rattle.life_cover.specs.Buffered.{AreBut}
 use Rattle.life_cover.specs.Inputs.{StandsAt, may_change, owning}
-use Rattle.life_cover.specs.Members.{is_inert}
 use Rattle.life_cover.specs.Regions.{Region, foot_of}
 use Rattle.life_pset.specs.declared.element.Root.{Root}
 use Rattle.life_cover.specs.Lacking.{MayLack}
 use Rattle.life_cover.proofs.Behind.{IsBehind, behind_content, behind_points, both_got, both_next, right_next, no_local, TellsLost}
-use Rattle.life_cover.proofs.Buffering.{AllSome, IsBufferOwner, IsOwnerAt, cleared_buffered, ended_but, popped_buffered, without_but, but_more}
+use Rattle.life_cover.proofs.Buffering.{AllSome, cleared_buffered, ended_but, popped_buffered, without_but, but_more}
 use Rattle.life_cover.proofs.Buffers.{clear_touches, pop_touches, push_touches, reserve_touches, rewrite_touches}
-use Rattle.life_cover.proofs.Copies.{whole_parts}
 use Rattle.life_cover.proofs.EraseKinds.{erased_within}
-use Rattle.life_cover.proofs.HeldElements.{all_free, elements_shut, held, held_type, vector_operand, vector_parts, elements_region, not_bare, vector_alone}
+use Rattle.life_cover.proofs.HeldElements.{all_free, elements_shut, held, held_type, vector_operand, vector_parts, elements_region, not_bare}
 use Rattle.life_cover.proofs.KnownFrames.{IsKnownFrame, hand_of, store_of, pointer_free}
-use Rattle.life_cover.proofs.Opening.{IsOpened, region_all, text_opened, vector_opened, IsTyped, owner_typed, region_part}
+use Rattle.life_cover.proofs.Opening.{IsOpened, text_opened, vector_opened, IsTyped, owner_typed, region_part}
 use Rattle.life_cover.proofs.Reaching.{IsReached, Reach, reached, fixed, outside, astray, spot_is}
 use Rattle.life_cover.proofs.Rebuffering.{AreFree, rewritten_buffered}
 use Rattle.life_cover.proofs.Regrown.{pushed_buffered, reserved_buffered}
@@ -225,21 +221,6 @@ module _ (types : Types) (f : Function) (rest : ℕ → ℕ) (inputs : Root → 
   pub holder_born : r.region.object < st.world.content.births
   holder_born = k.stands.store.forest.births r.region.object r.holder r.there
 
-  -- what owns something is all of its object
-  module _ (alone : is_inert (or_void (slice_get types.types r.region.ty.0)) ≡ false) where
-    holder_parts : (p : Parts) → parts_at types r.region.ty ≡ p → parts_at types r.holder.ty ≡ p
-    holder_parts p typed = ap (parts_at types) ((region_all types f rest inputs S st k o r alone).type r.holder r.there) ∙ typed
-
-    pub is_owner : (p : Parts) → parts_at types r.region.ty ≡ p → width p ≡ 1 → IsBufferOwner types p → IsOwnerAt types st.world.content r.region.object
-    is_owner p typed one owner q there =
-        subst (λ (x : Object). IsBufferOwner types (parts_at types x.ty) × AllSome types x.slots) (some_same (sym r.there ∙ there)) (
-          subst (IsBufferOwner types) (sym (holder_parts p typed)) owner,
-          all_some types r.holder.width (let a = (k.stands.store.fit r.region.object r.holder r.there).width in let b = ap width (holder_parts p typed) in omega (arith, a, b, one)) r.holder.slots (k.stands.store.fit r.region.object r.holder r.there).slots,
-        )
-
-    pub at_start : (P : Spot → Type 0) → P (record { object = r.region.object; index = r.index; word = 0 }) → P (record { object = r.region.object; index = r.index; word = r.region.word })
-    at_start P h = subst (λ w. P (record { object = r.region.object; index = r.index; word = w })) (sym (region_all types f rest inputs S st k o r alone).word) h
-
   module _ (own : owning types f r.place.root ≡ true) (other : IsOther types r.region.ty) (b : ℕ) (owned : owned_at st.world.content (record { object = r.region.object; index = r.index; word = r.region.word }) ≡ Some b) where
     edit_next : (p : Parts) (edit : Edit) → IfGot (edited s p (record { object = r.region.object; index = r.index; word = r.region.word }) b edit st.world.content) IsEdited
         → OnNext (edits s p (record { object = r.region.object; index = r.index; word = r.region.word }) edit st) (IsBehind types f inputs (MayLack types f inputs S st) no_local no_local st)
@@ -282,9 +263,6 @@ module _ (types : Types) (f : Function) (rest : ℕ → ℕ) (inputs : Root → 
     typed_text : IsTyped types f rest inputs S st k o r ty.Text
     typed_text = owner_typed types f rest inputs S st k o r ty.Text (characters_type types) is_text refl refl
 
-    pub text_alone : is_inert (or_void (slice_get types.types r.region.ty.0)) ≡ false
-    text_alone = ap (λ (t : Option Ty). is_inert (or_void t)) typed_text.there
-
     pub text_parts : parts_at types r.region.ty ≡ Text (characters_type types)
     text_parts = parts_typed types k.ordered r.region.ty ty.Text typed_text.there
 
@@ -301,8 +279,7 @@ module _ (types : Types) (f : Function) (rest : ℕ → ℕ) (inputs : Root → 
     text_rewritten : (words : List ℕ) → IfGot (rewritten s (characters_type types) (record { object = r.region.object; index = r.index; word = r.region.word }) text_at.buffer words st.world.content) IsEdited
     text_rewritten words =
         both_got (rewritten s (characters_type types) (record { object = r.region.object; index = r.index; word = r.region.word }) text_at.buffer words st.world.content) (AreBut types (MayLack types f inputs S st)) (Touches (kinds_of types) (foot_of types r.region) st.world.content)
-        (at_start (text_alone is_text) (λ spot. IfGot (rewritten s (characters_type types) spot text_at.buffer words st.world.content) (AreBut types (MayLack types f inputs S st)))
-        (rewritten_buffered types (MayLack types f inputs S st) s (characters_type types) r.region.object r.index text_at.buffer words st.world.content (character_parts types k.ordered) holder_born (is_owner (text_alone is_text) (Text (characters_type types)) (text_parts is_text) refl (λ ws m e. (m, e))) k.buffered))
+        (rewritten_buffered types (MayLack types f inputs S st) s (characters_type types) r.region.object r.index r.region.word text_at.buffer words st.world.content (character_parts types k.ordered) k.buffered)
         (rewrite_touches types k.ordered (hand_of rest st) st.world.content (store_of types f rest inputs S st k) r.region.object r.index r.region.word r.region.ty r.holder r.there within r.small (characters_type types) (text_parts is_text) text_at.buffer text_at.owned s words)
 
     text_edit : (edit : Edit) (words : List ℕ) → edited s (Text (characters_type types)) (record { object = r.region.object; index = r.index; word = r.region.word }) text_at.buffer edit st.world.content
@@ -329,9 +306,6 @@ module _ (types : Types) (f : Function) (rest : ℕ → ℕ) (inputs : Root → 
     abbrev vector_at : IsOpened types f rest inputs S st k o r (ty.Vector element) element
     vector_at = vector_opened types f rest inputs S st k o r unmoved element is_vector
 
-    alone : is_inert (or_void (slice_get types.types r.region.ty.0)) ≡ false
-    alone = vector_alone types f rest inputs S st k o r element is_vector
-
     vector_other : IsOther types r.region.ty
     vector_other = reached_other types f rest inputs S st k o r (ap is_void is_vector) (ap is_unique is_vector)
 
@@ -351,26 +325,15 @@ module _ (types : Types) (f : Function) (rest : ℕ → ℕ) (inputs : Root → 
     vector_reserved : (count : ℕ) → IfGot (reserved s element (parts_at types element) (record { object = r.region.object; index = r.index; word = r.region.word }) vector_at.buffer count st.world.content) IsEdited
     vector_reserved count =
         both_got (reserved s element (parts_at types element) (record { object = r.region.object; index = r.index; word = r.region.word }) vector_at.buffer count st.world.content) (AreBut types (MayLack types f inputs S st)) (Touches (kinds_of types) (foot_of types r.region) st.world.content)
-        (at_start alone (λ spot. IfGot (reserved s element (parts_at types element) spot vector_at.buffer count st.world.content) (AreBut types (MayLack types f inputs S st)))
-        (reserved_buffered types (MayLack types f inputs S st) s element (parts_at types element) (whole_parts types k.inert element) refl r.region.object r.index vector_at.buffer count st.world.content old_ones holder_born
-        (is_owner alone (Vector element (parts_at types element)) parts_are refl (λ ws m e. (m, e))) k.buffered))
+        (reserved_buffered types (MayLack types f inputs S st) s element (parts_at types element) refl r.region.object r.index r.region.word vector_at.buffer count st.world.content old_ones k.buffered)
         (reserve_touches types k.ordered (hand_of rest st) st.world.content (store_of types f rest inputs S st k) r.region.object r.index r.region.word r.region.ty r.holder r.there within r.small element (parts_at types element) parts_are vector_at.buffer vector_at.owned s count)
 
     module _ (single : parts_at types element ≡ Single) where
-      -- it has another object than itself
-      apart : vector_at.buffer ≢ r.region.object
-      apart e = unlike (sym single ∙ ap (parts_at types) (sym elements_type) ∙ ap (λ (x : Object). parts_at types x.ty) (some_same (sym elements.1 ∙ ap (at st.world.content.objects) e ∙ r.there)) ∙ holder_parts alone (Vector element (parts_at types element)) parts_are)
-        where
-          unlike : Single ≡ Vector element (parts_at types element) → ⊥
-          unlike h = cc
-
       vector_pushed : (z : ℤ) → OnNext (edits s (Vector element Single) (record { object = r.region.object; index = r.index; word = r.region.word }) (Push (λ c. (word_of_number z ∷ [], c))) st) (IsBehind types f inputs (MayLack types f inputs S st) no_local no_local st)
       vector_pushed z =
           edit_next own vector_other vector_at.buffer vector_at.owned (Vector element Single) (Push (λ c. (word_of_number z ∷ [], c)))
           (both_got (pushed s element Single (record { object = r.region.object; index = r.index; word = r.region.word }) vector_at.buffer (λ c. (word_of_number z ∷ [], c)) st.world.content) (AreBut types (MayLack types f inputs S st)) (Touches (kinds_of types) (foot_of types r.region) st.world.content)
-          (at_start alone (λ spot. IfGot (pushed s element Single spot vector_at.buffer (λ c. (word_of_number z ∷ [], c)) st.world.content) (AreBut types (MayLack types f inputs S st)))
-          (pushed_buffered types (MayLack types f inputs S st) s element single vector_at.buffer st.world.content k.buffered (λ x there. ap (λ (y : Object). y.ty) (some_same (sym there ∙ elements.1)) ∙ elements_type) (λ j t e. (tt, tt)) r.region.object r.index (word_of_number z ∷ []) holder_born apart
-          (is_owner alone (Vector element (parts_at types element)) parts_are refl (λ ws m e. (m, e)))))
+          (pushed_buffered types (MayLack types f inputs S st) s element single vector_at.buffer st.world.content k.buffered (λ x there. ap (λ (y : Object). y.ty) (some_same (sym there ∙ elements.1)) ∙ elements_type) (subst (λ (p : Parts). AreFree types p (λ m. MayLack types f inputs S st m ⊎ (m ≡ st.world.content.births)) (slots_at st.world.content vector_at.buffer)) single old_ones) r.region.object r.index r.region.word (word_of_number z ∷ []))
           (push_touches types k.ordered (hand_of rest st) st.world.content (store_of types f rest inputs S st k) r.region.object r.index r.region.word r.region.ty r.holder r.there within r.small element Single
           (parts_are ∙ ap (Vector element) single) vector_at.buffer vector_at.owned s (word_of_number z ∷ []) refl (λ j. refl)))
 

@@ -1,11 +1,10 @@
 -- Where a number is saved, a value is copied, or a local comes to life, in a frame, each vector and each string has its buffer; and what
 -- is touched lies beneath what the frame names.
-use Rattle.std.proofs.Common.{◌≡◌, inr, ℕ, suc, ◌+◌, ◌*◌, Bool, true, false, List, [], ◌∷◌, Option, Some, None, refl, sym, ap, subst, ◌∙◌, ◌≤◌, arith, length, ◌≢◌, ◌<◌}
-use Rattle.std.specs.Prelude.{ℤ, cond, nat_lt, slice_get, if◌then◌else◌}
+use Rattle.std.proofs.Common.{◌≡◌, inr, ℕ, zero, suc, ◌+◌, ◌*◌, Bool, true, false, List, [], ◌∷◌, Option, Some, None, refl, sym, ap, subst, ◌∙◌, ◌≤◌, arith, length, ◌≢◌, ◌<◌}
 use Rattle.std.proofs.lemmas.Bool.{false≢true}
-use Rattle.life_types.specs.Pointees.{or_void}
+use Rattle.std.specs.Prelude.{ℤ, cond, nat_lt, slice_get, if◌then◌else◌, slice_index}
 use Rattle.life_types.specs.TypeTests.{is_pointer, is_unique, is_value, is_void}
-use Rattle.life_types.specs.Trees.{IsOrdered}
+use Rattle.life_types.specs.Trees.{holds_owner, IsOrdered}
 use Rattle.life_types.specs.Types.{Types, class}
 use Rattle.life_types.specs.declared.ty.Ty.{Ty}
 use Rattle.life_types.specs.declared.ty.Ty.TheVariants as ty
@@ -19,7 +18,7 @@ use Rattle.life_core.specs.Operands.{Operand, whole}
 use Rattle.life_core.specs.Operands as named
 use Rattle.life_core.specs.Step.{Copy, Live, Save}
 use Rattle.life_pset.specs.Shapes as shapes
-use Rattle.life_pset.specs.Shapes.{has_buffer}
+use Rattle.life_pset.specs.Shapes.{has_buffer, tree_if}
 use Rattle.life_pset.specs.declared.element.Fact.{Fact}
 use Rattle.life_pset.specs.declared.element.AbsPlace.{AbsPlace}
 use Rattle.life_pset.specs.declared.element.Root.{Root}
@@ -28,50 +27,39 @@ use Rattle.life_pset.specs.Places.{path}
 use Rattle.life_proper.specs.Placed.{type_at, type_of, is_const_place}
 use Rattle.life_store.specs.Births.{born_object, born_owner, live_as, live_local, live_of, live_over, with_value_object}
 use Rattle.life_store.specs.Cells.{at}
-use Rattle.life_store.specs.Content.{Object, live_words_of, newborn, resized, with_birth, with_object, with_word, Content}
-use Rattle.life_store.specs.Doing.{copied_to, does, on_character, replaced, saved}
-use Rattle.life_store.specs.Effects.{Effect, Next, Traps, Setting, cell, put_cell, put_content, word_of_number, Faults, Strays, on_got, Attempt}
-use Rattle.life_store.specs.Held.{words_at}
-use Rattle.life_store.specs.Owners.{copied, fresh, object_with, born_pointer, empty_view, Words}
-use Rattle.life_store.specs.Parts.{Parts, Single, Raw, Iterates, Views, Text, Vector, Unique, Member, NoMember, characters_type, operand_parts, operand_type, parts_at, parts_if, parts_of, width}
-use Rattle.life_store.specs.Places.{Spot, locate, on_found, on_place, operand_word, spot_words, wrote_spot}
+use Rattle.life_store.specs.Content.{Object, Slot, live_words_of, newborn, resized, with_birth, with_object, with_word, Content}
+use Rattle.life_store.specs.Doing.{does, replaced, saved}
+use Rattle.life_store.specs.Effects.{Effect, Next, Traps, Setting, cell, put_cell, put_content, word_of_number, Faults, Strays}
+use Rattle.life_store.specs.Held.{owned_in, wrote_if}
+use Rattle.life_store.specs.Owners.{fresh, object_with, born_pointer, empty_view, Words}
+use Rattle.life_store.specs.Parts.{Parts, Single, Raw, Iterates, Views, Text, Vector, Unique, Member, NoMember, operand_parts, parts_at, parts_of, width}
+use Rattle.life_store.specs.Places.{locate, on_found, operand_word}
 use Rattle.life_store.specs.State.{Cell, Empty, Named, Number, Points, State, Wild}
 use Rattle.life_store.specs.declared.run.TrapKind.TheVariants as trap
-use Rattle.life_store.proofs.CellLemmas.{some_same}
+use Rattle.life_store.proofs.CellLemmas.{none_some, some_same}
 use Rattle.life_forest.specs.Frames.{OnNext}
-use Rattle.life_forest.specs.Kinds.{rank_of, kinds_of}
+use Rattle.life_forest.specs.Kinds.{kinds_of}
 use Rattle.life_forest.specs.Forest.{Touches}
+use Rattle.life_forest.specs.Values.{AllWide}
 use Rattle.life_forest.proofs.Frames.{on_got_next}
-use Rattle.life_forest.proofs.Laying.{IsMade, made_at, parts_made}
-use Rattle.life_forest.proofs.OneNumber.{IsOfType}
-use Rattle.life_forest.proofs.SeenTypes.{value_parts}
+use Rattle.life_forest.proofs.Laying.{parts_made}
 use Rattle.life_forest.proofs.StandingChanges.{on_number_next}
-use Rattle.life_forest.proofs.StandingCopies.{on_character_next}
-use Rattle.life_forest.proofs.StandingNumbers.{on_place_each}
-use Rattle.life_forest.proofs.TypedSteps.{operand_of, value_solid}
-use Rattle.life_cover.specs.Buffered.{AreBut}
+use Rattle.life_cover.specs.Buffered.{AreBut, is_buffer_at}
 use Rattle.life_cover.specs.Frames.{RootStands}
-use Rattle.life_cover.specs.Inputs.{frame_foot, may_change, StandsAt}
+use Rattle.life_cover.specs.Inputs.{may_change, StandsAt}
 use Rattle.life_cover.specs.Lacking.{IsUnmoved, MayLack}
-use Rattle.life_cover.specs.Members.{is_inert}
 use Rattle.life_cover.specs.Regions.{Lies, Region}
-use Rattle.life_cover.proofs.Buffering.{IsBufferOwner, birth_but, set_but, single_have, Have, but_more, but_one, inert_have}
-use Rattle.life_cover.proofs.Copies.{IsWhole, whole_parts}
-use Rattle.life_cover.proofs.CopyKinds.{IsCopyable, copy_right, reached_holds}
-use Rattle.life_cover.proofs.HeldElements.{vector_alone, vector_operand, vector_parts}
-use Rattle.life_cover.proofs.InertParts.{AreSingle, buffer_alone, single_copied, single_ended}
-use Rattle.life_cover.proofs.KeptBuffers.{at_start, by_next, holder_born, is_owner, text_alone, text_operand, text_parts}
-use Rattle.life_cover.specs.Uniques.{had_by}
+use Rattle.life_cover.proofs.Buffering.{birth_but, set_but, single_have, Have, but_more, but_one}
+use Rattle.life_cover.proofs.CopyKinds.{IsCopyable, copy_right, into_parts, reached_holds, IsWritten, single_written, copied_single}
+use Rattle.life_cover.proofs.PutWords.{wrote_but}
 use Rattle.life_cover.proofs.Lacking.{local_whole}
-use Rattle.life_cover.proofs.ObjectParts.{single_part}
 use Rattle.life_cover.proofs.Opening.{region_part}
 use Rattle.life_cover.proofs.UniquesStay.{had_beside, had_nothing, reached_other}
-use Rattle.life_cover.proofs.KnownFrames.{IsKnownFrame, IsRight, reach_at, used_right, hand_of, store_of, solid_type, memberless}
-use Rattle.life_cover.proofs.Reaching.{IsReached, Reach, reached, fixed, outside, astray, spot_is}
-use Rattle.life_cover.proofs.Recopying.{IsCopied, IsOwningRow, born_buffered, copied_but, replaced_buffered, replaced_one}
-use Rattle.life_cover.proofs.Regrown.{wrote_single, wrote_type}
-use Rattle.life_cover.proofs.SaveKinds.{value_there, saved_touches, struct_alone, struct_operand, struct_parts}
-use Rattle.life_cover.proofs.Behind.{IsBehind, behind_cell, behind_content, behind_pointer, behind_same, both_got, both_next, right_next, no_local, behind_more}
+use Rattle.life_cover.proofs.KnownFrames.{IsKnownFrame, IsRight, hand_of, store_of, solid_type, buffer_memberless}
+use Rattle.life_cover.proofs.Reaching.{IsReached, Reach, reached, fixed, outside, astray}
+use Rattle.life_cover.proofs.Recopying.{born_buffered, replaced_buffered, replaced_one}
+use Rattle.life_cover.proofs.SaveKinds.{value_there, saved_touches}
+use Rattle.life_cover.proofs.Behind.{IsBehind, behind_cell, behind_content, behind_pointer, both_got, right_next, no_local, behind_more}
 use Rattle.life_cover.proofs.Sparing.{nothing_spares, change_spares}
 use Rattle.life_cover.proofs.Births.{IsNew, owner_new, value_touches}
 use Rattle.life_cover.proofs.Unkilled.{no_foot}
@@ -80,8 +68,7 @@ use Rattle.life_rules.specs.Keeping.{kept_through}
 use Rattle.life_contract.specs.Signatures.{Signature}
 use Rattle.life_contract.specs.Located.{located}
 use Rattle.life_types.specs.declared.place.Place.{Place}
-use Rattle.std.proofs.lemmas.List.Elements.{Contains-append_left}
-use Rattle.life_rules.specs.Diagnosing.{used_in}
+use Rattle.life_cover.proofs.BufferWords.{part_words}
 
 next_more : (e : Effect) (A B : State → Type 0) → OnNext e A → ((after : State) → A after → B after) → OnNext e B
 next_more (Next after) A B h more = more after h
@@ -94,17 +81,20 @@ abbrev pub ReplacedBare : Types → Function → (rest : ℕ → ℕ) (inputs : 
 ReplacedBare types f rest inputs S st x n = MayLack types f inputs S st n × (slice_get st.cells x ≡ Some (Named n) → ⊥)
 
 module _ (types : Types) (f : Function) (rest : ℕ → ℕ) (inputs : Root → Option Region) (S : Fact → Type 0) (st : State) (k : IsKnownFrame types f rest inputs S st) (o : Operand) (s : Setting) where
-  -- what has values alone at a place has them everywhere
-  holder_single : (r : IsReached types f st (StandsAt inputs) (may_change types f) S o) → AreSingle (parts_at types r.region.ty) → AreSingle (parts_at types r.holder.ty)
-  holder_single r single = single_part types k.inert r.holder.ty r.region.word r.region.ty (region_part types f rest inputs S st k o r r.holder r.there) single
-
   -- ---- a number is saved
 
   module _ (value : is_value (type_of types f o) ≡ true) where
     saved_buffered : (r : IsReached types f st (StandsAt inputs) (may_change types f) S o) (word : ℕ) → AreBut types (MayLack types f inputs S st) (with_object r.region.object (with_word r.index r.region.word word r.holder) st.world.content)
     saved_buffered r word =
-        set_but types (MayLack types f inputs S st) r.region.object (with_word r.index r.region.word word r.holder) st.world.content (with_object r.region.object (with_word r.index r.region.word word r.holder) st.world.content)
-        (inr (inert_have types (with_word r.index r.region.word word r.holder) (holder_single r (subst AreSingle (sym (value_there types f rest inputs S st k o r value)) tt)))) refl k.buffered
+        subst (AreBut types (MayLack types f inputs S st)) (ap (λ (x : Option Object). wrote_if x r.region.object r.index r.region.word (word ∷ []) st.world.content) r.there)
+        (wrote_but types (MayLack types f inputs S st) r.region.object r.index r.region.word (word ∷ []) st.world.content none k.buffered)
+      where
+        -- a number's word is no owner's
+        none : (x : Object) → at st.world.content.objects r.region.object ≡ Some x → (j : ℕ) → j < length (word ∷ []) → is_buffer_at (parts_at types x.ty) (r.region.word + j) ≡ true → (b : ℕ) × (owned_in (slice_index (word ∷ []) j) ≡ Some b)
+        none x there zero lt e =
+            let single = value_there types f rest inputs S st k o r value in
+            absurd (false≢true (sym (part_words types k.ordered x.ty r.region.word r.region.ty (region_part types f rest inputs S st k o r x there) 0 (let one = ap width single in omega (arith, one)) ∙ ap (λ (q : Parts). is_buffer_at q 0) single) ∙ e))
+        none x there (suc j) lt e = absurd (omega (arith, lt))
 
     found_saved : Reach types f st (StandsAt inputs) (may_change types f) S o → (z : ℤ) → OnNext (on_found (locate types f o st) (λ n i object. Next (saved z n i (operand_word types f o st) object st))) (IsBehind types f inputs (MayLack types f inputs S st) no_local no_local st)
     found_saved (reached r) z =
@@ -120,88 +110,13 @@ module _ (types : Types) (f : Function) (rest : ℕ → ℕ) (inputs : Root → 
     pub save_behind : Reach types f st (StandsAt inputs) (may_change types f) S o → (q : ℕ) → OnNext (does s types f (Save o q) st) (IsBehind types f inputs (MayLack types f inputs S st) no_local no_local st)
     save_behind reach q = on_number_next (cell st q) (λ z. on_found (locate types f o st) (λ n i object. Next (saved z n i (operand_word types f o st) object st))) (IsBehind types f inputs (MayLack types f inputs S st) no_local no_local st) (found_saved reach)
 
-  -- ---- a copy is written where an operand is reached
-
-  module _ (r : IsReached types f st (StandsAt inputs) (may_change types f) S o) where
-    -- the buffers are there, and where it is all of an object of one slot, that one isn't bare
-    abbrev IsWritten : State → Type 0
-    IsWritten after = AreBut types (MayLack types f inputs S st) after.world.content × (length r.holder.slots ≡ 1 → (q : Object) → at after.world.content.objects r.region.object ≡ Some q → Have types q)
-
-    same_holder : (x : Object) → at st.world.content.objects r.region.object ≡ Some x → x ≡ r.holder
-    same_holder x there = some_same (sym there ∙ r.there)
-
-    -- values alone
-    words_written : AreSingle (parts_at types r.region.ty) → (ws : List ℕ) → IsWritten (put_content (wrote_spot (record { object = r.region.object; index = r.index; word = r.region.word }) ws st.world.content) st)
-    words_written single ws = (
-      wrote_single types (MayLack types f inputs S st) r.region.object r.index r.region.word ws st.world.content (λ x there. subst (λ (y : Object). AreSingle (parts_at types y.ty)) (sym (same_holder x there)) (holder_single r single)) k.buffered,
-      λ one q there.
-          let x = wrote_type types (MayLack types f inputs S st) r.region.object r.index r.region.word ws st.world.content r.region.object q there in
-          inert_have types q (subst (λ (id : TyId). AreSingle (parts_at types id)) (ap (λ (y : Object). y.ty) (sym (same_holder x.0 x.1)) ∙ x.2) (holder_single r single)),
-    )
-
-    single_written : (p : Parts) → parts_at types r.region.ty ≡ p → (is : AreSingle p) → (ws : List ℕ) → OnNext (copied_to s p (record { object = r.region.object; index = r.index; word = r.region.word }) ws st) IsWritten
-    single_written p typed is ws =
-        subst (λ (x : Attempt Words). OnNext (on_got x (λ v. Next (put_content (replaced p (record { object = r.region.object; index = r.index; word = r.region.word }) v) st))) IsWritten) (sym (single_copied s p is ws st.world.content).1)
-        (subst (λ (d : Content). IsWritten (put_content (wrote_spot (record { object = r.region.object; index = r.index; word = r.region.word }) (single_copied s p is ws st.world.content).0 d) st))
-        (sym (single_ended p is (spot_words st.world.content (record { object = r.region.object; index = r.index; word = r.region.word }) (width p)) st.world.content))
-        (words_written (subst AreSingle (sym typed) is) (single_copied s p is ws st.world.content).0))
-
-    owner_written : is_inert (or_void (slice_get types.types r.region.ty.0)) ≡ false → (p : Parts) → parts_at types r.region.ty ≡ p → width p ≡ 1 → IsBufferOwner types p → ((ws : List ℕ) → IsOwningRow p ws → (b : ℕ) × (ws ≡ suc b ∷ [])) → (ws : List ℕ) → OnNext (copied_to s p (record { object = r.region.object; index = r.index; word = r.region.word }) ws st) IsWritten
-    owner_written alone p typed one owner row ws =
-        on_got_next (copied s p ws st.world.content) (λ v. Next (put_content (replaced p (record { object = r.region.object; index = r.index; word = r.region.word }) v) st)) (IsCopied types k.ordered s p (MayLack types f inputs S st) st.world.content) IsWritten
-        (copied_but types k.ordered s p (rank_of types r.region.ty) (subst IsWhole typed (whole_parts types k.inert r.region.ty)) (subst (IsMade types k.ordered (rank_of types r.region.ty)) typed (made_at types k.ordered r.region.ty)) (MayLack types f inputs S st) ws st.world.content k.buffered)
-        (λ v copy. at_start types f rest inputs S st k o r s alone (λ spot. AreBut types (MayLack types f inputs S st) (replaced p spot v) × (length r.holder.slots ≡ 1 → (q : Object) → at (replaced p spot v).objects r.region.object ≡ Some q → Have types q)) (
-          replaced_buffered types k.ordered s (MayLack types f inputs S st) p row r.region.object r.index st.world.content v copy (holder_born types f rest inputs S st k o r s) (is_owner types f rest inputs S st k o r s alone p typed one owner),
-          λ single q there.
-              replaced_one types k.ordered s p row (MayLack types f inputs S st) r.region.object st.world.content v copy (holder_born types f rest inputs S st k o r s) (is_owner types f rest inputs S st k o r s alone p typed one owner)
-              (λ x is. ap (λ (y : Object). length y.slots) (same_holder x is) ∙ single) q
-              (subst (λ i. at (replaced p (record { object = r.region.object; index = i; word = 0 }) v).objects r.region.object ≡ Some q) (first (length r.holder.slots) single r.small) there),
-        ))
-      where
-        first : (n : ℕ) → n ≡ 1 → r.index < n → r.index ≡ 0
-        first n e lt = omega (arith, e, lt)
-
-    by_parts : (p : Parts) → operand_parts types f o ≡ p → ((ws : List ℕ) → OnNext (copied_to s p (record { object = r.region.object; index = r.index; word = r.region.word }) ws st) IsWritten)
-        → (ws : List ℕ) → OnNext (copied_to s (operand_parts types f o) (record { object = r.region.object; index = r.index; word = r.region.word }) ws st) IsWritten
-    by_parts p is each ws = subst (λ (q : Parts). OnNext (copied_to s q (record { object = r.region.object; index = r.index; word = r.region.word }) ws st) IsWritten) (sym is) (each ws)
-
-    by_value : (u : Ty) → type_of types f o ≡ u → is_value u ≡ true → (ws : List ℕ) → OnNext (copied_to s (operand_parts types f o) (record { object = r.region.object; index = r.index; word = r.region.word }) ws st) IsWritten
-    by_value u is value =
-        let of : IsOfType types (operand_type types f o) u = operand_of types k.ordered k.once 0 [] f k.shaped o u is (value_solid u value) in
-        by_parts Single (ap (parts_if types) of.is ∙ value_parts types k.ordered of.number u of.there value) (single_written Single (value_there types f rest inputs S st k o r (ap is_value is ∙ value)) tt)
-
-    written : (u : Ty) → type_of types f o ≡ u → is_void u ≡ false → is_pointer u ≡ false → IsCopyable u → (ws : List ℕ) → OnNext (copied_to s (operand_parts types f o) (record { object = r.region.object; index = r.index; word = r.region.word }) ws st) IsWritten
-    written ty.Bool is solid pointer can = by_value ty.Bool is refl
-    written ty.Char is solid pointer can = by_value ty.Char is refl
-    written ty.Int is solid pointer can = by_value ty.Int is refl
-    written ty.Long is solid pointer can = by_value ty.Long is refl
-    written ty.Size is solid pointer can = by_value ty.Size is refl
-    written ty.Text is solid pointer can =
-        by_parts (Text (characters_type types)) (text_operand types f rest inputs S st k o r s is) (owner_written (text_alone types f rest inputs S st k o r s is) (Text (characters_type types)) (text_parts types f rest inputs S st k o r s is) refl (λ ws m e. (m, e)) (λ ws row. row))
-    written (ty.Vector element) is solid pointer can =
-        by_parts (Vector element (parts_at types element)) (vector_operand types f rest inputs S st k o r element is)
-        (owner_written (vector_alone types f rest inputs S st k o r element is) (Vector element (parts_at types element)) (vector_parts types f rest inputs S st k o r element is) refl (λ ws m e. (m, e)) (λ ws row. row))
-    written (ty.Unique target) is solid pointer can = absurd can
-    written (ty.Struct number) is solid pointer can = by_parts (parts_of types (parts_at types) (Some (ty.Struct number))) (struct_operand types f rest inputs S st k o r number is) (single_written (parts_of types (parts_at types) (Some (ty.Struct number))) (struct_parts types f rest inputs S st k o r number is) (struct_alone types f rest inputs S st k o r number is))
-    written ty.Void is solid pointer can = absurd (false≢true (sym solid))
-    written _ is solid pointer can = absurd (false≢true (sym pointer))
-
-    copied_over : (from : Operand) → ((ws : List ℕ) → OnNext (copied_to s (operand_parts types f o) (record { object = r.region.object; index = r.index; word = r.region.word }) ws st) IsWritten)
-        → OnNext (on_place (locate types f from st) (λ m i object. copied_to s (operand_parts types f o) (record { object = r.region.object; index = r.index; word = r.region.word }) (words_at st.world.content m i (operand_word types f from st) (width (operand_parts types f o))) st)
-        (λ c. on_character s.texts c (λ z. copied_to s (operand_parts types f o) (record { object = r.region.object; index = r.index; word = r.region.word }) (word_of_number z ∷ []) st))) IsWritten
-    copied_over from each =
-        on_place_each (locate types f from st) (λ m i object. copied_to s (operand_parts types f o) (record { object = r.region.object; index = r.index; word = r.region.word }) (words_at st.world.content m i (operand_word types f from st) (width (operand_parts types f o))) st)
-        (λ c. on_character s.texts c (λ z. copied_to s (operand_parts types f o) (record { object = r.region.object; index = r.index; word = r.region.word }) (word_of_number z ∷ []) st)) IsWritten
-        (λ m i object. each (words_at st.world.content m i (operand_word types f from st) (width (operand_parts types f o))))
-        (λ c. on_character_next s.texts c (λ z. copied_to s (operand_parts types f o) (record { object = r.region.object; index = r.index; word = r.region.word }) (word_of_number z ∷ []) st) IsWritten (λ z. each (word_of_number z ∷ [])))
-
   -- a local that is written by its name isn't bare
   abbrev pub CopiedBare : Operand → ℕ → Type 0
   CopiedBare (named.Name l) n = ReplacedBare types f rest inputs S st l.local n
   CopiedBare (named.Through p members) n = MayLack types f inputs S st n
 
-  written_bare : (q : Operand) → is_void (type_of types f q) ≡ false → (r : IsReached types f st (StandsAt inputs) (may_change types f) S q) (after : State) → AreBut types (MayLack types f inputs S st) after.world.content
-      → (length r.holder.slots ≡ 1 → (x : Object) → at after.world.content.objects r.region.object ≡ Some x → Have types x) → AreBut types (CopiedBare q) after.world.content
+  pub written_bare : (q : Operand) → is_void (type_of types f q) ≡ false → (r : IsReached types f st (StandsAt inputs) (may_change types f) S q) (after : State) → AreBut types (MayLack types f inputs S st) after.world.content
+      → (parts_at types r.holder.ty ≡ parts_at types r.region.ty → r.region.word ≡ 0 → length r.holder.slots ≡ 1 → (x : Object) → at after.world.content.objects r.region.object ≡ Some x → Have types x) → AreBut types (CopiedBare q) after.world.content
   written_bare (named.Through p members) solid r after h have = h
   written_bare (named.Name l) solid r after h have = go l.members refl
     where
@@ -217,14 +132,16 @@ module _ (types : Types) (f : Function) (rest : ℕ → ℕ) (inputs : Root → 
           let v = k.stands.frame.objects l.local r.region.object named_it in
           but_more types (λ n. MayLack types f inputs S st n × (n ≢ r.region.object)) (CopiedBare (named.Name l)) after.world.content
           (λ n b. (b.0, λ e. b.1 (same (some_same (sym e ∙ named_it)))))
-          (but_one types (MayLack types f inputs S st) r.region.object after.world.content (have (ap (λ (x : Object). length x.slots) (some_same (sym r.there ∙ v.there)) ∙ ap length v.one)) h)
+          (but_one types (MayLack types f inputs S st) r.region.object after.world.content
+          (have (ap (parts_at types) (ap (λ (x : Object). x.ty) (some_same (sym r.there ∙ v.there)) ∙ some_same (sym v.type ∙ stands.2) ∙ ap (λ (z : Region). z.ty) start)) (ap (λ (z : Region). z.word) (sym start) ∙ stands.1)
+          (ap (λ (x : Object). length x.slots) (some_same (sym r.there ∙ v.there)) ∙ ap length v.one)) h)
         where
           same : {i j : ℕ} → Named i ≡ Named j → i ≡ j
           same e = cc
 
       -- a struct is never moved from
       never : (m : ℕ) (ms : List ℕ) → l.members ≡ m ∷ ms → has_buffer (type_at types f l.local) ≡ true → IsUnmoved S l.local
-      never m ms e buffer = absurd (unlike (sym e ∙ memberless types k.inert (shapes.local_type types f l.local) l.members (buffer_alone (type_at types f l.local) buffer) (solid_type types f rest inputs S st k (named.Name l) solid)))
+      never m ms e buffer = absurd (unlike (sym e ∙ buffer_memberless types (shapes.local_type types f l.local) l.members buffer (solid_type types f rest inputs S st k (named.Name l) solid)))
         where
           unlike : m ∷ ms ≡ [] → ⊥
           unlike h = cc
@@ -235,20 +152,6 @@ module _ (types : Types) (f : Function) (rest : ℕ → ℕ) (inputs : Root → 
           but_more types (MayLack types f inputs S st) (CopiedBare (named.Name l)) after.world.content
           (λ j lacks. (lacks, λ named. local_whole types f rest inputs S st k l.local j named (never m ms e) lacks)) h
 
-  copy_buffered : Reach types f st (StandsAt inputs) (may_change types f) S o → (from : Operand) → is_void (type_of types f o) ≡ false → is_pointer (type_of types f o) ≡ false → IsCopyable (type_of types f o) → OnNext (does s types f (Copy o from) st) (λ after. AreBut types (CopiedBare o) after.world.content)
-  copy_buffered reach from solid pointer can =
-      by_next types f inputs S st o reach go (λ after. AreBut types (CopiedBare o) after.world.content)
-      (λ r. subst (λ e. OnNext e (λ after. AreBut types (CopiedBare o) after.world.content)) (sym (spot_is types f st (StandsAt inputs) (may_change types f) S o r go))
-      (next_more (copied_over_at r from) (IsWritten r) (λ after. AreBut types (CopiedBare o) after.world.content) (copied_over r from (written r (type_of types f o) refl solid pointer can)) (λ after h. written_bare o solid r after h.0 h.1)))
-    where
-      go : Spot → Effect
-      go spot =
-          on_place (locate types f from st) (λ m i object. copied_to s (operand_parts types f o) spot (words_at st.world.content m i (operand_word types f from st) (width (operand_parts types f o))) st)
-          (λ c. on_character s.texts c (λ z. copied_to s (operand_parts types f o) spot (word_of_number z ∷ []) st))
-
-      copied_over_at : (r : IsReached types f st (StandsAt inputs) (may_change types f) S o) → Operand → Effect
-      copied_over_at r q = go (record { object = r.region.object; index = r.index; word = r.region.word })
-
 pub copyable_other : (t : Ty) → IsCopyable t → is_unique t ≡ false
 copyable_other (ty.Unique target) can = absurd can
 copyable_other _ can = refl
@@ -256,25 +159,62 @@ copyable_other _ can = refl
 -- .. and what is touched is what is owned there
 module _ (types : Types) (f : Function) (rest : ℕ → ℕ) (inputs : Root → Option Region) (S : Fact → Type 0) (st : State) (k : IsKnownFrame types f rest inputs S st) (sigs : List Signature) (n : ℕ) (place : Place) (S' : Fact → Type 0) (s : Setting) (to from : Operand)
     (free : is_const_place types f to ≡ false) (right : IsRight sigs types n f place (Copy to from) S S') (solid_to : is_void (type_of types f to) ≡ false) (solid_from : is_void (type_of types f from) ≡ false) (alike : type_of types f to ≡ type_of types f from) where
-  abbrev IsSpared : State → Type 0
-  IsSpared after = (after.cells ≡ st.cells) × Touches (kinds_of types) (frame_foot types f inputs st.cells) st.world.content after.world.content
-      × ((x j : ℕ) → slice_get st.cells x ≡ Some (Named j) → is_unique (type_at types f x) ≡ true → had_by after.world.content j ≡ had_by st.world.content j)
+  -- each vector and each string has its buffer
+  copy_buffered : (r : IsReached types f st (StandsAt inputs) (may_change types f) S to) (v : Words) → IsWritten types f rest inputs S st k sigs n place S' s to from free right solid_to solid_from alike r v
+      → AreBut types (CopiedBare types f rest inputs S st k to s to) (replaced (operand_parts types f to) (record { object = r.region.object; index = r.index; word = r.region.word }) v)
+  copy_buffered r v written =
+      written_bare types f rest inputs S st k to s to solid_to r (put_content (replaced p (record { object = r.region.object; index = r.index; word = r.region.word }) v) st)
+      (replaced_buffered types k.ordered s (MayLack types f inputs S st) p r.region.object r.index r.region.word st.world.content v written.copied born
+      (λ o there u lt. part_words types k.ordered o.ty r.region.word r.region.ty (region_part types f rest inputs S st k to r o there) u (let e = ap width parts in omega (arith, lt, e)) ∙ ap (λ (q : Parts). is_buffer_at q u) parts))
+      (λ same zero one x there.
+      replaced_one types k.ordered s p (MayLack types f inputs S st) r.region.object st.world.content v written.copied born
+      (λ o is. (
+        ap (λ (y : Object). parts_at types y.ty) (same_holder o is) ∙ same ∙ parts,
+        ap (λ (y : Object). length y.slots) (same_holder o is) ∙ one,
+        (λ t e. first_wide r.holder.width r.holder.slots t (k.stands.store.fit r.region.object r.holder r.there).slots (ap (λ (y : Object). slice_get y.slots 0) (sym (same_holder o is)) ∙ e) ∙ (k.stands.store.fit r.region.object r.holder r.there).width ∙ ap width (same ∙ parts)),
+      )) x
+      (subst (λ i. at (replaced p (record { object = r.region.object; index = i; word = 0 }) v).objects r.region.object ≡ Some x) (first (length r.holder.slots) one r.small)
+      (subst (λ w. at (replaced p (record { object = r.region.object; index = r.index; word = w }) v).objects r.region.object ≡ Some x) zero there)))
+    where
+      p : Parts
+      p = operand_parts types f to
+
+      parts : parts_at types r.region.ty ≡ operand_parts types f to
+      parts = into_parts types f rest inputs S st k sigs n place S' s to from free right solid_to solid_from alike r
+
+      born : r.region.object < st.world.content.births
+      born = k.stands.store.forest.births r.region.object r.holder r.there
+
+      same_holder : (x : Object) → at st.world.content.objects r.region.object ≡ Some x → x ≡ r.holder
+      same_holder x there = some_same (sym there ∙ r.there)
+
+      first : (m : ℕ) → m ≡ 1 → r.index < m → r.index ≡ 0
+      first m e lt = omega (arith, e, lt)
+
+      first_wide : (w : ℕ) (ss : List Slot) (t : Slot) → AllWide w ss → slice_get ss 0 ≡ Some t → length t.words ≡ w
+      first_wide w [] t h e = absurd (none_some e)
+      first_wide w (x ∷ xs) t h e = subst (λ (y : Slot). length y.words ≡ w) (some_same e) h.0
 
   pub copy_behind : is_pointer (type_of types f to) ≡ false → IsCopyable (type_of types f to) → OnNext (does s types f (Copy to from) st) (IsBehind types f inputs (CopiedBare types f rest inputs S st k to s to) no_local no_local st)
   copy_behind pointer can =
-      both_next (does s types f (Copy to from) st) (λ after. AreBut types (CopiedBare types f rest inputs S st k to s to) after.world.content) IsSpared (IsBehind types f inputs (CopiedBare types f rest inputs S st k to s to) no_local no_local st)
-      (copy_buffered types f rest inputs S st k to s (reach_at types f rest inputs S st k right.closed.of to solid_to (λ q h. used_right sigs types n f place (Copy to from) S right.clean q (Contains-append_left (used_in to) (used_in from) q h))) from solid_to pointer can)
-      (right_next (does s types f (Copy to from) st) IsSpared
-      (copy_right types f rest inputs S st k sigs n place S' s to from free right solid_to solid_from alike IsSpared
-      (λ r none d touch. (refl, nothing_spares types f rest inputs S st k d touch, λ x j e unique. had_nothing types f rest inputs S st k d touch x j e unique))
-      (λ r owns d touch. (
-        refl,
-        change_spares types f rest inputs S st k to r
-            (reached_owning sigs types n f place (Copy to from) S right.clean to (λ x. ap (λ b. if b then kept_through types n f place x to else []) owns) k.ordered inputs st k.given.each r (r.change free) (reached_holds types f rest inputs S st k sigs n place S' s to from free right solid_to solid_from alike r owns))
-            d touch,
-        λ x j e unique. had_beside types f rest inputs S st k r.region (region_part types f rest inputs S st k to r) (reached_other types f rest inputs S st k to r solid_to (copyable_other (type_of types f to) can)) d touch x j e unique,
-      )) pointer can))
-      (λ after buffered h. behind_same types f inputs (CopiedBare types f rest inputs S st k to s to) no_local no_local st after h.0 buffered h.1 (λ x j e unique. inr (h.2 x j e unique)))
+      right_next (does s types f (Copy to from) st) (IsBehind types f inputs (CopiedBare types f rest inputs S st k to s to) no_local no_local st)
+      (copy_right types f rest inputs S st k sigs n place S' s to from free right solid_to solid_from alike (IsBehind types f inputs (CopiedBare types f rest inputs S st k to s to) no_local no_local st)
+      (λ r v written. by_holds r v written (holds_owner (tree_if types (shapes.operand_type types f to))) refl))
+    where
+      by_holds : (r : IsReached types f st (StandsAt inputs) (may_change types f) S to) (v : Words) → IsWritten types f rest inputs S st k sigs n place S' s to from free right solid_to solid_from alike r v → (b : Bool) → holds_owner (tree_if types (shapes.operand_type types f to)) ≡ b
+          → IsBehind types f inputs (CopiedBare types f rest inputs S st k to s to) no_local no_local st (put_content (replaced (operand_parts types f to) (record { object = r.region.object; index = r.index; word = r.region.word }) v) st)
+      by_holds r v written true owns =
+          behind_content types f inputs (CopiedBare types f rest inputs S st k to s to) no_local no_local st (replaced (operand_parts types f to) (record { object = r.region.object; index = r.index; word = r.region.word }) v) (copy_buffered r v written)
+          (change_spares types f rest inputs S st k to r
+          (reached_owning sigs types n f place (Copy to from) S right.clean to (λ x. ap (λ b. if b then kept_through types n f place x to else []) owns) k.ordered inputs st k.given.each r (r.change free) (reached_holds types f rest inputs S st k sigs n place S' s to from free right solid_to solid_from alike r owns))
+          (replaced (operand_parts types f to) (record { object = r.region.object; index = r.index; word = r.region.word }) v) written.touches)
+          (λ x j e unique. inr (had_beside types f rest inputs S st k r.region (region_part types f rest inputs S st k to r) (reached_other types f rest inputs S st k to r solid_to (copyable_other (type_of types f to) can))
+          (replaced (operand_parts types f to) (record { object = r.region.object; index = r.index; word = r.region.word }) v) written.touches x j e unique))
+      by_holds r v written false owns =
+          let touch = single_written types f rest inputs S st k sigs n place S' s to from free right solid_to solid_from alike r v written (copied_single types f rest inputs S st k sigs n place S' s to from free right solid_to solid_from alike pointer can owns) in
+          behind_content types f inputs (CopiedBare types f rest inputs S st k to s to) no_local no_local st (replaced (operand_parts types f to) (record { object = r.region.object; index = r.index; word = r.region.word }) v) (copy_buffered r v written)
+          (nothing_spares types f rest inputs S st k (replaced (operand_parts types f to) (record { object = r.region.object; index = r.index; word = r.region.word }) v) touch)
+          (λ x j e unique. inr (had_nothing types f rest inputs S st k (replaced (operand_parts types f to) (record { object = r.region.object; index = r.index; word = r.region.word }) v) touch x j e unique))
 
 -- ---- a local comes to life
 
@@ -323,7 +263,7 @@ module _ (types : Types) (f : Function) (rest : ℕ → ℕ) (inputs : Root → 
     owner_born ty =
         on_got_next (object_with s ty (parts_at types ty) (fresh s form (parts_at types ty)) st.world.content) (λ b. Next (put_cell x (Named b.0) (put_content b.1 st))) (λ b. AreBut types (MayLack types f inputs S st) b.1 × IsNew types st.world.content b) (IsBehind types f inputs (MayLack types f inputs S st) no_local (λ y. x ≡ y) st)
         (both_got (object_with s ty (parts_at types ty) (fresh s form (parts_at types ty)) st.world.content) (λ b. AreBut types (MayLack types f inputs S st) b.1) (IsNew types st.world.content)
-        (born_buffered types k.ordered s (MayLack types f inputs S st) form ty st.world.content (whole_parts types k.inert ty) k.buffered) (owner_new types k.ordered (hand_of rest st) st.world.content (store_of types f rest inputs S st k) ty s form))
+        (born_buffered types k.ordered s (MayLack types f inputs S st) form ty st.world.content k.buffered) (owner_new types k.ordered (hand_of rest st) st.world.content (store_of types f rest inputs S st k) ty s form))
         (λ b h. new_behind b.0 b.1 h.1.0 h.0 h.1.1)
 
     value_born : (ty : TyId) → parts_at types ty ≡ Single → OnNext (born_object s ty x st) (IsBehind types f inputs (MayLack types f inputs S st) no_local (λ y. x ≡ y) st)

@@ -61,10 +61,10 @@ use Rattle.life_cover.specs.Inputs.{AreGiven, StandsAt, frame_foot, may_change, 
 use Rattle.life_cover.specs.Kills.{Closed, IsUnnamed}
 use Rattle.life_cover.specs.Uniques.{UniquesTold}
 use Rattle.life_cover.specs.Lacking.{IsUnmoved, MayLack}
-use Rattle.life_cover.specs.Members.{HaveInertMembers, is_inert}
+use Rattle.life_cover.specs.Members.{HaveUntoldMembers, is_untold}
 use Rattle.life_cover.specs.Regions.{Region}
 use Rattle.life_cover.specs.Roots.{AreRooted}
-use Rattle.life_cover.proofs.InertParts.{pointer_alone}
+use Rattle.life_cover.proofs.SingleParts.{pointer_alone}
 use Rattle.life_cover.proofs.Inputs.{frame_rooted}
 use Rattle.life_cover.proofs.Making.{fact_path}
 use Rattle.life_cover.proofs.MemberReach.{named_further, through_further}
@@ -77,7 +77,7 @@ use Rattle.life_cover.proofs.Using.{NotInvalid}
 pub record IsKnownFrame (types : Types) (f : Function) (rest : ℕ → ℕ) (inputs : Root → Option Region) (S : Fact → Type 0) (st : State) : Type 0 where
   pub ordered : IsOrdered types
   pub once : HasEachOnce types
-  pub inert : HaveInertMembers types
+  pub untold : HaveUntoldMembers types
   pub shaped : IsShaped types f
   pub stand : LocalsStand types ordered f
   pub short : AreShort (elements_of types f)
@@ -121,49 +121,62 @@ used_right sigs types n f place i S clean p used = record { valid = λ cause s. 
         x : Fact
         x = fact_at (located p) e
 
--- ---- what owns or points is no member
+-- ---- what facts speak of is no member
 
-module _ (types : Types) (inert : HaveInertMembers types) where
+module _ (types : Types) (untold : HaveUntoldMembers types) where
   void_members : (ms : List ℕ) → members_type types None ms ≡ None
   void_members [] = refl
   void_members (m ∷ ms) = void_members ms
 
-  member_inert : (id : Option TyId) (m : ℕ) → is_inert (ty_if types (member_type types id m)) ≡ true
-  member_inert None m = refl
-  member_inert (Some id) m = go (slice_get types.types id.0) refl
+  member_untold : (id : Option TyId) (m : ℕ) → is_untold (ty_if types (member_type types id m)) ≡ true
+  member_untold None m = refl
+  member_untold (Some id) m = go (slice_get types.types id.0) refl
     where
-      of_member : (number : ℕ) → slice_get types.types id.0 ≡ Some (ty.Struct number) → (o : Option TyId) → slice_get (members_at types number) m ≡ o → is_inert (ty_if types o) ≡ true
+      of_member : (number : ℕ) → slice_get types.types id.0 ≡ Some (ty.Struct number) → (o : Option TyId) → slice_get (members_at types number) m ≡ o → is_untold (ty_if types o) ≡ true
       of_member number there None e = refl
-      of_member number there (Some part) e = inert id part m (ap (λ (t : Option Ty). slice_get (members_if types t) m) there ∙ e)
+      of_member number there (Some part) e = untold id part m (ap (λ (t : Option Ty). slice_get (members_if types t) m) there ∙ e)
 
-      go : (t : Option Ty) → slice_get types.types id.0 ≡ t → is_inert (ty_if types (member_of types (or_void t) m)) ≡ true
+      go : (t : Option Ty) → slice_get types.types id.0 ≡ t → is_untold (ty_if types (member_of types (or_void t) m)) ≡ true
       go (Some (ty.Struct number)) there = of_member number there (slice_get (members_at types number) m) refl
       go None there = refl
       go (Some _) there = refl
 
-  members_inert : (ms : List ℕ) (id : Option TyId) (m : ℕ) → is_inert (ty_if types (members_type types id (m ∷ ms))) ≡ true
-  members_inert [] id m = member_inert id m
-  members_inert (n ∷ ms) id m = members_inert ms (member_type types id m) n
+  members_untold : (ms : List ℕ) (id : Option TyId) (m : ℕ) → is_untold (ty_if types (members_type types id (m ∷ ms))) ≡ true
+  members_untold [] id m = member_untold id m
+  members_untold (n ∷ ms) id m = members_untold ms (member_type types id m) n
 
-  pub whole_type : (id : Option TyId) (ms : List ℕ) → is_inert (ty_if types (members_type types id ms)) ≡ false → ms ≡ []
+  pub whole_type : (id : Option TyId) (ms : List ℕ) → is_untold (ty_if types (members_type types id ms)) ≡ false → ms ≡ []
   whole_type id [] alone = refl
-  whole_type id (m ∷ ms) alone = absurd (false≢true (sym alone ∙ members_inert ms id m))
+  whole_type id (m ∷ ms) alone = absurd (false≢true (sym alone ∙ members_untold ms id m))
 
   -- and it has none
-  pub memberless : (id : Option TyId) (ms : List ℕ) → is_inert (ty_if types id) ≡ false → is_void (ty_if types (members_type types id ms)) ≡ false → ms ≡ []
+  pub memberless : (id : Option TyId) (ms : List ℕ) → is_untold (ty_if types id) ≡ false → is_void (ty_if types (members_type types id ms)) ≡ false → ms ≡ []
   memberless id [] alone solid = refl
   memberless id (m ∷ ms) alone solid = absurd (false≢true (sym solid ∙ ap (λ (i : Option TyId). is_void (ty_if types i)) (ap (λ (i : Option TyId). members_type types i ms) (none (ty_if types id) alone) ∙ void_members ms)))
     where
-      none : (t : Ty) → is_inert t ≡ false → member_of types t m ≡ None
+      none : (t : Ty) → is_untold t ≡ false → member_of types t m ≡ None
       none (ty.Struct number) e = absurd (false≢true (sym e))
       none _ e = refl
 
   -- a location of such a type is a local
-  pub whole_location : (f : Function) (l : Location) → is_inert (type_in types f l) ≡ false → whole l.local ≡ l
+  pub whole_location : (f : Function) (l : Location) → is_untold (type_in types f l) ≡ false → whole l.local ≡ l
   whole_location f l alone = whole_is l (whole_type (shapes.local_type types f l.local) l.members alone)
     where
       whole_is : (q : Location) → q.members ≡ [] → whole q.local ≡ q
       whole_is q e = ap (λ (ms : List ℕ). record { local = q.local; members = ms }) (sym e)
+
+-- what is no struct has no members
+pub buffer_memberless : (types : Types) (id : Option TyId) (ms : List ℕ) → has_buffer (ty_if types id) ≡ true → is_void (ty_if types (members_type types id ms)) ≡ false → ms ≡ []
+buffer_memberless types id [] buffer solid = refl
+buffer_memberless types id (m ∷ ms) buffer solid = absurd (false≢true (sym solid ∙ ap (λ (i : Option TyId). is_void (ty_if types i)) (ap (λ (i : Option TyId). members_type types i ms) (none (ty_if types id) buffer) ∙ nothing ms)))
+  where
+    none : (t : Ty) → has_buffer t ≡ true → member_of types t m ≡ None
+    none (ty.Struct number) e = absurd (false≢true e)
+    none _ e = refl
+
+    nothing : (ns : List ℕ) → members_type types None ns ≡ None
+    nothing [] = refl
+    nothing (n ∷ ns) = nothing ns
 
 -- what is in the hand: what the cells name, and the rest
 abbrev pub hand_of : (rest : ℕ → ℕ) → State → ℕ → ℕ
@@ -232,7 +245,7 @@ module _ (types : Types) (f : Function) (rest : ℕ → ℕ) (inputs : Root → 
 
   -- a location of a pointer is a local
   pub at_pointer : (p : Location) → is_pointer (type_in types f p) ≡ true → (P : Location → Type 0) → ((x : ℕ) → P (whole x)) → P p
-  at_pointer p pointer P each = subst P (whole_location types k.inert f p (pointer_alone (type_in types f p) pointer)) (each p.local)
+  at_pointer p pointer P each = subst P (whole_location types k.untold f p (pointer_alone (type_in types f p) pointer)) (each p.local)
 
   abbrev Comes : Operand → Type 0
   Comes o = Reach types f st (StandsAt inputs) (may_change types f) S o
@@ -243,7 +256,7 @@ module _ (types : Types) (f : Function) (rest : ℕ → ℕ) (inputs : Root → 
       (named_reach types f st (StandsAt inputs) (may_change types f) S k.stands.frame l.local refl (cell st l.local) refl)
   reach_at of (named.Through p ms) solid usable =
       through_further types k.ordered f k.shaped k.short st (λ x n e. object_named x n e) inputs k.given.each S p ms (meant (named.Through p ms) solid)
-      (go p (whole_location types k.inert f p (pointer_alone (type_in types f p) pointer)) (usable p (at_head p [])) (placed (named.Through p ms) solid))
+      (go p (whole_location types k.untold f p (pointer_alone (type_in types f p) pointer)) (usable p (at_head p [])) (placed (named.Through p ms) solid))
     where
       pointer : is_pointer (type_in types f p) ≡ true
       pointer = pointee_points types (type_in types f p) (placed (named.Through p ms) solid)

@@ -8,6 +8,7 @@ pub mod Births
 pub mod Branches
 pub mod BufferMoveKinds
 pub mod BufferMoves
+pub mod BufferWords
 pub mod Buffering
 pub mod Buffers
 pub mod CallCovers
@@ -34,6 +35,7 @@ pub mod FootParts
 pub mod FramePoints
 pub mod FrameSteps
 pub mod Fresh
+pub mod Full
 pub mod GivenBack
 pub mod GivenBuffers
 pub mod GivenInputs
@@ -43,7 +45,6 @@ pub mod GivenValues
 pub mod Guarding
 pub mod HandedLoose
 pub mod HeldElements
-pub mod InertParts
 pub mod InputPlaces
 pub mod Inputs
 pub mod Inside
@@ -75,6 +76,7 @@ pub mod NumberKinds
 pub mod ObjectParts
 pub mod Opening
 pub mod Owned
+pub mod OwnedWords
 pub mod OwnerElements
 pub mod OwnerKinds
 pub mod OwnerMoves
@@ -92,6 +94,7 @@ pub mod PromisedResults
 pub mod PushKinds
 pub mod PushedBuffers
 pub mod PushedObjects
+pub mod PutWords
 pub mod Putting
 pub mod Reaching
 pub mod Reading
@@ -105,6 +108,7 @@ pub mod SafeBodies
 pub mod SafeCalls
 pub mod SafeRuns
 pub mod SaveKinds
+pub mod SingleParts
 pub mod Sparing
 pub mod Stepping
 pub mod StillLacking

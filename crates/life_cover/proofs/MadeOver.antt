@@ -23,13 +23,13 @@ use Rattle.life_rules.specs.Carrying.{writes}
 use Rattle.life_rules.specs.Matching.{fact_at}
 use Rattle.life_rules.proofs.Giving.{at_head}
 use Rattle.life_store.specs.Cells.{at}
-use Rattle.life_store.specs.Content.{Content, Object, Slot, word_in}
+use Rattle.life_store.specs.Content.{Content, Object, Slot}
 use Rattle.life_store.specs.Doing.{does, made_of, remade, replaced}
 use Rattle.life_store.specs.Effects.{Attempt, Got, GotFault, GotLost, GotTrap, Next, Setting, cell, on_got, put_cell, put_content}
-use Rattle.life_store.specs.Held.{owned_in, owner_word}
+use Rattle.life_store.specs.Held.{owner_word}
 use Rattle.life_store.specs.Kinds.{kind_in}
 use Rattle.life_store.specs.Owners.{Words, consumed, object_with}
-use Rattle.life_store.specs.Parts.{Iterates, Member, NoMember, Parts, Raw, Single, Text, Unique, Vector, Views, local_type, location_parts, parts_at, parts_if, width}
+use Rattle.life_store.specs.Parts.{Parts, Unique, local_type, location_parts, parts_at, parts_if, width}
 use Rattle.life_store.specs.State.{Cell, Empty, Named, Number, Points, State}
 use Rattle.life_store.proofs.CellLemmas.{cell_cases, some_same}
 use Rattle.life_forest.specs.Forest.{Touches, all_of, whole}
@@ -38,7 +38,7 @@ use Rattle.life_forest.specs.Frames.{named_in}
 use Rattle.life_forest.specs.Kinds.{kinds_of, owned_type, rank_of}
 use Rattle.life_forest.specs.Owned.{every, owns, times}
 use Rattle.life_forest.specs.Typed.{IsStore}
-use Rattle.life_forest.specs.Values.{AllWide, listed}
+use Rattle.life_forest.specs.Values.{AllWide}
 use Rattle.life_forest.specs.Within.{LiesWithin}
 use Rattle.life_forest.proofs.Above.{above_apart, above_unowned, owner_above}
 use Rattle.life_forest.proofs.Below.{is_positive, positive_is}
@@ -59,8 +59,6 @@ use Rattle.life_cover.specs.Lacking.{IsUnmoved, MayLack}
 use Rattle.life_cover.specs.Regions.{IsAt, Region, foot_of}
 use Rattle.life_cover.specs.Uniques.{had_by}
 use Rattle.life_cover.proofs.Behind.{behind_empty, TellsLost}
-use Rattle.life_cover.proofs.Buffers.{buffer_lives, buffer_low}
-use Rattle.life_cover.proofs.Copies.{whole_parts}
 use Rattle.life_cover.proofs.GivenMade.{given_buffered, given_touches}
 use Rattle.life_cover.proofs.Guarding.{under_place}
 use Rattle.life_cover.proofs.Killing.{cover_on}
@@ -71,8 +69,8 @@ use Rattle.life_cover.proofs.Listing.{own_known, unique_listed}
 use Rattle.life_cover.proofs.LiveKinds.{object_faultless}
 use Rattle.life_cover.proofs.Locals.{named_once}
 use Rattle.life_cover.proofs.MakeKinds.{IsMade}
+use Rattle.life_cover.proofs.OwnedWords.{word_beneath, word_lives}
 use Rattle.life_cover.proofs.OwnerKinds.{right_got}
-use Rattle.life_cover.proofs.OwnersStay.{owned_is}
 use Rattle.life_cover.proofs.Pointers.{OnRight, right_then}
 use Rattle.life_cover.proofs.PushKinds.{elsewhere, roots_left, split}
 use Rattle.life_cover.proofs.PushedObjects.{pushed_foot}
@@ -121,23 +119,13 @@ module _ (types : Types) (f : Function) (rest : ℕ → ℕ) (inputs : Root → 
 
     -- what it has is neither bare nor new
     m_free : (j : ℕ) → st.world.content.births ≤ j → IsFree types p (λ i. MayLack types f inputs S st i ⊎ (i ≡ j)) v.slot.words
-    m_free j new = subst (λ id. IsFree types (parts_at types id) (λ i. MayLack types f inputs S st i ⊎ (i ≡ j)) v.slot.words) m_type (of_parts (parts_at types v.object.ty) refl)
+    m_free j new = subst (λ id. IsFree types (parts_at types id) (λ i. MayLack types f inputs S st i ⊎ (i ≡ j)) v.slot.words) m_type of_words
       where
-        of_parts : (q : Parts) → parts_at types v.object.ty ≡ q → IsFree types q (λ i. MayLack types f inputs S st i ⊎ (i ≡ j)) v.slot.words
-        of_parts (Text id) is = λ i e out.
-            let owned = ap listed (owned_is st.world.content m 0 0 v.object v.there ∙ ap (λ (t : Option Slot). owned_in (word_in t 0)) first_slot ∙ e) in
-            let small : 0 < length v.object.slots = (let one = ap length v.one in omega (arith, one)) in
-            let l = buffer_lives types k.ordered (hand_of rest st) st.world.content (store_of types f rest inputs S st k) m 0 0 v.object.ty v.object v.there (within_self types v.object.ty) small (Text id) is i owned in
-            let beneath = buffer_low types k.ordered (hand_of rest st) st.world.content (store_of types f rest inputs S st k) m 0 0 v.object.ty v.object v.there (within_self types v.object.ty) small (Text id) is i owned in
+        of_words : IsFree types (parts_at types v.object.ty) (λ i. MayLack types f inputs S st i ⊎ (i ≡ j)) v.slot.words
+        of_words u i e owned out =
+            let l = word_lives types k.ordered (hand_of rest st) st.world.content (store_of types f rest inputs S st k) m 0 u i v.object v.slot v.there first_slot e owned in
+            let beneath = word_beneath types k.ordered (hand_of rest st) st.world.content (store_of types f rest inputs S st k) m 0 u i v.object v.slot v.there first_slot e owned in
             ⊎_elim (λ lacks. low_whole types f rest inputs S st k (record { object = m; word = 0; ty = v.object.ty }) i beneath lacks) (λ same. let old = k.stands.store.forest.births i l.0 l.1 in absurd (omega (arith, old, same, new))) out
-        of_parts Single is = tt
-        of_parts Raw is = tt
-        of_parts Iterates is = tt
-        of_parts Views is = tt
-        of_parts (Vector id item) is = tt
-        of_parts (Unique id target) is = tt
-        of_parts (Member first others) is = tt
-        of_parts NoMember is = tt
 
     -- ---- the store, where what is given over is in the hand by itself
 
@@ -193,13 +181,13 @@ module _ (types : Types) (f : Function) (rest : ℕ → ℕ) (inputs : Root → 
         (given.given_over_store types k.ordered (λ j. times (named_in (slice_set st.cells y Empty)) j + rest j) st.world.content s u.target m v.object v.slot in_two v.there v.one m_type)
         (given.given_over_stands types k.ordered (λ j. times (named_in (slice_set st.cells y Empty)) j + rest j) st.world.content s u.target m v.object v.slot n u.variable.object in_two v.there v.one m_type u.variable.there (λ e. apart (sym e)) unowned)
         (given_touches types k.ordered (λ j. times (named_in (slice_set st.cells y Empty)) j + rest j) st.world.content m in_two v.object v.slot v.there v.one u.target m_type s)
-        (given_buffered types k.ordered (λ j. times (named_in (slice_set st.cells y Empty)) j + rest j) st.world.content m in_two v.object v.slot v.there v.one u.target m_type s (MayLack types f inputs S st) (whole_parts types k.inert u.target) m_has m_free k.buffered)
+        (given_buffered types k.ordered (λ j. times (named_in (slice_set st.cells y Empty)) j + rest j) st.world.content m in_two v.object v.slot v.there v.one u.target m_type s (MayLack types f inputs S st) m_has m_free k.buffered)
 
     -- ---- and put into the unique_ptr
 
     -- its parts need no buffer
     bufferless : (c : Content) → at c.objects n ≡ Some u.variable.object → (o : Object) → at c.objects n ≡ Some o → (ws : List ℕ) → HasBuffers (parts_at types o.ty) ws
-    bufferless c kept o there ws = subst (λ (q : Parts). HasBuffers q ws) (sym (ap (λ (z : Object). parts_at types z.ty) (sym (some_same (sym kept ∙ there))) ∙ ap (parts_at types) u.type ∙ u.parts)) tt
+    bufferless c kept o there ws = subst (λ (q : Parts). HasBuffers q ws) (sym (ap (λ (z : Object). parts_at types z.ty) (sym (some_same (sym kept ∙ there))) ∙ ap (parts_at types) u.type ∙ u.parts)) (λ v e. absurd (false≢true e))
 
     left : LeftBy (RootStands types f (StandsAt inputs) st.cells) (under (local_place x)) (writes (Make (operands.whole x) (made.Of y))) S S'
     left =

@@ -1,6 +1,7 @@
 -- A unique_ptr that is a whole local is given null, an object that comes to life, or one of a number; what it had ends. There is no fault, the facts
 -- behind it cover all pointers of the frame, and what is touched lies beneath what the frame names.
 use Rattle.std.proofs.Common.{◌≡◌, ◌≢◌, ℕ, ◌<◌, true, List, [], ◌∷◌, length, Option, Some, None, refl, sym, ap, subst, ◌∙◌, arith}
+use Rattle.std.proofs.lemmas.Bool.{false≢true}
 use Rattle.std.specs.Prelude.{Contains, option_map, slice_get, slice_index, slice_set, take}
 use Rattle.life_types.specs.TypeTests.{is_unique}
 use Rattle.life_types.specs.Types.{Types}
@@ -48,7 +49,6 @@ use Rattle.life_cover.specs.Lacking.{MayLack}
 use Rattle.life_cover.specs.Uniques.{had_by}
 use Rattle.life_cover.proofs.Behind.{IsBehind, TellsLost, behind_content, both_got, no_local}
 use Rattle.life_cover.proofs.Changes.{place_cover}
-use Rattle.life_cover.proofs.Copies.{whole_parts}
 use Rattle.life_cover.proofs.KnownFrames.{IsKnownFrame, IsRight, hand_of, rooted_of, store_of}
 use Rattle.life_cover.proofs.Left.{left_by_name}
 use Rattle.life_cover.proofs.Listing.{null_known, own_known, unique_listed}
@@ -141,7 +141,7 @@ module _ (types : Types) (f : Function) (rest : ℕ → ℕ) (inputs : Root → 
 
     -- its parts need no buffer
     plain : (c : Content) → at c.objects n ≡ Some u.variable.object → (o : Object) → at c.objects n ≡ Some o → (ws : List ℕ) → HasBuffers (parts_at types o.ty) ws
-    plain c kept o there ws = subst (λ (p : Parts). HasBuffers p ws) (sym (ap (λ (q : Object). parts_at types q.ty) (sym (some_same (sym kept ∙ there))) ∙ ap (parts_at types) u.type ∙ u.parts)) tt
+    plain c kept o there ws = subst (λ (p : Parts). HasBuffers p ws) (sym (ap (λ (q : Object). parts_at types q.ty) (sym (some_same (sym kept ∙ there))) ∙ ap (parts_at types) u.type ∙ u.parts)) (λ v e. absurd (false≢true e))
 
     parts_here : location_parts types f (whole x) ≡ parts_at types u.number
     parts_here = ap (parts_if types) u.typed
@@ -196,7 +196,7 @@ module _ (types : Types) (f : Function) (rest : ℕ → ℕ) (inputs : Root → 
         subst (λ (p : Parts). OnRight (made_fresh s p (record { object = n; index = 0; word = 0 }) st) (IsMade types f inputs S' (MayLack types f inputs S st) no_local (λ z. x ≡ z) st)) (sym (parts_here ∙ u.parts))
         (object_made is (object_with s u.target (parts_at types u.target) (fresh s form.Zero (parts_at types u.target)) st.world.content)
         (remade_fresh types k.ordered (hand_of rest st) st.world.content (store_of types f rest inputs S st k) n u.number u.variable.object u.variable.there within slot u.target u.parts in_the_hand u.variable.slot u.variable.one wide s form.Zero)
-        (born_buffered types k.ordered s (MayLack types f inputs S st) form.Zero u.target st.world.content (whole_parts types k.inert u.target) k.buffered)
+        (born_buffered types k.ordered s (MayLack types f inputs S st) form.Zero u.target st.world.content k.buffered)
         (object_faultless s u.target (parts_at types u.target) (fresh s form.Zero (parts_at types u.target)) st.world.content (fresh_faultless s form.Zero (parts_at types u.target))))
 
     number_made : made_element m ≡ element.Own → parts_at types u.target ≡ Single → (y : ℕ) → ((j : ℕ) → cell st y ≡ Some (Named j) → ⊥) → OnRight (made_of s types f (location_parts types f (whole x)) (record { object = n; index = 0; word = 0 }) y (cell st y) st) (IsMade types f inputs S' (MayLack types f inputs S st) no_local (λ z. x ≡ z) st)

@@ -30,7 +30,7 @@ use Rattle.life_forest.proofs.OneNumber.{type_there}
 use Rattle.life_forest.proofs.ReadyCells.{number_any}
 use Rattle.life_forest.proofs.SeenTypes.{value_parts}
 use Rattle.life_forest.proofs.TypedSteps.{value_solid}
-use Rattle.life_cover.proofs.InertParts.{unique_alone}
+use Rattle.life_cover.proofs.SingleParts.{unique_alone}
 use Rattle.life_cover.proofs.KnownFrames.{IsKnownFrame, IsRight, number_free, object_uncounted, whole_location}
 use Rattle.life_cover.proofs.Looks.{given_type}
 use Rattle.life_cover.proofs.MadeOver.{object_kind}
@@ -118,4 +118,4 @@ module _ (types : Types) (f : Function) (rest : ℕ → ℕ) (inputs : Root → 
   pub make_right : (u : Location) (m : Made) → IsRight sigs types number f place (Make u m) S S' → is_made_for types texts fs f (type_in types f u) m ≡ true → OnRight (does s types f (Make u m) st) (IsMadeBy u.local m)
   make_right u m right e =
       subst (λ (q : Location). IsRight sigs types number f place (Make q m) S S' → is_made_for types texts fs f (type_in types f q) m ≡ true → OnRight (does s types f (Make q m) st) (IsMadeBy u.local m))
-      (whole_location types k.inert f u (unique_alone (type_in types f u) (unique_of types texts fs f (type_in types f u) m e))) (by_made u.local m) right e
+      (whole_location types k.untold f u (unique_alone (type_in types f u) (unique_of types texts fs f (type_in types f u) m e))) (by_made u.local m) right e

@@ -39,7 +39,7 @@ use Rattle.life_cover.proofs.Unkept.{members_root}
 -- ---- what is single has no members
 
 module _ (types : Types) where
-  pub no_struct : (part : TyId → Parts) (ids : List TyId) → struct_of part ids ≡ Single → ⊥
+  no_struct : (part : TyId → Parts) (ids : List TyId) → struct_of part ids ≡ Single → ⊥
   no_struct part [] e = cc
   no_struct part (id ∷ ids) e = cc
 

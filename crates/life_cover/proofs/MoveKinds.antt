@@ -1,6 +1,7 @@
 -- A unique_ptr that is a whole local takes what another one has: there is no fault, the facts behind it cover all pointers of the frame, and what is
 -- touched lies beneath what the frame names.
 use Rattle.std.proofs.Common.{◌≡◌, ◌≢◌, ◌⊎◌, inl, inr, ℕ, ◌<◌, true, List, [], ◌∷◌, length, Option, Some, None, refl, sym, ap, subst, ◌∙◌, arith}
+use Rattle.std.proofs.lemmas.Bool.{false≢true}
 use Rattle.std.specs.Prelude.{◌&&◌, Contains, slice_get, slice_index}
 use Rattle.life_types.specs.TypeTests.{is_unique}
 use Rattle.life_types.specs.Types.{Types}
@@ -95,7 +96,7 @@ module _ (types : Types) (f : Function) (rest : ℕ → ℕ) (inputs : Root → 
     spares = moved_spares types f rest inputs S st k sigs number place S' x y right other u.number u.typed typed_y n m named_x named_y
 
     plain : (c : Content) (j : ℕ) (q : Object) → q.ty ≡ u.number → at c.objects j ≡ Some q → (o : Object) → at c.objects j ≡ Some o → (ws : List ℕ) → HasBuffers (parts_at types o.ty) ws
-    plain c j q typed kept o there ws = subst (λ (p : Parts). HasBuffers p ws) (sym (ap (λ (z : Object). parts_at types z.ty) (sym (some_same (sym kept ∙ there))) ∙ ap (parts_at types) typed ∙ u.parts)) tt
+    plain c j q typed kept o there ws = subst (λ (p : Parts). HasBuffers p ws) (sym (ap (λ (z : Object). parts_at types z.ty) (sym (some_same (sym kept ∙ there))) ∙ ap (parts_at types) typed ∙ u.parts)) (λ v e. absurd (false≢true e))
 
     abbrev owned : Option ℕ
     owned = owned_in (slice_index (slot_words st.world.content m 0) 0)

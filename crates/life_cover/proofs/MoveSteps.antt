@@ -1,6 +1,6 @@
 -- An owner is moved, as it is asked of well-formed instructions: a unique_ptr, a vector or a string to another local, and a vector or a string to a
--- place behind a pointer.
-use Rattle.std.proofs.Common.{◌≡◌, ℕ, Bool, true, false, List, refl, sym, subst, ◌∙◌, arith, ◌≢◌, ◌⊎◌, ⊎_elim, inl, inr, Option}
+-- member of one, or to a place behind a pointer.
+use Rattle.std.proofs.Common.{◌≡◌, ℕ, Bool, true, false, List, [], ◌∷◌, refl, sym, ap, subst, ◌∙◌, arith, ◌≢◌, ◌⊎◌, ⊎_elim, inl, inr, Option}
 use Rattle.std.specs.Prelude.{nat_eq, not}
 use Rattle.std.proofs.lemmas.Bool.{and_parts, false≢true}
 use Rattle.std.proofs.lemmas.Bool.Decides.{nat_tests}
@@ -23,8 +23,9 @@ use Rattle.life_proper.specs.WellFormed.{is_itself, is_well_formed_step}
 use Rattle.life_proper.proofs.HeldSorts.{same_is}
 use Rattle.life_store.specs.State.{State}
 use Rattle.life_forest.proofs.OneNumber.{same_solid}
-use Rattle.life_cover.proofs.InertParts.{buffer_alone, unique_alone}
+use Rattle.life_cover.proofs.SingleParts.{unique_alone}
 use Rattle.life_cover.proofs.KnownFrames.{IsKnownFrame, IsRight, typed, whole_location}
+use Rattle.life_cover.proofs.MovedFacts.{IsBeside, member_beside, through_beside}
 use Rattle.life_cover.proofs.PlainTargets.{through_other}
 use Rattle.life_cover.specs.Regions.{Region}
 
@@ -51,10 +52,9 @@ module _ (types : Types) (f : Function) (rest : ℕ → ℕ) (inputs : Root → 
   abbrev pub OfLocals : (is_sort : Ty → Bool) → (Operand → Type 0) → Type 0
   OfLocals is_sort Q = (x : ℕ) → IsRight sigs types number f place (Move (named.Name (whole x)) y) S S' → is_sort (type_at types f x) ≡ true → type_at types f x ≡ type_at types f y → x ≢ y → Q (named.Name (whole x))
 
-  -- .. and of places behind pointers
+  -- .. and of members, and of places behind pointers
   abbrev pub OfPlaces : (Operand → Type 0) → Type 0
-  OfPlaces Q = (p : Location) (members : List ℕ) → IsRight sigs types number f place (Move (named.Through p members) y) S S' → has_buffer (type_at types f y) ≡ true → type_of types f (named.Through p members) ≡ type_at types f y
-      → is_const_place types f (named.Through p members) ≡ false → Q (named.Through p members)
+  OfPlaces Q = (to : Operand) → IsBeside sigs types f place y S S' inputs st to → IsRight sigs types number f place (Move to y) S S' → has_buffer (type_at types f y) ≡ true → type_of types f to ≡ type_at types f y → is_const_place types f to ≡ false → Q to
 
   module _ (Q : Operand → Type 0) (unique : OfLocals is_unique Q) (buffer : OfLocals has_buffer Q) (placed : OfPlaces Q) where
     at_whole : (x : ℕ) → IsRight sigs types number f place (Move (named.Name (whole x)) y) S S' → (is_unique (type_at types f x) ≡ true) ⊎ (has_buffer (type_at types f x) ≡ true) → same (type_of types f (named.Name (whole x))) (type_at types f y) ≡ true
@@ -67,6 +67,27 @@ module _ (types : Types) (f : Function) (rest : ℕ → ℕ) (inputs : Root → 
         apart : x ≢ y
         apart h = false≢true (sym other ∙ subst (λ z. nat_eq x z ≡ true) h (eq_same x))
 
+    -- a location that is a local
+    at_local : (l : Location) → whole l.local ≡ l → IsRight sigs types number f place (Move (named.Name l) y) S S' → (is_unique (type_in types f l) ≡ true) ⊎ (has_buffer (type_in types f l) ≡ true) → same (type_of types f (named.Name l)) (type_at types f y) ≡ true
+        → is_itself types texts fs f y (named.Name l) ≡ false → Q (named.Name l)
+    at_local l is =
+        subst (λ (q : Location). IsRight sigs types number f place (Move (named.Name q) y) S S' → (is_unique (type_in types f q) ≡ true) ⊎ (has_buffer (type_in types f q) ≡ true) → same (type_of types f (named.Name q)) (type_at types f y) ≡ true
+        → is_itself types texts fs f y (named.Name q) ≡ false → Q (named.Name q)) is (at_whole l.local)
+
+    -- .. or a member: that is no unique_ptr
+    at_location : (l : Location) → IsRight sigs types number f place (Move (named.Name l) y) S S' → (is_unique (type_in types f l) ≡ true) ⊎ (has_buffer (type_in types f l) ≡ true) → same (type_of types f (named.Name l)) (type_at types f y) ≡ true
+        → is_itself types texts fs f y (named.Name l) ≡ false → is_const_place types f (named.Name l) ≡ false → Q (named.Name l)
+    at_location l right (inl is) alike other free = at_local l (whole_location types k.untold f l (unique_alone (type_in types f l) is)) right (inl is) alike other
+    at_location l right (inr is) alike other free = go l.members refl
+      where
+        go : (ms : List ℕ) → l.members ≡ ms → Q (named.Name l)
+        go [] e = at_local l (ap (λ (ms : List ℕ). record { local = l.local; members = ms }) (sym e)) right (inr is) alike other
+        go (m ∷ ms) e =
+            let solid = same_solid (type_of types f (named.Name l)) (type_at types f y) alike in
+            let types_same = same_is (type_of types f (named.Name l)) (type_at types f y) alike in
+            placed (named.Name l) (member_beside sigs types f place y S S' inputs st l m ms e right.closed) right
+            (subst (λ (t : Ty). has_buffer t ≡ true) (typed types f rest inputs S st k (named.Name l) solid ∙ types_same) is) types_same free
+
     -- what is behind a pointer is no unique_ptr
     at_place : (p : Location) (members : List ℕ) → IsRight sigs types number f place (Move (named.Through p members) y) S S' → is_owner (type_of types f (named.Through p members)) ≡ true → same (type_of types f (named.Through p members)) (type_at types f y) ≡ true
         → is_const_place types f (named.Through p members) ≡ false → Q (named.Through p members)
@@ -75,7 +96,8 @@ module _ (types : Types) (f : Function) (rest : ℕ → ℕ) (inputs : Root → 
         let types_same = same_is (type_of types f (named.Through p members)) (type_at types f y) alike in
         ⊎_elim
         (λ is. absurd (false≢true (sym (through_other types f rest inputs S st k p members solid) ∙ is)))
-        (λ is. placed p members right (subst (λ (t : Ty). has_buffer t ≡ true) types_same is) types_same free) (owner_sort (type_of types f (named.Through p members)) owner)
+        (λ is. placed (named.Through p members) (through_beside sigs types f place y S S' inputs st p members right.closed) right (subst (λ (t : Ty). has_buffer t ≡ true) types_same is) types_same free)
+        (owner_sort (type_of types f (named.Through p members)) owner)
 
     pub by_move : (to : Operand) → IsRight sigs types number f place (Move to y) S S' → is_well_formed_step types texts fs f (Move to y) ≡ true → Q to
     by_move (named.Through p members) right e =
@@ -93,6 +115,4 @@ module _ (types : Types) (f : Function) (rest : ℕ → ℕ) (inputs : Root → 
         let itself = and_parts (not (is_itself types texts fs f y (named.Name l))) (not (is_const_place types f (named.Name l))) result.1 in
         let solid = same_solid (type_of types f (named.Name l)) (type_at types f y) alike.0 in
         let sort = owner_sort (type_in types f l) (subst (λ (t : Ty). is_owner t ≡ true) (sym (typed types f rest inputs S st k (named.Name l) solid)) outer.0) in
-        subst (λ (q : Location). IsRight sigs types number f place (Move (named.Name q) y) S S' → (is_unique (type_in types f q) ≡ true) ⊎ (has_buffer (type_in types f q) ≡ true) → same (type_of types f (named.Name q)) (type_at types f y) ≡ true
-        → is_itself types texts fs f y (named.Name q) ≡ false → Q (named.Name q))
-        (whole_location types k.inert f l (⊎_elim (λ u. unique_alone (type_in types f l) u) (λ b. buffer_alone (type_in types f l) b) sort)) (at_whole l.local) right sort alike.0 (not_true (is_itself types texts fs f y (named.Name l)) itself.0)
+        at_location l right sort alike.0 (not_true (is_itself types texts fs f y (named.Name l)) itself.0) (not_true (is_const_place types f (named.Name l)) itself.1)

@@ -1,4 +1,4 @@
--- What the facts say behind a move of a whole local to another, or to a place behind a pointer: those on pointers into what either had are invalid, and
+-- What the facts say behind a move of a whole local to another, to a member of one, or to a place behind a pointer: those on pointers into what either had are invalid, and
 -- what is touched lies beneath what the frame names.
 use Rattle.std.proofs.Common.{◌≡◌, ◌≢◌, inl, inr, ⊎_elim, ◌⊎◌, ℕ, Bool, true, false, List, [], ◌∷◌, ◌++◌, Option, Some, refl, sym, ap, subst, ◌∙◌, arith}
 use Rattle.std.specs.Prelude.{◌||◌, ◌&&◌, Contains, cond, if◌then◌else◌, not}
@@ -8,7 +8,7 @@ use Rattle.life_types.specs.Types.{Types}
 use Rattle.life_types.specs.declared.place.Place.{Place}
 use Rattle.life_types.specs.declared.ty.TyId.{TyId}
 use Rattle.life_core.specs.Function.{Function}
-use Rattle.life_core.specs.Operands.{Location, whole}
+use Rattle.life_core.specs.Operands.{Location, Operand, whole}
 use Rattle.life_core.specs.Operands as named
 use Rattle.life_core.specs.Step.{Move, Step}
 use Rattle.life_pset.specs.Elements.{changed, local_place, moved, owner_changed}
@@ -52,7 +52,8 @@ use Rattle.life_cover.proofs.Locals.{two_named}
 use Rattle.life_cover.proofs.Moved.{both_feet}
 use Rattle.life_cover.proofs.ObjectParts.{part_within}
 use Rattle.life_cover.proofs.Opening.{place_part}
-use Rattle.life_cover.proofs.Putting.{other_local}
+use Rattle.life_cover.proofs.Putting.{member_other, other_local}
+use Rattle.life_cover.proofs.Reaching.{IsReached}
 use Rattle.life_cover.proofs.Sparing.{local_low, place_within}
 
 pub both_false : (a b : Bool) → a ≡ false → b ≡ false → (a || b) ≡ false
@@ -88,46 +89,46 @@ both_true false b e g = e
 
 -- ---- what the rules leave
 
-module _ (sigs : List Signature) (types : Types) (f : Function) (place : Place) (x y : ℕ) (S S' : Fact → Type 0) (closed : Closed sigs types f place (Move (named.Name (whole x)) y) S S') (Stands : Root → Region → Type 0) where
-  pub left_by_move : LeftBy Stands (λ a. under (local_place y) a || under (local_place x) a) (writes (Move (named.Name (whole x)) y)) S S'
+module _ (sigs : List Signature) (types : Types) (f : Function) (place : Place) (t : Location) (y : ℕ) (S S' : Fact → Type 0) (closed : Closed sigs types f place (Move (named.Name t) y) S S') (Stands : Root → Region → Type 0) where
+  pub left_by_move : LeftBy Stands (λ a. under (local_place y) a || under (located t) a) (writes (Move (named.Name t) y)) S S'
   left_by_move = record {
-    kept = λ l e s free not_hit. kept_by sigs types f place (Move (named.Name (whole x)) y) S S' closed Stands l e s
-        (both_false (is_gone types f place (Move (named.Name (whole x)) y) e) (writes (Move (named.Name (whole x)) y) l) (sym (hit_either (local_place y) (local_place x) e) ∙ not_hit) free);
-    hit = λ l a r s stands free hit. ⊎_elim (λ h. by_source l a s free h) (λ h. by_target l a s free h) (either_true (under (local_place y) a) (under (local_place x) a) hit);
+    kept = λ l e s free not_hit. kept_by sigs types f place (Move (named.Name t) y) S S' closed Stands l e s
+        (both_false (is_gone types f place (Move (named.Name t) y) e) (writes (Move (named.Name t) y) l) (sym (hit_either (local_place y) (located t) e) ∙ not_hit) free);
+    hit = λ l a r s stands free hit. ⊎_elim (λ h. by_source l a s free h) (λ h. by_target l a s free h) (either_true (under (local_place y) a) (under (located t) a) hit);
   }
     where
       first : Kill
       first = record { owner = local_place y; cause = moved place y }
 
       second : Kill
-      second = record { owner = local_place x; cause = changed place x }
+      second = record { owner = located t; cause = changed place t.local }
 
-      made : (l a : AbsPlace) (cause : Cause) → S (fact_at l (element.At a)) → Contains (element.Invalid (moved place y) ∷ element.Moved (moved place y) ∷ element.Invalid (changed place x) ∷ []) (element.Invalid cause)
-          → Contains (killed_facts (kills types f place (Move (named.Name (whole x)) y)) (Move (named.Name (whole x)) y) (fact_at l (element.At a))) (fact_at l (element.Invalid cause)) → S' (fact_at l (element.Invalid cause))
+      made : (l a : AbsPlace) (cause : Cause) → S (fact_at l (element.At a)) → Contains (element.Invalid (moved place y) ∷ element.Moved (moved place y) ∷ element.Invalid (changed place t.local) ∷ []) (element.Invalid cause)
+          → Contains (killed_facts (kills types f place (Move (named.Name t) y)) (Move (named.Name t) y) (fact_at l (element.At a))) (fact_at l (element.Invalid cause)) → S' (fact_at l (element.Invalid cause))
       made l a cause s caused has =
           closed.one (fact_at l (element.At a)) (fact_at l (element.Invalid cause)) s
           (caused_of types f l (element.At a) (element.Invalid cause) (closed.of (fact_at l (element.At a)) s) (closed.causes (element.Invalid cause) caused))
-          (Contains-append_right (unless (drops types f place (Move (named.Name (whole x)) y) (fact_at l (element.At a))) (fact_at l (element.At a)))
-          (killed_facts (kills types f place (Move (named.Name (whole x)) y)) (Move (named.Name (whole x)) y) (fact_at l (element.At a)) ++ makes sigs types f place (Move (named.Name (whole x)) y) (fact_at l (element.At a))) (fact_at l (element.Invalid cause))
-          (Contains-append_left (killed_facts (kills types f place (Move (named.Name (whole x)) y)) (Move (named.Name (whole x)) y) (fact_at l (element.At a))) (makes sigs types f place (Move (named.Name (whole x)) y) (fact_at l (element.At a)))
+          (Contains-append_right (unless (drops types f place (Move (named.Name t) y) (fact_at l (element.At a))) (fact_at l (element.At a)))
+          (killed_facts (kills types f place (Move (named.Name t) y)) (Move (named.Name t) y) (fact_at l (element.At a)) ++ makes sigs types f place (Move (named.Name t) y) (fact_at l (element.At a))) (fact_at l (element.Invalid cause))
+          (Contains-append_left (killed_facts (kills types f place (Move (named.Name t) y)) (Move (named.Name t) y) (fact_at l (element.At a))) (makes sigs types f place (Move (named.Name t) y) (fact_at l (element.At a)))
           (fact_at l (element.Invalid cause)) has))
 
-      by_source : (l a : AbsPlace) → S (fact_at l (element.At a)) → writes (Move (named.Name (whole x)) y) l ≡ false → under (local_place y) a ≡ true → (cause : Cause) × S' (fact_at l (element.Invalid cause))
+      by_source : (l a : AbsPlace) → S (fact_at l (element.At a)) → writes (Move (named.Name t) y) l ≡ false → under (local_place y) a ≡ true → (cause : Cause) × S' (fact_at l (element.Invalid cause))
       by_source l a s free hit = (
         moved place y,
-        made l a (moved place y) s (at_head (element.Invalid (moved place y)) (element.Moved (moved place y) ∷ element.Invalid (changed place x) ∷ []))
-            (Contains-append_left (killed_fact (Some first) (Move (named.Name (whole x)) y) (fact_at l (element.At a))) (killed_fact (Some second) (Move (named.Name (whole x)) y) (fact_at l (element.At a))) (fact_at l (element.Invalid (moved place y)))
-            (given (under (local_place y) a && not (writes (Move (named.Name (whole x)) y) l)) (fact_at l (element.Invalid (moved place y))) (both_true (under (local_place y) a) (writes (Move (named.Name (whole x)) y) l) hit free))),
+        made l a (moved place y) s (at_head (element.Invalid (moved place y)) (element.Moved (moved place y) ∷ element.Invalid (changed place t.local) ∷ []))
+            (Contains-append_left (killed_fact (Some first) (Move (named.Name t) y) (fact_at l (element.At a))) (killed_fact (Some second) (Move (named.Name t) y) (fact_at l (element.At a))) (fact_at l (element.Invalid (moved place y)))
+            (given (under (local_place y) a && not (writes (Move (named.Name t) y) l)) (fact_at l (element.Invalid (moved place y))) (both_true (under (local_place y) a) (writes (Move (named.Name t) y) l) hit free))),
       )
 
-      by_target : (l a : AbsPlace) → S (fact_at l (element.At a)) → writes (Move (named.Name (whole x)) y) l ≡ false → under (local_place x) a ≡ true → (cause : Cause) × S' (fact_at l (element.Invalid cause))
+      by_target : (l a : AbsPlace) → S (fact_at l (element.At a)) → writes (Move (named.Name t) y) l ≡ false → under (located t) a ≡ true → (cause : Cause) × S' (fact_at l (element.Invalid cause))
       by_target l a s free hit = (
-        changed place x,
-        made l a (changed place x) s
-            (in_tail (element.Invalid (moved place y)) (element.Moved (moved place y) ∷ element.Invalid (changed place x) ∷ []) (element.Invalid (changed place x))
-            (in_tail (element.Moved (moved place y)) (element.Invalid (changed place x) ∷ []) (element.Invalid (changed place x)) (at_head (element.Invalid (changed place x)) [])))
-            (Contains-append_right (killed_fact (Some first) (Move (named.Name (whole x)) y) (fact_at l (element.At a))) (killed_fact (Some second) (Move (named.Name (whole x)) y) (fact_at l (element.At a))) (fact_at l (element.Invalid (changed place x)))
-            (given (under (local_place x) a && not (writes (Move (named.Name (whole x)) y) l)) (fact_at l (element.Invalid (changed place x))) (both_true (under (local_place x) a) (writes (Move (named.Name (whole x)) y) l) hit free))),
+        changed place t.local,
+        made l a (changed place t.local) s
+            (in_tail (element.Invalid (moved place y)) (element.Moved (moved place y) ∷ element.Invalid (changed place t.local) ∷ []) (element.Invalid (changed place t.local))
+            (in_tail (element.Moved (moved place y)) (element.Invalid (changed place t.local) ∷ []) (element.Invalid (changed place t.local)) (at_head (element.Invalid (changed place t.local)) [])))
+            (Contains-append_right (killed_fact (Some first) (Move (named.Name t) y) (fact_at l (element.At a))) (killed_fact (Some second) (Move (named.Name t) y) (fact_at l (element.At a))) (fact_at l (element.Invalid (changed place t.local)))
+            (given (under (located t) a && not (writes (Move (named.Name t) y) l)) (fact_at l (element.Invalid (changed place t.local))) (both_true (under (located t) a) (writes (Move (named.Name t) y) l) hit free))),
       )
 
 -- .. and behind a pointer that may point to a place
@@ -180,6 +181,30 @@ module _ (sigs : List Signature) (types : Types) (f : Function) (place : Place) 
     kept = λ l e s free not_hit. kept_by sigs types f place i S S' closed Stands l e s
         (both_false (is_gone types f place i e) (writes i l) (none_second (points_under (local_place y) e) (points_under (members_place a0 members) e) (sym (hit_either (local_place y) (members_place a0 members) e) ∙ not_hit)) free);
     hit = λ l a r s stands free hit. by_either l a s free (under (local_place y) a) refl hit;
+  }
+
+-- ---- a place that isn't a whole local
+
+module _ (sigs : List Signature) (types : Types) (f : Function) (place : Place) (y : ℕ) (S S' : Fact → Type 0) (inputs : Root → Option Region) (st : State) where
+  -- what a move of the local to it leaves, which writes no other local
+  pub record IsBeside (o : Operand) : Type 0 where
+    pub left : (r : IsReached types f st (StandsAt inputs) (may_change types f) S o) → LeftBy (RootStands types f (StandsAt inputs) st.cells) (λ b. under (local_place y) b || under r.place b) (writes (Move o y)) S S'
+    pub free : (x : ℕ) → y ≢ x → writes (Move o y) (local_place x) ≡ false
+
+  -- a member of a local
+  pub member_beside : (l : Location) (m : ℕ) (ms : List ℕ) → l.members ≡ m ∷ ms → Closed sigs types f place (Move (named.Name l) y) S S' → IsBeside (named.Name l)
+  member_beside l m ms e closed = record {
+    left = λ r. subst (λ (a : AbsPlace). LeftBy (RootStands types f (StandsAt inputs) st.cells) (λ b. under (local_place y) b || under a b) (writes (Move (named.Name l) y)) S S') (sym r.by)
+        (left_by_move sigs types f place l y S S' closed (RootStands types f (StandsAt inputs) st.cells));
+    free = λ x ne. both_false (is_location (whole y) (local_place x)) (is_location l (local_place x)) (other_local y x ne) (member_other l m ms e x);
+  }
+
+  -- what is behind a pointer
+  pub through_beside : (p : Location) (members : List ℕ) → Closed sigs types f place (Move (named.Through p members) y) S S' → IsBeside (named.Through p members)
+  through_beside p members closed = record {
+    left = λ r. subst (λ (a : AbsPlace). LeftBy (RootStands types f (StandsAt inputs) st.cells) (λ b. under (local_place y) b || under a b) (writes (Move (named.Through p members) y)) S S') (sym r.by.2)
+        (left_by_placed sigs types f place p members y r.by.0 S S' closed r.by.1 (RootStands types f (StandsAt inputs) st.cells));
+    free = λ x ne. both_false (is_location (whole y) (local_place x)) false (other_local y x ne) refl;
   }
 
 -- what is beneath the owners of two regions, which are one where they lie in one object, is beneath those of one
@@ -266,7 +291,7 @@ module _ (types : Types) (f : Function) (rest : ℕ → ℕ) (inputs : Root → 
 
   pub moved_covered : (d : Content) → Touches (kinds_of types) (both_feet types (record { object = n; word = 0; ty = id }) (record { object = m; word = 0; ty = id })) st.world.content d → FrameCovered types f inputs S' (put_content d st)
   moved_covered =
-      placed_covered types f rest inputs S st k (local_place x) into_x refl at_x y m named_y typed_y (writes (Move (named.Name (whole x)) y)) S' (left_by_move sigs types f place x y S S' right.closed (RootStands types f (StandsAt inputs) st.cells))
+      placed_covered types f rest inputs S st k (local_place x) into_x refl at_x y m named_y typed_y (writes (Move (named.Name (whole x)) y)) S' (left_by_move sigs types f place (whole x) y S S' right.closed (RootStands types f (StandsAt inputs) st.cells))
       (λ z v e. both_false (is_location (whole y) (local_place z)) (is_location (whole x) (local_place z)) (other_local y z (not_z z v e y m named_y)) (other_local x z (not_z z v e x n named_x)))
     where
       unlike : (j : ℕ) (v : Pointer) → Named j ≡ Points v → ⊥

@@ -1,24 +1,22 @@
 -- A part of an object has its words there, and what has no members has no part but itself; so what a pointer sees in an object is the part to which it points.
-use Rattle.std.proofs.Common.{◌≡◌, inl, inr, ℕ, zero, suc, ◌<◌, Bool, true, false, List, [], ◌∷◌, take, Option, Some, None, refl, sym, ap, subst, ◌∙◌, arith}
+use Rattle.std.proofs.Common.{◌≡◌, inl, inr, ℕ, zero, suc, ◌<◌, ◌≤◌, Bool, true, false, List, [], ◌∷◌, take, Option, Some, None, refl, sym, ap, subst, ◌∙◌, arith}
 use Rattle.std.specs.Prelude.{cond, length, nat_eq, slice_get, sum_by, unwrap_or}
 use Rattle.std.proofs.lemmas.Bool.{eqb-true, false≢true}
-use Rattle.life_types.specs.Pointees.{or_void}
 use Rattle.life_types.specs.Trees.{AllBelow, IsOrdered}
 use Rattle.life_types.specs.Types.{Types}
 use Rattle.life_types.specs.declared.ty.Ty.{Ty}
 use Rattle.life_types.specs.declared.ty.Ty.TheVariants as ty
 use Rattle.life_types.specs.declared.ty.TyId.{TyId}
-use Rattle.life_store.specs.Parts.{characters_type, members_if, members_of, parts_at, width_at}
+use Rattle.life_store.specs.Parts.{characters_type, members_if, members_of, width_at}
 use Rattle.life_store.proofs.CellLemmas.{none_some, some_same}
+use Rattle.life_forest.specs.Kinds.{rank_if, rank_of}
 use Rattle.life_forest.specs.Within.{LiesWithin}
 use Rattle.life_forest.proofs.Laying.{none_behind}
 use Rattle.life_forest.proofs.Members.{member_within, within_self, within_then}
 use Rattle.life_cover.specs.Covers.{IsSeenAs}
 use Rattle.life_cover.specs.Inputs.{type_seen}
-use Rattle.life_cover.specs.Members.{HaveInertMembers, is_inert}
 use Rattle.life_cover.specs.Regions.{HasPart, itself, member_part}
 use Rattle.life_cover.proofs.Guarding.{eq_same}
-use Rattle.life_cover.proofs.InertParts.{AreSingle, inert_single}
 
 module _ (types : Types) where
   -- what has no members has no part but itself
@@ -39,31 +37,9 @@ module _ (types : Types) where
       subst (λ u. LiesWithin types whole u part) (sym word)
       (within_then types whole id part v (sum_by (width_at types) (take m (members_of types id))) (part_within ordered whole v id has) (member_within types ordered id part m there))
 
-  -- ---- what holds values alone, and what doesn't
+  -- ---- members
 
-  module _ (inert : HaveInertMembers types) where
-    -- what has a member holds values alone
-    has_member : (id part : TyId) (m : ℕ) → slice_get (members_of types id) m ≡ Some part → AreSingle (parts_at types id)
-    has_member id part m e = go (slice_get types.types id.0) refl e
-      where
-        go : (o : Option Ty) → slice_get types.types id.0 ≡ o → slice_get (members_if types o) m ≡ Some part → AreSingle (parts_at types id)
-        go (Some (ty.Struct number)) is h = inert_single types inert id (ap (λ (o : Option Ty). is_inert (or_void o)) is)
-        go None is h = absurd (none_some h)
-        go (Some _) is h = absurd (none_some h)
-
-    -- so does what has such a part
-    pub single_part : (whole : TyId) (w : ℕ) (part : TyId) → HasPart types whole w part → AreSingle (parts_at types part) → AreSingle (parts_at types whole)
-    single_part whole w part (itself _ _ word same) single = subst (λ (id : TyId). AreSingle (parts_at types id)) (sym same) single
-    single_part whole w part (member_part v _ m id _ has there word) single = single_part whole v id has (has_member id part m there)
-
-    -- what owns or points is no member
-    pub alone_part : (whole : TyId) (w : ℕ) (part : TyId) → is_inert (or_void (slice_get types.types part.0)) ≡ false → HasPart types whole w part → IsWholePart whole w part
-    alone_part whole w part alone (itself _ _ word same) = record { word = word; same = same }
-    alone_part whole w part alone (member_part v _ m id _ has there word) = absurd (false≢true (sym alone ∙ inert id part m there))
-
-  -- ---- what is seen
-
-  all_below : (n : ℕ) (ids : List TyId) (m : ℕ) (id : TyId) → AllBelow n ids → slice_get ids m ≡ Some id → id.0 < n
+  pub all_below : (n : ℕ) (ids : List TyId) (m : ℕ) (id : TyId) → AllBelow n ids → slice_get ids m ≡ Some id → id.0 < n
   all_below n [] m id below e = absurd (none_some e)
   all_below n (x ∷ xs) zero id below e = subst (λ (i : TyId). i.0 < n) (some_same e) below.0
   all_below n (x ∷ xs) (suc m) id below e = all_below n xs m id below.1 e
@@ -80,7 +56,36 @@ module _ (types : Types) where
       go None is h = none_some h
       go (Some _) is h = none_some h
 
-  -- .. and have none
+  -- ---- ranks
+
+  member_rank : (ordered : IsOrdered types) (id part : TyId) (m : ℕ) → slice_get (members_of types id) m ≡ Some part → rank_of types part ≤ rank_of types id
+  member_rank ordered id part m e = go (slice_get types.types id.0) refl e
+    where
+      low : (o : Option Ty) → rank_if part.0 o ≤ suc part.0
+      low None = omega arith
+      low (Some t) = omega arith
+
+      go : (o : Option Ty) → slice_get types.types id.0 ≡ o → slice_get (members_if types o) m ≡ Some part → rank_of types part ≤ rank_of types id
+      go (Some (ty.Struct number)) is h =
+          let has = ordered.parts id.0 (ty.Struct number) is in
+          let below = all_below id.0 has.members m part has.below (sym (ap (λ (x : Option (List TyId)). slice_get (unwrap_or x []) m) has.there) ∙ h) in
+          let high : rank_of types id ≡ suc id.0 = ap (rank_if id.0) is in
+          let le = low (slice_get types.types part.0) in
+          omega (arith, below, high, le)
+      go None is h = absurd (none_some h)
+      go (Some _) is h = absurd (none_some h)
+
+  -- a part is of no greater a rank
+  pub part_rank : (ordered : IsOrdered types) (whole : TyId) (w : ℕ) (part : TyId) → HasPart types whole w part → rank_of types part ≤ rank_of types whole
+  part_rank ordered whole w part (itself _ _ word same) = let e = ap (rank_of types) same in omega (arith, e)
+  part_rank ordered whole w part (member_part v _ m id _ has there word) =
+      let inner = part_rank ordered whole v id has in
+      let le = member_rank ordered id part m there in
+      omega (arith, inner, le)
+
+  -- ---- what is seen
+
+  -- characters have no members
   characters_alone : (ordered : IsOrdered types) → (id : TyId) → id.0 ≡ length types.types → (m : ℕ) → slice_get (members_of types id) m ≡ None
   characters_alone ordered id e m = ap (λ (o : Option Ty). slice_get (members_if types o) m) (ap (slice_get types.types) e ∙ none_behind types ordered types.types)
 

@@ -1,8 +1,7 @@
 -- An operand that is a vector or a string: all of an object, with a buffer that lives.
-use Rattle.std.proofs.Common.{◌≡◌, inl, inr, ℕ, zero, suc, ◌<◌, true, false, List, [], ◌∷◌, length, Option, Some, refl, sym, ap, subst, ◌∙◌, arith}
-use Rattle.std.specs.Prelude.{Contains, slice_get, slice_index}
+use Rattle.std.proofs.Common.{◌≡◌, inl, inr, ℕ, zero, suc, ◌<◌, true, false, List, [], ◌∷◌, length, Option, Some, refl, sym, ap, subst, ◌∙◌, arith, ◌+◌}
+use Rattle.std.specs.Prelude.{Contains, slice_get, slice_index, drop}
 use Rattle.std.proofs.lemmas.Bool.{false≢true}
-use Rattle.life_types.specs.Pointees.{or_void}
 use Rattle.life_types.specs.TypeTests.{is_void}
 use Rattle.life_types.specs.Types.{Types}
 use Rattle.life_types.specs.declared.ty.Ty.{Ty}
@@ -34,18 +33,20 @@ use Rattle.life_forest.proofs.TypedSteps.{operand_of}
 use Rattle.life_cover.specs.Buffered.{HasBuffers}
 use Rattle.life_cover.specs.Covers.{IsSeenAs}
 use Rattle.life_cover.specs.Frames.{RootStands}
-use Rattle.life_cover.specs.Inputs.{IsAllOf, may_change, StandsAt}
+use Rattle.life_cover.specs.Inputs.{may_change, StandsAt}
 use Rattle.life_cover.specs.Lacking.{MayLack}
-use Rattle.life_cover.specs.Members.{is_inert}
 use Rattle.life_cover.specs.Regions.{Goes, IsAt, IsPart, IsTrue, Lies, Region, itself, member_part, owned_in_type}
+use Rattle.life_cover.proofs.BufferWords.{drop_index, part_has}
 use Rattle.life_cover.proofs.Buffers.{buffer_lives}
 use Rattle.life_cover.proofs.Inside.{goes_true, lies_true, owned_typed}
 use Rattle.life_cover.proofs.KnownFrames.{IsKnownFrame, hand_of, object_named, rooted_of, store_of}
 use Rattle.life_cover.proofs.Looks.{exact_owner}
 use Rattle.life_cover.proofs.Making.{CanOpen, can_open, known_at}
-use Rattle.life_cover.proofs.ObjectParts.{alone_part}
 use Rattle.life_cover.proofs.OwnersStay.{owned_is}
 use Rattle.life_cover.proofs.Reaching.{IsReached}
+
+behind_none : (w : ℕ) → w ≡ w + 0
+behind_none w = omega arith
 
 pub slot_there : (ss : List Slot) (i : ℕ) → i < length ss → (s : Slot) × (slice_get ss i ≡ Some s)
 slot_there [] i lt = absurd (omega (arith, lt))
@@ -77,13 +78,6 @@ module _ (types : Types) (f : Function) (rest : ℕ → ℕ) (inputs : Root → 
     pub region_part : IsPart types st.world.content r.region
     region_part = place_part r.place r.region r.lies
 
-    -- .. which is all of it, where it owns something
-    pub region_all : is_inert (or_void (slice_get types.types r.region.ty.0)) ≡ false → IsAllOf st.world.content r.region
-    region_all alone = record {
-      word = (alone_part types k.inert r.holder.ty r.region.word r.region.ty alone (region_part r.holder r.there)).word;
-      type = λ q there. (alone_part types k.inert q.ty r.region.word r.region.ty alone (region_part q there)).same;
-    }
-
     -- ---- its place
 
     pub place_known : Contains (elements_of types f) (element.At r.place)
@@ -113,20 +107,19 @@ module _ (types : Types) (f : Function) (rest : ℕ → ℕ) (inputs : Root → 
 
     -- .. and it has a buffer, where it wasn't moved from
     module _ (unmoved : MayLack types f inputs S st r.region.object → ⊥) where
-      buffered : is_inert (or_void (slice_get types.types r.region.ty.0)) ≡ false → (p : Parts) → parts_at types r.region.ty ≡ p → ((ws : List ℕ) → HasBuffers p ws → (b : ℕ) × (owned_in (slice_index ws 0) ≡ Some b)) → (b : ℕ) × (owned_at st.world.content (record { object = r.region.object; index = r.index; word = r.region.word }) ≡ Some b)
-      buffered alone p is has =
+      buffered : (p : Parts) → parts_at types r.region.ty ≡ p → ((ws : List ℕ) → HasBuffers p ws → (b : ℕ) × (owned_in (slice_index ws 0) ≡ Some b)) → (b : ℕ) × (owned_at st.world.content (record { object = r.region.object; index = r.index; word = r.region.word }) ≡ Some b)
+      buffered p is has =
           let s = slot_there r.holder.slots r.index r.small in
-          let all = region_all alone in
-          let ty : parts_at types r.holder.ty ≡ p = ap (parts_at types) (all.type r.holder r.there) ∙ is in
-          let b = has s.0.words (subst (λ (q : Parts). HasBuffers q s.0.words) ty (k.buffered r.region.object r.index r.holder s.0 unmoved r.there s.1)) in
-          (b.0, owned_is st.world.content r.region.object r.index r.region.word r.holder r.there ∙ ap (λ (x : Option Slot). owned_in (word_in x r.region.word)) s.1 ∙ ap (λ w. owned_in (slice_index s.0.words w)) all.word ∙ b.1)
+          let here = part_has types k.ordered r.holder.ty r.region.word r.region.ty (region_part r.holder r.there) s.0.words (k.buffered r.region.object r.index r.holder s.0 unmoved r.there s.1) in
+          let b = has (drop r.region.word s.0.words) (subst (λ (q : Parts). HasBuffers q (drop r.region.word s.0.words)) is here) in
+          (b.0, owned_is st.world.content r.region.object r.index r.region.word r.holder r.there ∙ ap (λ (x : Option Slot). owned_in (word_in x r.region.word)) s.1 ∙ ap owned_in (sym (drop_index s.0.words r.region.word 0 r.region.word (behind_none r.region.word))) ∙ b.1)
 
-      opened_as : (u : Ty) (item : TyId) (p : Parts) → is_inert u ≡ false → type_of types f o ≡ u → is_void u ≡ false → owned_in_type types (Some u) ≡ Some item → parts_of types (parts_at types) (Some u) ≡ p
+      opened_as : (u : Ty) (item : TyId) (p : Parts) → type_of types f o ≡ u → is_void u ≡ false → owned_in_type types (Some u) ≡ Some item → parts_of types (parts_at types) (Some u) ≡ p
           → ((ws : List ℕ) → HasBuffers p ws → (b : ℕ) × (owned_in (slice_index ws 0) ≡ Some b)) → ((b : ℕ) (ws : List ℕ) → owned_in (slice_index ws 0) ≡ Some b → owned_of p ws ≡ b ∷ []) → width p ≡ 1 → IsOpened u item
-      opened_as u item p alone is solid owned parts has owns one =
+      opened_as u item p is solid owned parts has owns one =
           let at_type = owner_typed u item is solid owned in
           let made : parts_at types r.region.ty ≡ p = parts_typed types k.ordered r.region.ty u at_type.there ∙ parts in
-          let b = buffered (ap (λ (o : Option Ty). is_inert (or_void o)) at_type.there ∙ alone) p made has in
+          let b = buffered p made has in
           let l = buffer_lives types k.ordered (hand_of rest st) st.world.content (store_of types f rest inputs S st k) r.region.object r.index r.region.word r.region.ty r.holder r.there
           (lies_true types k.ordered (hand_of rest st) st.world.content (store_of types f rest inputs S st k) (path r.place) r.lies.start r.region ((rooted_of types f rest inputs S st k).fits r.place.root r.lies.start r.lies.stands) r.lies.lies r.holder r.there) r.small p made b.0
           (subst (λ m. owned_of p (spot_words st.world.content (record { object = r.region.object; index = r.index; word = r.region.word }) m) ≡ b.0 ∷ []) (sym one)
@@ -141,10 +134,10 @@ module _ (types : Types) (f : Function) (rest : ℕ → ℕ) (inputs : Root → 
           }
 
       pub vector_opened : (element : TyId) → type_of types f o ≡ ty.Vector element → IsOpened (ty.Vector element) element
-      vector_opened element is = opened_as (ty.Vector element) element (Vector element (parts_at types element)) refl is refl refl refl (λ ws h. h) (λ b ws e. ap listed e) refl
+      vector_opened element is = opened_as (ty.Vector element) element (Vector element (parts_at types element)) is refl refl refl (λ ws h. h 0 refl) (λ b ws e. ap listed e) refl
 
       pub text_opened : type_of types f o ≡ ty.Text → IsOpened ty.Text (characters_type types)
-      text_opened is = opened_as ty.Text (characters_type types) (Text (characters_type types)) refl is refl refl refl (λ ws h. h) (λ b ws e. ap listed e) refl
+      text_opened is = opened_as ty.Text (characters_type types) (Text (characters_type types)) is refl refl refl (λ ws h. h 0 refl) (λ b ws e. ap listed e) refl
 
       pub opened : (u : Ty) → type_of types f o ≡ u → (item : TyId) → owned_in_type types (Some u) ≡ Some item → has_buffer u ≡ true → IsOpened u item
       opened ty.Text is item e h = subst (IsOpened ty.Text) (some_same e) (text_opened is)

@@ -1,29 +1,27 @@
 -- Each vector and each string has its buffer where an object is pushed to a vector and gives its value over.
 use Rattle.std.proofs.Common.{◌≡◌, ◌≢◌, ⊎_elim, ℕ, zero, suc, ◌+◌, ◌*◌, ◌≤◌, ◌<◌, Bool, true, false, List, [], ◌∷◌, ◌++◌, length, Option, Some, None, refl, sym, ap, subst, ◌∙◌, arith, ◌⊎◌, inl, inr}
 use Rattle.std.proofs.lemmas.List.{length-take}
-use Rattle.std.specs.Prelude.{cond, nat_lt, option_map, slice_get, slice_index, slice_set, take}
+use Rattle.std.specs.Prelude.{cond, nat_lt, option_map, slice_get, slice_set, take}
 use Rattle.life_types.specs.Types.{Types}
 use Rattle.life_types.specs.declared.ty.TyId.{TyId}
 use Rattle.life_store.specs.Cells.{at, at-set_other, at-set_same, at-unset_other}
 use Rattle.life_store.specs.Content.{Slot, Object, Content, live_words_of, resized, resized_slots, set_slot, with_birth, with_object, with_resize, without, written}
 use Rattle.life_store.specs.Edits.{capacity_of, filled_by, grown, owns, pushed, put_last, regrown, size_of, with_room}
 use Rattle.life_store.specs.Effects.{Got, Setting}
-use Rattle.life_store.specs.Held.{filled, filled_if, filled_slots, owned_in, resized_at, resized_if, slot_words, slots_at, slots_if, with_words, words_if, wrote_if}
-use Rattle.life_store.specs.Owners.{birth, consumed, renamed, renamed_if, taken, taken_slots}
-use Rattle.life_store.specs.Parts.{Parts, Single, Raw, Iterates, Views, Text, Vector, Unique, Member, NoMember, parts_at, width}
+use Rattle.life_store.specs.Held.{filled, filled_if, filled_slots, resized_at, resized_if, slot_words, slots_at, slots_if, with_words, words_if, wrote_if}
+use Rattle.life_store.specs.Owners.{birth, consumed, taken, taken_slots}
+use Rattle.life_store.specs.Parts.{Parts, parts_at, width}
 use Rattle.life_store.specs.declared.run.TrapKind.TheVariants as trap
 use Rattle.life_store.proofs.CellLemmas.{cell_cases, none_some, some_same}
 use Rattle.life_forest.specs.Values.{AllWide}
-use Rattle.life_forest.proofs.Above.{with_words_type}
 use Rattle.life_forest.proofs.Coming.{IfGot, got_then, if_room}
 use Rattle.life_forest.proofs.Widths.{count-resized, wide-resized}
 use Rattle.life_cover.specs.Buffered.{AreBut, HasBuffers}
-use Rattle.life_cover.proofs.Buffering.{Each, Have, IsOwnerAt, birth_but, each_take, have_in, owns_but, resized_but, set_but, without_but, without_leaves}
-use Rattle.life_cover.proofs.Copies.{IsWhole, slot_within}
+use Rattle.life_cover.proofs.Buffering.{Each, Have, birth_but, each_take, have_in, owns_but, resized_but, set_but, without_but}
+use Rattle.life_cover.proofs.Copies.{slot_within}
 use Rattle.life_cover.proofs.ErasedBuffers.{EachOf, count_filled, first_filled}
-use Rattle.life_cover.proofs.InertParts.{single_has, single_wide}
-use Rattle.life_cover.proofs.OwnersStay.{read_word}
 use Rattle.life_cover.proofs.Rebuffering.{AreFree, AreTaken, IsFree, IsSized, IsTaken, sized_is, slots_taken, taken_but}
+use Rattle.life_cover.proofs.PutWords.{value_have}
 
 -- ---- slots, of which the last is to be written
 
@@ -69,59 +67,16 @@ past_filled (s ∷ ss) (r ∷ rows) (suc i) le = past_filled ss rows i (omega (a
 
 -- ---- values that are given over
 
-pub taken_wide : (p : Parts) → IsWhole p → (ws : List ℕ) (d : Content) → length ws ≡ width p → length (taken p ws d).0 ≡ width p
-taken_wide (Text ty) is ws d e = text (owned_in (slice_index ws 0))
-  where
-    object : (n : ℕ) (x : Option Object) → length (renamed_if x n d).0 ≡ 1
-    object n None = refl
-    object n (Some o) = refl
-
-    text : (x : Option ℕ) → length (renamed x d).0 ≡ 1
-    text None = refl
-    text (Some n) = object n (at d.objects n)
-taken_wide (Member first others) is ws d e = single_wide (Member first others) is ws d e
-taken_wide Single is ws d e = e
-taken_wide Raw is ws d e = e
-taken_wide Iterates is ws d e = e
-taken_wide Views is ws d e = e
-taken_wide (Vector ty element) is ws d e = e
-taken_wide (Unique ty target) is ws d e = e
-taken_wide NoMember is ws d e = e
-
--- an owner's one word
-one_word_of : (ws : List ℕ) (b : ℕ) → length ws ≡ 1 → owned_in (slice_index ws 0) ≡ Some b → ws ≡ suc b ∷ []
-one_word_of [] b one e = absurd (omega (arith, one))
-one_word_of (zero ∷ []) b one e = absurd (none_some e)
-one_word_of (suc x ∷ []) b one e = ap (λ n. suc n ∷ []) (some_same e)
-one_word_of (x ∷ y ∷ ws) b one e = absurd (omega (arith, one))
-
 module _ (types : Types) where
-  any_have : (o : Object) (i : ℕ) (ws : List ℕ) (p : Parts) → parts_at types o.ty ≡ p → ((us : List ℕ) → HasBuffers p us) → Have types (with_words i 0 ws o)
-  any_have o i ws p typed each j t e = subst (λ (q : Parts). HasBuffers q t.words) (sym (ap (parts_at types) (with_words_type i 0 ws o) ∙ typed)) (each t.words)
-
   -- the last slot of an object is given a value, where all others have their buffers
-  module _ (q : Object) (size : ℕ) (ws : List ℕ) (p : Parts) (typed : parts_at types q.ty ≡ p) (front : EachOf (HasBuffers p) size q.slots) (fits : length q.slots ≤ size + 1) (last : (t : Slot) → slice_get q.slots size ≡ Some t → length t.words ≡ width p) where
-    owner_put : (b : ℕ) → ws ≡ suc b ∷ [] → width p ≡ 1 → ((us : List ℕ) (m : ℕ) → owned_in (slice_index us 0) ≡ Some m → HasBuffers p us) → Have types (with_words size 0 ws q)
-    owner_put b is one owner =
-        subst (λ (us : List ℕ). Have types (with_words size 0 us q)) (sym is)
-        (subst (λ (r : Parts). Each (HasBuffers r) (set_slot q.slots size (option_map (written 0 (suc b)) (slice_get q.slots size)))) (sym typed)
-        (last_written (HasBuffers p) q.slots size 0 (suc b) (λ t e. owner (slice_set t.words 0 (suc b)) b (ap owned_in (read_word t.words 0 (suc b) (let w = last t e in omega (arith, w, one))))) front fits))
-
-  pub value_put : (p : Parts) → IsWhole p → (q : Object) (size : ℕ) (ws : List ℕ) → parts_at types q.ty ≡ p → EachOf (HasBuffers p) size q.slots → length q.slots ≤ size + 1 → ((t : Slot) → slice_get q.slots size ≡ Some t → length t.words ≡ width p) → HasBuffers p ws → length ws ≡ width p
+  pub value_put : (p : Parts) (q : Object) (size : ℕ) (ws : List ℕ) → parts_at types q.ty ≡ p → EachOf (HasBuffers p) size q.slots → length q.slots ≤ size + 1 → ((t : Slot) → slice_get q.slots size ≡ Some t → length t.words ≡ width p) → HasBuffers p ws → length ws ≡ width p
       → Have types (with_words size 0 ws q)
-  value_put (Text ty) is q size ws typed front fits last has wide = owner_put q size ws (Text ty) typed front fits last has.0 (one_word_of ws has.0 wide has.1) refl (λ us m e. (m, e))
-  value_put (Vector ty element) is q size ws typed front fits last has wide = owner_put q size ws (Vector ty element) typed front fits last has.0 (one_word_of ws has.0 wide has.1) refl (λ us m e. (m, e))
-  value_put (Member first others) is q size ws typed front fits last has wide = any_have q size ws (Member first others) typed (λ us. single_has (Member first others) is us)
-  value_put Single is q size ws typed front fits last has wide = any_have q size ws Single typed (λ us. tt)
-  value_put Raw is q size ws typed front fits last has wide = any_have q size ws Raw typed (λ us. tt)
-  value_put Iterates is q size ws typed front fits last has wide = any_have q size ws Iterates typed (λ us. tt)
-  value_put Views is q size ws typed front fits last has wide = any_have q size ws Views typed (λ us. tt)
-  value_put (Unique ty target) is q size ws typed front fits last has wide = any_have q size ws (Unique ty target) typed (λ us. tt)
-  value_put NoMember is q size ws typed front fits last has wide = any_have q size ws NoMember typed (λ us. tt)
+  value_put p q size ws typed front fits last has wide =
+      value_have types q size ws p typed (λ j t e ne. front j t (let lt = slot_within q.slots j t e in below_last j size (omega (arith, lt, fits)) ne) e) last wide has
 
   -- ---- a vector whose elements are of this type, in a buffer, and an object that gives its value over
 
-  module _ (bare : ℕ → Type 0) (s : Setting) (ty : TyId) (p : Parts) (is : IsWhole p) (typed : parts_at types ty ≡ p) (b : ℕ) (c : Content) (h : AreBut types bare c) (o : Object) (there : at c.objects b ≡ Some o) (type : o.ty ≡ ty) (wide : AllWide (width p) o.slots) (word : o.width ≡ width p) (born : b < c.births)
+  module _ (bare : ℕ → Type 0) (s : Setting) (ty : TyId) (p : Parts) (typed : parts_at types ty ≡ p) (b : ℕ) (c : Content) (h : AreBut types bare c) (o : Object) (there : at c.objects b ≡ Some o) (type : o.ty ≡ ty) (wide : AllWide (width p) o.slots) (word : o.width ≡ width p) (born : b < c.births)
       (clear : bare b → ⊥) (m : ℕ) (m_born : m < c.births) (apart : b ≢ m) (old : AreFree types p (λ k. bare k ⊎ (k ≡ c.births)) (slots_at c b)) (old_m : AreFree types p (λ k. (bare k ⊎ (k ≡ c.births)) ⊎ (k ≡ m)) (slots_at c b)) where
     -- the buffer with room for one more
     pub record IsRoomy (f : ℕ × Content) : Type 0 where
@@ -181,12 +136,12 @@ module _ (types : Types) where
       first_but out more has = resized_but types out c.births (size_of c b + 1) 0 (with_birth ty (width p) capacity c) has (birth_but types out ty (width p) capacity c (λ k i q t free at_k slot. h k i q t (λ gone. free (more k gone)) at_k slot))
 
       took : AreTaken types p (λ k. bare k ⊎ (k ≡ c.births)) c.births (length (slots_at c b)) (resized_at c.births (size_of c b + 1) 0 (with_birth ty (width p) capacity c)) (taken_slots p (slots_at c b) (resized_at c.births (size_of c b + 1) 0 (with_birth ty (width p) capacity c)))
-      took = slots_taken types p is (λ k. bare k ⊎ (k ≡ c.births)) c.births (inr refl) (slots_at c b) old first (let n = new.births in omega (arith, n)) (first_but (λ k. bare k ⊎ (k ≡ c.births)) (λ k gone. inl gone) (inr refl))
+      took = slots_taken types p (λ k. bare k ⊎ (k ≡ c.births)) c.births (inr refl) (slots_at c b) old first (let n = new.births in omega (arith, n)) (first_but (λ k. bare k ⊎ (k ≡ c.births)) (λ k gone. inl gone) (inr refl))
 
       -- what gives its value over is as it was
       m_took : at rows.1.objects m ≡ at c.objects m
       m_took =
-          (slots_taken types p is (λ k. (bare k ⊎ (k ≡ c.births)) ⊎ (k ≡ m)) m (inr refl) (slots_at c b) old_m first (let n = new.births in omega (arith, n, m_born)) (first_but (λ k. (bare k ⊎ (k ≡ c.births)) ⊎ (k ≡ m)) (λ k gone. inl (inl gone)) (inl (inr refl)))).same
+          (slots_taken types p (λ k. (bare k ⊎ (k ≡ c.births)) ⊎ (k ≡ m)) m (inr refl) (slots_at c b) old_m first (let n = new.births in omega (arith, n, m_born)) (first_but (λ k. (bare k ⊎ (k ≡ c.births)) ⊎ (k ≡ m)) (λ k gone. inl (inl gone)) (inl (inr refl)))).same
           ∙ new.others m m_born
 
       abbrev filled_one : Object
@@ -233,7 +188,7 @@ module _ (types : Types) where
     -- ---- the value is given over
 
     module _ (om : Object) (sl : Slot) (m_there : at c.objects m ≡ Some om) (one_slot : om.slots ≡ sl ∷ []) (has : HasBuffers p sl.words) (m_wide : length sl.words ≡ width p) (free : IsFree types p (λ k. bare k ⊎ ((k ≡ b) ⊎ (k ≡ c.births))) sl.words)
-        (n i : ℕ) (n_born : n < c.births) (n_apart : b ≢ n) (owner : IsOwnerAt types c n) where
+        (n i w : ℕ) (n_born : n < c.births) (n_apart : b ≢ n) where
       module _ (f : ℕ × Content) (r : IsRoomy f) where
         words : slot_words f.1 m 0 ≡ sl.words
         words = ap (λ (x : Option Object). words_if (slice_get (slots_if x) 0)) (r.given ∙ m_there) ∙ ap (λ (ss : List Slot). words_if (slice_get ss 0)) one_slot
@@ -242,19 +197,11 @@ module _ (types : Types) where
         is_free k (inl none) = inl none
         is_free k (inr e) = inr (⊎_elim (λ old. inl (e ∙ old)) (λ new. inr (e ∙ new)) r.either)
 
-        free_there : (q : Parts) (ws : List ℕ) → IsFree types q (λ k. bare k ⊎ ((k ≡ b) ⊎ (k ≡ c.births))) ws → IsFree types q (λ k. bare k ⊎ (k ≡ f.0)) ws
-        free_there (Text id) ws h = λ k e gone. h k e (is_free k gone)
-        free_there Single ws h = tt
-        free_there Raw ws h = tt
-        free_there Iterates ws h = tt
-        free_there Views ws h = tt
-        free_there (Vector id element) ws h = tt
-        free_there (Unique id target) ws h = tt
-        free_there (Member one more) ws h = tt
-        free_there NoMember ws h = tt
+        free_there : IsFree types p (λ k. bare k ⊎ (k ≡ f.0)) sl.words
+        free_there u k e owned gone = free u k e owned (is_free k gone)
 
         took_m : IsTaken types p (λ k. bare k ⊎ (k ≡ f.0)) f.0 f.1 (taken p sl.words f.1)
-        took_m = taken_but types p is (λ k. bare k ⊎ (k ≡ f.0)) f.0 (inr refl) sl.words has (free_there p sl.words free) f.1 r.number r.buffers
+        took_m = taken_but types p (λ k. bare k ⊎ (k ≡ f.0)) f.0 (inr refl) sl.words m_wide has free_there f.1 r.number r.buffers
 
         abbrev behind : Content
         behind = without m (taken p sl.words f.1).1
@@ -271,25 +218,25 @@ module _ (types : Types) where
         behind_there : at behind.objects f.0 ≡ Some r.object
         behind_there = at-unset_other (taken p sl.words f.1).1.objects m f.0 m_not_new ∙ took_m.same ∙ r.lies
 
-        last_there : at (owns (record { object = n; index = i; word = 0 }) f.0 behind).objects f.0 ≡ Some r.object
+        last_there : at (owns (record { object = n; index = i; word = w }) f.0 behind).objects f.0 ≡ Some r.object
         last_there = go (at behind.objects n)
           where
-            go : (x : Option Object) → at (wrote_if x n i 0 (suc f.0 ∷ []) behind).objects f.0 ≡ Some r.object
+            go : (x : Option Object) → at (wrote_if x n i w (suc f.0 ∷ []) behind).objects f.0 ≡ Some r.object
             go None = behind_there
-            go (Some q) = at-set_other behind.objects n f.0 (with_words i 0 (suc f.0 ∷ []) q) n_not_new ∙ behind_there
+            go (Some q) = at-set_other behind.objects n f.0 (with_words i w (suc f.0 ∷ []) q) n_not_new ∙ behind_there
 
         put_have : Have types new_one
-        put_have = value_put p is r.object (size_of c b) (taken p sl.words f.1).0 r.parts r.front r.fits r.last took_m.has (taken_wide p is sl.words f.1 m_wide)
+        put_have = value_put p r.object (size_of c b) (taken p sl.words f.1).0 r.parts r.front r.fits r.last took_m.has took_m.wide
 
-        given_over : AreBut types bare (put_last (record { object = n; index = i; word = 0 }) f.0 (size_of c b) (consumed p m f.1))
+        given_over : AreBut types bare (put_last (record { object = n; index = i; word = w }) f.0 (size_of c b) (consumed p m f.1))
         given_over =
-            subst (λ (ws : List ℕ). AreBut types bare (put_last (record { object = n; index = i; word = 0 }) f.0 (size_of c b) ((taken p ws f.1).0, without m (taken p ws f.1).1))) (sym words)
-            (subst (λ (x : Option Object). AreBut types bare (wrote_if x f.0 (size_of c b) 0 (taken p sl.words f.1).0 (owns (record { object = n; index = i; word = 0 }) f.0 behind))) (sym last_there)
-            (have_in types bare f.0 (with_object f.0 new_one (owns (record { object = n; index = i; word = 0 }) f.0 behind))
-            (λ q e. subst (Have types) (some_same (sym (at-set_same (owns (record { object = n; index = i; word = 0 }) f.0 behind).objects f.0 f.0 new_one refl) ∙ e)) put_have)
-            (set_but types (λ k. bare k ⊎ (k ≡ f.0)) f.0 new_one (owns (record { object = n; index = i; word = 0 }) f.0 behind) (with_object f.0 new_one (owns (record { object = n; index = i; word = 0 }) f.0 behind)) (inl (inr refl)) refl
-            (owns_but types (λ k. bare k ⊎ (k ≡ f.0)) n i f.0 behind (λ q e. owner q (r.same n q n_born n_apart (took_m.older.same n q (let a = r.births in omega (arith, a, n_born)) (without_leaves types m (taken p sl.words f.1).1 n q e))))
+            subst (λ (ws : List ℕ). AreBut types bare (put_last (record { object = n; index = i; word = w }) f.0 (size_of c b) ((taken p ws f.1).0, without m (taken p ws f.1).1))) (sym words)
+            (subst (λ (x : Option Object). AreBut types bare (wrote_if x f.0 (size_of c b) 0 (taken p sl.words f.1).0 (owns (record { object = n; index = i; word = w }) f.0 behind))) (sym last_there)
+            (have_in types bare f.0 (with_object f.0 new_one (owns (record { object = n; index = i; word = w }) f.0 behind))
+            (λ q e. subst (Have types) (some_same (sym (at-set_same (owns (record { object = n; index = i; word = w }) f.0 behind).objects f.0 f.0 new_one refl) ∙ e)) put_have)
+            (set_but types (λ k. bare k ⊎ (k ≡ f.0)) f.0 new_one (owns (record { object = n; index = i; word = w }) f.0 behind) (with_object f.0 new_one (owns (record { object = n; index = i; word = w }) f.0 behind)) (inl (inr refl)) refl
+            (owns_but types (λ k. bare k ⊎ (k ≡ f.0)) n i w f.0 behind
             (without_but types (λ k. bare k ⊎ (k ≡ f.0)) m (taken p sl.words f.1).1 took_m.buffers)))))
 
-      pub object_buffered : IfGot (pushed s ty p (record { object = n; index = i; word = 0 }) b (consumed p m) c) (AreBut types bare)
-      object_buffered = got_then (with_room s ty p b c) (λ f. Got (put_last (record { object = n; index = i; word = 0 }) f.0 (size_of c b) (consumed p m f.1))) IsRoomy (AreBut types bare) room given_over
+      pub object_buffered : IfGot (pushed s ty p (record { object = n; index = i; word = w }) b (consumed p m) c) (AreBut types bare)
+      object_buffered = got_then (with_room s ty p b c) (λ f. Got (put_last (record { object = n; index = i; word = w }) f.0 (size_of c b) (consumed p m f.1))) IsRoomy (AreBut types bare) room given_over

@@ -15,13 +15,12 @@ use Rattle.life_pset.specs.Shapes.{has_buffer}
 use Rattle.life_pset.specs.declared.element.Root.{Root}
 use Rattle.life_proper.specs.Placed.{type_of, type_at}
 use Rattle.life_store.specs.Cells.{at}
-use Rattle.life_store.specs.Content.{Slot, Object, Content, word_in}
+use Rattle.life_store.specs.Content.{Slot, Object, Content}
 use Rattle.life_store.specs.Doing.{does, edits, pushes}
 use Rattle.life_store.specs.Edits.{Push, edited, pushed, owned_at}
 use Rattle.life_store.specs.Effects.{Attempt, Got, GotTrap, GotFault, GotLost, Effect, Next, Setting, cell, got_or, on_got, on_next, put_cell, put_content}
-use Rattle.life_store.specs.Held.{owned_in}
 use Rattle.life_store.specs.Owners.{consumed}
-use Rattle.life_store.specs.Parts.{Parts, Single, Raw, Iterates, Views, Text, Vector, Unique, Member, NoMember, local_type, parts_at, parts_if, width, width_at}
+use Rattle.life_store.specs.Parts.{Parts, Vector, local_type, parts_at, parts_if, width, width_at}
 use Rattle.life_store.specs.State.{Cell, Empty, Named, State}
 use Rattle.life_store.specs.declared.run.FaultKind.TheVariants as fault
 use Rattle.life_store.specs.Kinds.{kind_in}
@@ -30,12 +29,11 @@ use Rattle.life_forest.specs.Forest.{Beneath, Touches, Foot, whole}
 use Rattle.life_forest.specs.FrameTypes.{IsVariable}
 use Rattle.life_forest.specs.Frames.{OnNext, named_in}
 use Rattle.life_forest.specs.Kinds.{kinds_of, rank_of, owned_type}
-use Rattle.life_forest.specs.Values.{AllWide, listed}
+use Rattle.life_forest.specs.Values.{AllWide}
 use Rattle.life_forest.specs.Typed.{IsStore}
 use Rattle.life_forest.specs.Within.{LiesWithin}
 use Rattle.life_forest.specs.Owned.{times}
 use Rattle.life_forest.proofs.Coming.{IfGot}
-use Rattle.life_forest.proofs.Members.{within_self}
 use Rattle.life_forest.proofs.Feet.{and_all}
 use Rattle.life_forest.proofs.Adding.{pushed_object_touches}
 use Rattle.life_forest.proofs.Above.{above_apart, above_unowned, owner_above}
@@ -47,16 +45,15 @@ use Rattle.life_cover.specs.Buffered.{HasBuffers, AreBut}
 use Rattle.life_cover.specs.Inputs.{may_change, owning, StandsAt}
 use Rattle.life_cover.specs.Regions.{Region, foot_of}
 use Rattle.life_cover.specs.Lacking.{IsUnmoved, MayLack}
-use Rattle.life_cover.proofs.Buffers.{buffer_lives, buffer_low, low, foot_covers, buffer, own}
-use Rattle.life_cover.proofs.Copies.{whole_parts}
-use Rattle.life_cover.proofs.HeldElements.{all_free, elements_region, held, held_type, vector_operand, vector_parts, not_bare, vector_alone}
+use Rattle.life_cover.proofs.Buffers.{low, foot_covers, buffer, own}
+use Rattle.life_cover.proofs.HeldElements.{all_free, elements_region, held, held_type, vector_operand, vector_parts, not_bare}
 use Rattle.life_cover.proofs.Inside.{beneath_lesser, not_itself}
-use Rattle.life_cover.proofs.KeptBuffers.{at_start, by_change, holder_born, is_owner}
+use Rattle.life_cover.proofs.KeptBuffers.{by_change, holder_born}
 use Rattle.life_cover.proofs.KnownFrames.{IsKnownFrame, hand_of, store_of}
 use Rattle.life_cover.proofs.Locals.{named_free}
 use Rattle.life_cover.proofs.Opening.{IsOpened, region_part, vector_opened}
+use Rattle.life_cover.proofs.OwnedWords.{word_beneath, word_lives}
 use Rattle.life_cover.proofs.UniquesStay.{had_beside_given, reached_other}
-use Rattle.life_cover.proofs.OwnersStay.{owned_is}
 use Rattle.life_cover.proofs.PushedBuffers.{object_buffered}
 use Rattle.life_cover.proofs.Reaching.{IsReached}
 use Rattle.life_cover.proofs.Rebuffering.{IsFree}
@@ -147,13 +144,11 @@ module _ (types : Types) (f : Function) (rest : ℕ → ℕ) (inputs : Root → 
         object_touches types k.ordered (λ j. times (named_in (slice_set st.cells x Empty)) j + rest j) st.world.content m in_two r.region.object r.index r.region.word r.region.ty r.holder r.there (region_within types f rest inputs S st k o r) r.small
         item (vector_parts types f rest inputs S st k o r item is_vector) h.buffer h.owned variable.object variable.slot variable.there variable.one m_type s
 
-    -- a string there has another buffer than the vector
-    free_of : (p : Parts) → parts_at types variable.object.ty ≡ p → IsFree types p (λ j. MayLack types f inputs S st j ⊎ ((j ≡ h.buffer) ⊎ (j ≡ st.world.content.births))) variable.slot.words
-    free_of (Text id) is = λ j e out.
-        let old = ap listed (owned_is st.world.content m 0 0 variable.object variable.there ∙ ap (λ (t : Option Slot). owned_in (word_in t 0)) slot_there ∙ e) in
-        let small : 0 < length variable.object.slots = (let one = ap length variable.one in omega (arith, one)) in
-        let l = buffer_lives types k.ordered (hand_of rest st) st.world.content (store_of types f rest inputs S st k) m 0 0 variable.object.ty variable.object variable.there (within_self types variable.object.ty) small (Text id) is j old in
-        let beneath = buffer_low types k.ordered (hand_of rest st) st.world.content (store_of types f rest inputs S st k) m 0 0 variable.object.ty variable.object variable.there (within_self types variable.object.ty) small (Text id) is j old in
+    -- what it has is another buffer than the vector's
+    free_of : IsFree types (parts_at types variable.object.ty) (λ j. MayLack types f inputs S st j ⊎ ((j ≡ h.buffer) ⊎ (j ≡ st.world.content.births))) variable.slot.words
+    free_of u j e owned out =
+        let l = word_lives types k.ordered (hand_of rest st) st.world.content (store_of types f rest inputs S st k) m 0 u j variable.object variable.slot variable.there slot_there e owned in
+        let beneath = word_beneath types k.ordered (hand_of rest st) st.world.content (store_of types f rest inputs S st k) m 0 u j variable.object variable.slot variable.there slot_there e owned in
         ⊎_elim (λ lacks. low_whole types f rest inputs S st k region j beneath lacks)
         (λ either. ⊎_elim
         (λ same.
@@ -162,14 +157,6 @@ module _ (types : Types) (f : Function) (rest : ℕ → ℕ) (inputs : Root → 
         let two = ap (rank_of types) (held_type types f rest inputs S st k o r item is_vector unmoved ∙ sym m_type) in
         omega (arith, less, one, two))
         (λ new. let old_one = k.stands.store.forest.births j l.0 l.1 in omega (arith, old_one, new)) either) out
-    free_of Single is = tt
-    free_of Raw is = tt
-    free_of Iterates is = tt
-    free_of Views is = tt
-    free_of (Vector id of) is = tt
-    free_of (Unique id target) is = tt
-    free_of (Member first others) is = tt
-    free_of NoMember is = tt
 
     -- what the vector has lies beneath it, so it isn't what gives its value over, and neither is what its elements have
     buffer_beneath : Beneath (kinds_of types) st.world.content (foot_of types r.region) h.buffer
@@ -191,15 +178,14 @@ module _ (types : Types) (f : Function) (rest : ℕ → ℕ) (inputs : Root → 
 
     pushed_one : IfGot (pushed s item (parts_at types item) (record { object = r.region.object; index = r.index; word = r.region.word }) h.buffer (consumed (parts_at types item) m) st.world.content) (AreBut types (MayLack types f inputs S st))
     pushed_one =
-        at_start types f rest inputs S st k o r s (vector_alone types f rest inputs S st k o r item is_vector) (λ spot. IfGot (pushed s item (parts_at types item) spot h.buffer (consumed (parts_at types item) m) st.world.content) (AreBut types (MayLack types f inputs S st)))
-        (object_buffered types (MayLack types f inputs S st) s item (parts_at types item) (whole_parts types k.inert item) refl h.buffer st.world.content k.buffered elements.0 elements.1 (held_type types f rest inputs S st k o r item is_vector unmoved)
+        object_buffered types (MayLack types f inputs S st) s item (parts_at types item) refl h.buffer st.world.content k.buffered elements.0 elements.1 (held_type types f rest inputs S st k o r item is_vector unmoved)
         (subst (λ n. AllWide n elements.0.slots) fit_word (k.stands.store.fit h.buffer elements.0 elements.1).slots) fit_word (k.stands.store.forest.births h.buffer elements.0 elements.1) (not_bare types f rest inputs S st k o r item is_vector unmoved) m born apart
         (all_free types f rest inputs S st k o r item is_vector unmoved (λ j. MayLack types f inputs S st j ⊎ (j ≡ st.world.content.births)) (λ j q there beneath out. ⊎_elim (λ lacks. low_whole types f rest inputs S st k (elements_region types f rest inputs S st k o r item is_vector unmoved) j beneath lacks) (λ new. unborn j q there new) out))
         (all_free types f rest inputs S st k o r item is_vector unmoved (λ j. (MayLack types f inputs S st j ⊎ (j ≡ st.world.content.births)) ⊎ (j ≡ m))
         (λ j q there beneath out. ⊎_elim (λ left. ⊎_elim (λ lacks. low_whole types f rest inputs S st k (elements_region types f rest inputs S st k o r item is_vector unmoved) j beneath lacks) (λ new. unborn j q there new) left)
         (λ same. named_free types f rest st k.stands.store k.stands.frame x m (elements_region types f rest inputs S st k o r item is_vector unmoved) named (subst (Beneath (kinds_of types) st.world.content (foot_of types (elements_region types f rest inputs S st k o r item is_vector unmoved))) same beneath)) out))
-        variable.object variable.slot variable.there variable.one m_has m_wide (subst (λ (id : TyId). IsFree types (parts_at types id) (λ j. MayLack types f inputs S st j ⊎ ((j ≡ h.buffer) ⊎ (j ≡ st.world.content.births))) variable.slot.words) m_type (free_of (parts_at types variable.object.ty) refl))
-        r.region.object r.index (holder_born types f rest inputs S st k o r s) holder_apart (is_owner types f rest inputs S st k o r s (vector_alone types f rest inputs S st k o r item is_vector) (Vector item (parts_at types item)) (vector_parts types f rest inputs S st k o r item is_vector) refl (λ ws j e. (j, e))))
+        variable.object variable.slot variable.there variable.one m_has m_wide (subst (λ (id : TyId). IsFree types (parts_at types id) (λ j. MayLack types f inputs S st j ⊎ ((j ≡ h.buffer) ⊎ (j ≡ st.world.content.births))) variable.slot.words) m_type free_of)
+        r.region.object r.index r.region.word (holder_born types f rest inputs S st k o r s) holder_apart
 
     after_edit : (a : Attempt Content) → IfGot a (λ d. AreBut types (MayLack types f inputs S st) d × Touches (kinds_of types) (pushed_foot types r.region m) st.world.content d) → OnNext (on_next (on_got a (λ d. Next (put_content d st))) (λ after. Next (put_cell x Empty after))) (IsBehind types f inputs (MayLack types f inputs S st) (λ y. x ≡ y) no_local st)
     after_edit (Got d) e = behind_empty types f inputs (MayLack types f inputs S st) (λ y. x ≡ y) no_local st x (λ n is. refl) d e.0 (pushed_spares types f rest inputs S st k o r own m (in_hand st.cells x m named) d e.1)

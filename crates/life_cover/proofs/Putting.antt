@@ -1,13 +1,14 @@
 -- Where a pointer that is a local is given what is covered, and nothing is killed, all pointers of the frame are covered.
-use Rattle.std.proofs.Common.{◌≡◌, ◌≢◌, ⊎_elim, ℕ, zero, suc, Bool, true, false, List, [], ◌∷◌, Some, refl, ap, subst, ◌∙◌}
-use Rattle.std.specs.Prelude.{slice_get, slice_set}
+use Rattle.std.proofs.Common.{◌≡◌, ◌≢◌, ⊎_elim, ℕ, zero, suc, ◌<◌, Bool, true, false, List, [], ◌∷◌, Some, refl, sym, ap, subst, ◌∙◌, arith}
+use Rattle.std.specs.Prelude.{if◌then◌else◌, nat_lt, slice_get, slice_set}
 use Rattle.life_types.specs.Trees.{IsOrdered}
 use Rattle.life_types.specs.Types.{Types}
 use Rattle.life_types.specs.declared.place.Place.{Place}
 use Rattle.life_core.specs.Function.{Function}
-use Rattle.life_core.specs.Operands.{whole}
+use Rattle.life_core.specs.Operands.{Location, whole}
 use Rattle.life_core.specs.Step.{Step}
 use Rattle.life_pset.specs.Elements.{local_place}
+use Rattle.life_pset.specs.Places.{longer, member_place, members_place, owned_step, stepped, too_long}
 use Rattle.life_pset.specs.declared.element.AbsPlace.{AbsPlace}
 use Rattle.life_pset.specs.declared.element.Element.{Element}
 use Rattle.life_pset.specs.declared.element.Element.TheVariants as element
@@ -15,7 +16,7 @@ use Rattle.life_pset.specs.declared.element.Fact.{Fact}
 use Rattle.life_pset.specs.declared.element.Root.{Root}
 use Rattle.life_pset.specs.declared.element.Root.TheVariants as root
 use Rattle.life_pset.proofs.Numbers.{exact_place}
-use Rattle.life_contract.specs.Located.{is_location}
+use Rattle.life_contract.specs.Located.{is_location, located}
 use Rattle.life_contract.specs.Signatures.{Signature}
 use Rattle.life_rules.specs.Carrying.{is_gone, writes}
 use Rattle.life_store.specs.Content.{Content}
@@ -49,6 +50,35 @@ other_local p x ne = go (is_location (whole p) (local_place x)) refl
     go : (b : Bool) → is_location (whole p) (local_place x) ≡ b → is_location (whole p) (local_place x) ≡ false
     go true e = absurd (ne (inside (ap (λ (l : AbsPlace). l.root) (exact_place (local_place x) (local_place p) e))))
     go false e = e
+
+-- .. and what lies in a local is none
+stepped_long : (a : AbsPlace) (step : ℕ) → 0 < (stepped a step).length
+stepped_long a step = go (nat_lt a.length 8)
+  where
+    go : (b : Bool) → 0 < (if b then longer a step else too_long a).length
+    go true = omega arith
+    go false = omega arith
+
+member_long : (a : AbsPlace) (m : ℕ) → 0 < (member_place a m).length
+member_long a m = go (nat_lt m owned_step)
+  where
+    go : (b : Bool) → 0 < (if b then stepped a m else too_long a).length
+    go true = stepped_long a m
+    go false = omega arith
+
+members_long : (ms : List ℕ) (a : AbsPlace) → 0 < a.length → 0 < (members_place a ms).length
+members_long [] a long = long
+members_long (m ∷ ms) a long = members_long ms (member_place a m) (member_long a m)
+
+pub member_other : (l : Location) (m : ℕ) (ms : List ℕ) → l.members ≡ m ∷ ms → (x : ℕ) → is_location l (local_place x) ≡ false
+member_other l m ms e x = go (is_location l (local_place x)) refl
+  where
+    long : 0 < (located l).length
+    long = subst (λ (ns : List ℕ). 0 < (members_place (local_place l.local) ns).length) (sym e) (members_long ms (member_place (local_place l.local) m) (member_long (local_place l.local) m))
+
+    go : (b : Bool) → is_location l (local_place x) ≡ b → is_location l (local_place x) ≡ false
+    go true h = let same : 0 ≡ (located l).length = ap (λ (a : AbsPlace). a.length) (exact_place (local_place x) (located l) h) in absurd (omega (arith, long, same))
+    go false h = h
 
 -- what is covered is where roots stand more often
 pub covered_more : (types : Types) (c : Content) (Stands Stands' : Root → Region → Type 0) (may_change : Root → Bool) → ((r : Root) (a : Region) → Stands r a → Stands' r a) → (S : Fact → Type 0) (l : AbsPlace) (look : Look) (v : Pointer)

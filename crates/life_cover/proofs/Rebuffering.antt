@@ -1,6 +1,7 @@
 -- Each vector and each string has its buffer where a string is written anew; what stays as it was behind a change that makes another buffer, and what values have that are taken into it.
-use Rattle.std.proofs.Common.{◌≡◌, ⊎_elim, ℕ, zero, suc, ◌+◌, ◌*◌, ◌≤◌, ◌<◌, List, [], ◌∷◌, length, map, Option, Some, None, refl, sym, ap, subst, ◌∙◌, arith, ◌⊎◌, inl, inr}
-use Rattle.std.specs.Prelude.{nat_lt, slice_get, slice_index}
+use Rattle.std.proofs.Common.{◌≡◌, ⊎_elim, ℕ, zero, suc, ◌+◌, ◌*◌, ◌≤◌, ◌<◌, List, [], ◌∷◌, length, map, Option, Some, None, refl, sym, ap, subst, ◌∙◌, arith, ◌⊎◌, inl, inr, length-append, true, ◌++◌}
+use Rattle.std.proofs.lemmas.List.{length-drop, length-take}
+use Rattle.std.specs.Prelude.{nat_lt, slice_get, slice_index, drop, take}
 use Rattle.life_types.specs.Types.{Types}
 use Rattle.life_types.specs.declared.ty.TyId.{TyId}
 use Rattle.life_store.specs.Cells.{at, set, at-set_other, at-set_same, at-unset_other}
@@ -9,16 +10,16 @@ use Rattle.life_store.specs.Edits.{one_word, owns, rewritten}
 use Rattle.life_store.specs.Effects.{Got, Setting}
 use Rattle.life_store.specs.Held.{filled, filled_if, filled_slots, owned_in, resized_at, resized_if}
 use Rattle.life_store.specs.Owners.{Words, birth, renamed, renamed_if, sized_birth, taken, taken_slots}
-use Rattle.life_store.specs.Parts.{Parts, Single, Raw, Iterates, Views, Text, Vector, Unique, Member, NoMember, parts_at}
+use Rattle.life_store.specs.Parts.{Parts, Single, Raw, Iterates, Views, Text, Vector, Unique, Member, NoMember, parts_at, width}
 use Rattle.life_store.specs.declared.run.TrapKind.TheVariants as trap
 use Rattle.life_store.proofs.CellLemmas.{none_some, some_same, unset_cases}
 use Rattle.life_forest.specs.Values.{AllWide}
+use Rattle.life_forest.proofs.Begins.{behind, in_front}
 use Rattle.life_forest.proofs.Coming.{IfGot, got_then, if_room}
 use Rattle.life_forest.proofs.Widths.{count-blank, wide-resized}
-use Rattle.life_cover.specs.Buffered.{AreBut, HasBuffers}
-use Rattle.life_cover.proofs.Buffering.{IsOwnerAt, birth_but, have_in, owns_but, rename_but, resized_but, set_but, single_have, without_but}
-use Rattle.life_cover.proofs.Copies.{IsWhole}
-use Rattle.life_cover.proofs.InertParts.{single_has, single_taken}
+use Rattle.life_cover.specs.Buffered.{AreBut, HasBuffers, is_buffer_at}
+use Rattle.life_cover.proofs.BufferWords.{buffer_inside, drop_index, first_member, joined_has, other_members, take_index, text_has}
+use Rattle.life_cover.proofs.Buffering.{birth_but, have_in, owns_but, rename_but, resized_but, set_but, single_have, without_but}
 
 -- ---- what was there and is there is as it was
 
@@ -112,15 +113,12 @@ module _ (types : Types) where
 
   -- ---- a string is written anew
 
-  pub rewritten_buffered : (bare : ℕ → Type 0) (s : Setting) (ty : TyId) (n i b : ℕ) (words : List ℕ) (c : Content) → parts_at types ty ≡ Single → n < c.births → IsOwnerAt types c n → AreBut types bare c → IfGot (rewritten s ty (record { object = n; index = i; word = 0 }) b words c) (AreBut types bare)
-  rewritten_buffered bare s ty n i b words c single born owner h =
-      got_then (sized_birth s ty 1 (length words) c) (λ f. Got (owns (record { object = n; index = i; word = 0 }) f.0 (without b (filled f.0 (map one_word words) f.1)))) (λ f. IsSized c ty 1 (length words) f × AreBut types (λ k. bare k ⊎ (k ≡ f.0)) f.1) (AreBut types bare)
+  pub rewritten_buffered : (bare : ℕ → Type 0) (s : Setting) (ty : TyId) (n i w b : ℕ) (words : List ℕ) (c : Content) → parts_at types ty ≡ Single → AreBut types bare c → IfGot (rewritten s ty (record { object = n; index = i; word = w }) b words c) (AreBut types bare)
+  rewritten_buffered bare s ty n i w b words c single h =
+      got_then (sized_birth s ty 1 (length words) c) (λ f. Got (owns (record { object = n; index = i; word = w }) f.0 (without b (filled f.0 (map one_word words) f.1)))) (λ f. IsSized c ty 1 (length words) f × AreBut types (λ k. bare k ⊎ (k ≡ f.0)) f.1) (AreBut types bare)
       (sized_but s ty 1 (length words) c bare h)
       (λ f k.
-      let number = k.0.number in
-      let new : c.births ≤ f.0 = omega (arith, number) in
-      let older = older_without c (filled f.0 (map one_word words) f.1) b (older_filled c f.1 f.0 (map one_word words) new k.0.older) in
-      owns_but types bare n i f.0 (without b (filled f.0 (map one_word words) f.1)) (λ o there. owner o (older.same n o born there))
+      owns_but types bare n i w f.0 (without b (filled f.0 (map one_word words) f.1))
       (without_but types bare b (filled f.0 (map one_word words) f.1)
       (single_in bare f.0 (filled f.0 (map one_word words) f.1) (λ o there. ap (parts_at types) (filled_type f (map one_word words) k.0 o there) ∙ single) (filled_out f (map one_word words) k.1))))
     where
@@ -139,45 +137,63 @@ module _ (types : Types) where
 
   pub record IsTaken (p : Parts) (out : ℕ → Type 0) (f : ℕ) (d : Content) (v : Words) : Type 0 where
     pub has : HasBuffers p v.0
+    pub wide : length v.0 ≡ width p
     pub buffers : AreBut types out v.1
     pub same : at v.1.objects f ≡ at d.objects f
     pub born : f < v.1.births
     pub older : IsOlder d v.1
 
-  -- what a string has isn't left out
-  abbrev pub IsFree : Parts → (ℕ → Type 0) → List ℕ → Type 0
-  IsFree (Text ty) out ws = (m : ℕ) → owned_in (slice_index ws 0) ≡ Some m → out m → ⊥
-  IsFree _ out ws = Unit {0}
+  -- one value behind another
+  both_taken : (first others : Parts) (out : ℕ → Type 0) (f : ℕ) (d : Content) (a : Words) → IsTaken first out f d a → (b : Words) → IsTaken others out f a.1 b → IsTaken (Member first others) out f d (a.0 ++ b.0, b.1)
+  both_taken first others out f d a one b two = record {
+    has = joined_has first others a.0 b.0 one.wide one.has two.has;
+    wide = (let all = length-append a.0 b.0 in let x = one.wide in let y = two.wide in omega (arith, all, x, y));
+    buffers = two.buffers;
+    same = two.same ∙ one.same;
+    born = two.born;
+    older = older_then d a.1 b.1 one.older two.older;
+  }
 
-  pub taken_but : (p : Parts) → IsWhole p → (out : ℕ → Type 0) (f : ℕ) → out f → (ws : List ℕ) → HasBuffers p ws → IsFree p out ws → (d : Content) → f < d.births → AreBut types out d → IsTaken p out f d (taken p ws d)
-  taken_but (Text ty) is out f gone ws has free d born h = subst (λ (x : Option ℕ). IsTaken (Text ty) out f d (renamed x d)) (sym has.1) (go (at d.objects has.0) refl)
+  -- what its vectors and strings have isn't left out
+  abbrev pub IsFree : Parts → (ℕ → Type 0) → List ℕ → Type 0
+  IsFree p out ws = (u m : ℕ) → is_buffer_at p u ≡ true → owned_in (slice_index ws u) ≡ Some m → out m → ⊥
+
+  first_free : (first others : Parts) (out : ℕ → Type 0) (ws : List ℕ) → IsFree (Member first others) out ws → IsFree first out (take (width first) ws)
+  first_free first others out ws free u m e owned =
+      let lt = buffer_inside first u e in
+      free u m (in_front (width first) (is_buffer_at first) (is_buffer_at others) u lt ∙ e) (ap owned_in (sym (take_index ws (width first) u lt)) ∙ owned)
+
+  others_free : (first others : Parts) (out : ℕ → Type 0) (ws : List ℕ) → IsFree (Member first others) out ws → IsFree others out (drop (width first) ws)
+  others_free first others out ws free u m e owned =
+      free (width first + u) m (behind (width first) (is_buffer_at first) (is_buffer_at others) u (width first + u) refl ∙ e) (ap owned_in (sym (drop_index ws (width first) u (width first + u) refl)) ∙ owned)
+
+  pub taken_but : (p : Parts) (out : ℕ → Type 0) (f : ℕ) → out f → (ws : List ℕ) → length ws ≡ width p → HasBuffers p ws → IsFree p out ws → (d : Content) → f < d.births → AreBut types out d → IsTaken p out f d (taken p ws d)
+  taken_but (Text ty) out f gone ws wide has free d born h = subst (λ (x : Option ℕ). IsTaken (Text ty) out f d (renamed x d)) (sym b.1) (go (at d.objects b.0) refl)
     where
-      go : (o : Option Object) → at d.objects has.0 ≡ o → IsTaken (Text ty) out f d (renamed_if o has.0 d)
-      go None e = record { has = (has.0, refl); buffers = h; same = refl; born = born; older = older_self d }
+      b : (n : ℕ) × (owned_in (slice_index ws 0) ≡ Some n)
+      b = has 0 refl
+
+      go : (o : Option Object) → at d.objects b.0 ≡ o → IsTaken (Text ty) out f d (renamed_if o b.0 d)
+      go None e = record { has = text_has ty (suc b.0 ∷ []) b.0 refl; wide = refl; buffers = h; same = refl; born = born; older = older_self d }
       go (Some o) e = record {
-        has = (d.births, refl);
-        buffers = rename_but types out has.0 o d e (free has.0 has.1) h;
-        same = at-set_other (without has.0 d).objects d.births f o (λ same. absurd (omega (arith, same, born))) ∙ at-unset_other d.objects has.0 f (λ same. free has.0 has.1 (subst out (sym same) gone));
+        has = text_has ty (suc d.births ∷ []) d.births refl;
+        wide = refl;
+        buffers = rename_but types out b.0 o d e (free 0 b.0 refl b.1) h;
+        same = at-set_other (without b.0 d).objects d.births f o (λ same. absurd (omega (arith, same, born))) ∙ at-unset_other d.objects b.0 f (λ same. free 0 b.0 refl b.1 (subst out (sym same) gone));
         born = omega (arith, born);
-        older = older_set d (without has.0 d) (with_rename has.0 o d) d.births o (omega arith) (omega arith) refl (older_without d d has.0 (older_self d));
+        older = older_set d (without b.0 d) (with_rename b.0 o d) d.births o (omega arith) (omega arith) refl (older_without d d b.0 (older_self d));
       }
-  taken_but (Member first others) is out f gone ws has free d born h = behind (taken (Member first others) ws d) (single_taken (Member first others) is ws d)
-    where
-      behind : (v : Words) → v.1 ≡ d → IsTaken (Member first others) out f d v
-      behind v same = record {
-        has = single_has (Member first others) is v.0;
-        buffers = subst (AreBut types out) (sym same) h;
-        same = ap (λ (e : Content). at e.objects f) same;
-        born = subst (λ (e : Content). f < e.births) (sym same) born;
-        older = subst (IsOlder d) (sym same) (older_self d);
-      }
-  taken_but Single is out f gone ws has free d born h = record { has = has; buffers = h; same = refl; born = born; older = older_self d }
-  taken_but Raw is out f gone ws has free d born h = record { has = has; buffers = h; same = refl; born = born; older = older_self d }
-  taken_but Iterates is out f gone ws has free d born h = record { has = has; buffers = h; same = refl; born = born; older = older_self d }
-  taken_but Views is out f gone ws has free d born h = record { has = has; buffers = h; same = refl; born = born; older = older_self d }
-  taken_but (Vector ty element) is out f gone ws has free d born h = record { has = has; buffers = h; same = refl; born = born; older = older_self d }
-  taken_but (Unique ty target) is out f gone ws has free d born h = record { has = has; buffers = h; same = refl; born = born; older = older_self d }
-  taken_but NoMember is out f gone ws has free d born h = record { has = has; buffers = h; same = refl; born = born; older = older_self d }
+  taken_but (Member first others) out f gone ws wide has free d born h =
+      let one = taken_but first out f gone (take (width first) ws) (let t = length-take (width first) ws in omega (arith, t, wide)) (first_member first others ws has) (first_free first others out ws free) d born h in
+      let two = taken_but others out f gone (drop (width first) ws) (let t = length-drop (width first) ws in omega (arith, t, wide)) (other_members first others ws has) (others_free first others out ws free) (taken first (take (width first) ws) d).1 one.born one.buffers in
+      both_taken first others out f d (taken first (take (width first) ws) d) one (taken others (drop (width first) ws) (taken first (take (width first) ws) d).1) two
+  taken_but Single out f gone ws wide has free d born h = record { has = has; wide = wide; buffers = h; same = refl; born = born; older = older_self d }
+  taken_but Raw out f gone ws wide has free d born h = record { has = has; wide = wide; buffers = h; same = refl; born = born; older = older_self d }
+  taken_but Iterates out f gone ws wide has free d born h = record { has = has; wide = wide; buffers = h; same = refl; born = born; older = older_self d }
+  taken_but Views out f gone ws wide has free d born h = record { has = has; wide = wide; buffers = h; same = refl; born = born; older = older_self d }
+  taken_but (Vector ty element) out f gone ws wide has free d born h = record { has = has; wide = wide; buffers = h; same = refl; born = born; older = older_self d }
+  taken_but (Unique ty target) out f gone ws wide has free d born h = record { has = has; wide = wide; buffers = h; same = refl; born = born; older = older_self d }
+  taken_but NoMember out f gone ws wide has free d born h = record { has = has; wide = wide; buffers = h; same = refl; born = born; older = older_self d }
 
   pub record AreTaken (p : Parts) (out : ℕ → Type 0) (f : ℕ) (count : ℕ) (d : Content) (vs : List (List ℕ) × Content) : Type 0 where
     pub has : (i : ℕ) (ws : List ℕ) → slice_get vs.0 i ≡ Some ws → HasBuffers p ws
@@ -188,13 +204,13 @@ module _ (types : Types) where
 
   -- the slots of a buffer have theirs, which aren't left out
   abbrev pub AreFree : Parts → (ℕ → Type 0) → List Slot → Type 0
-  AreFree p out ss = (i : ℕ) (t : Slot) → slice_get ss i ≡ Some t → HasBuffers p t.words × IsFree p out t.words
+  AreFree p out ss = (i : ℕ) (t : Slot) → slice_get ss i ≡ Some t → HasBuffers p t.words × IsFree p out t.words × (length t.words ≡ width p)
 
-  pub slots_taken : (p : Parts) → IsWhole p → (out : ℕ → Type 0) (f : ℕ) → out f → (ss : List Slot) → AreFree p out ss → (d : Content) → f < d.births → AreBut types out d → AreTaken p out f (length ss) d (taken_slots p ss d)
-  slots_taken p is out f gone [] free d born h = record { has = λ i ws e. absurd (none_some e); count_is = refl; buffers = h; same = refl; older = older_self d }
-  slots_taken p is out f gone (t ∷ ss) free d born h =
-      let one = taken_but p is out f gone t.words (free 0 t refl).0 (free 0 t refl).1 d born h in
-      let more = slots_taken p is out f gone ss (λ i u e. free (suc i) u e) (taken p t.words d).1 one.born one.buffers in record {
+  pub slots_taken : (p : Parts) (out : ℕ → Type 0) (f : ℕ) → out f → (ss : List Slot) → AreFree p out ss → (d : Content) → f < d.births → AreBut types out d → AreTaken p out f (length ss) d (taken_slots p ss d)
+  slots_taken p out f gone [] free d born h = record { has = λ i ws e. absurd (none_some e); count_is = refl; buffers = h; same = refl; older = older_self d }
+  slots_taken p out f gone (t ∷ ss) free d born h =
+      let one = taken_but p out f gone t.words (free 0 t refl).2 (free 0 t refl).0 (free 0 t refl).1 d born h in
+      let more = slots_taken p out f gone ss (λ i u e. free (suc i) u e) (taken p t.words d).1 one.born one.buffers in record {
         has = λ i ws e. first (taken p t.words d).0 (taken_slots p ss (taken p t.words d).1).0 i ws e one.has more.has;
         count_is = ap suc more.count_is;
         buffers = more.buffers;

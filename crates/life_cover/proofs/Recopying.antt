@@ -1,6 +1,7 @@
 -- Each vector and each string has its buffer behind a copy, and behind the birth of a local.
-use Rattle.std.proofs.Common.{◌≡◌, ⊎_elim, ℕ, zero, suc, ◌+◌, ◌*◌, ◌≤◌, ◌<◌, List, [], ◌∷◌, length, Option, Some, None, refl, sym, ap, subst, ◌∙◌, arith, ◌⊎◌}
-use Rattle.std.specs.Prelude.{nat_lt, option_map, slice_get, slice_index, slice_set}
+use Rattle.std.proofs.Common.{◌≡◌, ⊎_elim, ℕ, zero, suc, ◌+◌, ◌*◌, ◌≤◌, ◌<◌, List, [], ◌∷◌, length, Option, Some, None, refl, sym, ap, subst, ◌∙◌, arith, ◌⊎◌, length-append, ◌≢◌, ◌++◌}
+use Rattle.std.proofs.lemmas.List.{length-drop, length-take}
+use Rattle.std.specs.Prelude.{nat_lt, option_map, slice_get, slice_index, slice_set, drop, take}
 use Rattle.life_types.specs.Trees.{IsOrdered}
 use Rattle.life_types.specs.Types.{Types}
 use Rattle.life_types.specs.declared.ty.TyId.{TyId}
@@ -9,23 +10,23 @@ use Rattle.life_store.specs.Cells.{at, at-set_other, set, at-set_same}
 use Rattle.life_store.specs.Content.{Slot, Object, Content, live_words_of, newborn, set_slot, with_birth, with_object, written}
 use Rattle.life_store.specs.Doing.{replaced}
 use Rattle.life_store.specs.Effects.{Attempt, Got, Setting, then_get}
-use Rattle.life_store.specs.Held.{filled, filled_if, filled_slots, owned_in, slots_at, with_words, wrote, wrote_if}
-use Rattle.life_store.specs.Owners.{Words, birth, copied, copied_buffer, copied_slots, ended, fresh, object_with, owning, sized_birth}
+use Rattle.life_store.specs.Held.{filled, filled_if, filled_slots, owned_in, owner_word, pointer_words, slots_at, slots_if, with_words, wrote, wrote_if}
+use Rattle.life_store.specs.Owners.{Words, birth, copied, copied_buffer, copied_slots, ended, fresh, object_with, owning, sized_birth, born_pointer, empty_view}
 use Rattle.life_store.specs.Parts.{Parts, Single, Raw, Iterates, Views, Text, Vector, Unique, Member, NoMember, parts_at, width}
 use Rattle.life_store.specs.Places.{spot_words}
+use Rattle.life_store.specs.State.{Null, Pointer, Static, To, Wild}
 use Rattle.life_store.specs.declared.run.TrapKind.TheVariants as trap
 use Rattle.life_store.proofs.CellLemmas.{none_some, set_cases, some_same}
 use Rattle.life_forest.specs.Kinds.{rank_of}
 use Rattle.life_forest.specs.Values.{AllWide}
-use Rattle.life_forest.proofs.Above.{with_words_type}
 use Rattle.life_forest.proofs.Coming.{IfGot, got_then, if_room}
 use Rattle.life_forest.proofs.Laying.{IsMade}
 use Rattle.life_forest.proofs.Stores.{if_such}
-use Rattle.life_cover.specs.Buffered.{AreBut, HasBuffers}
-use Rattle.life_cover.proofs.Buffering.{Each, Have, IsOwnerAt, birth_but, ended_but, ended_leaves, filled_but, owns_but}
-use Rattle.life_cover.proofs.Copies.{IsWhole}
-use Rattle.life_cover.proofs.InertParts.{single_copied, single_fresh, single_has}
-use Rattle.life_cover.proofs.OwnersStay.{read_word}
+use Rattle.life_cover.specs.Buffered.{AreBut, HasBuffers, is_buffer_at}
+use Rattle.life_cover.proofs.Buffering.{Each, Have, birth_but, ended_but, ended_leaves, filled_but}
+use Rattle.life_cover.proofs.Copies.{IsFull, slot_within}
+use Rattle.life_cover.proofs.BufferWords.{bufferless, joined_has, text_has, vector_has}
+use Rattle.life_cover.proofs.PutWords.{value_have, wrote_but}
 use Rattle.life_cover.proofs.Rebuffering.{IsSized, sized_but}
 
 -- what was there is as it was
@@ -33,7 +34,7 @@ pub record IsMore (c d : Content) : Type 0 where
   pub births : c.births ≤ d.births
   pub same : (k : ℕ) → k < c.births → at d.objects k ≡ at c.objects k
 
-more_self : (c : Content) → IsMore c c
+pub more_self : (c : Content) → IsMore c c
 more_self c = record { births = omega arith; same = λ k lt. refl }
 
 more_then : (c d e : Content) → IsMore c d → IsMore d e → IsMore c e
@@ -55,23 +56,6 @@ more_filled c d n rows new more = go (at d.objects n)
     go None = more
     go (Some o) = more_set c d (with_object n (record o { slots = filled_slots o.slots rows }) d) n (record o { slots = filled_slots o.slots rows }) new (omega arith) refl more
 
--- an owner's one word, and any words of what isn't one
-abbrev pub IsOwningRow : Parts → List ℕ → Type 0
-IsOwningRow (Text ty) ws = (b : ℕ) × (ws ≡ suc b ∷ [])
-IsOwningRow (Vector ty element) ws = (b : ℕ) × (ws ≡ suc b ∷ [])
-IsOwningRow _ ws = Unit {0}
-
-row_has : (p : Parts) → IsWhole p → (ws : List ℕ) → IsOwningRow p ws → HasBuffers p ws
-row_has (Text ty) is ws h = (h.0, ap (λ (x : List ℕ). owned_in (slice_index x 0)) h.1)
-row_has (Vector ty element) is ws h = (h.0, ap (λ (x : List ℕ). owned_in (slice_index x 0)) h.1)
-row_has (Member first others) is ws h = single_has (Member first others) is ws
-row_has Single is ws h = tt
-row_has Raw is ws h = tt
-row_has Iterates is ws h = tt
-row_has Views is ws h = tt
-row_has (Unique ty target) is ws h = tt
-row_has NoMember is ws h = tt
-
 -- its one slot gets the words
 pub one_written : (P : List ℕ → Type 0) (ss : List Slot) (v : ℕ) → length ss ≡ 1 → ((t : Slot) → slice_get ss 0 ≡ Some t → P (slice_set t.words 0 v)) → Each P (set_slot ss 0 (option_map (written 0 v) (slice_get ss 0)))
 one_written P [] v one new i u e = absurd (omega (arith, one))
@@ -79,9 +63,21 @@ one_written P (t ∷ []) v one new zero u e = subst (λ (x : Slot). P x.words) (
 one_written P (t ∷ []) v one new (suc i) u e = absurd (none_some e)
 one_written P (t ∷ r ∷ ss) v one new i u e = absurd (omega (arith, one))
 
+-- one slot alone
+lone : (ss : List Slot) (j : ℕ) (t : Slot) → length ss ≡ 1 → slice_get ss j ≡ Some t → 0 ≢ j → ⊥
+lone ss j t one e ne = let lt = slot_within ss j t e in ne (omega (arith, lt, one))
+
+-- a pointer has five words
+five : (p : Pointer) → length (pointer_words p) ≡ 5
+five Null = refl
+five Wild = refl
+five (To t) = refl
+five (Static c) = refl
+
 module _ (types : Types) (ordered : IsOrdered types) (s : Setting) where
   pub record IsCopied (p : Parts) (out : ℕ → Type 0) (d : Content) (v : Words) : Type 0 where
-    pub row : IsOwningRow p v.0
+    pub has : HasBuffers p v.0
+    pub wide : length v.0 ≡ width p
     pub buffers : AreBut types out v.1
     pub more : IsMore d v.1
 
@@ -91,12 +87,12 @@ module _ (types : Types) (ordered : IsOrdered types) (s : Setting) where
     pub buffers : AreBut types out vs.1
     pub more : IsMore d vs.1
 
-  slots_copied : (p : Parts) (copy : List ℕ → Content → Attempt Words) (out : ℕ → Type 0) → ((ws : List ℕ) (d : Content) → AreBut types out d → IfGot (copy ws d) (λ v. HasBuffers p v.0 × AreBut types out v.1 × IsMore d v.1)) → (ss : List Slot) (d : Content) → AreBut types out d
-      → IfGot (copied_slots copy ss d) (AreCopies p out (length ss) d)
-  slots_copied p copy out each [] d h = record { rows = λ i ws e. absurd (none_some e); count_is = refl; buffers = h; more = more_self d }
-  slots_copied p copy out each (t ∷ ss) d h =
-      got_then (copy t.words d) (λ v. then_get (copied_slots copy ss v.1) (λ vs. Got (v.0 ∷ vs.0, vs.1))) (λ v. HasBuffers p v.0 × AreBut types out v.1 × IsMore d v.1) (AreCopies p out (length (t ∷ ss)) d) (each t.words d h)
-      (λ v one. got_then (copied_slots copy ss v.1) (λ vs. Got (v.0 ∷ vs.0, vs.1)) (AreCopies p out (length ss) v.1) (AreCopies p out (length (t ∷ ss)) d) (slots_copied p copy out each ss v.1 one.1)
+  slots_copied : (p : Parts) (copy : List ℕ → Content → Attempt Words) (out : ℕ → Type 0) (ss : List Slot) (c : Content) → ((i : ℕ) (t : Slot) → slice_get ss i ≡ Some t → (d : Content) → IsMore c d → AreBut types out d → IfGot (copy t.words d) (λ v. HasBuffers p v.0 × AreBut types out v.1 × IsMore d v.1))
+      → (d : Content) → IsMore c d → AreBut types out d → IfGot (copied_slots copy ss d) (AreCopies p out (length ss) d)
+  slots_copied p copy out [] c each d since h = record { rows = λ i ws e. absurd (none_some e); count_is = refl; buffers = h; more = more_self d }
+  slots_copied p copy out (t ∷ ss) c each d since h =
+      got_then (copy t.words d) (λ v. then_get (copied_slots copy ss v.1) (λ vs. Got (v.0 ∷ vs.0, vs.1))) (λ v. HasBuffers p v.0 × AreBut types out v.1 × IsMore d v.1) (AreCopies p out (length (t ∷ ss)) d) (each 0 t refl d since h)
+      (λ v one. got_then (copied_slots copy ss v.1) (λ vs. Got (v.0 ∷ vs.0, vs.1)) (AreCopies p out (length ss) v.1) (AreCopies p out (length (t ∷ ss)) d) (slots_copied p copy out ss c (λ i u e. each (suc i) u e) v.1 (more_then c d v.1 since one.2) one.1)
       (λ vs all. record { rows = λ i ws e. first v.0 vs.0 i ws e one.0 all.rows; count_is = ap suc all.count_is; buffers = all.buffers; more = more_then d v.1 vs.1 one.2 all.more }))
     where
       first : (v : List ℕ) (vs : List (List ℕ)) (i : ℕ) (ws : List ℕ) → slice_get (v ∷ vs) i ≡ Some ws → HasBuffers p v → ((j : ℕ) (us : List ℕ) → slice_get vs j ≡ Some us → HasBuffers p us) → HasBuffers p ws
@@ -104,61 +100,79 @@ module _ (types : Types) (ordered : IsOrdered types) (s : Setting) where
       first v vs (suc i) ws e has more = more i ws e
 
   -- a buffer of copies
-  buffer_copied : (q p : Parts) (ty : TyId) (w : ℕ) → parts_at types ty ≡ p → (copy : List ℕ → Content → Attempt Words) → ((b : ℕ) (e : Content) → IsOwningRow q (suc b ∷ []))
-      → ((out : ℕ → Type 0) (ws : List ℕ) (d : Content) → AreBut types out d → IfGot (copy ws d) (λ v. HasBuffers p v.0 × AreBut types out v.1 × IsMore d v.1)) → (n : Option ℕ) (out : ℕ → Type 0) (d : Content) → AreBut types out d
-      → IfGot (copied_buffer s ty w copy n d) (IsCopied q out d)
-  buffer_copied q p ty w typed copy row each None out d h = tt
-  buffer_copied q p ty w typed copy row each (Some n) out d h =
+  buffer_copied : (q p : Parts) (ty : TyId) (w : ℕ) → parts_at types ty ≡ p → width q ≡ 1 → ((ws : List ℕ) (m : ℕ) → owned_in (slice_index ws 0) ≡ Some m → HasBuffers q ws) → (copy : List ℕ → Content → Attempt Words) (n : ℕ) (d : Content)
+      → ((out : ℕ → Type 0) (i : ℕ) (t : Slot) → slice_get (slots_at d n) i ≡ Some t → (e : Content) → IsMore d e → AreBut types out e → IfGot (copy t.words e) (λ v. HasBuffers p v.0 × AreBut types out v.1 × IsMore e v.1)) → (out : ℕ → Type 0) → AreBut types out d
+      → IfGot (copied_buffer s ty w copy (Some n) d) (IsCopied q out d)
+  buffer_copied q p ty w typed one owner copy n d each out h =
       got_then (sized_birth s ty w (length (slots_at d n)) d) (λ b. then_get (copied_slots copy (slots_at d n) b.1) (λ vs. Got (owning (b.0, filled b.0 vs.0 vs.1)))) (λ f. IsSized d ty w (length (slots_at d n)) f × AreBut types (λ k. out k ⊎ (k ≡ f.0)) f.1) (IsCopied q out d)
       (sized_but types s ty w (length (slots_at d n)) d out h)
       (λ f k. got_then (copied_slots copy (slots_at d n) f.1) (λ vs. Got (owning (f.0, filled f.0 vs.0 vs.1))) (AreCopies p (λ j. out j ⊎ (j ≡ f.0)) (length (slots_at d n)) f.1) (IsCopied q out d)
-      (slots_copied p copy (λ j. out j ⊎ (j ≡ f.0)) (each (λ j. out j ⊎ (j ≡ f.0))) (slots_at d n) f.1 k.1)
+      (slots_copied p copy (λ j. out j ⊎ (j ≡ f.0)) (slots_at d n) d (each (λ j. out j ⊎ (j ≡ f.0))) f.1 (sized_more f k.0) k.1)
       (λ vs all.
       let number = k.0.number in
       let births = k.0.births in
       let there : at vs.1.objects f.0 ≡ Some k.0.object = all.more.same f.0 (omega (arith, number, births)) ∙ k.0.there in record {
-        row = row f.0 (filled f.0 vs.0 vs.1);
+        has = owner (suc f.0 ∷ []) f.0 refl;
+        wide = sym one;
         buffers =
             filled_but types out f.0 vs.0 vs.1 (λ o e. let size = ap (λ (x : Object). length x.slots) (some_same (sym there ∙ e)) in let count = k.0.count in let rows = all.count_is in omega (arith, size, count, rows))
             (λ o e i ws slot. subst (λ (r : Parts). HasBuffers r ws) (sym (ap (λ (x : Object). parts_at types x.ty) (sym (some_same (sym there ∙ e))) ∙ ap (parts_at types) k.0.type ∙ typed)) (all.rows i ws slot)) all.buffers;
-        more = more_filled d vs.1 f.0 vs.0 (omega (arith, number)) (more_then d f.1 vs.1 (sized_more d f (length (slots_at d n)) k.0) all.more);
+        more = more_filled d vs.1 f.0 vs.0 (omega (arith, number)) (more_then d f.1 vs.1 (sized_more f k.0) all.more);
       }))
     where
-      sized_more : (c : Content) (f : ℕ × Content) (size : ℕ) → IsSized c ty w size f → IsMore c f.1
-      sized_more c f size sized = record { births = let b = sized.births in omega (arith, b); same = sized.others }
+      sized_more : (f : ℕ × Content) → IsSized d ty w (length (slots_at d n)) f → IsMore d f.1
+      sized_more f sized = record { births = let b = sized.births in omega (arith, b); same = sized.others }
 
-  pub copied_but : (p : Parts) (bound : ℕ) → IsWhole p → IsMade types ordered bound p → (out : ℕ → Type 0) (ws : List ℕ) (d : Content) → AreBut types out d → IfGot (copied s p ws d) (IsCopied p out d)
-  copied_but Single bound is made out ws d h = record { row = tt; buffers = h; more = more_self d }
-  copied_but Raw bound is made out ws d h = record { row = tt; buffers = h; more = more_self d }
-  copied_but Iterates bound is made out ws d h = record { row = tt; buffers = h; more = more_self d }
-  copied_but Views bound is made out ws d h = record { row = tt; buffers = h; more = more_self d }
-  copied_but (Unique ty target) bound is made out ws d h = tt
-  copied_but NoMember bound is made out ws d h = record { row = tt; buffers = h; more = more_self d }
-  copied_but (Member first others) bound is made out ws d h = subst (λ (x : Attempt Words). IfGot x (IsCopied (Member first others) out d)) (sym (single_copied s (Member first others) is ws d).1) (record { row = tt; buffers = h; more = more_self d })
-  copied_but (Text ty) bound is made out ws d h =
-      buffer_copied (Text ty) Single ty 1 made.1 (λ vs e. Got (vs, e)) (λ b e. (b, refl)) (λ o us e k. (tt, k, more_self e)) (owned_in (slice_index ws 0)) out d h
-  copied_but (Vector ty element) bound is made out ws d h =
-      buffer_copied (Vector ty element) element ty (width element) made.1 (copied s element) (λ b e. (b, refl)) (inner (λ o us e k. copied_but element (rank_of types ty) is made.2 o us e k)) (owned_in (slice_index ws 0)) out d h
-    where
-      inner : ((o : ℕ → Type 0) (us : List ℕ) (e : Content) → AreBut types o e → IfGot (copied s element us e) (IsCopied element o e)) → (o : ℕ → Type 0) (us : List ℕ) (e : Content) → AreBut types o e
-          → IfGot (copied s element us e) (λ v. HasBuffers element v.0 × AreBut types o v.1 × IsMore e v.1)
-      inner each o us e k = if_such (copied s element us e) (IsCopied element o e) (λ v. HasBuffers element v.0 × AreBut types o v.1 × IsMore e v.1) (each o us e k) (λ v c. (row_has element is v.0 c.row, c.buffers, c.more))
+  -- one value behind another
+  joined_copied : (first others : Parts) (out : ℕ → Type 0) (d : Content) (a : Words) → IsCopied first out d a → (b : Words) → IsCopied others out a.1 b → IsCopied (Member first others) out d (a.0 ++ b.0, b.1)
+  joined_copied first others out d a one b two = record {
+    has = joined_has first others a.0 b.0 one.wide one.has two.has;
+    wide = (let all = length-append a.0 b.0 in let x = one.wide in let y = two.wide in omega (arith, all, x, y));
+    buffers = two.buffers;
+    more = more_then d a.1 b.1 one.more two.more;
+  }
+
+  -- of what was there in a content before
+  module _ (c : Content) where
+    pub copied_but : (p : Parts) (bound : ℕ) → IsMade types ordered bound p → (ws : List ℕ) → length ws ≡ width p → IsFull c p ws → (out : ℕ → Type 0) (d : Content) → IsMore c d → AreBut types out d → IfGot (copied s p ws d) (IsCopied p out d)
+    copied_but Single bound made ws wide has out d since h = record { has = bufferless Single (λ u. refl) ws; wide = wide; buffers = h; more = more_self d }
+    copied_but Raw bound made ws wide has out d since h = record { has = bufferless Raw (λ u. refl) ws; wide = wide; buffers = h; more = more_self d }
+    copied_but Iterates bound made ws wide has out d since h = record { has = bufferless Iterates (λ u. refl) ws; wide = wide; buffers = h; more = more_self d }
+    copied_but Views bound made ws wide has out d since h = record { has = bufferless Views (λ u. refl) ws; wide = wide; buffers = h; more = more_self d }
+    copied_but (Unique ty target) bound made ws wide has out d since h = tt
+    copied_but NoMember bound made ws wide has out d since h = record { has = bufferless NoMember (λ u. refl) []; wide = refl; buffers = h; more = more_self d }
+    copied_but (Member first others) bound made ws wide has out d since h =
+        got_then (copied s first (take (width first) ws) d) (λ a. then_get (copied s others (drop (width first) ws) a.1) (λ b. Got (a.0 ++ b.0, b.1))) (IsCopied first out d) (IsCopied (Member first others) out d)
+        (copied_but first bound made.0 (take (width first) ws) (let t = length-take (width first) ws in omega (arith, t, wide)) has.0 out d since h)
+        (λ a one. got_then (copied s others (drop (width first) ws) a.1) (λ b. Got (a.0 ++ b.0, b.1)) (IsCopied others out a.1) (IsCopied (Member first others) out d)
+        (copied_but others bound made.1 (drop (width first) ws) (let t = length-drop (width first) ws in omega (arith, t, wide)) has.1 out a.1 (more_then c d a.1 since one.more) one.buffers)
+        (λ b two. joined_copied first others out d a one b two))
+    copied_but (Text ty) bound made ws wide has out d since h =
+        subst (λ (x : Option ℕ). IfGot (copied_buffer s ty 1 (λ vs e. Got (vs, e)) x d) (IsCopied (Text ty) out d)) (sym has.1)
+        (buffer_copied (Text ty) Single ty 1 made.1 refl (λ us m e. text_has ty us m e) (λ vs e. Got (vs, e)) has.0 d (λ o i t at_i e more k. (bufferless Single (λ u. refl) t.words, k, more_self e)) out h)
+    copied_but (Vector ty element) bound made ws wide has out d since h =
+        subst (λ (x : Option ℕ). IfGot (copied_buffer s ty (width element) (copied s element) x d) (IsCopied (Vector ty element) out d)) (sym has.1)
+        (buffer_copied (Vector ty element) element ty (width element) made.1 refl (λ us m e. vector_has ty element us m e) (copied s element) has.0 d
+        (λ o i t at_i e more k.
+        let full = has.3 i t (sym (ap (λ (x : Option Object). slice_get (slots_if x) i) (since.same has.0 has.2)) ∙ at_i) in
+        if_such (copied s element t.words e) (IsCopied element o e) (λ v. HasBuffers element v.0 × AreBut types o v.1 × IsMore e v.1) (copied_but element (rank_of types ty) made.2 t.words full.0 full.1 o e (more_then c d e since more) k) (λ v copy. (copy.has, copy.buffers, copy.more)))
+        out h)
 
   -- ---- a copy is written to a place
 
-  pub replaced_buffered : (bare : ℕ → Type 0) (p : Parts) → ((ws : List ℕ) → IsOwningRow p ws → (b : ℕ) × (ws ≡ suc b ∷ [])) → (n i : ℕ) (c : Content) (v : Words) → IsCopied p bare c v → n < c.births → IsOwnerAt types c n → AreBut types bare (replaced p (record { object = n; index = i; word = 0 }) v)
-  replaced_buffered bare p row n i c v copy born owner =
-      let b = row v.0 copy.row in
-      let e = ended p (spot_words v.1 (record { object = n; index = i; word = 0 }) (width p)) v.1 in
-      subst (λ (ws : List ℕ). AreBut types bare (wrote_if (at (ended p (spot_words v.1 (record { object = n; index = i; word = 0 }) (width p)) v.1).objects n) n i 0 ws (ended p (spot_words v.1 (record { object = n; index = i; word = 0 }) (width p)) v.1))) (sym b.1)
-      (owns_but types bare n i b.0 (ended p (spot_words v.1 (record { object = n; index = i; word = 0 }) (width p)) v.1)
-      (λ o there. owner o (sym (copy.more.same n born) ∙ ended_leaves types p (spot_words v.1 (record { object = n; index = i; word = 0 }) (width p)) v.1 n o there))
-      (ended_but types bare p (spot_words v.1 (record { object = n; index = i; word = 0 }) (width p)) v.1 copy.buffers))
+  -- where a value of these parts lies in objects of the type
+  pub replaced_buffered : (bare : ℕ → Type 0) (p : Parts) (n i w : ℕ) (c : Content) (v : Words) → IsCopied p bare c v → n < c.births → ((o : Object) → at c.objects n ≡ Some o → (u : ℕ) → u < width p → is_buffer_at (parts_at types o.ty) (w + u) ≡ is_buffer_at p u)
+      → AreBut types bare (replaced p (record { object = n; index = i; word = w }) v)
+  replaced_buffered bare p n i w c v copy born lies =
+      wrote_but types bare n i w v.0 (ended p (spot_words v.1 (record { object = n; index = i; word = w }) (width p)) v.1)
+      (λ o there j lt e.
+      copy.has j (sym (lies o (sym (copy.more.same n born) ∙ ended_leaves types p (spot_words v.1 (record { object = n; index = i; word = w }) (width p)) v.1 n o there) j (let wide = copy.wide in omega (arith, lt, wide))) ∙ e))
+      (ended_but types bare p (spot_words v.1 (record { object = n; index = i; word = w }) (width p)) v.1 copy.buffers)
 
-  -- .. so an object of one slot has its buffer
-  pub replaced_one : (p : Parts) → ((ws : List ℕ) → IsOwningRow p ws → (b : ℕ) × (ws ≡ suc b ∷ [])) → (bare : ℕ → Type 0) (n : ℕ) (c : Content) (v : Words) → IsCopied p bare c v → n < c.births → IsOwnerAt types c n → ((o : Object) → at c.objects n ≡ Some o → length o.slots ≡ 1)
+  -- .. so an object of one slot has its buffers
+  pub replaced_one : (p : Parts) (bare : ℕ → Type 0) (n : ℕ) (c : Content) (v : Words) → IsCopied p bare c v → n < c.births → ((o : Object) → at c.objects n ≡ Some o → (parts_at types o.ty ≡ p) × (length o.slots ≡ 1) × ((t : Slot) → slice_get o.slots 0 ≡ Some t → length t.words ≡ width p))
       → (q : Object) → at (replaced p (record { object = n; index = 0; word = 0 }) v).objects n ≡ Some q → Have types q
-  replaced_one p row bare n c v copy born owner one q there = by_row (row v.0 copy.row)
+  replaced_one p bare n c v copy born owner q there = go (at left.objects n) refl there
     where
       left : Content
       left = ended p (spot_words v.1 (record { object = n; index = 0; word = 0 }) (width p)) v.1
@@ -166,37 +180,33 @@ module _ (types : Types) (ordered : IsOrdered types) (s : Setting) where
       was : (o : Object) → at left.objects n ≡ Some o → at c.objects n ≡ Some o
       was o is = sym (copy.more.same n born) ∙ ended_leaves types p (spot_words v.1 (record { object = n; index = 0; word = 0 }) (width p)) v.1 n o is
 
-      have : (b : ℕ) (o : Object) → at left.objects n ≡ Some o → Have types (with_words 0 0 (suc b ∷ []) o)
-      have b o is =
-          let at_c = was o is in
-          one_written (HasBuffers (parts_at types o.ty)) o.slots (suc b) (one o at_c)
-          (λ t e. (owner o at_c).0 (slice_set t.words 0 (suc b)) b (ap owned_in (read_word t.words 0 (suc b) ((owner o at_c).1 0 t e))))
-
-      by_row : (b : ℕ) × (v.0 ≡ suc b ∷ []) → Have types q
-      by_row b = go (at left.objects n) refl (subst (λ (ws : List ℕ). at (wrote_if (at left.objects n) n 0 0 ws left).objects n ≡ Some q) b.1 there)
-        where
-          go : (x : Option Object) → at left.objects n ≡ x → at (wrote_if x n 0 0 (suc b.0 ∷ []) left).objects n ≡ Some q → Have types q
-          go None e is = absurd (none_some (sym e ∙ is))
-          go (Some o) e is = subst (Have types) (some_same (sym (at-set_same left.objects n n (with_words 0 0 (suc b.0 ∷ []) o) refl) ∙ is)) (have b.0 o e)
+      go : (x : Option Object) → at left.objects n ≡ x → at (wrote_if x n 0 0 v.0 left).objects n ≡ Some q → Have types q
+      go None e is = absurd (none_some (sym e ∙ is))
+      go (Some o) e is =
+          let a = owner o (was o e) in
+          subst (Have types) (some_same (sym (at-set_same left.objects n n (with_words 0 0 v.0 o) refl) ∙ is))
+          (value_have types o 0 v.0 p a.0 (λ j t at_j ne. absurd (lone o.slots j t a.1 at_j ne)) a.2 copy.wide copy.has)
 
   -- ---- an object of one slot comes to life
 
-  born_buffer : (q : Parts) (id : TyId) (w : ℕ) → ((b : ℕ) → IsOwningRow q (suc b ∷ [])) → (o : ℕ → Type 0) (e : Content) → AreBut types o e → IfGot (then_get (birth s id w 0 e) (λ b. Got (owning b))) (IsCopied q o e)
-  born_buffer q id w row o e k =
+  born_buffer : (q : Parts) (id : TyId) (w : ℕ) → width q ≡ 1 → ((ws : List ℕ) (m : ℕ) → owned_in (slice_index ws 0) ≡ Some m → HasBuffers q ws) → (o : ℕ → Type 0) (e : Content) → AreBut types o e → IfGot (then_get (birth s id w 0 e) (λ b. Got (owning b))) (IsCopied q o e)
+  born_buffer q id w one owner o e k =
       got_then (birth s id w 0 e) (λ b. Got (owning b)) (λ b. AreBut types o b.1 × IsMore e b.1) (IsCopied q o e)
       (if_room (nat_lt s.given.cells (live_words_of e + (2 + w * 0))) trap.Cells (e.births, with_birth id w 0 e) (λ b. AreBut types o b.1 × IsMore e b.1) (birth_but types o id w 0 e k, more_set e e (with_birth id w 0 e) e.births (newborn id w 0 e.clock) (omega arith) (omega arith) refl (more_self e)))
-      (λ b j. record { row = row b.0; buffers = j.0; more = j.1 })
+      (λ b j. record { has = owner (suc b.0 ∷ []) b.0 refl; wide = sym one; buffers = j.0; more = j.1 })
 
-  fresh_but : (form : Form) (p : Parts) → IsWhole p → (out : ℕ → Type 0) (d : Content) → AreBut types out d → IfGot (fresh s form p d) (IsCopied p out d)
-  fresh_but form Single is out d h = record { row = tt; buffers = h; more = more_self d }
-  fresh_but form Raw is out d h = record { row = tt; buffers = h; more = more_self d }
-  fresh_but form Iterates is out d h = record { row = tt; buffers = h; more = more_self d }
-  fresh_but form Views is out d h = record { row = tt; buffers = h; more = more_self d }
-  fresh_but form (Unique ty target) is out d h = record { row = tt; buffers = h; more = more_self d }
-  fresh_but form NoMember is out d h = record { row = tt; buffers = h; more = more_self d }
-  fresh_but form (Member first others) is out d h = subst (λ (x : Attempt Words). IfGot x (IsCopied (Member first others) out d)) (sym (single_fresh s form (Member first others) is d).1) (record { row = tt; buffers = h; more = more_self d })
-  fresh_but form (Text ty) is out d h = born_buffer (Text ty) ty 1 (λ b. (b, refl)) out d h
-  fresh_but form (Vector ty element) is out d h = born_buffer (Vector ty element) ty (width element) (λ b. (b, refl)) out d h
+  fresh_but : (form : Form) (p : Parts) (out : ℕ → Type 0) (d : Content) → AreBut types out d → IfGot (fresh s form p d) (IsCopied p out d)
+  fresh_but form Single out d h = record { has = bufferless Single (λ u. refl) (0 ∷ []); wide = refl; buffers = h; more = more_self d }
+  fresh_but form Raw out d h = record { has = bufferless Raw (λ u. refl) (pointer_words (born_pointer form)); wide = five (born_pointer form); buffers = h; more = more_self d }
+  fresh_but form Iterates out d h = record { has = bufferless Iterates (λ u. refl) (pointer_words Wild); wide = refl; buffers = h; more = more_self d }
+  fresh_but form Views out d h = record { has = bufferless Views (λ u. refl) (pointer_words empty_view); wide = refl; buffers = h; more = more_self d }
+  fresh_but form (Unique ty target) out d h = record { has = bufferless (Unique ty target) (λ u. refl) (owner_word None ∷ []); wide = refl; buffers = h; more = more_self d }
+  fresh_but form NoMember out d h = record { has = bufferless NoMember (λ u. refl) []; wide = refl; buffers = h; more = more_self d }
+  fresh_but form (Member first others) out d h =
+      got_then (fresh s form first d) (λ a. then_get (fresh s form others a.1) (λ b. Got (a.0 ++ b.0, b.1))) (IsCopied first out d) (IsCopied (Member first others) out d) (fresh_but form first out d h)
+      (λ a one. got_then (fresh s form others a.1) (λ b. Got (a.0 ++ b.0, b.1)) (IsCopied others out a.1) (IsCopied (Member first others) out d) (fresh_but form others out a.1 one.buffers) (λ b two. joined_copied first others out d a one b two))
+  fresh_but form (Text ty) out d h = born_buffer (Text ty) ty 1 refl (λ us m e. text_has ty us m e) out d h
+  fresh_but form (Vector ty element) out d h = born_buffer (Vector ty element) ty (width element) refl (λ us m e. vector_has ty element us m e) out d h
 
   -- words that are written give a value its buffers
   pub written_in : (bare : ℕ → Type 0) (n : ℕ) (ws : List ℕ) (d : Content) → ((o : Object) → at d.objects n ≡ Some o → Have types (with_words 0 0 ws o)) → AreBut types (λ k. bare k ⊎ (k ≡ n)) d → AreBut types bare (wrote n 0 0 ws d)
@@ -210,33 +220,16 @@ module _ (types : Types) (ordered : IsOrdered types) (s : Setting) where
           (λ other. h k i o t (λ gone. ⊎_elim free (λ is. other.0 (sym is)) gone) (sym other.1 ∙ there) slot)
           (set_cases d.objects n k (with_words 0 0 ws x))
 
-  plain_have : (o : Object) (ws : List ℕ) (p : Parts) → parts_at types o.ty ≡ p → ((us : List ℕ) → HasBuffers p us) → Have types (with_words 0 0 ws o)
-  plain_have o ws p typed each i t e = subst (λ (q : Parts). HasBuffers q t.words) (sym (ap (parts_at types) (with_words_type 0 0 ws o) ∙ typed)) (each t.words)
-
-  owner_have : (p : Parts) (o : Object) (ws : List ℕ) (b : ℕ) → ws ≡ suc b ∷ [] → parts_at types o.ty ≡ p → length o.slots ≡ 1 → ((t : Slot) → slice_get o.slots 0 ≡ Some t → 0 < length t.words) → ((us : List ℕ) (m : ℕ) → owned_in (slice_index us 0) ≡ Some m → HasBuffers p us) → Have types (with_words 0 0 ws o)
-  owner_have p o ws b is typed one some owner =
-      subst (λ (us : List ℕ). Have types (with_words 0 0 us o)) (sym is)
-      (one_written (HasBuffers (parts_at types o.ty)) o.slots (suc b) one
-      (λ t e. subst (λ (q : Parts). HasBuffers q (slice_set t.words 0 (suc b))) (sym typed) (owner (slice_set t.words 0 (suc b)) b (ap owned_in (read_word t.words 0 (suc b) (some t e))))))
-
   slot_wide : (ss : List Slot) (t : Slot) (w : ℕ) → AllWide w ss → slice_get ss 0 ≡ Some t → length t.words ≡ w
   slot_wide [] t w h e = absurd (none_some e)
-  slot_wide (x ∷ ss) t w h e = subst (λ (y : Slot). length y.words ≡ w) (some_same e) h.0
+  slot_wide (x ∷ xs) t w h e = subst (λ (y : Slot). length y.words ≡ w) (some_same e) h.0
 
-  row_have : (p : Parts) → IsWhole p → (o : Object) (ws : List ℕ) → parts_at types o.ty ≡ p → length o.slots ≡ 1 → ((t : Slot) → slice_get o.slots 0 ≡ Some t → length t.words ≡ width p) → IsOwningRow p ws → Have types (with_words 0 0 ws o)
-  row_have (Text ty) is o ws typed one wide row = owner_have (Text ty) o ws row.0 row.1 typed one (λ t e. let w = wide t e in omega (arith, w)) (λ us m e. (m, e))
-  row_have (Vector ty element) is o ws typed one wide row = owner_have (Vector ty element) o ws row.0 row.1 typed one (λ t e. let w = wide t e in omega (arith, w)) (λ us m e. (m, e))
-  row_have (Member first others) is o ws typed one wide row = plain_have o ws (Member first others) typed (λ us. single_has (Member first others) is us)
-  row_have Single is o ws typed one wide row = plain_have o ws Single typed (λ us. tt)
-  row_have Raw is o ws typed one wide row = plain_have o ws Raw typed (λ us. tt)
-  row_have Iterates is o ws typed one wide row = plain_have o ws Iterates typed (λ us. tt)
-  row_have Views is o ws typed one wide row = plain_have o ws Views typed (λ us. tt)
-  row_have (Unique ty target) is o ws typed one wide row = plain_have o ws (Unique ty target) typed (λ us. tt)
-  row_have NoMember is o ws typed one wide row = plain_have o ws NoMember typed (λ us. tt)
+  row_have : (p : Parts) (o : Object) (ws : List ℕ) → parts_at types o.ty ≡ p → length o.slots ≡ 1 → ((t : Slot) → slice_get o.slots 0 ≡ Some t → length t.words ≡ width p) → length ws ≡ width p → HasBuffers p ws → Have types (with_words 0 0 ws o)
+  row_have p o ws typed one wide size has = value_have types o 0 ws p typed (λ j t at_j ne. absurd (lone o.slots j t one at_j ne)) wide size has
 
   -- an object with a value that has its buffers
-  pub with_buffered : (bare : ℕ → Type 0) (value : Content → Attempt Words) (ty : TyId) (c : Content) → IsWhole (parts_at types ty) → ((out : ℕ → Type 0) (d : Content) → AreBut types out d → IfGot (value d) (IsCopied (parts_at types ty) out d)) → AreBut types bare c → IfGot (object_with s ty (parts_at types ty) value c) (λ b. AreBut types bare b.1)
-  with_buffered bare value ty c is each h =
+  pub with_buffered : (bare : ℕ → Type 0) (value : Content → Attempt Words) (ty : TyId) (c : Content) → ((out : ℕ → Type 0) (d : Content) → AreBut types out d → IfGot (value d) (IsCopied (parts_at types ty) out d)) → AreBut types bare c → IfGot (object_with s ty (parts_at types ty) value c) (λ b. AreBut types bare b.1)
+  with_buffered bare value ty c each h =
       got_then (sized_birth s ty (width (parts_at types ty)) 1 c) (λ b. then_get (value b.1) (λ v. Got (b.0, wrote b.0 0 0 v.0 v.1))) (λ f. IsSized c ty (width (parts_at types ty)) 1 f × AreBut types (λ k. bare k ⊎ (k ≡ f.0)) f.1) (λ b. AreBut types bare b.1)
       (sized_but types s ty (width (parts_at types ty)) 1 c bare h)
       (λ f k. got_then (value f.1) (λ v. Got (f.0, wrote f.0 0 0 v.0 v.1)) (IsCopied (parts_at types ty) (λ j. bare j ⊎ (j ≡ f.0)) f.1) (λ b. AreBut types bare b.1)
@@ -246,13 +239,13 @@ module _ (types : Types) (ordered : IsOrdered types) (s : Setting) where
       let births = k.0.births in
       let same : k.0.object ≡ o = some_same (sym (made.more.same f.0 (omega (arith, number, births)) ∙ k.0.there) ∙ there) in
       subst (λ (x : Object). Have types (with_words 0 0 v.0 x)) same
-      (row_have (parts_at types ty) is k.0.object v.0 (ap (parts_at types) k.0.type) k.0.count (λ t e. slot_wide k.0.object.slots t (width (parts_at types ty)) k.0.wide e) made.row)) made.buffers))
+      (row_have (parts_at types ty) k.0.object v.0 (ap (parts_at types) k.0.type) k.0.count (λ t e. slot_wide k.0.object.slots t (width (parts_at types ty)) k.0.wide e) made.wide made.has)) made.buffers))
 
   -- as it comes to life
-  pub born_buffered : (bare : ℕ → Type 0) (form : Form) (ty : TyId) (c : Content) → IsWhole (parts_at types ty) → AreBut types bare c → IfGot (object_with s ty (parts_at types ty) (fresh s form (parts_at types ty)) c) (λ b. AreBut types bare b.1)
-  born_buffered bare form ty c is h = with_buffered bare (fresh s form (parts_at types ty)) ty c is (fresh_but form (parts_at types ty) is) h
+  pub born_buffered : (bare : ℕ → Type 0) (form : Form) (ty : TyId) (c : Content) → AreBut types bare c → IfGot (object_with s ty (parts_at types ty) (fresh s form (parts_at types ty)) c) (λ b. AreBut types bare b.1)
+  born_buffered bare form ty c h = with_buffered bare (fresh s form (parts_at types ty)) ty c (fresh_but form (parts_at types ty)) h
 
   -- .. with a number
   pub number_buffered : (bare : ℕ → Type 0) (word : ℕ) (ty : TyId) (c : Content) → parts_at types ty ≡ Single → AreBut types bare c → IfGot (object_with s ty (parts_at types ty) (λ d. Got (word ∷ [], d)) c) (λ b. AreBut types bare b.1)
   number_buffered bare word ty c single h =
-      with_buffered bare (λ d. Got (word ∷ [], d)) ty c (subst IsWhole (sym single) tt) (λ out d k. record { row = subst (λ (p : Parts). IsOwningRow p (word ∷ [])) (sym single) tt; buffers = k; more = more_self d }) h
+      with_buffered bare (λ d. Got (word ∷ [], d)) ty c (λ out d k. record { has = subst (λ (p : Parts). HasBuffers p (word ∷ [])) (sym single) (bufferless Single (λ u. refl) (word ∷ [])); wide = sym (ap width single); buffers = k; more = more_self d }) h

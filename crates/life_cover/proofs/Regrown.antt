@@ -1,9 +1,9 @@
 -- Each vector and each string has its buffer where a vector grows: room is made, and a number is added.
-use Rattle.std.proofs.Common.{◌≡◌, ◌≢◌, ⊎_elim, ℕ, suc, ◌+◌, ◌*◌, ◌≤◌, ◌<◌, Bool, true, false, List, [], ◌∷◌, length, Option, Some, None, refl, sym, ap, subst, ◌∙◌, arith, ◌⊎◌, inl, inr}
+use Rattle.std.proofs.Common.{◌≡◌, ⊎_elim, ℕ, suc, ◌+◌, ◌*◌, ◌≤◌, Bool, true, false, List, [], ◌∷◌, length, Option, Some, None, refl, sym, ap, subst, ◌∙◌, arith, ◌⊎◌, inl, inr}
 use Rattle.std.specs.Prelude.{cond, nat_lt}
 use Rattle.life_types.specs.Types.{Types}
 use Rattle.life_types.specs.declared.ty.TyId.{TyId}
-use Rattle.life_store.specs.Cells.{at, at-set_other, at-set_same}
+use Rattle.life_store.specs.Cells.{at, at-set_same}
 use Rattle.life_store.specs.Content.{Object, Content, live_words_of, resized, with_birth, with_object, with_resize, without}
 use Rattle.life_store.specs.Edits.{capacity_of, filled_by, grown, owns, pushed, put_last, regrown, reserved, size_of, with_room}
 use Rattle.life_store.specs.Effects.{Got, Setting, then_get}
@@ -16,9 +16,8 @@ use Rattle.life_forest.proofs.Above.{with_words_type}
 use Rattle.life_forest.proofs.Coming.{IfGot, got_then, if_room}
 use Rattle.life_forest.proofs.Stores.{if_such}
 use Rattle.life_cover.specs.Buffered.{AreBut, HasBuffers}
-use Rattle.life_cover.proofs.Buffering.{IsOwnerAt, birth_but, filled_but, owns_but, resized_but, set_but, single_have, without_but, without_leaves, inert_have, have_in}
-use Rattle.life_cover.proofs.Copies.{IsWhole}
-use Rattle.life_cover.proofs.InertParts.{AreSingle}
+use Rattle.life_cover.proofs.Buffering.{birth_but, filled_but, owns_but, resized_but, set_but, single_have, without_but, without_leaves, alone_have, have_in}
+use Rattle.life_cover.proofs.SingleParts.{AreSingle}
 use Rattle.life_cover.proofs.Rebuffering.{AreFree, AreTaken, IsOlder, IsSized, older_filled, older_then, older_without, single_in, sized_is, slots_taken}
 
 module _ (types : Types) (bare : ℕ → Type 0) where
@@ -31,7 +30,7 @@ module _ (types : Types) (bare : ℕ → Type 0) where
     pub buffers : AreBut types bare f.1
     pub older : IsOlder c f.1
 
-  module _ (s : Setting) (ty : TyId) (element : Parts) (is : IsWhole element) (typed : parts_at types ty ≡ element) (b capacity size : ℕ) (c : Content) (old : AreFree types element (λ k. bare k ⊎ (k ≡ c.births)) (slots_at c b)) (h : AreBut types bare c) where
+  module _ (s : Setting) (ty : TyId) (element : Parts) (typed : parts_at types ty ≡ element) (b capacity size : ℕ) (c : Content) (old : AreFree types element (λ k. bare k ⊎ (k ≡ c.births)) (slots_at c b)) (h : AreBut types bare c) where
     abbrev pub begun : Content
     begun = resized_at c.births size 0 (with_birth ty (width element) capacity c)
 
@@ -43,7 +42,7 @@ module _ (types : Types) (bare : ℕ → Type 0) where
 
     pub took : AreTaken types element (λ k. bare k ⊎ (k ≡ c.births)) c.births (length (slots_at c b)) (resized_at c.births size 0 (with_birth ty (width element) capacity c)) (taken_slots element (slots_at c b) (resized_at c.births size 0 (with_birth ty (width element) capacity c)))
     took =
-        slots_taken types element is (λ k. bare k ⊎ (k ≡ c.births)) c.births (inr refl) (slots_at c b) old (resized_at c.births size 0 (with_birth ty (width element) capacity c)) (let n = sized.births in omega (arith, n))
+        slots_taken types element (λ k. bare k ⊎ (k ≡ c.births)) c.births (inr refl) (slots_at c b) old (resized_at c.births size 0 (with_birth ty (width element) capacity c)) (let n = sized.births in omega (arith, n))
         (resized_but types (λ k. bare k ⊎ (k ≡ c.births)) c.births size 0 (with_birth ty (width element) capacity c) (inr refl) (birth_but types (λ k. bare k ⊎ (k ≡ c.births)) ty (width element) capacity c (λ k i o t free there slot. h k i o t (λ gone. free (inl gone)) there slot)))
 
     pub new_there : at (taken_slots element (slots_at c b) (resized_at c.births size 0 (with_birth ty (width element) capacity c))).1.objects c.births ≡ Some sized.object
@@ -82,16 +81,16 @@ module _ (types : Types) (bare : ℕ → Type 0) where
         (λ f e. subst (λ (g : ℕ × Content). IsGrown ty c (g.0, without b (filled_by g.0 (taken_slots element (slots_at c b) (resized_at g.0 size 0 g.1))))) (sym e) (result fits))
 
   -- room is made
-  pub reserved_buffered : (s : Setting) (ty : TyId) (element : Parts) → IsWhole element → parts_at types ty ≡ element → (n i b count : ℕ) (c : Content) → AreFree types element (λ k. bare k ⊎ (k ≡ c.births)) (slots_at c b) → n < c.births → IsOwnerAt types c n → AreBut types bare c
-      → IfGot (reserved s ty element (record { object = n; index = i; word = 0 }) b count c) (AreBut types bare)
-  reserved_buffered s ty element is typed n i b count c old born owner h = go (nat_lt (capacity_of c b) count)
+  pub reserved_buffered : (s : Setting) (ty : TyId) (element : Parts) → parts_at types ty ≡ element → (n i w b count : ℕ) (c : Content) → AreFree types element (λ k. bare k ⊎ (k ≡ c.births)) (slots_at c b) → AreBut types bare c
+      → IfGot (reserved s ty element (record { object = n; index = i; word = w }) b count c) (AreBut types bare)
+  reserved_buffered s ty element typed n i w b count c old h = go (nat_lt (capacity_of c b) count)
     where
-      go : (more : Bool) → IfGot (cond more (then_get (regrown s ty element b count (size_of c b) c) (λ f. Got (owns (record { object = n; index = i; word = 0 }) f.0 f.1))) (Got c)) (AreBut types bare)
+      go : (more : Bool) → IfGot (cond more (then_get (regrown s ty element b count (size_of c b) c) (λ f. Got (owns (record { object = n; index = i; word = w }) f.0 f.1))) (Got c)) (AreBut types bare)
       go false = h
       go true =
-          got_then (regrown s ty element b count (size_of c b) c) (λ f. Got (owns (record { object = n; index = i; word = 0 }) f.0 f.1)) (IsGrown ty c) (AreBut types bare)
-          (regrown_buffered s ty element is typed b count (size_of c b) c old h (inl (omega arith)))
-          (λ f g. owns_but types bare n i f.0 f.1 (λ o there. owner o (g.older.same n o born there)) g.buffers)
+          got_then (regrown s ty element b count (size_of c b) c) (λ f. Got (owns (record { object = n; index = i; word = w }) f.0 f.1)) (IsGrown ty c) (AreBut types bare)
+          (regrown_buffered s ty element typed b count (size_of c b) c old h (inl (omega arith)))
+          (λ f g. owns_but types bare n i w f.0 f.1 g.buffers)
 
   -- ---- a number is added
 
@@ -106,7 +105,7 @@ module _ (types : Types) (bare : ℕ → Type 0) where
 
   pub wrote_single : (f i w : ℕ) (ws : List ℕ) (d : Content) → ((o : Object) → at d.objects f ≡ Some o → AreSingle (parts_at types o.ty)) → AreBut types bare d → AreBut types bare (wrote f i w ws d)
   wrote_single f i w ws d single h =
-      have_in types bare f (wrote f i w ws d) (λ o there. let x = wrote_type f i w ws d f o there in inert_have types o (subst (λ (id : TyId). AreSingle (parts_at types id)) x.2 (single x.0 x.1))) (go (at d.objects f))
+      have_in types bare f (wrote f i w ws d) (λ o there. let x = wrote_type f i w ws d f o there in alone_have types o (subst (λ (id : TyId). AreSingle (parts_at types id)) x.2 (single x.0 x.1))) (go (at d.objects f))
     where
       go : (x : Option Object) → AreBut types (λ k. bare k ⊎ (k ≡ f)) (wrote_if x f i w ws d)
       go None k j o t free there slot = h k j o t (λ gone. free (inl gone)) there slot
@@ -117,29 +116,26 @@ module _ (types : Types) (bare : ℕ → Type 0) where
     record IsRoom (f : ℕ × Content) : Type 0 where
       pub type : (o : Object) → at f.1.objects f.0 ≡ Some o → o.ty ≡ ty
       pub buffers : AreBut types bare f.1
-      -- all but b is as it was
-      pub same : (k : ℕ) (o : Object) → k < c.births → b ≢ k → at f.1.objects k ≡ Some o → at c.objects k ≡ Some o
 
-    pub pushed_buffered : (type : (o : Object) → at c.objects b ≡ Some o → o.ty ≡ ty) (old : AreFree types Single (λ k. bare k ⊎ (k ≡ c.births)) (slots_at c b)) (n i : ℕ) (ws : List ℕ) → n < c.births → b ≢ n → IsOwnerAt types c n
-        → IfGot (pushed s ty Single (record { object = n; index = i; word = 0 }) b (λ d. (ws, d)) c) (AreBut types bare)
-    pushed_buffered type old n i ws born apart owner =
-        got_then (with_room s ty Single b c) (λ f. Got (put_last (record { object = n; index = i; word = 0 }) f.0 (size_of c b) (ws, f.1))) IsRoom (AreBut types bare) room
+    pub pushed_buffered : (type : (o : Object) → at c.objects b ≡ Some o → o.ty ≡ ty) (old : AreFree types Single (λ k. bare k ⊎ (k ≡ c.births)) (slots_at c b)) (n i w : ℕ) (ws : List ℕ)
+        → IfGot (pushed s ty Single (record { object = n; index = i; word = w }) b (λ d. (ws, d)) c) (AreBut types bare)
+    pushed_buffered type old n i w ws =
+        got_then (with_room s ty Single b c) (λ f. Got (put_last (record { object = n; index = i; word = w }) f.0 (size_of c b) (ws, f.1))) IsRoom (AreBut types bare) room
         (λ f r.
-        wrote_single f.0 (size_of c b) 0 ws (owns (record { object = n; index = i; word = 0 }) f.0 f.1)
-        (λ o there. let x = wrote_type n i 0 (suc f.0 ∷ []) f.1 f.0 o there in subst AreSingle (sym (ap (parts_at types) (sym x.2 ∙ r.type x.0 x.1) ∙ single)) tt)
-        (owns_but types bare n i f.0 f.1 (λ o there. owner o (r.same n o born apart there)) r.buffers))
+        wrote_single f.0 (size_of c b) 0 ws (owns (record { object = n; index = i; word = w }) f.0 f.1)
+        (λ o there. let x = wrote_type n i w (suc f.0 ∷ []) f.1 f.0 o there in subst AreSingle (sym (ap (parts_at types) (sym x.2 ∙ r.type x.0 x.1) ∙ single)) tt)
+        (owns_but types bare n i w f.0 f.1 r.buffers))
       where
         same_room : IsRoom (b, resized_at b (size_of c b + 1) (size_of c b) c)
         same_room = go (at c.objects b) refl
           where
             go : (x : Option Object) → at c.objects b ≡ x → IsRoom (b, resized_if x b (size_of c b + 1) (size_of c b) c)
-            go None e = record { type = type; buffers = h; same = λ k o lt ne there. there }
+            go None e = record { type = type; buffers = h }
             go (Some x) e = record {
               type = λ o there. ap (λ (y : Object). y.ty) (some_same (sym there ∙ at-set_same c.objects b b (resized (c.clock + 1) (size_of c b + 1) (size_of c b) x) refl)) ∙ type x e;
               buffers =
                   set_but types bare b (resized (c.clock + 1) (size_of c b + 1) (size_of c b) x) c (with_resize b (size_of c b + 1) (size_of c b) x c)
                   (inr (single_have types (resized (c.clock + 1) (size_of c b + 1) (size_of c b) x) (ap (parts_at types) (type x e) ∙ single))) refl (h);
-              same = λ k o lt ne there. sym (at-set_other c.objects b k (resized (c.clock + 1) (size_of c b + 1) (size_of c b) x) ne) ∙ there;
             }
 
         room : IfGot (with_room s ty Single b c) IsRoom
@@ -149,5 +145,5 @@ module _ (types : Types) (bare : ℕ → Type 0) where
             go true = same_room
             go false =
                 if_such (regrown s ty Single b (grown s.given.growth (size_of c b) (capacity_of c b)) (size_of c b + 1) c) (IsGrown ty c) IsRoom
-                (regrown_buffered s ty Single tt single b (grown s.given.growth (size_of c b) (capacity_of c b)) (size_of c b + 1) c old h (inr refl))
-                (λ f g. record { type = g.type; buffers = g.buffers; same = λ k o lt ne there. g.older.same k o lt there })
+                (regrown_buffered s ty Single single b (grown s.given.growth (size_of c b) (capacity_of c b)) (size_of c b + 1) c old h (inr refl))
+                (λ f g. record { type = g.type; buffers = g.buffers })

@@ -88,7 +88,7 @@ use Rattle.life_cover.proofs.ResultTypes.{result_typed}
 use Rattle.life_cover.proofs.SafeBodies.{CallsAreSafe, IsSafeAt, IsLeftSafe, IsSafeStop, IsSpokenBody, SafeAnswer, effect_good, right_at}
 use Rattle.life_cover.specs.Frames.{FrameCovered, look_at}
 use Rattle.life_cover.specs.Inputs.{AreGiven, entry_inputs, foot_with, frame_foot, mutated}
-use Rattle.life_cover.specs.Members.{HaveInertMembers}
+use Rattle.life_cover.specs.Members.{HaveUntoldMembers}
 use Rattle.life_cover.specs.Passed.{ArePassed, IsPromised}
 use Rattle.life_cover.specs.Regions.{Region}
 use Rattle.life_pset.specs.declared.element.Element.{Element}
@@ -147,7 +147,7 @@ slotless_names (GivenOver y ∷ xs) (v ∷ vs) none = slotless_names xs vs none.
 slotless_names (Slot l ∷ xs) (v ∷ vs) none = absurd none.0
 
 module _ (types : Types) (ordered : IsOrdered types) (once : HasEachOnce types) (some : HaveMembers types) (names texts : ℕ) (fs : List Function) (f : Function) (formed : is_well_formed_function types names texts fs f ≡ true) (points : ArePointsFormed types texts fs f)
-    (ready : HasReadyWays types f) (inert : HaveInertMembers types) (short : AreShort (elements_of types f)) (kept : all_keep_given types f ≡ true) (spoken : IsSpokenBody types f) (sigs : List Signature) (number : ℕ) (none : (d : Diag) → IsDiagnosed sigs types number f d → ⊥)
+    (ready : HasReadyWays types f) (untold : HaveUntoldMembers types) (short : AreShort (elements_of types f)) (kept : all_keep_given types f ≡ true) (spoken : IsSpokenBody types f) (sigs : List Signature) (number : ℕ) (none : (d : Diag) → IsDiagnosed sigs types number f d → ⊥)
     (rest : ℕ → ℕ) (inputs : Root → Option Region) (before : Content) (given : List ℕ) (hand : ℕ → ℕ) (store : IsStore types hand before) (s : Setting) (call : Callee) (callees : GoodCallee types fs call) (free : (k : ℕ) (g : Function) → slice_get fs k ≡ Some g → ArePointerSlots types (types_taken g))
     (safe : SafeCallee types fs call) (heads : (k : ℕ) (g : Function) → slice_get fs k ≡ Some g → slice_get sigs k ≡ Some (signature_of g)) (all_formed : (k : ℕ) (g : Function) → slice_get fs k ≡ Some g → is_well_formed_function types names texts fs g ≡ true) where
   module _ (b : ℕ) (place : Place) (target : Option Location) (g : FnId) (xs : List Argument) (x : Exits) (here : numbered (code_of f) b ≡ Some (record { spot = spot_at place (Action (Call target g xs)); leads = goes x.next })) (n : ℕ) (st : State)
@@ -159,7 +159,7 @@ module _ (types : Types) (ordered : IsOrdered types) (once : HasEachOnce types) 
     spoken_of = spoken b (record { spot = spot_at place (Action (Call target g xs)); leads = goes x.next }) (Call target g xs) here refl
 
     known_at : IsKnownFrame types f rest inputs (FactsAt sigs types f b) st
-    known_at = known types ordered once some names texts fs f formed points ready inert short rest inputs (FactsAt sigs types f b) st inv.safe
+    known_at = known types ordered once some names texts fs f formed points ready untold short rest inputs (FactsAt sigs types f b) st inv.safe
 
     are : IsNodeReady types f (ready_of st) (Action (Call target g xs))
     are = ready.ready b (ready_of st) (record { spot = spot_at place (Action (Call target g xs)); leads = goes x.next }) inv.reached here
@@ -266,7 +266,7 @@ module _ (types : Types) (ordered : IsOrdered types) (once : HasEachOnce types) 
 
       module _ (q : ℕ) (lead : numbered (code_of f) b ≡ Some (record { spot = spot_at place (Action (Call target g xs)); leads = goes (Some q) })) where
         right : IsRight sigs types number f place (Call target g xs) (FactsAt sigs types f b) (FactsAt sigs types f q)
-        right = right_at types ordered once some names texts fs f formed points ready inert short kept spoken sigs number none rest inputs before given hand store s b q place (Call target g xs) lead
+        right = right_at types ordered once some names texts fs f formed points ready untold short kept spoken sigs number none rest inputs before given hand store s b q place (Call target g xs) lead
 
         aims : (m : ℕ) (t : Target) → slice_get over m ≡ Some (Points (To t)) → IsAimedBy types f inputs (FactsAt sigs types f b) st xs gf m t
         aims = aimed_by types f rest inputs (FactsAt sigs types f b) st known_at sigs number place (FactsAt sigs types f q) target g xs right over spoken_of.1 handed_each texts fs gf (heads g.0 gf is) args shaped_g
@@ -317,7 +317,7 @@ module _ (types : Types) (ordered : IsOrdered types) (once : HasEachOnce types) 
 
           buffers : AreBut types Left w.content
           buffers =
-              called_spared types inert waiting (mutated types gf (entry_inputs types gf st.world.content over)) (named_in over) st.world.content w.content over_store h.1.0 (MayLack types f inputs (FactsAt sigs types f b) st)
+              called_spared types waiting (mutated types gf (entry_inputs types gf st.world.content over)) (named_in over) st.world.content w.content over_store h.1.0 (MayLack types f inputs (FactsAt sigs types f b) st)
               (IsLoose types (entry_inputs types gf st.world.content over) (named_in vs) w.content) known_at.buffered h.0 (λ a among l. let m = mutated_from types gf (entry_inputs types gf st.world.content over) a among in l.spared m.0 a m.1 refl) inputs input_apart
 
           by_target : (t : Option Location) → target ≡ t → OnNext (target_given s types f t vs (left w)) (IsCalled types f inputs (FactsAt sigs types f q) Left Given Taken Loose st)
@@ -439,7 +439,7 @@ module _ (types : Types) (ordered : IsOrdered types) (once : HasEachOnce types) 
         returned next (Back m w vs) good h =
             paid_good (IsSafeAt sigs types f rest inputs before given) (IsLeftSafe sigs types f rest inputs before given) IsSafeStop tt place w x (taken_back s types f target xs vs (left w)) m
             (subst (λ (to : Option ℕ). GoodEffect (IsSafeAt sigs types f rest inputs before given) IsSafeStop place to (taken_back s types f target xs vs (left w))) (sym next)
-            (effect_good types ordered once some names texts fs f formed points ready inert short kept spoken sigs number none rest inputs before given hand store s b q place (Call target g xs) st lead inv (taken_back s types f target xs vs (left w))
+            (effect_good types ordered once some names texts fs f formed points ready untold short kept spoken sigs number none rest inputs before given hand store s b q place (Call target g xs) st lead inv (taken_back s types f target xs vs (left w))
             (call_goes types f rest inputs (FactsAt sigs types f q) (bits_past types f (Action (Call target g xs)) (ready_of st)) st w (taken_back s types f target xs vs (left w)) inv.safe.sound.stands.store inv.safe.given
             (callers.taken_gives types ordered once some names texts fs f formed points ready rest before s call callees kept b place target g xs x here n st sound_at gf is args own into w vs
             (subst (λ (u : World). GoodCalled types gf waiting u.content (Back 0 w vs)) (sym left_world) good)) waits (taken_safe w vs good.2 h))))

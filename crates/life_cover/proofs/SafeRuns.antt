@@ -1,4 +1,4 @@
--- A run of an admitted entry, of a program whose structs hold values alone and whose calls hand over no slot and of which nothing is diagnosed, ends in no fault.
+-- A run of an admitted entry, of a program whose structs hold no pointers and no unique_ptrs and whose calls hand over no slot and of which nothing is diagnosed, ends in no fault.
 use Rattle.std.proofs.Common.{◌≡◌, inr, ⊎_elim, ℕ, zero, suc, ◌+◌, Bool, true, false, List, [], ◌∷◌, length, Option, Some, refl, sym, ap, subst, ◌∙◌, arith}
 use Rattle.std.specs.Prelude.{ℤ, not, option_map, slice_get}
 use Rattle.std.proofs.lemmas.Bool.{and_parts, false≢true}
@@ -74,7 +74,7 @@ use Rattle.life_cover.proofs.ResultTypes.{promised_input, result_typed}
 use Rattle.life_cover.proofs.Returned.{result_cell, result_promised}
 use Rattle.life_cover.proofs.SafeCalls.{SafeCalled, SafeCallee, calls_safe}
 use Rattle.life_cover.specs.Inputs.{AreGiven, StandsAt, entry_inputs, foot_with, frame_foot, mutated}
-use Rattle.life_cover.specs.Members.{HaveInertMembers}
+use Rattle.life_cover.specs.Members.{HaveUntoldMembers}
 use Rattle.life_cover.specs.Passed.{ArePassed, IsPromised}
 use Rattle.life_cover.specs.Regions.{Region}
 use Rattle.life_cover.proofs.UniquesGiven.{entry_uniques}
@@ -113,7 +113,7 @@ pub record IsSafeFunction (types : Types) (fs : List Function) (number : ℕ) (f
   pub spoken : IsSpokenBody types f
   pub none : (d : Diag) → IsDiagnosed (signatures_of fs) types number f d → ⊥
 
-module _ (types : Types) (ordered : IsOrdered types) (once : HasEachOnce types) (some : HaveMembers types) (inert : HaveInertMembers types) (names texts : ℕ) (fs : List Function) (all : (k : ℕ) (g : Function) → slice_get fs k ≡ Some g → GoesWell types names texts fs g)
+module _ (types : Types) (ordered : IsOrdered types) (once : HasEachOnce types) (some : HaveMembers types) (untold : HaveUntoldMembers types) (names texts : ℕ) (fs : List Function) (all : (k : ℕ) (g : Function) → slice_get fs k ≡ Some g → GoesWell types names texts fs g)
     (all_safe : (k : ℕ) (g : Function) → slice_get fs k ≡ Some g → IsSafeFunction types fs k g) (s : Setting) where
   module _ (call : Callee) (callees : GoodCallee types fs call) (safe : SafeCallee types fs call) (number : ℕ) (f : Function) (is : slice_get fs number ≡ Some f) (rest : ℕ → ℕ) (xs : List Cell) (n : ℕ) (w : World)
       (suits : AreHandedTo types w.content (types_held types f) xs) (store : IsStore types (λ j. times (named_in xs) j + rest j) w.content) (buffered : AreBut types (IsLoose types (entry_inputs types f w.content xs) (named_in xs) w.content) w.content)
@@ -160,7 +160,7 @@ module _ (types : Types) (ordered : IsOrdered types) (once : HasEachOnce types) 
     finish_safe (Normal m st) g = absurd g
     finish_safe (Broke m st) g = absurd g
     finish_safe (Continued m st) g = absurd g
-    finish_safe (Returned m st) g = (but_more types (MayLack types f inputs (FactsAt (signatures_of fs) types f g.point) st) (IsLoose types inputs (named_in (results types f st)) st.world.content) st.world.content (left_loose types inert names texts fs f well.formed well.points shaped rest inputs (signatures_of fs) g.point st g.safe.safe.sound g.safe.safe.given) g.safe.safe.buffered, (g.safe.own.touch, ((λ j lt. let y = results_named types f st j lt in g.safe.own.named y.0 j y.1), promised)))
+    finish_safe (Returned m st) g = (but_more types (MayLack types f inputs (FactsAt (signatures_of fs) types f g.point) st) (IsLoose types inputs (named_in (results types f st)) st.world.content) st.world.content (left_loose types untold names texts fs f well.formed well.points shaped rest inputs (signatures_of fs) g.point st g.safe.safe.sound g.safe.safe.given) g.safe.safe.buffered, (g.safe.own.touch, ((λ j lt. let y = results_named types f st j lt in g.safe.own.named y.0 j y.1), promised)))
       where
         poised_at : IsPoised types f st
         poised_at = poised types ordered once some names texts fs f well.formed well.points well.ready rest st g.safe.safe.sound
@@ -190,19 +190,19 @@ module _ (types : Types) (ordered : IsOrdered types) (once : HasEachOnce types) 
         (parameters_all types names f shaped (formed_at types ordered once some names texts fs f well.formed well.points well.ready)) store (free_handed types w.content (types_taken f) xs asked.free suits))
         (parameters_begun types ordered s f inputs xs (λ j. times (named_in xs) j + rest j) w.content store 0 (types_held types f) xs taking suits (λ i v e. let k : i ≡ 0 + i = omega arith in ap (slice_get xs) (sym k) ∙ e) (frame f w) (frame_begun types f inputs xs w buffered))
         (λ st next begun. finish_safe (exec s types f call f.body n st)
-        (body_safe types ordered once some names texts fs f well.formed well.points well.ready inert asked.short well.given asked.spoken (signatures_of fs) number asked.none rest inputs w.content (named_in xs) (λ j. times (named_in xs) j + rest j) store s call
-        (calls_safe types ordered once some names texts fs f well.formed well.points well.ready inert asked.short well.given asked.spoken (signatures_of fs) number asked.none rest inputs w.content (named_in xs) (λ j. times (named_in xs) j + rest j) store s call callees
+        (body_safe types ordered once some names texts fs f well.formed well.points well.ready untold asked.short well.given asked.spoken (signatures_of fs) number asked.none rest inputs w.content (named_in xs) (λ j. times (named_in xs) j + rest j) store s call
+        (calls_safe types ordered once some names texts fs f well.formed well.points well.ready untold asked.short well.given asked.spoken (signatures_of fs) number asked.none rest inputs w.content (named_in xs) (λ j. times (named_in xs) j + rest j) store s call callees
         (λ k g at_k. (all_safe k g at_k).free) safe (λ k g at_k. slice_get-map signature_of fs k ∙ ap (option_map signature_of) at_k) (λ k g at_k. (all k g at_k).formed))
         n st next.bits (begun_safe_at st next begun) begun.own next.waits))
 
 -- ---- all calls of a program
 
-pub all_calls_safe : (s : Setting) (p : Program) (ordered : IsOrdered p.types) (once : HasEachOnce p.types) (some : HaveMembers p.types) (inert : HaveInertMembers p.types) (names texts : ℕ) (all : (k : ℕ) (g : Function) → slice_get p.functions k ≡ Some g → GoesWell p.types names texts p.functions g)
+pub all_calls_safe : (s : Setting) (p : Program) (ordered : IsOrdered p.types) (once : HasEachOnce p.types) (some : HaveMembers p.types) (untold : HaveUntoldMembers p.types) (names texts : ℕ) (all : (k : ℕ) (g : Function) → slice_get p.functions k ≡ Some g → GoesWell p.types names texts p.functions g)
     → ((k : ℕ) (g : Function) → slice_get p.functions k ≡ Some g → IsSafeFunction p.types p.functions k g) → (depth : ℕ) → SafeCallee p.types p.functions (calls s p depth)
-all_calls_safe s p ordered once some inert names texts all safe zero k g rest xs n w is suits store buffered apart passed = tt
-all_calls_safe s p ordered once some inert names texts all safe (suc depth) k g rest xs n w is suits store buffered apart passed =
+all_calls_safe s p ordered once some untold names texts all safe zero k g rest xs n w is suits store buffered apart passed = tt
+all_calls_safe s p ordered once some untold names texts all safe (suc depth) k g rest xs n w is suits store buffered apart passed =
     subst (λ (o : Option Function). SafeCalled p.types g (entry_inputs p.types g w.content xs) (named_in xs) w.content (entered s p.types o (calls s p depth) xs n w)) (sym is)
-    (entered_safe p.types ordered once some inert names texts p.functions all safe s (calls s p depth) (calls_good s p ordered once some names texts all depth) (all_calls_safe s p ordered once some inert names texts all safe depth) k g is rest xs n w suits store buffered apart passed)
+    (entered_safe p.types ordered once some untold names texts p.functions all safe s (calls s p depth) (calls_good s p ordered once some names texts all depth) (all_calls_safe s p ordered once some untold names texts all safe depth) k g is rest xs n w suits store buffered apart passed)
 
 -- ---- runs
 
@@ -221,11 +221,11 @@ nothing_buffered types bare n i o s free there slot = absurd (none_some (sym (at
 pub record HandsPointerSlots (p : Program) : Type 0 where
   pub free : (k : ℕ) (g : Function) → slice_get p.functions k ≡ Some g → ArePointerSlots p.types (types_taken g)
 
-pub safe_runs : (p : Program) (given : Given) (entry : ℕ) (f : Function) (input : List ℤ) (n : ℕ) → IsWellFormedProgram p → ((k : ℕ) (g : Function) → slice_get p.functions k ≡ Some g → HasReadyWays p.types g) → keeps_all_given p ≡ true → HandsPointerSlots p → HaveInertMembers p.types
+pub safe_runs : (p : Program) (given : Given) (entry : ℕ) (f : Function) (input : List ℤ) (n : ℕ) → IsWellFormedProgram p → ((k : ℕ) (g : Function) → slice_get p.functions k ≡ Some g → HasReadyWays p.types g) → keeps_all_given p ≡ true → HandsPointerSlots p → HaveUntoldMembers p.types
     → ((k : ℕ) (g : Function) → slice_get p.functions k ≡ Some g → AreShort (elements_of p.types g) × IsSpokenBody p.types g) → ((d : Diag) → IsProgramDiagnosed p d → ⊥) → slice_get p.functions entry ≡ Some f → IsAdmitted p f input → IsNoFault (run_of given p entry f input n).outcome
-safe_runs p given entry f input n well ready apart hands inert spoken none is admitted =
+safe_runs p given entry f input n well ready apart hands untold spoken none is admitted =
     called_safe p.types f (entry_inputs p.types f empty_content vs) (named_in vs) empty_content f.place (first_world f input) (first_called given p entry f input n)
-    (all_calls_safe (setting_of given p) p well.table well.once (have_members p.types (length p.names) p.members well.members) inert (length p.names) (length p.texts) each asked given.depth entry f (λ k. 0) (entry_arguments p.types f 0 f.parameters input) n (first_world f input) is
+    (all_calls_safe (setting_of given p) p well.table well.once (have_members p.types (length p.names) p.members well.members) untold (length p.names) (length p.texts) each asked given.depth entry f (λ k. 0) (entry_arguments p.types f 0 f.parameters input) n (first_world f input) is
     (free_taken p.types empty_content (types_taken f) vs (hands.free entry f is) (numbers_handed p.types f empty_content f.parameters f.locals 0 input admitted.values admitted.room admitted.enough solid))
     (less_in_hand p.types (λ k. 0) (λ k. times (named_in (entry_arguments p.types f 0 f.parameters input)) k + 0) empty_content (λ k. let z = none_named p.types f empty_content 0 f.parameters input k in omega (arith, z)) (empty_store p.types))
     (nothing_buffered p.types (IsLoose p.types (entry_inputs p.types f empty_content vs) (named_in vs) empty_content)) (nothing_entered p.types f (foot_with p.types (mutated p.types f (entry_inputs p.types f empty_content vs)) (named_in vs)) empty_content vs pointless) (λ q u e. absurd (pointless q u e)))

@@ -1,13 +1,8 @@
 -- A number is saved where nothing is wrong: there is no fault, and the facts behind it cover all pointers of the frame.
-use Rattle.std.specs.Prelude.{slice_get}
 use Rattle.std.proofs.Common.{◌≡◌, inl, inr, ℕ, true, List, [], ◌∷◌, length, Option, Some, None, refl, sym, ap, subst, ◌∙◌, arith, false, ◌||◌}
-use Rattle.life_types.specs.Pointees.{or_void}
-use Rattle.life_types.specs.Trees.{holds_owner, members_at, tree_at, tree_of}
 use Rattle.life_types.specs.TypeTests.{is_value}
 use Rattle.life_types.specs.Types.{Types}
 use Rattle.life_types.specs.declared.place.Place.{Place}
-use Rattle.life_types.specs.declared.ty.Ty.{Ty}
-use Rattle.life_types.specs.declared.ty.Ty.TheVariants as ty
 use Rattle.life_types.specs.declared.ty.TyId.{TyId}
 use Rattle.life_core.specs.Function.{Function}
 use Rattle.life_core.specs.Operands.{Operand}
@@ -22,7 +17,7 @@ use Rattle.life_store.specs.Content.{Object, with_object, with_word}
 use Rattle.life_store.specs.Doing.{does, saved}
 use Rattle.life_store.specs.Effects.{Next, Setting, Strays, cell, put_content, word_of_number}
 use Rattle.life_store.specs.Held.{wrote_if}
-use Rattle.life_store.specs.Parts.{Parts, Single, operand_type, parts_at, operand_parts, parts_if, parts_of, width}
+use Rattle.life_store.specs.Parts.{Parts, Single, operand_type, parts_at, width}
 use Rattle.life_store.specs.Places.{locate, on_found, operand_word, wrote_spot}
 use Rattle.life_store.specs.State.{State}
 use Rattle.life_store.proofs.CellLemmas.{some_same}
@@ -32,21 +27,19 @@ use Rattle.life_forest.specs.Owned.{times}
 use Rattle.life_forest.specs.Within.{LiesWithin}
 use Rattle.life_forest.proofs.Lying.{LiesAt, touches_value}
 use Rattle.life_forest.proofs.OneNumber.{IsOfType}
-use Rattle.life_forest.proofs.SeenTypes.{character_parts, parts_typed, value_parts}
+use Rattle.life_forest.proofs.SeenTypes.{character_parts, value_parts}
 use Rattle.life_forest.proofs.Spots.{lies_at}
 use Rattle.life_forest.proofs.TypedSteps.{operand_of, value_solid}
 use Rattle.life_cover.specs.Covers.{IsSeenAs}
 use Rattle.life_cover.specs.Frames.{FrameCovered, RootStands, look_at}
-use Rattle.life_cover.proofs.InertParts.{AreSingle, inert_holds, inert_single, single_kinds, single_owns}
+use Rattle.life_cover.proofs.SingleParts.{AreSingle, single_kinds, single_owns}
 use Rattle.life_cover.proofs.Inside.{lies_true}
 use Rattle.life_cover.proofs.KnownFrames.{IsKnownFrame, IsRight, hand_of, reach_at, rooted_of, store_of, used_right}
-use Rattle.life_cover.proofs.MemberReach.{no_struct}
 use Rattle.life_cover.proofs.OwnerKinds.{number_right}
 use Rattle.life_cover.proofs.Pointers.{OnRight}
 use Rattle.life_cover.proofs.Reaching.{IsReached, on_place_right}
 use Rattle.life_cover.proofs.Unkilled.{no_foot, unkilled_cover}
 use Rattle.life_cover.specs.Inputs.{may_change, StandsAt}
-use Rattle.life_cover.specs.Members.{is_inert}
 use Rattle.life_cover.specs.Regions.{Region}
 
 module _ (types : Types) (f : Function) (rest : ℕ → ℕ) (inputs : Root → Option Region) (S : Fact → Type 0) (st : State) (k : IsKnownFrame types f rest inputs S st) (o : Operand) (r : IsReached types f st (StandsAt inputs) (may_change types f) S o) where
@@ -85,35 +78,6 @@ module _ (types : Types) (f : Function) (rest : ℕ → ℕ) (inputs : Root → 
 
   pub words_touches : is_value (type_of types f o) ≡ true → (ws : List ℕ) → length ws ≡ 1 → Touches (kinds_of types) no_foot st.world.content (wrote_spot (record { object = r.region.object; index = r.index; word = r.region.word }) ws st.world.content)
   words_touches value ws one = singles_touch Single (value_there value) tt ws one
-
-  -- a struct
-  module _ (number : ℕ) (is : type_of types f o ≡ ty.Struct number) where
-    record IsStruct : Type 0 where
-      pub typed : operand_type types f o ≡ Some r.region.ty
-      pub there : slice_get types.types r.region.ty.0 ≡ Some (ty.Struct number)
-
-    struct_typed : IsStruct
-    struct_typed = go (subst (λ (t : Option TyId). IsSeenAs types t r.region.ty) of.is r.seen)
-      where
-        of : IsOfType types (operand_type types f o) (ty.Struct number)
-        of = operand_of types k.ordered k.once 0 [] f k.shaped o (ty.Struct number) is refl
-
-        go : IsSeenAs types (Some of.number) r.region.ty → IsStruct
-        go (inl same) = record { typed = of.is ∙ ap Some same; there = ap (λ (id : TyId). slice_get types.types id.0) (sym same) ∙ of.there }
-        go (inr character) = absurd (no_struct types (parts_at types) (members_at types number) (sym (parts_typed types k.ordered of.number (ty.Struct number) of.there) ∙ character.0))
-
-    pub struct_parts : parts_at types r.region.ty ≡ parts_of types (parts_at types) (Some (ty.Struct number))
-    struct_parts = parts_typed types k.ordered r.region.ty (ty.Struct number) struct_typed.there
-
-    pub struct_operand : operand_parts types f o ≡ parts_of types (parts_at types) (Some (ty.Struct number))
-    struct_operand = ap (parts_if types) struct_typed.typed ∙ struct_parts
-
-    -- .. holds values alone
-    pub struct_alone : AreSingle (parts_of types (parts_at types) (Some (ty.Struct number)))
-    struct_alone = subst AreSingle struct_parts (inert_single types k.inert r.region.ty (ap (λ (t : Option Ty). is_inert (or_void t)) struct_typed.there))
-
-    pub struct_owns : holds_owner (tree_of types (tree_at types) (Some (ty.Struct number))) ≡ false
-    struct_owns = inert_holds types k.inert k.ordered r.region.ty number struct_typed.there
 
   pub saved_touches : is_value (type_of types f o) ≡ true → (word : ℕ) → Touches (kinds_of types) no_foot st.world.content (with_object r.region.object (with_word r.index r.region.word word r.holder) st.world.content)
   saved_touches value word =

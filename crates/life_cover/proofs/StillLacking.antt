@@ -26,7 +26,7 @@ use Rattle.life_cover.specs.Buffered.{AreBut}
 use Rattle.life_cover.specs.Lacking.{IsMovedFrom, MayLack, IsLoose}
 use Rattle.life_cover.proofs.Behind.{IsBehind}
 use Rattle.life_cover.proofs.Buffering.{but_more}
-use Rattle.life_cover.proofs.InertParts.{nullable_alone}
+use Rattle.life_cover.proofs.SingleParts.{nullable_alone}
 use Rattle.life_cover.proofs.KnownFrames.{IsRight, whole_location}
 use Rattle.life_cover.proofs.UniqueFacts.{stays}
 use Rattle.life_cover.proofs.Edges.{Passes}
@@ -42,7 +42,7 @@ use Rattle.life_forest.specs.Owned.{every, times}
 use Rattle.life_forest.proofs.Below.{positive_is}
 use Rattle.life_forest.proofs.Steps.{own_all}
 use Rattle.life_cover.specs.Inputs.{frame_foot}
-use Rattle.life_cover.specs.Members.{HaveInertMembers}
+use Rattle.life_cover.specs.Members.{HaveUntoldMembers}
 use Rattle.life_cover.specs.Regions.{Region}
 use Rattle.life_pset.specs.declared.element.Root.{Root}
 
@@ -106,11 +106,11 @@ nullable_apart ty.Text e b = false≢true e
 nullable_apart (ty.Vector element) e b = false≢true e
 nullable_apart _ e b = false≢true b
 
-module _ (types : Types) (f : Function) (rest : ℕ → ℕ) (inputs : Root → Option Region) (inert : HaveInertMembers types) (texts : ℕ) (fs : List Function) (S S' : Fact → Type 0) (st : State) where
+module _ (types : Types) (f : Function) (rest : ℕ → ℕ) (inputs : Root → Option Region) (untold : HaveUntoldMembers types) (texts : ℕ) (fs : List Function) (S S' : Fact → Type 0) (st : State) where
   not_stopped : (t : Test) (branch : Bool) (y : ℕ) (e : Element) → is_well_formed_test types texts fs f t ≡ true → has_buffer (type_at types f y) ≡ true → stops_at t (Some branch) (fact_at (local_place y) e) ≡ false
   not_stopped (NonZero r) branch y e formed buffer = refl
   not_stopped (NotNull l) branch y e formed buffer =
-      let here = whole_location types inert f l (nullable_alone (type_in types f l) formed) in
+      let here = whole_location types untold f l (nullable_alone (type_in types f l) formed) in
       ap (λ b. b && cond branch (is_null e) (is_held e))
       (subst (λ (q : Location). is_location q (local_place y) ≡ false) here
       (other_local l.local y (λ same. nullable_apart (type_in types f l) formed (subst (λ (q : Location). has_buffer (type_in types f q) ≡ true) here (subst (λ z. has_buffer (type_at types f z) ≡ true) (sym same) buffer)))))

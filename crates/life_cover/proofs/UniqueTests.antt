@@ -21,10 +21,10 @@ use Rattle.life_store.specs.State.{Pointer, Null, Wild, To, Static, Cell, Empty,
 use Rattle.life_store.proofs.CellLemmas.{some_same}
 use Rattle.life_store.proofs.MapLemmas.{one_or_apart}
 use Rattle.life_cover.specs.Covers.{CoversOwner}
-use Rattle.life_cover.specs.Members.{HaveInertMembers}
+use Rattle.life_cover.specs.Members.{HaveUntoldMembers}
 use Rattle.life_cover.specs.Uniques.{UniquesTold, had_by}
 use Rattle.life_cover.proofs.Edges.{Passes}
-use Rattle.life_cover.proofs.InertParts.{nullable_alone}
+use Rattle.life_cover.proofs.SingleParts.{nullable_alone}
 use Rattle.life_cover.proofs.KnownFrames.{whole_location}
 use Rattle.life_cover.proofs.Locals.{named_once}
 use Rattle.life_cover.proofs.Putting.{other_local}
@@ -118,8 +118,8 @@ module _ (types : Types) (f : Function) (S H F : Fact → Type 0) (st : State) (
     null_told n (Some (Points w)) e = pointer_told n w e
     null_told n (Some (Named m)) e = owner_told n m e
 
-  pub test_told : HaveInertMembers types → (texts : ℕ) (fs : List Function) (t : Test) (n : ℕ) → is_well_formed_test types texts fs f t ≡ true → Passes t true S H → Passes t false S F → IsToldBy types f H F (test_at types f t n st)
-  test_told inert texts fs (NonZero r) n e held failed = number_told r held failed n (cell st r)
-  test_told inert texts fs (NotNull l) n e held failed =
-      subst (λ (q : Location). Passes (NotNull q) true S H → Passes (NotNull q) false S F → IsToldBy types f H F (test_at types f (NotNull q) n st)) (whole_location types inert f l (nullable_alone (type_in types f l) e))
+  pub test_told : HaveUntoldMembers types → (texts : ℕ) (fs : List Function) (t : Test) (n : ℕ) → is_well_formed_test types texts fs f t ≡ true → Passes t true S H → Passes t false S F → IsToldBy types f H F (test_at types f t n st)
+  test_told untold texts fs (NonZero r) n e held failed = number_told r held failed n (cell st r)
+  test_told untold texts fs (NotNull l) n e held failed =
+      subst (λ (q : Location). Passes (NotNull q) true S H → Passes (NotNull q) false S F → IsToldBy types f H F (test_at types f (NotNull q) n st)) (whole_location types untold f l (nullable_alone (type_in types f l) e))
       (λ h g. null_told l.local h g n (cell st l.local) refl) held failed

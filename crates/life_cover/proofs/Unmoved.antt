@@ -1,4 +1,4 @@
--- No derived fact says that a local was moved from which no instruction moves, in a proper function whose structs hold values alone.
+-- No derived fact says that a local was moved from which no instruction moves, in a proper function whose structs hold no pointers and no unique_ptrs.
 use Rattle.std.proofs.Common.{◌≡◌, ◌≢◌, ℕ, Bool, true, false, ◌&&◌, not, List, [], ◌∷◌, ◌++◌, Option, Some, None, refl, sym, ap, subst, ◌∙◌}
 use Rattle.std.specs.Prelude.{Contains, cond, if◌then◌else◌, option_map, slice_get}
 use Rattle.std.proofs.lemmas.Bool.{and_parts, false≢true}
@@ -46,10 +46,10 @@ use Rattle.life_store.proofs.CellLemmas.{none_some, some_same}
 use Rattle.life_forest.proofs.Slots.{ArePointsFormed}
 use Rattle.life_forest.proofs.OneNumber.{also_solid}
 use Rattle.life_cover.specs.Lacking.{IsUnmoved}
-use Rattle.life_cover.specs.Members.{HaveInertMembers}
+use Rattle.life_cover.specs.Members.{HaveUntoldMembers}
 use Rattle.life_cover.proofs.CalmFacts.{AreCalm, Each, IsCalm, IsCalmFact, aimed_calm, both_each, called_none_calm, called_one_calm, called_two_calm, ended_calm, entry_calm, facts_calm, if_each, killed_calm, live_calm, made_calm, more_each, moved_calm, named_calm, none_each, one_each, position_none_calm, position_one_calm, target_calm, through_calm, through_two_calm, whole_calm}
 use Rattle.life_cover.proofs.Edges.{FactsAt}
-use Rattle.life_cover.proofs.InertParts.{pointer_alone}
+use Rattle.life_cover.proofs.SingleParts.{pointer_alone}
 use Rattle.life_cover.proofs.KnownFrames.{whole_location}
 use Rattle.life_cover.proofs.Unnamed.{given_away}
 
@@ -97,7 +97,7 @@ seen_pointer types ty.View e = refl
 seen_pointer types (ty.Span target constant) e = refl
 seen_pointer types _ e = absurd (false≢true (sym e))
 
-module _ (types : Types) (inert : HaveInertMembers types) (sigs : List Signature) (texts : ℕ) (fs : List Function) (f : Function) (x : ℕ) (place : Place) where
+module _ (types : Types) (untold : HaveUntoldMembers types) (sigs : List Signature) (texts : ℕ) (fs : List Function) (f : Function) (x : ℕ) (place : Place) where
   abbrev Quiet : List Fact → Type 0
   Quiet facts = Each (IsQuiet types f x) facts
 
@@ -113,7 +113,7 @@ module _ (types : Types) (inert : HaveInertMembers types) (sigs : List Signature
       by_element element.Null k is = tt
       by_element (element.Invalid c) k is = tt
       by_element (element.Moved c) k is =
-          let here = whole_location types inert f q (pointer_alone (type_in types f q) pointer) in
+          let here = whole_location types untold f q (pointer_alone (type_in types f q) pointer) in
           absurd (false≢true (sym (subst (λ (l : Location). is_pointer (ty_if types (place_type types f (located l))) ≡ false) (sym here) (subst (λ (l : AbsPlace). is_pointer (ty_if types (place_type types f l)) ≡ false) is k.1))
           ∙ subst (λ (l : Location). is_pointer (type_in types f l) ≡ true) (sym here) pointer))
       by_element element.Own k is = tt
@@ -275,7 +275,7 @@ module _ (types : Types) (inert : HaveInertMembers types) (sigs : List Signature
 abbrev pub IsNeverMoved : Function → ℕ → Type 0
 IsNeverMoved f x = (p : ℕ) (l : Linked) (to : Operand) (y : ℕ) → numbered (code_of f) p ≡ Some l → l.spot.node ≡ Action (Move to y) → y ≢ x
 
-module _ (types : Types) (inert : HaveInertMembers types) (sigs : List Signature) (texts : ℕ) (fs : List Function) (f : Function) (points : ArePointsFormed types texts fs f) (x : ℕ) (never : IsNeverMoved f x) where
+module _ (types : Types) (untold : HaveUntoldMembers types) (sigs : List Signature) (texts : ℕ) (fs : List Function) (f : Function) (points : ArePointsFormed types texts fs f) (x : ℕ) (never : IsNeverMoved f x) where
   module _ (edge : Edge) where
     -- what stands at its first point
     spots_formed : (o : Option Linked) → numbered (code_of f) edge.from.0 ≡ o → (s : Spot) → option_map spot_of_linked o ≡ Some s → (is_well_formed_node types texts fs f s.node ≡ true) × ((i : Step) → s.node ≡ Action i → (to : Operand) (y : ℕ) → i ≡ Move to y → y ≢ x)
@@ -289,12 +289,12 @@ module _ (types : Types) (inert : HaveInertMembers types) (sigs : List Signature
 
     given_quiet : (o : Option Spot) → spot_of f edge.from ≡ o → (premises : List Fact) (y : Fact) → ((a : Fact) → Contains premises a → IsQuiet types f x a) → Gives sigs types f edge premises y → IsQuiet types f x y
     given_quiet None e [] y quiet has = absurd (none_in_empty y (subst (λ (o : Option Spot). Contains (none_at sigs types f o) y) e has))
-    given_quiet (Some s) e [] y quiet has = none_node types inert sigs texts fs f x s.place s.node (formed s e).0 (formed s e).1 y (subst (λ (o : Option Spot). Contains (none_at sigs types f o) y) e has)
+    given_quiet (Some s) e [] y quiet has = none_node types untold sigs texts fs f x s.place s.node (formed s e).0 (formed s e).1 y (subst (λ (o : Option Spot). Contains (none_at sigs types f o) y) e has)
     given_quiet None e (a ∷ []) y quiet has = absurd (none_in_empty y (subst (λ (o : Option Spot). Contains (one_at sigs types f edge.branch o a) y) e has))
     given_quiet (Some s) e (a ∷ []) y quiet has =
-        one_node types inert sigs texts fs f x s.place s.node (formed s e).0 edge.branch a (quiet a (at_head a [])) y (subst (λ (o : Option Spot). Contains (one_at sigs types f edge.branch o a) y) e has)
+        one_node types untold sigs texts fs f x s.place s.node (formed s e).0 edge.branch a (quiet a (at_head a [])) y (subst (λ (o : Option Spot). Contains (one_at sigs types f edge.branch o a) y) e has)
     given_quiet None e (a ∷ b ∷ []) y quiet has = absurd (none_in_empty y (subst (λ (o : Option Spot). Contains (two_at sigs types f o a b) y) e has))
-    given_quiet (Some s) e (a ∷ b ∷ []) y quiet has = two_node types inert sigs texts fs f x s.place s.node a b y (subst (λ (o : Option Spot). Contains (two_at sigs types f o a b) y) e has)
+    given_quiet (Some s) e (a ∷ b ∷ []) y quiet has = two_node types untold sigs texts fs f x s.place s.node a b y (subst (λ (o : Option Spot). Contains (two_at sigs types f o a b) y) e has)
     given_quiet o e (a ∷ b ∷ d ∷ more) y quiet has = absurd has
 
   derived_quiet : {p : Point} {y : Fact} → Derives sigs types f p y → IsQuiet types f x y

@@ -52,7 +52,7 @@ use Rattle.life_cover.specs.Regions.{Region}
 use Rattle.life_pset.specs.declared.element.Root.{Root}
 use Rattle.life_cover.proofs.CopyKinds.{outside_local}
 use Rattle.life_cover.proofs.GivenOn.{given_behind}
-use Rattle.life_cover.proofs.InertParts.{pointer_alone, unique_alone}
+use Rattle.life_cover.proofs.SingleParts.{pointer_alone, unique_alone}
 use Rattle.life_cover.proofs.Opening.{text_opened, vector_opened}
 use Rattle.life_cover.proofs.Writing.{change_owning}
 use Rattle.life_cover.specs.Buffered.{AreBut}
@@ -161,7 +161,7 @@ module _ (types : Types) (f : Function) (rest : ℕ → ℕ) (inputs : Root → 
     kept_change element (Erase at into) spoken e r is =
         let walk = (and_parts (walks types (type_in types f at) (ty_of types element)) (walks types (type_in types f into) (ty_of types element)) e).1 in
         let pointer = (walks_seen types k.ordered k.once (type_in types f into) (ty_of types element) walk).pointer in
-        let here = whole_location types k.inert f into (pointer_alone (type_in types f into) pointer) in
+        let here = whole_location types k.untold f into (pointer_alone (type_in types f into) pointer) in
         (here, subst (λ (q : Location). is_pointer (type_in types f q) ≡ true) (sym here) pointer)
     kept_change element PopBack spoken e r is = tt
     kept_change element Clear spoken e r is = tt
@@ -366,7 +366,7 @@ module _ (types : Types) (f : Function) (rest : ℕ → ℕ) (inputs : Root → 
       apart (named.Name l) from solid other y is =
           outside_local l y (λ same.
           let at_l : is_unique (type_at types f l.local) ≡ true = subst (λ z. is_unique (type_at types f z) ≡ true) (sym same) is in
-          let none = memberless types k.inert (shapes.local_type types f l.local) l.members (unique_alone (type_at types f l.local) at_l) (solid_type types f rest inputs S st k (named.Name l) solid) in
+          let none = memberless types k.untold (shapes.local_type types f l.local) l.members (unique_alone (type_at types f l.local) at_l) (solid_type types f rest inputs S st k (named.Name l) solid) in
           false≢true (sym other ∙ ap is_unique (sym (typed types f rest inputs S st k (named.Name l) solid) ∙ ap (λ (ms : List ℕ). ty_if types (members_type types (shapes.local_type types f l.local) ms)) none) ∙ at_l))
 
       still : (q from : Operand) (right : Right (Copy q from)) → is_void (type_of types f q) ≡ false → (m : ℕ) → CopiedBare types f rest inputs S st k to s q m → StillLacks types f rest inputs S st sigs n place S' (Copy q from) right (CopiedBare types f rest inputs S st k to s q) no_local m
@@ -402,7 +402,7 @@ module _ (types : Types) (f : Function) (rest : ℕ → ℕ) (inputs : Root → 
 
   location_apart : (l : Location) → is_unique (type_in types f l) ≡ true → (y : ℕ) → has_buffer (type_at types f y) ≡ true → is_location l (local_place y) ≡ false
   location_apart l unique y buffer =
-      let here = whole_location types k.inert f l (unique_alone (type_in types f l) unique) in
+      let here = whole_location types k.untold f l (unique_alone (type_in types f l) unique) in
       subst (λ (q : Location). is_location q (local_place y) ≡ false) here (other_local l.local y (unique_apart l.local y (subst (λ (q : Location). is_unique (type_in types f q) ≡ true) (sym here) unique) buffer))
 
   made_apart : (u : Location) (m : Made) → is_well_formed_step types texts fs f (Make u m) ≡ true → (y : ℕ) → has_buffer (type_at types f y) ≡ true → writes (Make u m) (local_place y) ≡ false
@@ -478,22 +478,22 @@ module _ (types : Types) (f : Function) (rest : ℕ → ℕ) (inputs : Root → 
       )
 
   placed_kept : (y : ℕ) → OfPlaces types f rest inputs S st k sigs n place S' texts fs y (λ q. OnNext (does s types f (Move q y) st) IsKept)
-  placed_kept y p members now buffer alike free =
-      moved_kept (named.Through p members) y now buffer (GivenBare types f rest inputs S st k y) (λ z is. both_false (is_location (whole y) (local_place z)) false (other_local y z (λ same. unique_apart z y is buffer (sym same))) refl) lacks
-      (right_next (does s types f (Move (named.Through p members) y) st) (IsBehind types f inputs (GivenBare types f rest inputs S st k y) no_local no_local st)
-      (right_weaker (does s types f (Move (named.Through p members) y) st) (IsMade types f inputs S' (GivenBare types f rest inputs S st k y) no_local no_local st) (IsBehind types f inputs (GivenBare types f rest inputs S st k y) no_local no_local st)
-      (placed_move_kind types f rest inputs S st k sigs n place S' s p members y now buffer alike free) (λ after h. h.1)))
+  placed_kept y o beside now buffer alike free =
+      moved_kept o y now buffer (GivenBare types f rest inputs S st k y) (λ z is. beside.free z (λ same. unique_apart z y is buffer (sym same))) lacks
+      (right_next (does s types f (Move o y) st) (IsBehind types f inputs (GivenBare types f rest inputs S st k y) no_local no_local st)
+      (right_weaker (does s types f (Move o y) st) (IsMade types f inputs S' (GivenBare types f rest inputs S st k y) no_local no_local st) (IsBehind types f inputs (GivenBare types f rest inputs S st k y) no_local no_local st)
+      (placed_move_kind types f rest inputs S st k sigs n place S' s o y beside now buffer alike free) (λ after h. h.1)))
     where
       lacks : (j : ℕ) → GivenBare types f rest inputs S st k y j
-          → (MayLack types f inputs S st j × ((m : IsMovedFrom types f S st.cells j) → m.local ≢ y → writes (Move (named.Through p members) y) (local_place m.local) ≡ false)) ⊎ (slice_get st.cells y ≡ Some (Named j))
+          → (MayLack types f inputs S st j × ((m : IsMovedFrom types f S st.cells j) → m.local ≢ y → writes (Move o y) (local_place m.local) ≡ false)) ⊎ (slice_get st.cells y ≡ Some (Named j))
       lacks j (inr names) = inr names
-      lacks j (inl was) = inl (was, λ m ne. both_false (is_location (whole y) (local_place m.local)) false (other_local y m.local (λ e. ne (sym e))) refl)
+      lacks j (inl was) = inl (was, λ m ne. beside.free m.local (λ e. ne (sym e)))
 
   made_kept : (u : Location) (m : Made) → (right : Right (Make u m)) → is_well_formed_step types texts fs f (Make u m) ≡ true → OnNext (does s types f (Make u m) st) IsKept
   made_kept u m right e =
       lost_kept (Make u m) right (Gives (Make u m)) (λ z. u.local ≡ z) (λ y given. given) (made_apart u m e)
       (λ z is. one_or_apart u.local z (λ same. inl same)
-      (λ ne. inr (subst (λ (q : Location). is_location q (local_place z) ≡ false) (whole_location types k.inert f u (unique_alone (type_in types f u) (unique_of types texts fs f (type_in types f u) m e))) (other_local u.local z ne))))
+      (λ ne. inr (subst (λ (q : Location). is_location q (local_place z) ≡ false) (whole_location types k.untold f u (unique_alone (type_in types f u) (unique_of types texts fs f (type_in types f u) m e))) (other_local u.local z ne))))
       (right_next (does s types f (Make u m) st) (Held (MayLack types f inputs S st) (Gives (Make u m)) (λ z. u.local ≡ z))
       (right_weaker (does s types f (Make u m) st) (IsMadeBy types f rest inputs S st k sigs n place S' texts fs s u.local m) (Held (MayLack types f inputs S st) (Gives (Make u m)) (λ z. u.local ≡ z)) (make_right types f rest inputs S st k sigs n place S' texts fs s u m right e) (λ after h. (h.1, h.2))))
 
@@ -569,4 +569,4 @@ module _ (types : Types) (f : Function) (rest : ℕ → ℕ) (inputs : Root → 
 
   -- .. is known behind it, where its store and its cells stand
   pub known_behind : (after : State) → FrameCovered types f inputs S' after × IsKept after → Stands types f rest after → IsPoised types f after → IsKnownFrame types f rest inputs S' after
-  known_behind after h stands poised = record { ordered = k.ordered; once = k.once; inert = k.inert; shaped = k.shaped; stand = k.stand; short = k.short; stands = stands; poised = poised; given = given_behind types f rest inputs any_local any_local any_local st after k.stands.store k.given h.1.1; covered = h.0; buffered = h.1.0; told = h.1.2 }
+  known_behind after h stands poised = record { ordered = k.ordered; once = k.once; untold = k.untold; shaped = k.shaped; stand = k.stand; short = k.short; stands = stands; poised = poised; given = given_behind types f rest inputs any_local any_local any_local st after k.stands.store k.given h.1.1; covered = h.0; buffered = h.1.0; told = h.1.2 }

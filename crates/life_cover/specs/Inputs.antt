@@ -78,11 +78,6 @@ pub record IsInput (types : Types) (f : Function) (r : Root) (a : Region) : Type
   pub named : input.root ≡ r
   pub type : (target_type types input.ty ≡ Some a.ty) ⊎ (a.ty ≡ characters_type types)
 
--- all of an object, as long as it lives
-pub record IsAllOf (c : Content) (a : Region) : Type 0 where
-  pub word : a.word ≡ 0
-  pub type : (q : Object) → at c.objects a.object ≡ Some q → q.ty ≡ a.ty
-
 -- ---- what a frame may touch
 
 abbrev pub region_if : Option Region → (here : Bool) → List Region

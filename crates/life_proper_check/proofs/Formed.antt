@@ -1,9 +1,8 @@
 -- What is decided of a program is that it is well formed.
-use Rattle.std.proofs.Common.{◌≡◌, ℕ, true, List, [], ◌∷◌, length, slice_get, refl, sym, ◌∙◌, arith}
+use Rattle.std.proofs.Common.{◌≡◌, ℕ, true, List, [], ◌∷◌, length, slice_get, refl, sym, ◌∙◌}
 use Rattle.std.proofs.lemmas.Bool.{and_from, and_parts}
-use Rattle.std.proofs.lemmas.Bool.Decides.{nat_tests}
 use Rattle.std.specs.List.{list_all}
-use Rattle.std.specs.Prelude.{nat_eq, nat_le}
+use Rattle.std.specs.Prelude.{nat_le}
 use Rattle.life_types.specs.Trees.{IsOrdered}
 use Rattle.life_types.specs.Types.{HasEachOnce, Types}
 use Rattle.life_core.specs.Function.{Function, Program}
@@ -28,10 +27,6 @@ module _ (types : Types) (names texts : ℕ) (fs : List Function) where
   functions_formed (f ∷ gs) e =
       let both = and_parts (is_formed_function types names texts fs f) (list_all (is_formed_function types names texts fs) gs) e in
       and_from _ _ (function_formed f both.0) (functions_formed gs both.1)
-
-pub none_of : {A : Type 0} (xs : List A) → nat_eq (length xs) 0 ≡ true → xs ≡ []
-none_of [] e = refl
-none_of (x ∷ xs) e = absurd (grind (arith, nat_tests))
 
 pub program_formed : (p : Program) → IsOrdered p.types → HasEachOnce p.types → is_formed_program p ≡ true → IsWellFormedProgram p
 program_formed p ordered once e =

@@ -3,15 +3,15 @@ use Rattle.std.proofs.Common.{◌≡◌, subst, sym, true}
 use Rattle.life_types.specs.Trees.{IsOrdered}
 use Rattle.life_types.specs.Types.{HasEachOnce}
 use Rattle.life_core.specs.Function.{Program}
-use Rattle.life_core_served.specs.Served.{is_served_program}
+use Rattle.life_core_served.specs.Served.{has_served_structs, is_served_program}
 use Rattle.life_pset.specs.Limits.{IsProgramWithinLimits}
 use Rattle.life_proper.specs.Checking.{checked}
 use Rattle.life_proper.specs.GivenOver.{keeps_all_given}
 use Rattle.life_core_served.specs.ProperPrograms.{IsProperProgram, IsServedProgram, have_own_breaks}
 use Rattle.life_proper.specs.ResultsWritten.{WritesResults}
 use Rattle.life_proper.proofs.ProperFunctions.{ready_program}
-use Rattle.life_proper_check.specs.Deciding.{has_no_structs, is_formed_program}
-use Rattle.life_proper_check.proofs.Formed.{none_of, program_formed}
+use Rattle.life_proper_check.specs.Deciding.{is_formed_program}
+use Rattle.life_proper_check.proofs.Formed.{program_formed}
 
 pub parts_proper : (p : Program) → IsOrdered p.types → HasEachOnce p.types → is_formed_program p ≡ true → keeps_all_given p ≡ true → have_own_breaks p ≡ true
     → IsProgramWithinLimits p → checked p ≡ true → WritesResults p → IsProperProgram p
@@ -25,8 +25,8 @@ parts_proper p ordered once formed given breaks within ready results = record {
 }
 
 -- .. and of one whose verdict is proved
-pub parts_served : (p : Program) → has_no_structs p ≡ true → is_served_program p ≡ true → IsServedProgram p
-parts_served p none slotless = record { structs = none_of p.types.structs none; serves = slotless }
+pub parts_served : (p : Program) → has_served_structs p.types ≡ true → is_served_program p ≡ true → IsServedProgram p
+parts_served p structs slotless = record { structs = structs; serves = slotless }
 
 -- a proper program stays as it was
 pub kept_proper : (p q : Program) → q ≡ p → (WritesResults p → IsProperProgram p) → WritesResults q → IsProperProgram q

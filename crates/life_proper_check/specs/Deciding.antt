@@ -33,9 +33,6 @@ is_formed_program p =
     have_names (length p.names) p.types.structs p.members
     && (have_own_names p.functions && list_all (is_formed_function p.types (length p.names) (length p.texts) p.functions) p.functions)
 
-abbrev pub has_no_structs : Program → Bool
-has_no_structs p = nat_eq (length p.types.structs) 0
-
 -- each of these functions passes no limit
 abbrev pub AreWithin : Types → List Function → Type 0
 AreWithin types [] = Unit {0}
