@@ -97,10 +97,10 @@ module _ (a : Around) (visible : List ℕ) (types : Types) (texts : ℕ) (fs : L
     form = Plain;
     act = copied w.given;
     lives = refl;
-    acts = λ place to s' there.
+    acts = λ place to s' there still new.
         copies_part types texts fs f (both types texts fs f (a_place types texts fs f t constant) (a_place types texts fs f t false)) (w.given, to) a.program.types t constant to w.given place s' o
         (λ h. (h.1, h.0)) (λ n k h. (h.1, h.0));
-    alone = λ e. copied_plain w.given;
+    alone = λ e. copied_plain _ w.given;
   }
 
   -- what an expression that is an owner gives it

@@ -33,7 +33,7 @@ use Rattle.life_elab_laws.proofs.ComparedForms.{IsEither, either_shows}
 use Rattle.life_elab_laws.proofs.ExpressionForms.{IsWhole, Standing}
 use Rattle.life_elab_laws.proofs.Gifts.{Gift, a_number, a_place, a_pointer, both, held_stays, nothing as no_gift, pointer_stays}
 use Rattle.life_elab_laws.proofs.Making.{AreHeld, IsHeld, IsPointer, Keeps}
-use Rattle.life_elab_laws.proofs.ObjectForms.{IsObject}
+use Rattle.life_elab_laws.proofs.ObjectForms.{IsOwner}
 use Rattle.life_elab_laws.proofs.Parts.{Makes, Part, and_part, gives_part, keep_part, seen_part, then_part, under_part}
 use Rattle.life_elab_laws.proofs.PointerForms.{own_typed}
 use Rattle.life_elab_laws.proofs.SeenForms.{IsShownAt, IsShownOf, a_shown, viewed_part}
@@ -42,7 +42,7 @@ use Rattle.life_elab_laws.proofs.VariablePlaces.{stands_later}
 use Rattle.life_elab_laws.proofs.RowTypes.{sees}
 use Rattle.life_elab_laws.proofs.ViewSteps.{pointer_is_held}
 use Rattle.life_tree.specs.declared.operator.CompoundOperator.{CompoundOperator}
-use Rattle.life_elab_laws.proofs.FreeObjects.{object_part}
+use Rattle.life_elab_laws.proofs.FreeObjects.{owner_part}
 
 -- ---- what may gain something
 
@@ -175,7 +175,7 @@ module _ (a : Around) (visible : List ℕ) (types : Types) (texts : ℕ) (fs : L
 
   -- ---- `+=`
 
-  pub appended_part : (target e : Form) (place : Place) (s : State) → (to : IsObject a visible types texts fs f setting target) → to.ty ≡ ty.Text → to.constant ≡ false → IsEither a visible types texts fs f setting e
+  pub appended_part : (target e : Form) (place : Place) (s : State) → (to : IsOwner a visible types texts fs f setting target) → to.ty ≡ ty.Text → to.constant ≡ false → IsEither a visible types texts fs f setting e
       → fits_at_all (appended_to_text (typed_in e).ty) ≡ true → Standing a visible types texts fs f setting s
       → Makes types texts fs f None s (gives tt (seen (uses a e) s >> λ c s. operand (uses a target) s >> λ o s. changed_by Append place c o s)) (no_gift types texts fs f)
   appended_part target e place s to text free from fits stands =
@@ -189,7 +189,7 @@ module _ (a : Around) (visible : List ℕ) (types : Types) (texts : ℕ) (fs : L
       let C = some_characters types texts fs f in
       let D = both types texts fs f B C in
       let first = appended_finds e from fits s stands in
-      let second = object_part a visible types texts fs f setting target to free x.state (stands_later a visible s x.state first.grown stands) in
+      let second = owner_part a visible types texts fs f setting target to free x.state (stands_later a visible s x.state first.grown stands) in
       let pair = and_part types texts fs f G tt s x o P Q stands.opened first second in
       let third = under_part types texts fs f P x.given B (x.given, o.given) None o.state c C (characters_part types texts fs f x.given o.state) (λ h. h.0) (λ n k h. h.0) in
       let all = keep_part types texts fs f G tt s (gives (x.given, o.given) o.state) c B C stands.opened pair third in

@@ -47,7 +47,7 @@ use Rattle.life_elab_laws.proofs.GivingBack.{fine_known}
 use Rattle.life_elab_laws.proofs.Growing.{Begins, begins_before}
 use Rattle.life_elab_laws.proofs.Held.{blank_there}
 use Rattle.life_elab_laws.proofs.Knowledge.{at_set, beside_set, ready_set, set_length}
-use Rattle.life_elab_laws.proofs.MadeForms.{BuildsIn, Found, gift_of}
+use Rattle.life_elab_laws.proofs.MadeForms.{BuildsIn, Found, gift_of, one_new}
 use Rattle.life_elab_laws.proofs.Making.{Alive, IsOpen, opened_later}
 use Rattle.life_elab_laws.proofs.NewVariables.{bound_given, reference_declared, reference_kept}
 use Rattle.life_elab_laws.proofs.OrderedTypes.{order_then, type_ordered}
@@ -79,7 +79,7 @@ module _ (a : Around) (types : Types) (texts : ℕ) (fs : List Function) (f : Fu
   -- ---- what is built
 
   pub fits : FitsTemporary types (type_at a.program.types target)
-  fits = inr (owner_later a.program.types types setting.front (type_at a.program.types target) owner)
+  fits = inr (inl (owner_later a.program.types types setting.front (type_at a.program.types target) owner))
 
   -- behind what is found, without the temporaries of that
   abbrev there : State
@@ -135,7 +135,7 @@ module _ (a : Around) (types : Types) (texts : ℕ) (fs : List Function) (f : Fu
   }
 
   part : Part types texts fs f (both types texts fs f Q (a_place types texts fs f t false)) (is.found, object_named x) None begun (gives tt (is.act place (object_named x) begun)) (nothing types texts fs f)
-  part = is.acts place (object_named x) begun stood
+  part = is.acts place (object_named x) begun stood (λ n c. refl) (one_new a v.visible types texts fs f setting s x is.part.grown.count)
 
   -- it is built
   abbrev acted : State

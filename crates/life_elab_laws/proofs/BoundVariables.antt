@@ -1,5 +1,5 @@
 -- A reference that is declared with a temporary, which comes to life right before it and lives as long as it does.
-use Rattle.std.proofs.Common.{◌≡◌, ◌<◌, ◌⊎◌, inl, inr, ℕ, Bool, true, false, List, [], ◌∷◌, ◌++◌, Contains, length, slice_get, slice_set, take, Some, None, refl, sym, ap, ◌∙◌, subst, arith, append_assoc, length-append}
+use Rattle.std.proofs.Common.{◌≡◌, ◌<◌, ◌⊎◌, inl, inr, ℕ, Bool, true, false, List, [], ◌∷◌, ◌++◌, Contains, length, slice_get, slice_set, take, Some, refl, sym, ap, ◌∙◌, subst, arith, append_assoc, length-append, append-nil}
 use Rattle.std.proofs.lemmas.Bool.{or_left}
 use Rattle.std.proofs.lemmas.List.Elements.{Contains-append_left, Contains-push_cases}
 use Rattle.std.proofs.lemmas.Option.{slice_get_within}
@@ -24,7 +24,7 @@ use Rattle.life_proper.specs.Checking.{flow}
 use Rattle.life_proper.specs.Knowing.{known_at}
 use Rattle.life_proper.specs.Placed.{object_at}
 use Rattle.life_proper.specs.Placed as placed
-use Rattle.life_proper.specs.ReadyKnown.{can_leave}
+use Rattle.life_proper.specs.ReadyKnown.{can_leave, set_known}
 use Rattle.life_proper.specs.WellFormed.{goes_to, is_source_of}
 use Rattle.life_proper.specs.declared.known.Known.{Known}
 use Rattle.life_proper.specs.declared.known.Known.TheVariants as known
@@ -49,14 +49,13 @@ use Rattle.life_elab_laws.proofs.FormedVariables.{keeps_all, object_place}
 use Rattle.life_elab_laws.proofs.Fronts.{front_append, front_then, last_there}
 use Rattle.life_elab_laws.proofs.Gifts.{Gift, IsPlaceOf, nothing}
 use Rattle.life_elab_laws.proofs.GivingBack.{fine_known}
-use Rattle.life_elab_laws.proofs.GivenApart.{Apart, AreApart, IsBelow, codes_apart, none_apart, one_more, then_opens}
+use Rattle.life_elab_laws.proofs.GivenApart.{Apart, AreApart, IsBelow, none_apart, one_more, then_opens, apart_then, given_of, looked_of, looked_spot, parts_of}
 use Rattle.life_elab_laws.proofs.Growing.{Begins, begins_before}
 use Rattle.life_elab_laws.proofs.Knowledge.{at_set, beside_set, ready_set, set_length}
 use Rattle.life_elab_laws.proofs.Making.{Alive}
 use Rattle.life_elab_laws.proofs.NewVariables.{bound_given, reference_declared, reference_kept}
 use Rattle.life_elab_laws.proofs.OperandsThere.{object_there, type_there}
 use Rattle.life_elab_laws.proofs.OrderedTypes.{order_then, type_ordered}
-use Rattle.life_elab_laws.proofs.Parts.{Makes, Part, Runs}
 use Rattle.life_elab_laws.proofs.PendingTemporaries.{none_pending}
 use Rattle.life_elab_laws.proofs.Setting.{Setting}
 use Rattle.life_elab_laws.proofs.Shaping.{IsFine, IsFineStep, fine_acts, fine_append}
@@ -68,6 +67,8 @@ use Rattle.life_elab_laws.proofs.Under.{ActingUnder, DoesUnder, MayBeKnown, does
 use Rattle.life_elab_laws.proofs.WrittenLocals.{AreWrittenLocals, fits_below, locals_added, own_added, register_pushed, value_fits, FitsTemporary}
 use Rattle.life_elab_laws.proofs.Targets.{value_target}
 use Rattle.life_elab_laws.proofs.TemporaryBirths.{no_reference}
+use Rattle.life_elab_laws.proofs.Handing.{Handing, HandingAlone, RunsHanding, handed_apart}
+use Rattle.life_proper.specs.GivenOver.{given_spot}
 
 -- what a value is of is in the table
 pub value_below : (table : Types) (t : Ty) → is_value t ≡ true → HasPartsBelow table (length table.types) t
@@ -226,7 +227,7 @@ module _ (a : Around) (types : Types) (texts : ℕ) (fs : List Function) (f : Fu
   wide = value_target a.program.types (type_at a.program.types target) worth
 
   -- .. behind what gave z
-  module _ {A B : Type 0} (P : Gift types texts fs f B) (z : B) (w : Gives A) (Q : Gift types texts fs f A) (made : Part types texts fs f P z None s w Q) where
+  module _ {A B : Type 0} (P : Gift types texts fs f B) (z : B) (w : Gives A) (Q : Gift types texts fs f A) (over : List ℕ) (made : Handing types texts fs f P z over s w Q) where
     -- what has to be known
     abbrev More : List Known → Type 0
     More = P.ready z (length s.locals)
@@ -243,8 +244,10 @@ module _ (a : Around) (types : Types) (texts : ℕ) (fs : List Function) (f : Fu
 
     -- what brings the temporary to life
     module _ (brings : List Tree) (fine : Begins types f kept → Q.typed w.given → IsFine types texts fs f brings)
-        (falls : Begins types f kept → (k : List Known) → length k ≡ length f.locals → Q.ready w.given x k → known_at k x ≡ known.Blank → Falls types f brings k (slice_set k x known.Ready))
-        (apart : Begins types f kept → Q.typed w.given → (k : List Known) → Alive f w.state k → Q.ready w.given x k → known_at k x ≡ known.Blank → Apart f w.state kept (trees brings))
+        (falls : Begins types f kept → RunsHanding types texts fs f P z over s w Q made.code → (k : List Known) → length k ≡ length f.locals → Q.ready w.given x k → ((z : ℕ) → Among z over → known_at k z ≡ known.Blank) → known_at k x ≡ known.Blank
+        → Falls types f brings (set_known known.Ready over k) (slice_set k x known.Ready))
+        (given : List ℕ) (named : (z : ℕ) → Among z (given_of (trees brings)) → Among z given ⊎ Among z over)
+        (apart : Begins types f kept → Q.typed w.given → (k : List Known) → Alive f w.state k → Q.ready w.given x k → known_at k x ≡ known.Blank → IsBelow w.state → AreApart f w.state kept (looked_of (trees brings)) given)
         (told : Begins types f s → P.typed z) (some : Begins types f s → MayBeKnown f More) where
       abbrev aims : List Tree
       aims = Act place (Aim (whole y) (Aimed (object_named x))) ∷ []
@@ -279,11 +282,11 @@ module _ (a : Around) (types : Types) (texts : ℕ) (fs : List Function) (f : Fu
       can : TemporariesEnd types texts fs f
       can = temporary_ends types texts fs f setting.registers
 
-      abbrev over : List ℕ
-      over = ending types texts fs f s w.state made.grown h.stands.pends last
+      abbrev ends : List ℕ
+      ends = ending types texts fs f s w.state made.grown h.stands.pends last
 
-      e : IsEnded types texts fs f over last done
-      e = ended types texts fs f over last done
+      e : IsEnded types texts fs f ends last done
+      e = ended types texts fs f ends last done
 
       abbrev finished : State
       finished = record done { code = done.code ++ e.code; pending = take (length s.pending) w.state.pending }
@@ -295,10 +298,10 @@ module _ (a : Around) (types : Types) (texts : ℕ) (fs : List Function) (f : Fu
       all_code = made.code ++ (code ++ e.code)
 
       -- neither is one of those that end
-      x_beside : Among x over → ⊥
+      x_beside : Among x ends → ⊥
       x_beside m = let lt = ends_below types texts fs f s w.state made.grown h.stands.pends last x m in omega (arith, lt)
 
-      y_beside : Among y over → ⊥
+      y_beside : Among y ends → ⊥
       y_beside m = let lt = ends_below types texts fs f s w.state made.grown h.stands.pends last y m in omega (arith, lt, length-append w.state.locals (temporary_local a types texts fs f place t (inl worth) w.state (value_below w.state.types t worth) ∷ []))
 
       module _ (b : Begins types f (with_new l kept)) where
@@ -311,7 +314,7 @@ module _ (a : Around) (types : Types) (texts : ℕ) (fs : List Function) (f : Fu
         first_begins : Begins types f s
         first_begins = begins_before types f s w.state made.grown before
 
-        part : Runs types texts fs f P z None s w Q made.code
+        part : RunsHanding types texts fs f P z over s w Q made.code
         part = made.runs before (told first_begins)
 
         aims_fine : IsFine types texts fs f aims
@@ -326,7 +329,7 @@ module _ (a : Around) (types : Types) (texts : ℕ) (fs : List Function) (f : Fu
             })
 
         ends_fine_here : IsFine types texts fs f e.code
-        ends_fine_here = e.fine (all_among (ends_here types texts fs f) over (λ z m. can z (ends_temporary types texts fs f s w.state made.grown h.stands.pends last before z m)))
+        ends_fine_here = e.fine (all_among (ends_here types texts fs f) ends (λ z m. can z (ends_temporary types texts fs f s w.state made.grown h.stands.pends last before z m)))
 
         all_fine : IsFine types texts fs f all_code
         all_fine =
@@ -338,35 +341,35 @@ module _ (a : Around) (types : Types) (texts : ℕ) (fs : List Function) (f : Fu
         went : (k : List Known) → Knows f s.living k → More k → Leaves f in_loop (kept.living ++ y ∷ []) (take s.outside s.living) (flow types f (trees all_code) (Some k))
         went k knows more =
             let g = part.goes k (knows_alive types f a v s h k knows) more in
-            let mid : Knows f w.state.living (set_blank over g.after) = alive_knows types f there_first (set_blank over g.after) first.pending (ends_alive types texts fs f s w.state made.grown h.stands.pends last g.after g.alive) in
-            let blank : known_at g.after x ≡ known.Blank = sym (blank_beside over g.after x x_beside) ∙ blank_temporary a types texts fs f place t (inl worth) there_first (value_below there_first.types t worth) v first begun (set_blank over g.after) mid in
+            let mid : Knows f w.state.living (set_blank ends g.after) = alive_knows types f there_first (set_blank ends g.after) first.pending (ends_alive types texts fs f s w.state made.grown h.stands.pends last g.after g.alive) in
+            let blank : known_at g.after x ≡ known.Blank = sym (blank_beside ends g.after x x_beside) ∙ blank_temporary a types texts fs f place t (inl worth) there_first (value_below there_first.types t worth) v first begun (set_blank ends g.after) mid in
             let y_there : y < length g.after = omega (arith, g.alive.sized, new_below types f a setting.front v u l (its_local a u) there_kept second at built b) in
             let x_lower : x < y = omega (arith, length-append w.state.locals (temporary_local a types texts fs f place t (inl worth) w.state (value_below w.state.types t worth) ∷ [])) in
             let x_there : x < length g.after = omega (arith, y_there, x_lower) in
             let i : List Known = slice_set g.after x known.Ready in
             let y_within : y < length i = omega (arith, y_there, set_length g.after x known.Ready) in
             let j : List Known = slice_set i y known.Ready in
-            let sized_i : length (set_blank over i) ≡ length (slice_set (set_blank over g.after) x known.Ready) =
-            blank_length over i ∙ set_length g.after x known.Ready ∙ sym (blank_length over g.after) ∙ sym (set_length (set_blank over g.after) x known.Ready) in
-            let with_it : Knows f (w.state.living ++ x ∷ []) (set_blank over i) =
-            knows_same f (w.state.living ++ x ∷ []) (slice_set (set_blank over g.after) x known.Ready) (set_blank over i) sized_i (λ z. blank_set over g.after x z x_there x_beside)
-            (knows_temporary a types texts fs f place t (inl worth) there_first (value_below there_first.types t worth) v first begun (set_blank over g.after) mid) in
-            let sized_j : length (set_blank over j) ≡ length (slice_set (set_blank over i) y known.Ready) =
-            blank_length over j ∙ set_length i y known.Ready ∙ sym (blank_length over i) ∙ sym (set_length (set_blank over i) y known.Ready) in
-            let with_both : Knows f (kept.living ++ y ∷ []) (set_blank over j) =
-            knows_same f (kept.living ++ y ∷ []) (slice_set (set_blank over i) y known.Ready) (set_blank over j) sized_j (λ z. blank_set over i y z y_within y_beside)
-            (knows_new types f a setting.front v u l (its_local a u) there_kept second at built b (set_blank over i) with_it) in
+            let sized_i : length (set_blank ends i) ≡ length (slice_set (set_blank ends g.after) x known.Ready) =
+            blank_length ends i ∙ set_length g.after x known.Ready ∙ sym (blank_length ends g.after) ∙ sym (set_length (set_blank ends g.after) x known.Ready) in
+            let with_it : Knows f (w.state.living ++ x ∷ []) (set_blank ends i) =
+            knows_same f (w.state.living ++ x ∷ []) (slice_set (set_blank ends g.after) x known.Ready) (set_blank ends i) sized_i (λ z. blank_set ends g.after x z x_there x_beside)
+            (knows_temporary a types texts fs f place t (inl worth) there_first (value_below there_first.types t worth) v first begun (set_blank ends g.after) mid) in
+            let sized_j : length (set_blank ends j) ≡ length (slice_set (set_blank ends i) y known.Ready) =
+            blank_length ends j ∙ set_length i y known.Ready ∙ sym (blank_length ends i) ∙ sym (set_length (set_blank ends i) y known.Ready) in
+            let with_both : Knows f (kept.living ++ y ∷ []) (set_blank ends j) =
+            knows_same f (kept.living ++ y ∷ []) (slice_set (set_blank ends i) y known.Ready) (set_blank ends j) sized_j (λ z. blank_set ends i y z y_within y_beside)
+            (knows_new types f a setting.front v u l (its_local a u) there_kept second at built b (set_blank ends i) with_it) in
             let fills = filling_fills f (λ p. Aim p (Aimed (object_named x))) y i (aimed_filling f (object_named x) y i (record { local = x; uses = refl; below = x_lower; held = at_set g.after x known.Ready x_there })) y
             (reference_kept a types texts fs f setting.front u kept b target constant found wide) in
-            let ready : can_leave j over ≡ true =
-            ends_there over j (ends_apart types texts fs f s w.state made.grown h.stands.pends last)
+            let ready : can_leave j ends ≡ true =
+            ends_there ends j (ends_apart types texts fs f s w.state made.grown h.stands.pends last)
             (λ z m. ready_set i y z y_within (ready_set g.after x z x_there (g.alive.pending z (ends_pending types texts fs f s w.state made.grown h.stands.pends last z m)))) in
             subst (Leaves f in_loop (kept.living ++ y ∷ []) (take s.outside s.living))
-            (sym (falls_append types f made.code (code ++ e.code) k g.after (set_blank over j) g.falls
-            (falls_append types f code e.code g.after j (set_blank over j)
-            (falls_append types f brings aims g.after i j (falls begun g.after g.alive.sized g.gives blank) (falls_filling types f place (Aim (whole y) (Aimed (object_named x))) y i fills))
+            (sym (falls_append types f made.code (code ++ e.code) k (set_known known.Ready over g.after) (set_blank ends j) g.falls
+            (falls_append types f code e.code (set_known known.Ready over g.after) j (set_blank ends j)
+            (falls_append types f brings aims (set_known known.Ready over g.after) i j (falls begun part g.after g.alive.sized g.gives g.blank blank) (falls_filling types f place (Aim (whole y) (Aimed (object_named x))) y i fills))
             (e.falls j ready))))
-            (leaves_falling f in_loop (kept.living ++ y ∷ []) (take s.outside s.living) (set_blank over j) with_both)
+            (leaves_falling f in_loop (kept.living ++ y ∷ []) (take s.outside s.living) (set_blank ends j) with_both)
 
         -- the reference is aimed at the temporary, which stands
         aims_apart : Apart f kept (with_new l kept) (trees aims)
@@ -381,14 +384,17 @@ module _ (a : Around) (types : Types) (texts : ℕ) (fs : List Function) (f : Fu
             })
 
         known_apart : (k : List Known) → Knows f s.living k → More k → Apart f s finished (trees all_code)
-        known_apart k knows more =
+        known_apart k knows more under =
             let g = part.goes k (knows_alive types f a v s h k knows) more in
-            let mid : Knows f w.state.living (set_blank over g.after) = alive_knows types f there_first (set_blank over g.after) first.pending (ends_alive types texts fs f s w.state made.grown h.stands.pends last g.after g.alive) in
-            let blank : known_at g.after x ≡ known.Blank = sym (blank_beside over g.after x x_beside) ∙ blank_temporary a types texts fs f place t (inl worth) there_first (value_below there_first.types t worth) v first begun (set_blank over g.after) mid in
-            codes_apart f s w.state finished made.code (code ++ e.code) g.apart
-            (codes_apart f w.state (with_new l kept) finished code e.code
-            (codes_apart f w.state kept (with_new l kept) brings aims (apart begun part.typed g.after g.alive g.gives blank) aims_apart)
-            (e.apart (with_new l kept) finished (omega arith) (λ z o. elim o [ inl m ↦ inl (inl m) | inr m ↦ inl (inr (among_take (length s.pending) w.state.pending z m)) ])))
+            let mid : Knows f w.state.living (set_blank ends g.after) = alive_knows types f there_first (set_blank ends g.after) first.pending (ends_alive types texts fs f s w.state made.grown h.stands.pends last g.after g.alive) in
+            let blank : known_at g.after x ≡ known.Blank = sym (blank_beside ends g.after x x_beside) ∙ blank_temporary a types texts fs f place t (inl worth) there_first (value_below there_first.types t worth) v first begun (set_blank ends g.after) mid in
+            handed_apart types texts fs f over given s w.state (with_new l kept) finished made.code code e.code under
+            (λ z m. named z (subst (Among z) (parts_of given_spot brings aims ∙ append-nil (given_of (trees brings))) m)) (g.apart under)
+            (λ first. let one = apart begun part.typed g.after g.alive g.gives blank first in
+            subst (λ (xs : List ℕ). AreApart f w.state (with_new l kept) xs given) (sym (parts_of looked_spot brings aims))
+            (subst (AreApart f w.state (with_new l kept) (looked_of (trees brings) ++ looked_of (trees aims))) (append-nil given)
+            (apart_then f w.state kept (with_new l kept) (looked_of (trees brings)) given (looked_of (trees aims)) [] first one (aims_apart one.below))))
+            (e.apart (with_new l kept) finished (omega arith) (λ z o. elim o [ inl m ↦ inl (inl m) | inr m ↦ inl (inr (among_take (length s.pending) w.state.pending z m)) ]))
 
         acting : ActingUnder types texts fs f More in_loop s finished all_code
         acting =
@@ -417,16 +423,18 @@ module _ (a : Around) (types : Types) (texts : ℕ) (fs : List Function) (f : Fu
       bound_under = subst (DoesUnder types texts fs f More a (with_next v) in_loop s) (sym finished_is) finished_does
 
   -- .. behind nothing
-  module _ {A : Type 0} (w : Gives A) (Q : Gift types texts fs f A) (made : Makes types texts fs f None s w Q) where
+  module _ {A : Type 0} (w : Gives A) (Q : Gift types texts fs f A) (over : List ℕ) (made : HandingAlone types texts fs f over s w Q) where
     abbrev its_kept : State
     its_kept = with_temporary a types texts fs f place t (inl worth) w.state (value_below w.state.types t worth)
 
     pub bound_does : (brings : List Tree) → (Begins types f its_kept → Q.typed w.given → IsFine types texts fs f brings)
-        → (Begins types f its_kept → (k : List Known) → length k ≡ length f.locals → Q.ready w.given (length w.state.locals) k → known_at k (length w.state.locals) ≡ known.Blank → Falls types f brings k (slice_set k (length w.state.locals) known.Ready))
-        → (Begins types f its_kept → Q.typed w.given → (k : List Known) → Alive f w.state k → Q.ready w.given (length w.state.locals) k → known_at k (length w.state.locals) ≡ known.Blank → Apart f w.state its_kept (trees brings))
+        → (Begins types f its_kept → RunsHanding types texts fs f (nothing types texts fs f) tt over s w Q made.code → (k : List Known) → length k ≡ length f.locals → Q.ready w.given (length w.state.locals) k
+        → ((z : ℕ) → Among z over → known_at k z ≡ known.Blank) → known_at k (length w.state.locals) ≡ known.Blank → Falls types f brings (set_known known.Ready over k) (slice_set k (length w.state.locals) known.Ready))
+        → (given : List ℕ) → ((z : ℕ) → Among z (given_of (trees brings)) → Among z given ⊎ Among z over)
+        → (Begins types f its_kept → Q.typed w.given → (k : List Known) → Alive f w.state k → Q.ready w.given (length w.state.locals) k → known_at k (length w.state.locals) ≡ known.Blank → IsBelow w.state → AreApart f w.state its_kept (looked_of (trees brings)) given)
         → Does types texts fs f a (with_next v) in_loop s (end_pending (length s.pending) last
         (with_code (w.state.code ++ (brings ++ Act place (Aim (whole (length its_kept.locals)) (Aimed (object_named (length w.state.locals)))) ∷ [])) (with_new (variable_local a u) its_kept)))
-    bound_does brings fine falls apart =
+    bound_does brings fine falls given named apart =
         does_plain types texts fs f a (with_next v) in_loop s (end_pending (length s.pending) last
         (with_code (w.state.code ++ (brings ++ Act place (Aim (whole (length its_kept.locals)) (Aimed (object_named (length w.state.locals)))) ∷ [])) (with_new (variable_local a u) its_kept)))
-        (bound_under (nothing types texts fs f) tt w Q made brings fine falls apart (λ b. tt) (λ b living k knows. (k, knows, tt)))
+        (bound_under (nothing types texts fs f) tt w Q over made brings fine falls given named apart (λ b. tt) (λ b living k knows. (k, knows, tt)))

@@ -37,7 +37,7 @@ pub record IsCallee (types : Types) (fs : List Function) (g : ℕ) (of : Functio
 -- ---- a call is ready where its arguments are there
 
 -- an object is born with the result, and a register written
-one_local : (object : Bool) (x : ℕ) → cond object (x ∷ []) [] ++ cond object [] (x ∷ []) ≡ x ∷ []
+pub one_local : (object : Bool) (x : ℕ) → cond object (x ∷ []) [] ++ cond object [] (x ∷ []) ≡ x ∷ []
 one_local true x = refl
 one_local false x = refl
 

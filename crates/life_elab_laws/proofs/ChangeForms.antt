@@ -40,7 +40,7 @@ use Rattle.life_elab_laws.proofs.ChangeSteps.{Takes, changes_part, push_takes}
 use Rattle.life_elab_laws.proofs.ExpressionForms.{Standing}
 use Rattle.life_elab_laws.proofs.Gifts.{a_number, a_place, both, nothing as no_gift, IsPlaceOf}
 use Rattle.life_elab_laws.proofs.GivenKinds.{taken_number}
-use Rattle.life_elab_laws.proofs.ObjectForms.{IsObject}
+use Rattle.life_elab_laws.proofs.ObjectForms.{IsOwner}
 use Rattle.life_elab_laws.proofs.Parts.{Makes, and_part, then_part}
 use Rattle.life_elab_laws.proofs.PointerForms.{own_typed}
 use Rattle.life_elab_laws.proofs.Setting.{Setting}
@@ -48,7 +48,7 @@ use Rattle.life_elab_laws.proofs.TypedKinds.{none_some}
 use Rattle.life_elab_laws.proofs.VariablePlaces.{stands_later}
 use Rattle.life_elab_laws.proofs.ViewForms.{gives_as, IsAnswer}
 use Rattle.life_elab_laws.proofs.PushedElements.{AreGiving, given_pushed, giving_number}
-use Rattle.life_elab_laws.proofs.FreeObjects.{object_part}
+use Rattle.life_elab_laws.proofs.FreeObjects.{owner_part}
 
 -- what isn't const may be changed
 pub no_const : (b : Bool) → ◌≡◌ {A = Option IllKind} (const_or b None) None → b ≡ false
@@ -63,7 +63,7 @@ module _ (a : Around) (visible : List ℕ) (types : Types) (texts : ℕ) (fs : L
   abbrev Writes : State → State → Type 0
   Writes s s' = Makes types texts fs f None s (gives tt s') (no_gift types texts fs f)
 
-  module _ (base : Form) (is : IsObject a visible types texts fs f setting base) (free : is.constant ≡ false) where
+  module _ (base : Form) (is : IsOwner a visible types texts fs f setting base) (free : is.constant ≡ false) where
     abbrev object : State → Gives Operand
     object s = operand (uses a base) s
 
@@ -72,7 +72,7 @@ module _ (a : Around) (visible : List ℕ) (types : Types) (texts : ℕ) (fs : L
     changed_part place c s change takes stands =
         let o = object s in
         let P = a_place types texts fs f is.ty false in
-        then_part types texts fs f (no_gift types texts fs f) tt None s o _ P (no_gift types texts fs f) stands.opened (object_part a visible types texts fs f setting base is free s stands)
+        then_part types texts fs f (no_gift types texts fs f) tt None s o _ P (no_gift types texts fs f) stands.opened (owner_part a visible types texts fs f setting base is free s stands)
         (changes_part types texts fs f P o.given is.ty o.given c [] place o.state (λ h. (h, change, takes)) (λ n k q. (q, tt)))
 
     -- .. and one that takes a number
@@ -85,7 +85,7 @@ module _ (a : Around) (visible : List ℕ) (types : Types) (texts : ℕ) (fs : L
         let n = number o.state in
         let P = a_place types texts fs f is.ty false in
         let Q = a_number types texts fs f t in
-        let first = object_part a visible types texts fs f setting base is free s stands in
+        let first = owner_part a visible types texts fs f setting base is free s stands in
         then_part types texts fs f (no_gift types texts fs f) tt None s (gives (o.given, n.given) n.state) _ (both types texts fs f P Q) (no_gift types texts fs f) stands.opened
         (and_part types texts fs f (no_gift types texts fs f) tt s o n P Q stands.opened first (second o.state (stands_later a visible s o.state first.grown stands)))
         (changes_part types texts fs f (both types texts fs f P Q) (o.given, n.given) is.ty o.given (change n.given) (n.given ∷ []) place n.state
@@ -111,7 +111,7 @@ module _ (a : Around) (visible : List ℕ) (types : Types) (texts : ℕ) (fs : L
         go (ty.Vector item) at o taken =
             let to = object s in
             let P = a_place types texts fs f is.ty false in
-            let first = object_part a visible types texts fs f setting base is free s stands in
+            let first = owner_part a visible types texts fs f setting base is free s stands in
             then_part types texts fs f (no_gift types texts fs f) tt None s to _ P (no_gift types texts fs f) stands.opened first
             (given_pushed a visible types texts fs f setting P to.given to.given (λ n k q. q) item (λ h. subst (λ (u : Ty). IsPlaceOf types texts fs f u false to.given) at h) o x (behind_first d) place to.state givings.0 taken
             (stands_later a visible s to.state first.grown stands))
@@ -143,13 +143,13 @@ module _ (a : Around) (visible : List ℕ) (types : Types) (texts : ℕ) (fs : L
       ∙ ap (λ (g : Form). (uses a (typed e.place (Of ty.Void) category.Value g)).alone s) same))
       writes
 
-  pub change_part : (base : Form) (m : Method) (given : Form) (d : DelimitersForm) (e : Typed) (behind : Place) (s : State) → e.form ≡ method base m given d → IsObject a visible types texts fs f setting base
+  pub change_part : (base : Form) (m : Method) (given : Form) (d : DelimitersForm) (e : Typed) (behind : Place) (s : State) → e.form ≡ method base m given d → IsOwner a visible types texts fs f setting base
       → AreGiving a visible types texts fs f setting given → is_changing m ≡ true → IsCalled a.program.types (typed_in base).ty (typed_in base).category m given e → Standing a visible types texts fs f setting s
       → Writes s (thrown e.category (uses a (whole_form e)) behind s)
   change_part base m given d e behind s same is givings changing h stands = go is.ty refl is.owner m same changing (subst (λ (x : ExprType). IsCalled a.program.types x (typed_in base).category m given e) is.is h)
     where
       free : const_or (is_constant (typed_in base).category) None ≡ None → is.constant ≡ false
-      free none = sym (ap is_constant is.place) ∙ no_const (is_constant (typed_in base).category) none
+      free none = sym is.told ∙ no_const (is_constant (typed_in base).category) none
 
       alone : (m : Method) → e.form ≡ method base m given d → IsAnswer (Of ty.Void, category.Value) e → Writes s ((uses a (typed e.place (Of ty.Void) category.Value (method base m given d))).alone s) → Writes s (thrown e.category (uses a (whole_form e)) behind s)
       alone m same c writes = alone_written (method base m given d) e behind s same c writes

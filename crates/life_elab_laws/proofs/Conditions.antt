@@ -25,11 +25,12 @@ use Rattle.life_writer.specs.Writing.{Gives, State, taken, with_code}
 use Rattle.life_writer.specs.declared.rows.Join.{Join}
 use Rattle.life_writer.specs.declared.rows.Join.TheVariants as join
 use Rattle.life_elab_laws.proofs.Among.{Among, among_take}
-use Rattle.life_elab_laws.proofs.Emitting.{IsNameless, Targets, keeps_set, targeted}
+use Rattle.life_elab_laws.proofs.BornLocals.{Bears, bears_then, codes_bear}
+use Rattle.life_elab_laws.proofs.Emitting.{IsNameless, Targets, keeps_set, nameless_no_object, targeted}
 use Rattle.life_elab_laws.proofs.Falling.{Decides, Falls, decides_asks, decides_behind, decides_both, decides_either, decides_negated, falls_acts, falls_choice, falls_append}
 use Rattle.life_elab_laws.proofs.Gifts.{Gift, a_number, a_pointer, nothing}
 use Rattle.life_elab_laws.proofs.GivenApart.{Apart, alone_apart, codes_apart, none_apart, same_apart, three_apart, trees_apart}
-use Rattle.life_elab_laws.proofs.Growing.{Begins, Grows, bare, begins_before, grows_then}
+use Rattle.life_elab_laws.proofs.Growing.{Begins, Grows, bare, begins_before, grows_none, grows_then}
 use Rattle.life_elab_laws.proofs.Held.{one_there}
 use Rattle.life_elab_laws.proofs.Instructions.{IsIntoOf, into_of_later, is_constant, is_into, target_number}
 use Rattle.life_elab_laws.proofs.Knowledge.{agreed_length, at_agreed, at_set}
@@ -43,7 +44,7 @@ use Rattle.life_elab_laws.proofs.StillThere.{alive_agreed, alive_grown, alive_se
 use Rattle.life_elab_laws.proofs.PendingTemporaries.{ArePending, IsTemporary}
 use Rattle.life_elab_laws.proofs.TemporaryEnds.{TemporariesEnd}
 use Rattle.life_elab_laws.proofs.Ending.{set_blank}
-use Rattle.life_core.specs.Kinds.{has_kind, is_register, is_register_at}
+use Rattle.life_core.specs.Kinds.{has_kind, is_object_at, is_register, is_register_at}
 use Rattle.life_types.specs.declared.ty.Ty.TheVariants as ty
 
 -- a place where temporaries end
@@ -64,6 +65,8 @@ module _ (types : Types) (texts : ℕ) (fs : List Function) (f : Function) where
     pub alive_off : Alive f s' off
     -- what it gives over is new, and nothing looks at it
     pub apart : Apart f s s' t
+    -- .. and what it brings to life or writes is new, or stood before
+    pub bears : Bears f s t
 
   abbrev pub Asked : State → State → Tree → List Known → Type 0
   Asked s s' t k = AskedBare (bare s) (bare s') t k
@@ -131,6 +134,7 @@ module _ (types : Types) (texts : ℕ) (fs : List Function) (f : Function) where
             alive_on = g.alive;
             alive_off = g.alive;
             apart = trees_apart f s w.state w.state (trees made.code) (Asks place (test w.given)) g.apart (same_apart f w.state w.state refl refl refl);
+            bears = bears_then f s w.state (trees made.code) (Asks place (test w.given)) made.grown g.bears (λ x object m. absurd m);
           };
         }
 
@@ -179,6 +183,9 @@ module _ (types : Types) (texts : ℕ) (fs : List Function) (f : Function) where
                         (codes_apart f s w.state after made.code end_code g.apart
                         ((ending_is types texts fs f s w.state made.grown before token).apart w.state after (omega arith) (λ x o. elim o [ inl m ↦ inl (inl m) | inr m ↦ inl (inr (among_take (length s.pending) w.state.pending x m)) ])))
                         (same_apart f after after refl refl refl);
+                    bears =
+                        bears_then f s after (trees (made.code ++ end_code)) (Asks place (test w.given)) (behind_grows types texts fs f s w.state made.grown before token)
+                        (codes_bear f s w.state made.code end_code made.grown g.bears ((ending_is types texts fs f s w.state made.grown before token).bears w.state)) (λ x object m. absurd m);
                   }
 
     pub tested_part : (ends : Option Place) → ArePending s → TemporariesEnd types texts fs f → Tests ends s (behind_code place (test w.given) (taken s (end_tested (length s.pending) ends w.state)))
@@ -238,6 +245,7 @@ module _ (types : Types) (texts : ℕ) (fs : List Function) (f : Function) where
         alive_on = g.alive_off;
         alive_off = g.alive_on;
         apart = g.apart;
+        bears = g.bears;
       };
     };
   }
@@ -271,6 +279,7 @@ module _ (types : Types) (texts : ℕ) (fs : List Function) (f : Function) where
           alive_on = h.alive_on;
           alive_off = alive_agreed f (right (left s).state).state g.off h.off (alive_grown f (left s).state (right (left s).state).state g.off level_right second.grown g.alive_off) h.alive_off;
           apart = trees_apart f s (left s).state (right (left s).state).state (left s).given (right (left s).state).given g.apart h.apart;
+          bears = bears_then f s (left s).state (left s).given (right (left s).state).given first.grown g.bears h.bears;
         }
 
     either_asked : (k : List Known) → Asked s (left s).state (left s).given k → AsksAll (left s).state (right (left s).state).state (right (left s).state).given → Asked s (right (left s).state).state (Either (left s).given (right (left s).state).given) k
@@ -285,6 +294,7 @@ module _ (types : Types) (texts : ℕ) (fs : List Function) (f : Function) where
           alive_on = alive_agreed f (right (left s).state).state g.on h.on (alive_grown f (left s).state (right (left s).state).state g.on level_right second.grown g.alive_on) h.alive_on;
           alive_off = h.alive_off;
           apart = trees_apart f s (left s).state (right (left s).state).state (left s).given (right (left s).state).given g.apart h.apart;
+          bears = bears_then f s (left s).state (left s).given (right (left s).state).given first.grown g.bears h.bears;
         }
 
     pub both_part : (ends : Option Place) → Tests ends s (joined Both left right s)
@@ -361,6 +371,17 @@ module _ (types : Types) (texts : ℕ) (fs : List Function) (f : Function) where
           size : (k j : List Known) → Alive f s k → Keeps f (length s.locals) None k j → w.given < length j
           size k j alive keeps = omega (arith, keeps.sized, alive.sized, slice_get_within f.locals w.given is.local is.there)
 
+          -- an answer is written to the register
+          answer_bears : (n : ℤ) → Bears f (condition s).state (answer place n w.given)
+          answer_bears n x object m = elim m [ inl e ↦ absurd (false≢true (sym (nameless_no_object f w.given is) ∙ ap (is_object_at f) e ∙ object)) | inr none ↦ absurd none ]
+
+          answers_bear : Bears f s (condition s).given → Bears f s (trees (chosen w.given ∷ []))
+          answers_bear asked =
+              bears_then f s w.state (chosen w.given) (trees []) (grows_then s (condition s).state w.state test.grown target.grown)
+              (bears_then f s (condition s).state (condition s).given (Then (answer place (pos 1) w.given) (answer place (pos 0) w.given)) test.grown asked
+              (bears_then f (condition s).state (condition s).state (answer place (pos 1) w.given) (answer place (pos 0) w.given) (grows_none (condition s).state) (answer_bears (pos 1)) (answer_bears (pos 0))))
+              (λ x object m. absurd m)
+
           there : (j : List Known) → Alive f (condition s).state j → Alive f w.state (slice_set j w.given known.Ready)
           there j alive = alive_set f w.state j w.given is (alive_grown f (condition s).state w.state j target.level target.grown alive)
 
@@ -383,6 +404,7 @@ module _ (types : Types) (texts : ℕ) (fs : List Function) (f : Function) where
                 (three_apart f s (condition s).state w.state w.state (condition s).given (answer place (pos 1) w.given) (answer place (pos 0) w.given) g.apart
                 (none_apart f (condition s).state w.state target.grown.count (λ x o. elim o [ inl m ↦ inl (inl (subst (Among x) target.grown.living m)) | inr m ↦ inl (inr (subst (Among x) target.level m)) ]))
                 (same_apart f w.state w.state refl refl refl));
+            bears = answers_bear g.bears;
           }
 
       made : (w : Gives ℕ) → Targets types f into (condition s).state w → (Begins types f w.state → is_number_of types f t w.given ≡ true) → Makes types texts fs f into s (branched place (condition s).given w.given w.state) (a_number types texts fs f t)

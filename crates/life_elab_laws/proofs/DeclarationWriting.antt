@@ -1,5 +1,5 @@
 -- What is written for a declaration is ready and well formed: the variable lives, and is given what typing lets it be given.
-use Rattle.std.proofs.Common.{◌≡◌, ◌<◌, ℕ, Bool, true, false, ◌&&◌, ◌||◌, cond, not, List, [], ◌∷◌, ◌++◌, Contains, length, slice_get, Option, Some, None, refl, sym, ap, ◌∙◌, subst, unwrap_or, arith, append_assoc, inl, inr, nat_lt}
+use Rattle.std.proofs.Common.{◌≡◌, ◌<◌, ℕ, Bool, true, false, ◌&&◌, ◌||◌, cond, not, List, [], ◌∷◌, ◌++◌, Contains, length, slice_get, Option, Some, None, refl, sym, ap, ◌∙◌, subst, unwrap_or, arith, append_assoc, inl, inr, nat_lt, flat_map}
 use Rattle.std.proofs.lemmas.Bool.{and_parts, false≢true, or_cases, and_from}
 use Rattle.std.specs.List.{list_all}
 use Rattle.life_served.specs.Served.{is_owner_of_values, is_owner_type, is_served_declaration, is_served_declared, is_served_expression, is_served_initial, is_served_owned, is_served_owner, is_served_variable, is_served_walker, is_walker, is_walker_of_values, owns_elements, is_served_owning, are_served_elements, is_element, is_target, takes_list, takes_owner, fills_owner}
@@ -28,7 +28,7 @@ use Rattle.life_core.specs.Tree.{Tree, Acts, trees}
 use Rattle.life_core.specs.declared.instr.Form.TheVariants.{Plain}
 use Rattle.life_proper.specs.declared.known.Known.{Known}
 use Rattle.life_proper.specs.declared.known.Known.TheVariants as known
-use Rattle.life_proper.specs.GivenOver.{given_step}
+use Rattle.life_proper.specs.GivenOver.{given_step, given_argument}
 use Rattle.life_proper.specs.Knowing.{known_at}
 use Rattle.life_proper.specs.OperandTypes.{is_range, keeps_const, same, takes, is_owner}
 use Rattle.life_proper.specs.WellFormed.{can_live, goes_to, is_source_of, is_change_of}
@@ -54,22 +54,20 @@ use Rattle.life_elab.specs.DeclarationForms.{declared, declared_as, default_to, 
 use Rattle.life_elab.specs.Declarations.{variable as home}
 use Rattle.life_writer.proofs.Called.{call_for_seen, calling}
 use Rattle.life_elab_laws.proofs.Aiming.{pointed_fills, pointed_fine, literal_given}
-use Rattle.life_elab_laws.proofs.CallParts.{called_fine}
-use Rattle.life_elab_laws.proofs.Calls.{born_fills}
-use Rattle.life_elab_laws.proofs.Declaring.{declared_does, its_local, new_below, new_none, new_then, with_new}
+use Rattle.life_elab_laws.proofs.Declaring.{declared_does, its_local, new_below, new_none, new_then, with_new, handed_declared}
 use Rattle.life_elab_laws.proofs.Doing.{Does}
 use Rattle.life_elab_laws.proofs.ExpressionKinds.{variable_built}
 use Rattle.life_elab_laws.proofs.ExpressionForms.{IsWhole}
 use Rattle.life_elab_laws.proofs.ExpressionTypes.{answer_own, seen_kind}
-use Rattle.life_elab_laws.proofs.Expressions.{owner_expression, walker_expression, whole_expression, givings}
+use Rattle.life_elab_laws.proofs.Expressions.{owner_expression, walker_expression, whole_expression, givings, whole_if_any}
 use Rattle.life_elab_laws.proofs.PointerForms.{points_whole, result_later}
 use Rattle.life_elab_laws.proofs.GivenKinds.{given_number, given_pointer, given_view}
 use Rattle.life_elab_laws.proofs.Falling.{Fills, falls_filling}
 use Rattle.life_elab_laws.proofs.Following.{Follows, follows_settled, same_variable, settled}
 use Rattle.life_elab_laws.proofs.Filling.{aimed_filling, filling_fills, text_filling}
 use Rattle.life_elab_laws.proofs.FormedFits.{IsBound, IsBoundTo, at_place, by_temporary, given_bound, given_raw, given_seen, given_owner, given_string, given_vector, given_walker}
-use Rattle.life_elab_laws.proofs.Gifts.{a_number, a_place, a_pointer, a_pointing, arguments, both, Gift, nothing, takes_from}
-use Rattle.life_elab_laws.proofs.GivenApart.{given_of, looked_of, step_apart}
+use Rattle.life_elab_laws.proofs.Gifts.{a_number, a_place, a_pointer, a_pointing, both, Gift, nothing, takes_from, all_handed}
+use Rattle.life_elab_laws.proofs.GivenApart.{given_of, looked_of, step_apart, AreApart}
 use Rattle.life_elab_laws.proofs.Fronts.{front_append}
 use Rattle.life_elab_laws.proofs.Growing.{Begins, Grows}
 use Rattle.life_elab_laws.proofs.KeptTemporaries.{temporary_does}
@@ -82,7 +80,7 @@ use Rattle.life_elab_laws.proofs.Shaping.{fine_acts, fine_append, is_no_object, 
 use Rattle.life_elab_laws.proofs.TypedKinds.{none_some, value_simple}
 use Rattle.life_elab_laws.proofs.Types.{same_types}
 use Rattle.life_elab_laws.proofs.Values.{by_values}
-use Rattle.life_elab_laws.proofs.MadeForms.{Builds, BuildsIn, gift_of, is_made, IsMade, IsOwning, owning_owner, stands_there}
+use Rattle.life_elab_laws.proofs.MadeForms.{Builds, BuildsIn, gift_of, is_made, IsMade, IsOwning, owning_owner, stands_there, one_new}
 use Rattle.life_elab_laws.proofs.VariablePlaces.{a_raw, a_reference, a_unique, a_value, a_view, a_walker, an_alias, an_owner, IsVariableType, owner_is, variable_type, walker_is}
 use Rattle.life_elab_laws.proofs.ObjectForms.{IsObject, IsOwner, other_number}
 use Rattle.life_elab_laws.proofs.MovedOwners.{IsMovedFrom, given_moved, moved_from_variable, moved_kind, moved_out_part, moved_plain}
@@ -116,7 +114,8 @@ use Rattle.life_elab_laws.proofs.UniqueMaking.{IsOwnedBy, made_as}
 use Rattle.life_core.specs.declared.instr.Made.{Made}
 use Rattle.life_core.specs.declared.instr.Made.TheVariants as owning
 use Rattle.life_elab_laws.proofs.UniqueForms.{owner_no_unique, walker_no_unique}
-use Rattle.life_elab_laws.proofs.MoveSteps.{owner_moves}
+use Rattle.life_elab_laws.proofs.HandedArguments.{Hands}
+use Rattle.life_elab_laws.proofs.HandingCalls.{born_falls, born_fine, born_looks, born_named}
 
 module _ (a : Around) (types : Types) (texts : ℕ) (fs : List Function) (f : Function) (setting : Setting a types fs f) (v : Visible) (in_loop : Bool) where
   module _ (u : TypedLocal) (s : State) (h : Follows types f a v s) (at : slice_get a.function.locals v.declared ≡ Some u) (built : is_served_variable a.program.types u.ty ≡ true) (last : Place) where
@@ -163,7 +162,10 @@ module _ (a : Around) (types : Types) (texts : ℕ) (fs : List Function) (f : Fu
         (made.act u.place (object_named (length w.state.locals)))
         (λ b. owner_lives a types texts fs f setting.front u w.state b t is o)
         (λ b. owner_declared a types texts fs f setting.front u w.state b t is o)
-        (made.acts u.place (object_named (length w.state.locals)) (emit u.place (Live (length w.state.locals) made.form) (with_new (variable_local a u) w.state))))
+        (λ stands.
+        made.acts u.place (object_named (length w.state.locals)) (emit u.place (Live (length w.state.locals) made.form) (with_new (variable_local a u) w.state)) stands
+        (λ n c. same_variable types f w.state (with_new (variable_local a u) w.state) n (front_append w.state.variables (length w.state.locals ∷ [])) (omega (arith, h.visible n c, h.count, ap length made.part.grown.variables)))
+        (one_new a v.visible types texts fs f setting s (length w.state.locals) made.part.grown.count)))
 
     -- ---- an object
 
@@ -204,16 +206,19 @@ module _ (a : Around) (types : Types) (texts : ℕ) (fs : List Function) (f : Fu
 
     -- a call, where it gives the variable's type
     called_does : (t : Ty) → slice_get a.program.types.types u.ty.0 ≡ Some t → is_value t ≡ true → (g : ℕ) (of : FunctionForm) (place : Place) → slice_get a.program.functions g ≡ Some of
-        → ty_of types of.result ≡ type_of a u.ty → (w : Gives (List Argument)) → Makes types texts fs f None s w (arguments types texts fs f (parameter_types (Some of)))
+        → ty_of types of.result ≡ type_of a u.ty → (w : Gives (List Argument)) → Hands types texts fs f (parameter_types (Some of)) s w
         → Born (emit place (called g w.given (whole (length w.state.locals))) (with_new (variable_local a u) w.state))
-    called_does t is worth g of place there same w made =
+    called_does t is worth g of place there same w hands =
         let x = length w.state.locals in
         let callee = setting.callees g of there in
-        filled_does place w (arguments types texts fs f (parameter_types (Some of))) (called g) made
+        handed_declared types texts fs f a setting.front v in_loop can last u s w (all_handed types texts fs f (parameter_types (Some of))) (Acts place (called g w.given (whole x)) ∷ []) h at built (flat_map given_argument w.given) hands
         (λ b q.
-        called_fine types texts fs f g w.given of x callee q
+        born_fine types texts fs f g of callee s w hands x place q
         (ap (λ (r : Ty). goes_to types texts fs f r (Some (whole x))) same ∙ value_goes a types texts fs f setting.front u w.state b (ap is_value (type_is t is) ∙ worth)))
-        (λ b k q blank. born_fills f g (parameter_types (Some of)) w.given x k q x blank)
+        (λ b r k size q blank born. born_falls types texts fs f g of callee s w hands x place r k q blank born (λ m. let lt = hands.below x m in omega (arith, lt)))
+        [] (born_named types texts fs f g of callee s w hands x place)
+        (λ b q k alive r blank under.
+        subst (λ (xs : List ℕ). AreApart f w.state (with_new (variable_local a u) w.state) xs []) (sym (born_looks types texts fs f g of callee s w hands x place k r)) (new_none f (variable_local a u) w.state under))
 
     -- ---- a reference
 
@@ -480,13 +485,13 @@ module _ (a : Around) (types : Types) (texts : ℕ) (fs : List Function) (f : Fu
           makes_part types texts fs f setting.registers (both types texts fs f Q (a_place types texts fs f (ty.Unique target) false)) (w.given, object_named (length w.state.locals)) target what used (length w.state.locals) place
           (emit u.place (Live (length w.state.locals) Plain) (with_new (variable_local a u) w.state)) (λ q. (q.1, fits q.0)) (λ n k q. (q.1, ready n k q.0)))
 
-      null_does : (target : TyId) → slice_get a.program.types.types u.ty.0 ≡ Some (ty.Unique target) → is_value (type_at a.program.types target) ≡ true → e.form ≡ null → e.category ≡ category.Value → Born (GivenThis (ty.Unique target))
+      null_does : (target : TyId) → slice_get a.program.types.types u.ty.0 ≡ Some (ty.Unique target) → is_element a.program.types (type_at a.program.types target) ≡ true → e.form ≡ null → e.category ≡ category.Value → Born (GivenThis (ty.Unique target))
       null_does target is worth same held =
           subst Born (sym (ap (λ (c : Category). (object_by c (uses a (whole_form e)).at (uses a (whole_form e)).object s >> λ rest s. rest (home a u) s).state) held
           ∙ ap (λ (g : Form). ((uses a (typed e.place e.ty e.category g)).object s >> λ rest s. rest (home a u) s).state) same))
           (filled_unique target is (gives tt s) (nothing types texts fs f) (leaf_part types texts fs f tt s (nothing types texts fs f) (λ b. tt) (λ b k alive. tt)) u.place owning.Null [] (λ q. null_fits types texts fs f setting.registers target) (λ n k q. tt))
 
-      unique_made_does : (target : TyId) → slice_get a.program.types.types u.ty.0 ≡ Some (ty.Unique target) → is_value (type_at a.program.types target) ≡ true → (id : TyId) (argument : Form) (closing : Place) → e.form ≡ make_unique id argument closing → e.category ≡ category.Value
+      unique_made_does : (target : TyId) → slice_get a.program.types.types u.ty.0 ≡ Some (ty.Unique target) → is_element a.program.types (type_at a.program.types target) ≡ true → (id : TyId) (argument : Form) (closing : Place) → e.form ≡ make_unique id argument closing → e.category ≡ category.Value
           → IsOwnedBy a v.visible types texts fs f setting target id argument closing → Born (GivenThis (ty.Unique target))
       unique_made_does target is worth id argument closing same held owned =
           let w = owned_operand (type_of a id) (uses_if a argument) closing s in
@@ -575,16 +580,6 @@ module _ (a : Around) (types : Types) (texts : ℕ) (fs : List Function) (f : Fu
             string_only ty.Text is o fits held = as_type ty.Text is (literal_does e he behind n same few is held)
             string_only (ty.Vector item) is o fits held = absurd (false≢true fits)
             string_only _ is o fits held = absurd (false≢true o)
-        owner_filled_does p (move x) same few made (a_value t is w) = no_literal t is (by_values (λ t. owns_elements t ≡ false) refl refl refl refl refl t w) p
-        owner_filled_does p (move x) same few made (a_raw target constant is w) = no_literal (ty.Raw target constant) is refl p
-        owner_filled_does p (move x) same few made (a_reference target constant is w) = no_literal (ty.Reference target constant) is refl p
-        owner_filled_does p (move x) same few made (an_alias target constant is o) = no_literal (ty.Reference target constant) is refl p
-        owner_filled_does p (move x) same few made (a_unique target is w) = no_literal (ty.Unique target) is refl p
-        owner_filled_does p (move x) same few made (a_view is) = no_literal ty.View is refl p
-        owner_filled_does p (move x) same few made (a_walker t is w) = no_literal t is (walker_is a.program.types t w).owner p
-        owner_filled_does p (move x) same few made (an_owner t is o) =
-            let told : IsMadeOf a.program a.function.locals v.visible e (move x) = subst (IsMadeOf a.program a.function.locals v.visible e) same made in
-            as_type t is (moved_does e he behind x told.0 (moved_from_variable a v.visible types texts fs f setting x e told.1) same t is (owner_moves a.program.types t o) (as_given t is))
         owner_filled_does p _ same few made kind = absurd (false≢true few)
 
         no_unique : (t : Ty) → slice_get a.program.types.types u.ty.0 ≡ Some t → is_unique t ≡ false → is_unique (type_of a u.ty) ≡ true → Born (GivenThis e he behind (type_of a u.ty))
@@ -604,7 +599,7 @@ module _ (a : Around) (types : Types) (texts : ℕ) (fs : List Function) (f : Fu
             by null same fills told = null_does e he behind target is w same told.1
             by (make_unique id argument closing) same fills told =
                 unique_made_does e he behind target is w id argument closing same (ap (λ (y : Typed). y.category) told.0)
-                (made_as a v.visible types texts fs f setting target w id argument closing e fills (as_given (ty.Unique target) is) told)
+                (made_as a v.visible types texts fs f setting target w id argument closing e fills (as_given (ty.Unique target) is) told (whole_if_any a v.visible types texts fs f setting argument fills told.3))
             by (move x) same fills told =
                 moved_does e he behind x told.0 (moved_from_variable a v.visible types texts fs f setting x e told.1) same (ty.Unique target) is refl (as_given (ty.Unique target) is)
             by _ same fills told = absurd (false≢true fills)

@@ -32,14 +32,14 @@ use Rattle.life_elab_laws.proofs.Following.{Adds, Follows, IsLiving, may_end, ad
 use Rattle.life_elab_laws.proofs.FormedVariables.{reference_there}
 use Rattle.life_elab_laws.proofs.Fronts.{IsFront, front_append, front_itself, front_then, last_there}
 use Rattle.life_elab_laws.proofs.GivingBack.{fine_known}
-use Rattle.life_elab_laws.proofs.GivenApart.{Apart, AreApart, IsBelow, codes_apart, none_apart, one_more, then_opens}
+use Rattle.life_elab_laws.proofs.GivenApart.{Apart, AreApart, IsBelow, none_apart, one_more, then_opens, given_of, looked_of}
 use Rattle.life_elab_laws.proofs.Growing.{Begins, begins_before}
 use Rattle.life_elab_laws.proofs.Making.{Alive}
 use Rattle.life_elab_laws.proofs.SomeKnown.{some_known, some_knows}
 use Rattle.life_elab_laws.proofs.Knowledge.{at_set, beside_set, set_length, ready_set}
 use Rattle.life_elab_laws.proofs.Gifts.{Gift, nothing}
 use Rattle.life_elab_laws.proofs.OperandsThere.{object_there, type_there}
-use Rattle.life_elab_laws.proofs.Parts.{Makes, Part, Runs}
+use Rattle.life_elab_laws.proofs.Parts.{Makes, Part}
 use Rattle.life_elab_laws.proofs.Shaped.{named_lasts, target_there}
 use Rattle.life_elab_laws.proofs.Shaping.{IsFine, fine_append}
 use Rattle.life_elab_laws.proofs.Types.{value_kind}
@@ -51,10 +51,11 @@ use Rattle.life_elab_laws.proofs.EndSteps.{IsEnded, ended, ends_here}
 use Rattle.life_elab_laws.proofs.Ending.{blank_beside, blank_length, blank_set, ends_there, set_blank}
 use Rattle.life_elab_laws.proofs.TemporaryEnds.{TemporariesEnd}
 use Rattle.life_elab_laws.proofs.Under.{ActingUnder, DoesUnder, MayBeKnown, does_plain, leaves_under}
-use Rattle.life_proper.specs.ReadyKnown.{can_leave}
+use Rattle.life_proper.specs.ReadyKnown.{can_leave, set_known}
 use Rattle.life_types.specs.declared.place.Place.{Place}
 use Rattle.life_elab_laws.proofs.Targets.{owner_target, value_target}
 use Rattle.life_typed.specs.BaseTypes.{type_at}
+use Rattle.life_elab_laws.proofs.Handing.{Handing, RunsHanding, handed_apart, handing_none}
 
 take_before : (xs ys : List ℕ) → take (length xs) (xs ++ ys) ≡ xs
 take_before [] ys = refl
@@ -259,12 +260,14 @@ module _ (types : Types) (texts : ℕ) (fs : List Function) (f : Function) (a : 
   -- .. behind what gave y
   module _ {A B : Type 0} (v : Visible) (in_loop : Bool) (can : TemporariesEnd types texts fs f) (last : Place) (u : TypedLocal) (P : Gift types texts fs f B) (y : B) (s : State) (w : Gives A) (Q : Gift types texts fs f A) (code : List Tree)
       (h : Follows types f a v s) (at : slice_get a.function.locals v.declared ≡ Some u) (built : is_served_variable a.program.types u.ty ≡ true)
-      (made : Part types texts fs f P y None s w Q) (told : Begins types f (with_new (variable_local a u) w.state) → P.typed y)
+      (over : List ℕ) (made : Handing types texts fs f P y over s w Q) (told : Begins types f (with_new (variable_local a u) w.state) → P.typed y)
       (fine : Begins types f (with_new (variable_local a u) w.state) → Q.typed w.given → IsFine types texts fs f code)
-      (falls : Begins types f (with_new (variable_local a u) w.state) → (k : List Known) → length k ≡ length f.locals → Q.ready w.given (length w.state.locals) k → known_at k (length w.state.locals) ≡ known.Blank
-      → Falls types f code k (slice_set k (length w.state.locals) known.Ready))
+      (falls : Begins types f (with_new (variable_local a u) w.state) → RunsHanding types texts fs f P y over s w Q made.code → (k : List Known) → length k ≡ length f.locals → Q.ready w.given (length w.state.locals) k
+      → ((z : ℕ) → Among z over → known_at k z ≡ known.Blank) → known_at k (length w.state.locals) ≡ known.Blank
+      → Falls types f code (set_known known.Ready over k) (slice_set k (length w.state.locals) known.Ready))
+      (given : List ℕ) (named : (z : ℕ) → Among z (given_of (trees code)) → Among z given ⊎ Among z over)
       (apart : Begins types f (with_new (variable_local a u) w.state) → Q.typed w.given → (k : List Known) → Alive f w.state k → Q.ready w.given (length w.state.locals) k → known_at k (length w.state.locals) ≡ known.Blank
-      → Apart f w.state (with_new (variable_local a u) w.state) (trees code))
+      → IsBelow w.state → AreApart f w.state (with_new (variable_local a u) w.state) (looked_of (trees code)) given)
       (some : Begins types f (with_new (variable_local a u) w.state) → MayBeKnown f (P.ready y (length s.locals))) where
     -- what has to be known
     abbrev More : List Known → Type 0
@@ -286,11 +289,11 @@ module _ (types : Types) (texts : ℕ) (fs : List Function) (f : Function) (a : 
     abbrev x : ℕ
     x = length w.state.locals
 
-    abbrev over : List ℕ
-    over = ending types texts fs f s w.state made.grown h.stands.pends last
+    abbrev ends : List ℕ
+    ends = ending types texts fs f s w.state made.grown h.stands.pends last
 
-    e : IsEnded types texts fs f over last done
-    e = ended types texts fs f over last done
+    e : IsEnded types texts fs f ends last done
+    e = ended types texts fs f ends last done
 
     abbrev finished : State
     finished = record done { code = done.code ++ e.code; pending = take (length s.pending) w.state.pending }
@@ -305,44 +308,44 @@ module _ (types : Types) (texts : ℕ) (fs : List Function) (f : Function) (a : 
       before : Begins types f w.state
       before = begins_old types f a front v u (variable_local a u) (its_local a u) there later at built b
 
-      part : Runs types texts fs f P y None s w Q made.code
+      part : RunsHanding types texts fs f P y over s w Q made.code
       part = made.runs before (told b)
 
       ends_fine_here : IsFine types texts fs f e.code
-      ends_fine_here = e.fine (all_among (ends_here types texts fs f) over (λ y m. can y (ends_temporary types texts fs f s w.state made.grown h.stands.pends last before y m)))
+      ends_fine_here = e.fine (all_among (ends_here types texts fs f) ends (λ y m. can y (ends_temporary types texts fs f s w.state made.grown h.stands.pends last before y m)))
 
       all_fine : IsFine types texts fs f whole
       all_fine = fine_append types texts fs f made.code (code ++ e.code) part.fine (fine_append types texts fs f code e.code (fine b part.typed) ends_fine_here)
 
       -- the variable is none of them
-      beside : Among x over → ⊥
+      beside : Among x ends → ⊥
       beside m = let lt = ends_below types texts fs f s w.state made.grown h.stands.pends last x m in omega (arith, lt)
 
       went : (k : List Known) → Knows f s.living k → More k → Leaves f in_loop (w.state.living ++ x ∷ []) (take s.outside s.living) (flow types f (trees whole) (Some k))
       went k knows more =
           let g = part.goes k (knows_alive types f a v s h k knows) more in
-          let mid : Knows f w.state.living (set_blank over g.after) = alive_knows types f there (set_blank over g.after) later.pending (ends_alive types texts fs f s w.state made.grown h.stands.pends last g.after g.alive) in
-          let blank : known_at g.after x ≡ known.Blank = sym (blank_beside over g.after x beside) ∙ blank_new types f a front v u (variable_local a u) (its_local a u) there later at built b (set_blank over g.after) mid in
+          let mid : Knows f w.state.living (set_blank ends g.after) = alive_knows types f there (set_blank ends g.after) later.pending (ends_alive types texts fs f s w.state made.grown h.stands.pends last g.after g.alive) in
+          let blank : known_at g.after x ≡ known.Blank = sym (blank_beside ends g.after x beside) ∙ blank_new types f a front v u (variable_local a u) (its_local a u) there later at built b (set_blank ends g.after) mid in
           let lt : x < length g.after = omega (arith, g.alive.sized, new_below types f a front v u (variable_local a u) (its_local a u) there later at built b) in
           let j : List Known = slice_set g.after x known.Ready in
-          let ready : can_leave j over ≡ true =
-          ends_there over j (ends_apart types texts fs f s w.state made.grown h.stands.pends last) (λ y m. ready_set g.after x y lt (g.alive.pending y (ends_pending types texts fs f s w.state made.grown h.stands.pends last y m))) in
+          let ready : can_leave j ends ≡ true =
+          ends_there ends j (ends_apart types texts fs f s w.state made.grown h.stands.pends last) (λ y m. ready_set g.after x y lt (g.alive.pending y (ends_pending types texts fs f s w.state made.grown h.stands.pends last y m))) in
           subst (Leaves f in_loop (w.state.living ++ x ∷ []) (take s.outside s.living))
-          (sym (falls_append types f made.code (code ++ e.code) k g.after (set_blank over j) g.falls (falls_append types f code e.code g.after j (set_blank over j) (falls b g.after g.alive.sized g.gives blank) (e.falls j ready))))
-          (leaves_falling f in_loop (w.state.living ++ x ∷ []) (take s.outside s.living) (set_blank over j)
-          (knows_same f (w.state.living ++ x ∷ []) (slice_set (set_blank over g.after) x known.Ready) (set_blank over j)
-          (blank_length over j ∙ set_length g.after x known.Ready ∙ sym (blank_length over g.after) ∙ sym (set_length (set_blank over g.after) x known.Ready))
-          (λ y. blank_set over g.after x y lt beside)
-          (knows_new types f a front v u (variable_local a u) (its_local a u) there later at built b (set_blank over g.after) mid)))
+          (sym (falls_append types f made.code (code ++ e.code) k (set_known known.Ready over g.after) (set_blank ends j) g.falls
+          (falls_append types f code e.code (set_known known.Ready over g.after) j (set_blank ends j) (falls b part g.after g.alive.sized g.gives g.blank blank) (e.falls j ready))))
+          (leaves_falling f in_loop (w.state.living ++ x ∷ []) (take s.outside s.living) (set_blank ends j)
+          (knows_same f (w.state.living ++ x ∷ []) (slice_set (set_blank ends g.after) x known.Ready) (set_blank ends j)
+          (blank_length ends j ∙ set_length g.after x known.Ready ∙ sym (blank_length ends g.after) ∙ sym (set_length (set_blank ends g.after) x known.Ready))
+          (λ y. blank_set ends g.after x y lt beside)
+          (knows_new types f a front v u (variable_local a u) (its_local a u) there later at built b (set_blank ends g.after) mid)))
 
       known_apart : (k : List Known) → Knows f s.living k → More k → Apart f s finished (trees whole)
-      known_apart k knows more =
+      known_apart k knows more under =
           let g = part.goes k (knows_alive types f a v s h k knows) more in
-          let mid : Knows f w.state.living (set_blank over g.after) = alive_knows types f there (set_blank over g.after) later.pending (ends_alive types texts fs f s w.state made.grown h.stands.pends last g.after g.alive) in
-          let blank : known_at g.after x ≡ known.Blank = sym (blank_beside over g.after x beside) ∙ blank_new types f a front v u (variable_local a u) (its_local a u) there later at built b (set_blank over g.after) mid in
-          codes_apart f s w.state finished made.code (code ++ e.code) g.apart
-          (codes_apart f w.state (with_new (variable_local a u) w.state) finished code e.code (apart b part.typed g.after g.alive g.gives blank)
-          (e.apart (with_new (variable_local a u) w.state) finished (omega arith) (λ y o. elim o [ inl m ↦ inl (inl m) | inr m ↦ inl (inr (among_take (length s.pending) w.state.pending y m)) ])))
+          let mid : Knows f w.state.living (set_blank ends g.after) = alive_knows types f there (set_blank ends g.after) later.pending (ends_alive types texts fs f s w.state made.grown h.stands.pends last g.after g.alive) in
+          let blank : known_at g.after x ≡ known.Blank = sym (blank_beside ends g.after x beside) ∙ blank_new types f a front v u (variable_local a u) (its_local a u) there later at built b (set_blank ends g.after) mid in
+          handed_apart types texts fs f over given s w.state (with_new (variable_local a u) w.state) finished made.code code e.code under named (g.apart under) (apart b part.typed g.after g.alive g.gives blank)
+          (e.apart (with_new (variable_local a u) w.state) finished (omega arith) (λ y o. elim o [ inl m ↦ inl (inl m) | inr m ↦ inl (inr (among_take (length s.pending) w.state.pending y m)) ]))
 
       first_begins : Begins types f s
       first_begins = begins_before types f s w.state made.grown before
@@ -370,10 +373,39 @@ module _ (types : Types) (texts : ℕ) (fs : List Function) (f : Function) (a : 
       returns = λ b gives o k more. fine_known types f (result_local a) texts fs whole (all_fine b) o;
     }
 
-    pub declared_under : DoesUnder types texts fs f More a (with_next v) in_loop s (end_pending (length s.pending) last done)
-    declared_under = subst (DoesUnder types texts fs f More a (with_next v) in_loop s) (sym finished_is) finished_does
+    pub handed_under : DoesUnder types texts fs f More a (with_next v) in_loop s (end_pending (length s.pending) last done)
+    handed_under = subst (DoesUnder types texts fs f More a (with_next v) in_loop s) (sym finished_is) finished_does
+
+  -- .. where nothing is given over before
+  pub declared_under : {A B : Type 0} (v : Visible) (in_loop : Bool) (can : TemporariesEnd types texts fs f) (last : Place) (u : TypedLocal) (P : Gift types texts fs f B) (y : B) (s : State) (w : Gives A) (Q : Gift types texts fs f A) (code : List Tree)
+      (h : Follows types f a v s) (at : slice_get a.function.locals v.declared ≡ Some u) (built : is_served_variable a.program.types u.ty ≡ true)
+      → Part types texts fs f P y None s w Q → (Begins types f (with_new (variable_local a u) w.state) → P.typed y)
+      → (Begins types f (with_new (variable_local a u) w.state) → Q.typed w.given → IsFine types texts fs f code)
+      → (Begins types f (with_new (variable_local a u) w.state) → (k : List Known) → length k ≡ length f.locals → Q.ready w.given (length w.state.locals) k → known_at k (length w.state.locals) ≡ known.Blank
+      → Falls types f code k (slice_set k (length w.state.locals) known.Ready))
+      → (Begins types f (with_new (variable_local a u) w.state) → Q.typed w.given → (k : List Known) → Alive f w.state k → Q.ready w.given (length w.state.locals) k → known_at k (length w.state.locals) ≡ known.Blank
+      → Apart f w.state (with_new (variable_local a u) w.state) (trees code))
+      → (Begins types f (with_new (variable_local a u) w.state) → MayBeKnown f (P.ready y (length s.locals)))
+      → DoesUnder types texts fs f (P.ready y (length s.locals)) a (with_next v) in_loop s (end_pending (length s.pending) last (with_code (w.state.code ++ code) (with_new (variable_local a u) w.state)))
+  declared_under v in_loop can last u P y s w Q code h at built made told fine falls apart some =
+      handed_under v in_loop can last u P y s w Q code h at built [] (handing_none types texts fs f P y s w Q made) told fine (λ b r k size q none blank. falls b k size q blank) (given_of (trees code)) (λ z m. inl m) apart some
 
   -- .. behind nothing
+  pub handed_declared : {A : Type 0} (v : Visible) (in_loop : Bool) (can : TemporariesEnd types texts fs f) (last : Place) (u : TypedLocal) (s : State) (w : Gives A) (Q : Gift types texts fs f A) (code : List Tree)
+      (h : Follows types f a v s) (at : slice_get a.function.locals v.declared ≡ Some u) (built : is_served_variable a.program.types u.ty ≡ true)
+      (over : List ℕ) (made : Handing types texts fs f (nothing types texts fs f) tt over s w Q)
+      → (Begins types f (with_new (variable_local a u) w.state) → Q.typed w.given → IsFine types texts fs f code)
+      → (Begins types f (with_new (variable_local a u) w.state) → RunsHanding types texts fs f (nothing types texts fs f) tt over s w Q made.code → (k : List Known) → length k ≡ length f.locals → Q.ready w.given (length w.state.locals) k
+      → ((z : ℕ) → Among z over → known_at k z ≡ known.Blank) → known_at k (length w.state.locals) ≡ known.Blank
+      → Falls types f code (set_known known.Ready over k) (slice_set k (length w.state.locals) known.Ready))
+      → (given : List ℕ) → ((z : ℕ) → Among z (given_of (trees code)) → Among z given ⊎ Among z over)
+      → (Begins types f (with_new (variable_local a u) w.state) → Q.typed w.given → (k : List Known) → Alive f w.state k → Q.ready w.given (length w.state.locals) k → known_at k (length w.state.locals) ≡ known.Blank
+      → IsBelow w.state → AreApart f w.state (with_new (variable_local a u) w.state) (looked_of (trees code)) given)
+      → Does types texts fs f a (with_next v) in_loop s (end_pending (length s.pending) last (with_code (w.state.code ++ code) (with_new (variable_local a u) w.state)))
+  handed_declared v in_loop can last u s w Q code h at built over made fine falls given named apart =
+      does_plain types texts fs f a (with_next v) in_loop s (end_pending (length s.pending) last (with_code (w.state.code ++ code) (with_new (variable_local a u) w.state)))
+      (handed_under v in_loop can last u (nothing types texts fs f) tt s w Q code h at built over made (λ b. tt) fine falls given named apart (λ b living k knows. (k, knows, tt)))
+
   pub declared_does : {A : Type 0} (v : Visible) (in_loop : Bool) (can : TemporariesEnd types texts fs f) (last : Place) (u : TypedLocal) (s : State) (w : Gives A) (Q : Gift types texts fs f A) (code : List Tree)
       (h : Follows types f a v s) (at : slice_get a.function.locals v.declared ≡ Some u) (built : is_served_variable a.program.types u.ty ≡ true)
       → Makes types texts fs f None s w Q

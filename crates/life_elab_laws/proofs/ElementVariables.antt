@@ -43,6 +43,7 @@ use Rattle.life_writer.specs.Writing.{Gives, State, emit, gives, mapped, with_co
 use Rattle.life_elab.specs.Declarations.{variable as home}
 use Rattle.life_elab.specs.RangeForms.{declared_from, element_at, given_element}
 use Rattle.life_elab_laws.proofs.Aiming.{keeps_further}
+use Rattle.life_elab_laws.proofs.Handing.{handing_none}
 use Rattle.life_elab_laws.proofs.BoundVariables.{bound_under, kept_none, kept_place, temporary_below, temporary_lives, value_below, with_temporary}
 use Rattle.life_elab_laws.proofs.Declaring.{begins_old, declared_under, its_local, new_below, new_none, with_new}
 use Rattle.life_elab_laws.proofs.Elements.{element_target, element_there, one_element, owner_element}
@@ -351,12 +352,12 @@ module _ (a : Around) (types : Types) (texts : ℕ) (fs : List Function) (f : Fu
         (sym (append_assoc (found.state.code ++ lives) saves aims ∙ append_assoc found.state.code lives (saves ++ aims)))
         (subst Born (none_ends (length s.pending) colon done (level T w plain ∙ h.pending))
         (does_more types texts fs f IsThere (P.ready it (length s.locals)) (λ k e. (there, e)) a (with_next v) in_loop s (end_pending (length s.pending) colon done)
-        (bound_under a types texts fs f setting v in_loop colon u s h at built target held is w colon P it found N (read T w plain) (lives ++ saves)
+        (bound_under a types texts fs f setting v in_loop colon u s h at built target held is w colon P it found N [] (handing_none types texts fs f P it s found N (read T w plain)) (lives ++ saves)
         (λ b q.
         fine_append types texts fs f lives saves (fine_acts types texts fs f colon (Live y Plain) (temporary_lives a types texts fs f colon T (inl w) found.state (value_below found.state.types T w) b Plain))
         (fine_acts types texts fs f colon (Save (object_named y) found.given) (saved_fine types texts fs f T found.given (object_named y) q (kept_place a types texts fs f colon T (inl w) found.state (value_below found.state.types T w) b))))
-        (λ b k size q blank. saved_falls types f colon y found.given k (omega (arith, size, temporary_below a types texts fs f colon T (inl w) found.state (value_below found.state.types T w) b)) blank q.0 q.1)
-        (λ b q k alive r blank. kept_none a types texts fs f colon T (inl w) found.state (value_below found.state.types T w))
+        (λ b r k size q none blank. saved_falls types f colon y found.given k (omega (arith, size, temporary_below a types texts fs f colon T (inl w) found.state (value_below found.state.types T w) b)) blank q.0 q.1)
+        [] (λ z m. absurd m) (λ b q k alive r blank. kept_none a types texts fs f colon T (inl w) found.state (value_below found.state.types T w))
         hidden (λ b living k knows. let j = hidden_known f it (hidden b).is living k knows in (j.0, j.1, (there, j.2))))))
 
     kept_written : given_element a (class (Some (type_of a u.ty))) u colon it element s ≡ bound_to (value_by None colon (value element colon T None) s)

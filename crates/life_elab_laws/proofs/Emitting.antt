@@ -1,5 +1,5 @@
 -- A register that an instruction writes.
-use Rattle.std.proofs.Common.{◌≡◌, ◌<◌, ℕ, true, List, length, slice_get, slice_set, Option, Some, None, refl, ap, ◌∙◌, arith, inl}
+use Rattle.std.proofs.Common.{◌≡◌, ◌<◌, ℕ, true, false, List, length, slice_get, slice_set, Option, Some, None, refl, ap, ◌∙◌, arith, inl}
 use Rattle.std.proofs.lemmas.Option.{slice_get_within}
 use Rattle.life_types.specs.Trees.{HasPartsBelow}
 use Rattle.life_types.specs.TypeTests.{is_value}
@@ -7,7 +7,7 @@ use Rattle.life_types.specs.Types.{Types}
 use Rattle.life_types.specs.declared.place.Place.{Place}
 use Rattle.life_types.specs.declared.ty.Ty.{Ty}
 use Rattle.life_core.specs.Function.{Function}
-use Rattle.life_core.specs.Kinds.{has_kind, is_register, is_register_at}
+use Rattle.life_core.specs.Kinds.{has_kind, is_object, is_object_at, is_register, is_register_at}
 use Rattle.life_core.specs.declared.program.Local.{Local}
 use Rattle.life_core.specs.declared.program.LocalKind.TheVariants.{Register}
 use Rattle.life_proper.specs.declared.known.Known.{Known}
@@ -44,6 +44,9 @@ pub record IsNameless (f : Function) (r : ℕ) : Type 0 where
 
 pub nameless_register : (f : Function) (r : ℕ) → IsNameless f r → is_register_at f r ≡ true
 nameless_register f r is = ap (has_kind is_register) is.there ∙ ap is_register is.kind
+
+pub nameless_no_object : (f : Function) (r : ℕ) → IsNameless f r → is_object_at f r ≡ false
+nameless_no_object f r is = ap (has_kind is_object) is.there ∙ ap is_object is.kind
 
 -- what stays where it is written
 pub keeps_set : (f : Function) (n : ℕ) (into : Option ℕ) (r : ℕ) (a : Known) (k : List Known) → ((y : ℕ) → y < n → IsBeside into y → r ≡ y → ⊥) → Keeps f n into k (slice_set k r a)

@@ -14,6 +14,7 @@ use Rattle.life_proper.specs.WellFormed.{can_end}
 use Rattle.life_proper.proofs.ReadyTests.{all_ready}
 use Rattle.life_writer.specs.Variables.{end}
 use Rattle.life_writer.specs.Writing.{State, with_code}
+use Rattle.life_elab_laws.proofs.BornLocals.{Bears}
 use Rattle.life_elab_laws.proofs.Ending.{set_blank}
 use Rattle.life_elab_laws.proofs.Falling.{Falls, falls_acts}
 use Rattle.life_elab_laws.proofs.GivenApart.{Apart, Open, none_apart}
@@ -39,6 +40,8 @@ module _ (types : Types) (texts : ℕ) (fs : List Function) (f : Function) where
     pub falls : (k : List Known) → can_leave k xs ≡ true → Falls types f code k (set_blank xs k)
     -- it looks at nothing
     pub apart : (s t : State) → length s.locals ≤ length t.locals → ((x : ℕ) → Open t x → Open s x ⊎ ((length s.locals ≤ x) × (x < length t.locals))) → Apart f s t (trees code)
+    -- .. and brings nothing to life
+    pub bears : (s : State) → Bears f s (trees code)
 
   pub ended : (xs : List ℕ) (place : Place) (s : State) → IsEnded xs place s
   ended [] place s = record {
@@ -47,6 +50,7 @@ module _ (types : Types) (texts : ℕ) (fs : List Function) (f : Function) where
     fine = λ ends. fine_none types texts fs f;
     falls = λ k ready. refl;
     apart = none_apart f;
+    bears = λ s x object m. absurd m;
   }
   ended (x ∷ xs) place s = record {
     code = Acts place (End (x ∷ xs)) ∷ [];
@@ -55,6 +59,7 @@ module _ (types : Types) (texts : ℕ) (fs : List Function) (f : Function) where
         fine_acts types texts fs f place (End (x ∷ xs)) (record { given = and_from (list_all (lasts_at f) (x ∷ xs)) true is.1 refl; formed = is.0 });
     falls = λ k ready. falls_acts types f place (End (x ∷ xs)) k (all_ready k (touched_by f (End (x ∷ xs))) refl ready refl);
     apart = none_apart f;
+    bears = λ s x object m. absurd m;
   }
 
   pub end_living : (xs : List ℕ) (place : Place) (s : State) → (end xs place s).living ≡ s.living

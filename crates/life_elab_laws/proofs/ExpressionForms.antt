@@ -15,7 +15,7 @@ use Rattle.life_typed.specs.TypedForm.{Form, Typed, paren, typed}
 use Rattle.life_typed.specs.declared.typed_expr.Category.{Category}
 use Rattle.life_typed.specs.declared.typed_expr.Category.TheVariants as category
 use Rattle.life_typed.specs.declared.typed_expr.ExprType.{ExprType}
-use Rattle.life_typed.specs.declared.typed_expr.ExprType.TheVariants.{Of, TextLiteral}
+use Rattle.life_typed.specs.declared.typed_expr.ExprType.TheVariants.{NullPointer, Of, TextLiteral}
 use Rattle.life_type_expr.specs.Operands.{value as value_typed}
 use Rattle.life_core.specs.Function.{Function}
 use Rattle.life_core.specs.Operands.{Argument, Location, Operand, Text}
@@ -44,12 +44,13 @@ use Rattle.life_elab_laws.proofs.Instructions.{IsIntoOf, as_type_part, located_p
 use Rattle.life_elab_laws.proofs.Locations.{IsPointed, at_location, by_literal, by_null, is_location, is_pointed, location_is, number_no_pointer, pointed_type, raw_location}
 use Rattle.life_elab_laws.proofs.Parts.{Makes, then_part}
 use Rattle.life_elab_laws.proofs.Setting.{Setting}
-use Rattle.life_elab_laws.proofs.TypedKinds.{IsKind, a_number as is_number_kind, kind_same, none_some, value_place, text_value}
+use Rattle.life_elab_laws.proofs.TypedKinds.{IsKind, a_number as is_number_kind, kind_same, none_some, null_value, text_value, value_place}
 use Rattle.life_elab_laws.proofs.VariablePlaces.{Stands}
 use Rattle.life_elab_laws.proofs.WrittenLocals.{fits_below, fits_later, fits_register}
 use Rattle.life_elab_laws.proofs.TemporaryEnds.{TemporariesEnd, temporary_ends}
 use Rattle.life_core.specs.declared.instr.Form.TheVariants.{Plain}
-use Rattle.life_writer.specs.OwnerForms.{set_to}
+use Rattle.life_writer.specs.OwnerForms.{made_null, set_to}
+use Rattle.life_elab_laws.proofs.HandedArguments.{Hands as AllHanded}
 
 module _ (a : Around) (visible : List ℕ) (types : Types) (texts : ℕ) (fs : List Function) (f : Function) (setting : Setting a types fs f) where
   abbrev pub Standing : State → Type 0
@@ -68,7 +69,7 @@ module _ (a : Around) (visible : List ℕ) (types : Types) (texts : ℕ) (fs : L
   Points t s w = Makes types texts fs f None s w (a_pointing types texts fs f t)
 
   abbrev pub Hands : FunctionForm → State → Gives (List Argument) → Type 0
-  Hands of s w = Makes types texts fs f None s w (arguments types texts fs f (parameter_types (Some of)))
+  Hands of s w = AllHanded types texts fs f (parameter_types (Some of)) s w
 
   abbrev pub Decided : Option Place → State → Gives Tree → Type 0
   Decided ends s w = Tests types texts fs f ends s w
@@ -92,6 +93,10 @@ module _ (a : Around) (visible : List ℕ) (types : Types) (texts : ℕ) (fs : L
     pub few : nat_lt number texts ≡ true
     pub is : object ≡ (λ s. located place ty.View (aimed (Text number)) s >> λ view s. gives (lived Plain (set_to view)) s)
 
+  -- of nullptr, which builds a unique_ptr that owns nothing
+  abbrev pub IsNothing : (State → Gives Remaining) → Type 0
+  IsNothing object = object ≡ (λ s. gives (lived Plain made_null) s)
+
   -- of what an expression is made by, wherever it stands
   pub record IsForm (form : Form) (e : Typed) : Type 0 where
     pub kind : IsKind a.program.types e
@@ -112,6 +117,8 @@ module _ (a : Around) (visible : List ℕ) (types : Types) (texts : ℕ) (fs : L
     pub calls : (c : Called) → form_call form ≡ Some c → IsCall c e.ty e.category
     -- .. and what has the type of a literal is one
     pub as_literal : e.ty ≡ TextLiteral → (place : Place) → IsLiteral ((form_uses a form place e.ty e.category).object)
+    -- .. or nullptr
+    pub as_null : e.ty ≡ NullPointer → (place : Place) → IsNothing ((form_uses a form place e.ty e.category).object)
 
   -- of a whole expression
   pub record IsWhole (form : Form) : Type 0 where
@@ -126,6 +133,7 @@ module _ (a : Around) (visible : List ℕ) (types : Types) (texts : ℕ) (fs : L
     pub decides : (b : Behind) (w : State → Gives Tree) → (uses a form).decision b ≡ Some w → (s : State) → Standing s → Decided b.ends s (w s)
     pub calls : (c : Called) → expression_call form ≡ Some c → IsCall c (typed_in form).ty (typed_in form).category
     pub as_literal : (typed_in form).ty ≡ TextLiteral → IsLiteral ((uses a form).object)
+    pub as_null : (typed_in form).ty ≡ NullPointer → IsNothing ((uses a form).object)
 
   -- ---- a whole expression, of what it is made by
 
@@ -231,6 +239,7 @@ module _ (a : Around) (visible : List ℕ) (types : Types) (texts : ℕ) (fs : L
     decides = λ b w eq s stands. is.decides place b w eq s stands;
     calls = is.calls;
     as_literal = λ at. is.as_literal at place;
+    as_null = λ at. is.as_null at place;
   }
     where
       e : Typed
@@ -270,6 +279,10 @@ module _ (a : Around) (visible : List ℕ) (types : Types) (texts : ℕ) (fs : L
   pub no_literal : (t : Ty) → Of t ≡ TextLiteral → ⊥
   no_literal t e = cc
 
+  -- .. and not nullptr
+  pub no_null : (t : Ty) → Of t ≡ NullPointer → ⊥
+  no_null t e = cc
+
   -- a value of a type: what it is written by
   abbrev pub ValueUses : Form → Ty → Place → Uses
   ValueUses form t place = form_uses a form place (Of t) category.Value
@@ -293,6 +306,7 @@ module _ (a : Around) (visible : List ℕ) (types : Types) (texts : ℕ) (fs : L
     decides = λ place b w at s stands. subst (λ (u : Uses). u.decision b ≡ Some w → Decided b.ends s (w s)) (as_told e t form place is c) (λ at. decides place b w at s stands) at;
     calls = λ d at. absurd (none_some (sym none ∙ at));
     as_literal = λ at. absurd (no_literal t (sym is ∙ at));
+    as_null = λ at. absurd (no_null t (sym is ∙ at));
   }
 
   pub value_form : (form : Form) (e : Typed) (t : Ty) → e.ty ≡ Of t → e.category ≡ category.Value → is_value t ≡ true → form_call form ≡ None → ((place : Place) (b : Behind) → (ValueUses form t place).decision b ≡ None)
@@ -309,9 +323,9 @@ module _ (a : Around) (visible : List ℕ) (types : Types) (texts : ℕ) (fs : L
 
   -- a pointer that is no place
   pub pointer_form : (form : Form) (e : Typed) → IsKind a.program.types e → e.category ≡ category.Value → (is_number e.ty ≡ true → ⊥) → form_call form ≡ None → ((place : Place) (b : Behind) → (form_uses a form place e.ty e.category).decision b ≡ None)
-      → (e.ty ≡ TextLiteral → (place : Place) → IsLiteral ((form_uses a form place e.ty e.category).object))
+      → (e.ty ≡ TextLiteral → (place : Place) → IsLiteral ((form_uses a form place e.ty e.category).object)) → (e.ty ≡ NullPointer → (place : Place) → IsNothing ((form_uses a form place e.ty e.category).object))
       → (is_pointed e.ty ≡ true → (place : Place) (s : State) → Standing s → Points e.ty s ((form_uses a form place e.ty e.category).pointing s)) → IsForm form e
-  pointer_form form e kind c never none plain told points = record {
+  pointer_form form e kind c never none plain told empty points = record {
     kind = kind;
     computes = λ at n. absurd (never n);
     lands = λ at n. absurd (never n);
@@ -320,6 +334,7 @@ module _ (a : Around) (visible : List ℕ) (types : Types) (texts : ℕ) (fs : L
     decides = λ place b w at. absurd (none_some (sym (plain place b) ∙ at));
     calls = λ d at. absurd (none_some (sym none ∙ at));
     as_literal = told;
+    as_null = empty;
   }
 
   -- a place
@@ -335,6 +350,7 @@ module _ (a : Around) (visible : List ℕ) (types : Types) (texts : ℕ) (fs : L
     decides = λ place b w at. absurd (none_some (sym (plain place b) ∙ at));
     calls = λ d at. absurd (none_some (sym none ∙ at));
     as_literal = λ at. absurd (c (text_value a.program.types e kind.kind at));
+    as_null = λ at. absurd (c (null_value a.program.types e kind.kind at));
   }
 
   -- what is in parentheses
@@ -348,4 +364,5 @@ module _ (a : Around) (visible : List ℕ) (types : Types) (texts : ℕ) (fs : L
     decides = λ place b. is.decides (closed_by closing b);
     calls = λ d at. subst (λ (x : ExprType). IsCall d x e.category) t (subst (IsCall d (typed_in inner).ty) c (is.calls d at));
     as_literal = λ at place. is.as_literal (t ∙ at);
+    as_null = λ at place. is.as_null (t ∙ at);
   }

@@ -2,7 +2,7 @@
 use Rattle.std.proofs.Common.{◌≡◌, inl, inr, ℕ, zero, suc, true, List, [], ◌∷◌, slice_get, Option, Some, None, refl, sym, ap, ◌∙◌, subst, ◌&&◌, ◌||◌, Ok}
 use Rattle.std.proofs.lemmas.Bool.{and_parts, false≢true, or_cases}
 use Rattle.std.specs.Prelude.{pos}
-use Rattle.life_served.specs.Served.{are_served_arguments, are_served_elements, form_type, is_asking, is_edge, is_end, is_equality, is_erase, is_get, is_owner_of_values, is_owner_type, is_plain_type, is_served_either, is_served_form, is_served_object, is_served_owner, is_served_unique, is_served_walker, is_subspan, is_testing, is_walker_of_values, is_walker_type, owns_elements}
+use Rattle.life_served.specs.Served.{are_served_arguments, are_served_elements, form_type, is_asking, is_edge, is_end, is_equality, is_erase, is_get, is_owner_of_values, is_owner_type, is_plain_type, is_served_either, is_served_form, is_served_object, is_served_owner, is_served_unique, is_served_walker, is_subspan, is_testing, is_walker_of_values, is_walker_type, owns_elements, is_number_type, is_served_fresh, is_served_made, is_unique_type}
 use Rattle.life_types.specs.Types.{Types}
 use Rattle.life_types.specs.declared.place.Place.{Place}
 use Rattle.life_types.specs.declared.ty.Ty.TheVariants as ty
@@ -18,7 +18,7 @@ use Rattle.life_type_expr.specs.Operands.{number_type}
 use Rattle.life_core.specs.Function.{Function}
 use Rattle.life_core.specs.Tree.{Tree}
 use Rattle.life_proper.specs.OperandTypes as operands
-use Rattle.life_well_typed.specs.Expressions.{AreExpressions, IsExpression, IsMadeOf, are_given, parameter_types, typed_in}
+use Rattle.life_well_typed.specs.Expressions.{AreExpressions, IsExpression, IsMadeOf, are_given, parameter_types, typed_in, IsExpressionIfAny}
 use Rattle.life_well_typed.specs.Given.{is_given}
 use Rattle.life_writer.specs.Around.{Around, own_type}
 use Rattle.life_writer.specs.ExpressionForms.{all_uses, uses, form_uses}
@@ -27,16 +27,17 @@ use Rattle.life_writer.specs.Uses.{Uses}
 use Rattle.life_writer.specs.Using.{value}
 use Rattle.life_writer.specs.Values as values
 use Rattle.life_writer.specs.Writing.{Gives, State}
-use Rattle.life_elab_laws.proofs.CallParts.{none_handed}
+use Rattle.life_elab_laws.proofs.UniqueMaking.{IsWholeIfAny}
+use Rattle.life_elab_laws.proofs.HandedUniques.{fresh_first}
+use Rattle.life_elab_laws.proofs.FreshUniques.{IsFresh, IsFreshAt, made_fresh, moved_fresh}
 use Rattle.life_elab_laws.proofs.Conditions.{Tests}
 use Rattle.life_elab_laws.proofs.ExpressionForms.{IsForm, IsWhole, literal, paren_form, value_form, whole_of}
 use Rattle.life_elab_laws.proofs.ExpressionKinds.{addressed_as, dereferenced_as, negated_as, number_value}
+use Rattle.life_elab_laws.proofs.HandedArguments.{Hands, none_handed}
 use Rattle.life_elab_laws.proofs.ExpressionTypes.{negated_promoted}
-use Rattle.life_elab_laws.proofs.Gifts.{arguments}
 use Rattle.life_elab_laws.proofs.HandedForms.{first_handed}
 use Rattle.life_elab_laws.proofs.HandedTypes.{IsHandedType}
 use Rattle.life_elab_laws.proofs.Instructions.{constant_part, input_part, negated_part}
-use Rattle.life_elab_laws.proofs.Parts.{Makes}
 use Rattle.life_elab_laws.proofs.Setting.{Setting}
 use Rattle.life_elab_laws.proofs.TypedKinds.{combined_as, ok_same, IsCombined}
 use Rattle.life_elab_laws.proofs.VariablePlaces.{Stands}
@@ -62,6 +63,8 @@ use Rattle.life_typed.specs.declared.typed_expr.BinaryOperator.{BinaryOperator}
 use Rattle.life_types.specs.declared.ty.Ty.{Ty}
 use Rattle.life_elab_laws.proofs.HandedOwners.{owner_first, walker_first}
 use Rattle.life_elab_laws.proofs.PushedElements.{AreGiving, IsGiving}
+use Rattle.life_elab_laws.proofs.MovedForms.{moved_made}
+use Rattle.life_elab_laws.proofs.MovedOwners.{moved_from_variable}
 use Rattle.life_elab_laws.proofs.UniqueForms.{IsUnique, unique_dereferenced, unique_expression, unique_get_form}
 use Rattle.life_elab_laws.proofs.UniqueTests.{by_unique, by_value, deciding_form, deciding_negation, IsDeciding}
 use Rattle.life_type_expr.specs.Members.{indexed_at}
@@ -82,7 +85,7 @@ module _ (a : Around) (visible : List ℕ) (types : Types) (texts : ℕ) (fs : L
   ]
 
   abbrev OwningAt : Typed → Uses → Type 0
-  OwningAt e u = IsOwningAt a visible types texts fs f setting e u.at u.object u.replacing
+  OwningAt e u = IsOwningAt a visible types texts fs f setting e u.at u.object
 
   -- ---- iterators and spans
 
@@ -282,7 +285,7 @@ module _ (a : Around) (visible : List ℕ) (types : Types) (texts : ℕ) (fs : L
     owner_made (paren inner closing) e b n h place =
         let same = ok_same h.0 in
         let t : (typed_in inner).ty ≡ e.ty = ap (λ (y : Typed). y.ty) same in
-        owning_same a visible types texts fs f setting (typed_in inner) e ((uses a inner).at) ((uses a inner).object) ((uses a inner).replacing) t (ap (λ (y : Typed). y.category) same) (owner_expression inner b (ap is_owner_type t ∙ n) h.1)
+        owning_same a visible types texts fs f setting (typed_in inner) e ((uses a inner).at) ((uses a inner).object) t (ap (λ (y : Typed). y.category) same) (owner_expression inner b (ap is_owner_type t ∙ n) h.1)
     owner_made (binary o left right) e b n h place =
         let both = and_parts (is_served_either left (is_served_owner texts left) (is_served_form texts left)) (is_served_either right (is_served_owner texts right) (is_served_form texts right)) b in
         let c = combined_as o e.place (typed_in left) (typed_in right) e h.0 in
@@ -293,6 +296,9 @@ module _ (a : Around) (visible : List ℕ) (types : Types) (texts : ℕ) (fs : L
           | inl value ↦ is_made (text_of_view a visible types texts fs f setting inner closing e place h.0 (whole_expression inner value h.1))
           | inr owner ↦ is_made (text_of_owner a visible types texts fs f setting inner closing e place h.0 (owner_expression inner owner.1 owner.0 h.1))
         ]
+    owner_made (move x) e b n h place =
+        let is = moved_from_variable a visible types texts fs f setting x e h.1 in
+        is_made (moved_made a visible types texts fs f setting x e h.0 is place (is.held (subst (λ (y : ExprType). is_owner_type y ≡ true) is.is n)))
     owner_made (call g given delimiters) e b n h place =
         stands_there (call_object a visible types texts fs f setting g given delimiters e place n h.0
         (λ of at s stands. handed delimiters given b h.2 (parameter_types (Some of)) (subst (λ (o : Option FunctionForm). are_given a.program.types (parameter_types o) given ≡ true) at h.1) (setting.taken g of at) s stands))
@@ -377,6 +383,21 @@ module _ (a : Around) (visible : List ℕ) (types : Types) (texts : ℕ) (fs : L
     walker_given (e ⨟ es) b h = walker_expression e b h.0
     walker_given _ b h = absurd h
 
+    -- a unique_ptr that is made, or moved out of a variable
+    fresh_expression : (form : Form) → is_served_fresh texts form ≡ true → IsExpression a.program a.function.locals visible form → IsFresh a visible types texts fs f setting form
+    fresh_expression (typed place t c form) b h =
+        let parts = and_parts (is_unique_type t) (is_served_fresh texts form) b in fresh_made form (record { place = place; ty = t; category = c; form = form }) parts.0 parts.1 h place
+    fresh_expression _ b h = absurd h
+
+    fresh_made : (form : Form) (e : Typed) → is_unique_type e.ty ≡ true → is_served_fresh texts form ≡ true → IsMadeOf a.program a.function.locals visible e form → (place : Place)
+        → IsFreshAt a visible types texts fs f setting e ((form_uses a form place e.ty e.category).object)
+    fresh_made (make_unique id nothing closing) e n b h place = made_fresh a visible types texts fs f setting id nothing closing e place b tt h
+    fresh_made (make_unique id (typed at t c form) closing) e n b h place =
+        made_fresh a visible types texts fs f setting id (typed at t c form) closing e place b (whole_expression (typed at t c form) (and_parts (is_number_type t) (is_plain_type t && is_served_form texts form) b).1 h.3) h
+    fresh_made (move x) e n b h place = moved_fresh a visible types texts fs f setting x e place n h.0 (moved_from_variable a visible types texts fs f setting x e h.1)
+    fresh_made (typed at t c form) e n b h place = absurd h
+    fresh_made _ e n b h place = absurd (false≢true b)
+
     -- all of several
     pub wholes : (form : Form) → is_served_form texts form ≡ true → AreExpressions a.program a.function.locals visible form → AreWhole a visible types texts fs f setting form
     wholes nothing b h = tt
@@ -386,22 +407,32 @@ module _ (a : Around) (visible : List ℕ) (types : Types) (texts : ℕ) (fs : L
     -- arguments
     pub handed : (d : DelimitersForm) (form : Form) → are_served_arguments texts form ≡ true → AreExpressions a.program a.function.locals visible form → (ids : List TyId) → are_given a.program.types ids form ≡ true
         → ((n : ℕ) (id : TyId) → slice_get ids n ≡ Some id → IsHandedType a.program.types id) → (s : State) → Standing s
-        → Makes types texts fs f None s (giving.arguments a (all_uses a form) d ids s) (arguments types texts fs f ids)
+        → Hands types texts fs f ids s (giving.arguments a (all_uses a form) d ids s)
     handed d nothing b h [] g v s stands = none_handed types texts fs f s
     handed d nothing b h (id ∷ ids) g v s stands = absurd (false≢true g)
     handed d (e ⨟ es) b h [] g v s stands = absurd (false≢true g)
     handed d (e ⨟ es) b h (id ∷ ids) g v s stands =
-        let parts = and_parts (is_served_either e (is_served_owner texts e) (is_served_form texts e) || is_served_walker texts e) (are_served_arguments texts es) b in
+        let parts = and_parts (is_served_either e (is_served_owner texts e) (is_served_form texts e) || (is_served_walker texts e || is_served_fresh texts e)) (are_served_arguments texts es) b in
         let given = and_parts (is_given a.program.types (type_at a.program.types id) (typed_in e)) (are_given a.program.types ids es) g in
-        let rest : (s : State) → Standing s → Makes types texts fs f None s (giving.arguments a (all_uses a es) (behind_others d) ids s) (arguments types texts fs f ids) = λ s stands. handed (behind_others d) es parts.1 h.1 ids given.1 (λ n. v (suc n)) s stands in
-        elim (or_cases (is_served_either e (is_served_owner texts e) (is_served_form texts e)) (is_served_walker texts e) parts.0) [
+        let rest : (s : State) → Standing s → Hands types texts fs f ids s (giving.arguments a (all_uses a es) (behind_others d) ids s) = λ s stands. handed (behind_others d) es parts.1 h.1 ids given.1 (λ n. v (suc n)) s stands in
+        elim (or_cases (is_served_either e (is_served_owner texts e) (is_served_form texts e)) (is_served_walker texts e || is_served_fresh texts e) parts.0) [
           | inl either ↦ elim (either_served e (is_served_owner texts e) (is_served_form texts e) either) [
             | inl value ↦ first_handed a visible types texts fs f setting e es d id ids (whole_expression e value h.0) rest (v zero id refl) given.0 s stands
             | inr owner ↦ owner_first a visible types texts fs f setting e es d id ids (owner_expression e owner.1 owner.0 h.0) rest (v zero id refl) given.0 s stands
           ]
-          | inr walker ↦ walker_first a visible types texts fs f setting e es d id ids (walker_expression e walker h.0) rest (v zero id refl) given.0 s stands
+          | inr others ↦ elim (or_cases (is_served_walker texts e) (is_served_fresh texts e) others) [
+            | inl walker ↦ walker_first a visible types texts fs f setting e es d id ids (walker_expression e walker h.0) rest (v zero id refl) given.0 s stands
+            | inr fresh ↦ fresh_first a visible types texts fs f setting e es d id ids (fresh_expression e fresh h.0) rest (v zero id refl) given.0 s stands
+          ]
         ]
     handed d _ b h ids g v s stands = absurd h
+
+  -- ---- what a unique_ptr is made to own
+
+  pub whole_if_any : (form : Form) → is_served_made texts form ≡ true → IsExpressionIfAny a.program a.function.locals visible form → IsWholeIfAny a visible types texts fs f setting form
+  whole_if_any (typed place t c form) b h = whole_expression (typed place t c form) (and_parts (is_number_type t) (is_plain_type t && is_served_form texts form) b).1 h
+  whole_if_any nothing b h = tt
+  whole_if_any _ b h = absurd (false≢true b)
 
   -- ---- what a vector is given
 

@@ -12,7 +12,7 @@ use Rattle.life_types.specs.declared.ty.NameId.{NameId}
 use Rattle.life_types.specs.declared.ty.Ty.{Ty}
 use Rattle.life_types.specs.declared.ty.Ty.TheVariants as ty
 use Rattle.life_types.specs.declared.ty.TyId.{TyId}
-use Rattle.life_served.specs.Served.{is_element, is_owner_of_values, is_owner_within, is_pointing, is_target, is_unique_of_value, is_walker_of_values}
+use Rattle.life_served.specs.Served.{is_element, is_owner_of_values, is_owner_within, is_pointing, is_target, is_unique_of_element, is_walker_of_values}
 use Rattle.life_typed.specs.BaseTypes.{type_at}
 use Rattle.life_typed.specs.Programs.{FunctionForm, ProgramForm, PromiseForm, default, listed}
 use Rattle.life_typed.specs.declared.typed_program.ParameterPromise.{ParameterPromise}
@@ -40,7 +40,7 @@ use Rattle.life_elab_laws.proofs.ServedTypes.{IsServedType, variable_found}
 use Rattle.life_elab_laws.proofs.ResultTypes.{result_is}
 use Rattle.life_elab_laws.proofs.Values.{by_values}
 use Rattle.life_elab_laws.proofs.WrittenLocals.{AreWrittenLocals, fits_later, fits_local, fits_register, FitsNameless, FitsTemporary, hidden_later, hidden_local, hidden_pointer, IsIntermediate, IsOwn, local_later, owner_local, register_local, unique_local}
-use Rattle.life_elab_laws.proofs.Shaped.{owner_later}
+use Rattle.life_elab_laws.proofs.Shaped.{owner_later, unique_later}
 use Rattle.life_elab_laws.proofs.Targets.{IsTarget, target_is, target_referred, to_owner, to_value}
 use Rattle.life_elab_laws.proofs.Elements.{IsElement, has_value, has_owner, element_is}
 
@@ -101,7 +101,7 @@ module _ (types : Types) where
       go (ty.Raw target constant) h = target_tree id.0 target (target_is types (type_at types target) h)
       go (ty.Reference target constant) h = target_tree id.0 target (target_is types (type_at types target) h)
       go (ty.Vector element) h = element_tree id.0 element h
-      go (ty.Unique target) h = value_tree id.0 target h
+      go (ty.Unique target) h = element_tree id.0 target h
       go (ty.Iterator target constant) h = element_tree id.0 target h
       go (ty.Span target constant) h = element_tree id.0 target h
       go (ty.Struct number) h = absurd (false≢true h)
@@ -151,7 +151,7 @@ module _ (types : Types) where
   variable_kept : (t : Ty) → IsServedType types t → fits_kind (kind (class (Some t))) t ≡ true
   variable_kept t (inr (inr (inr u))) = go t u
     where
-      go : (t : Ty) → is_unique_of_value types t ≡ true → fits_kind (kind (class (Some t))) t ≡ true
+      go : (t : Ty) → is_unique_of_element types t ≡ true → fits_kind (kind (class (Some t))) t ≡ true
       go (ty.Unique target) u = refl
       go _ u = absurd (false≢true u)
   variable_kept t (inr (inr (inl w))) = go t w
@@ -182,7 +182,7 @@ module _ (types : Types) where
   variable_named : (t : Ty) (name : NameId) → IsServedType types t → is_named_as (kind (class (Some t))) t (Some name) ≡ true
   variable_named t name (inr (inr (inr u))) = go t u
     where
-      go : (t : Ty) → is_unique_of_value types t ≡ true → is_named_as (kind (class (Some t))) t (Some name) ≡ true
+      go : (t : Ty) → is_unique_of_element types t ≡ true → is_named_as (kind (class (Some t))) t (Some name) ≡ true
       go (ty.Unique target) u = refl
       go _ u = absurd (false≢true u)
   variable_named t name (inr (inr (inl w))) = go t w
@@ -295,9 +295,14 @@ module _ (p : ProgramForm) (of : FunctionForm) (T types : Types) (names : ℕ) (
       owner_kept (ty.Vector element) o = refl
       owner_kept _ o = absurd (false≢true o)
 
+      unique_kept : (t : Ty) → is_unique_of_element types t ≡ true → fits_kind Object t ≡ true
+      unique_kept (ty.Unique target) u = refl
+      unique_kept _ u = absurd (false≢true u)
+
       temporary_fits : FitsTemporary p.types is.ty → (fits_local types is.ty ≡ true) × (fits_kind Object is.ty ≡ true)
       temporary_fits (inl value) = (by_values (λ t. fits_local types t ≡ true) refl refl refl refl refl is.ty value, by_values (λ t. fits_kind Object t ≡ true) refl refl refl refl refl is.ty value)
-      temporary_fits (inr o) = let owner = owner_later p.types types front is.ty o in (owner_local types is.ty owner, owner_kept is.ty owner)
+      temporary_fits (inr (inl o)) = let owner = owner_later p.types types front is.ty o in (owner_local types is.ty owner, owner_kept is.ty owner)
+      temporary_fits (inr (inr u)) = let unique = unique_later p.types types front is.ty u in (unique_local types is.ty unique, unique_kept is.ty unique)
 
       go : FitsNameless p.types (written (around p of) T).types l.kind is.ty → is_well_formed_local types names core.parameters x l ≡ true
       go (inl register) =

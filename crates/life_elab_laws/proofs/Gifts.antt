@@ -1,5 +1,5 @@
 -- What a part of an expression gives: which type it has in the finished function, and what is known of it where so many locals are there.
-use Rattle.std.proofs.Common.{◌≡◌, ◌≤◌, ◌⊎◌, ℕ, Bool, true, List, [], ◌∷◌, flat_map, None, ◌∙◌, arith}
+use Rattle.std.proofs.Common.{◌≡◌, ◌<◌, ◌≤◌, ◌⊎◌, ℕ, Bool, true, List, [], ◌∷◌, flat_map, None, ◌∙◌, arith}
 use Rattle.life_types.specs.TypeTests.{is_raw, is_view}
 use Rattle.life_types.specs.Types.{Types}
 use Rattle.life_types.specs.declared.ty.Ty.{Ty}
@@ -8,17 +8,23 @@ use Rattle.life_typed.specs.declared.typed_expr.ExprType.{ExprType}
 use Rattle.life_typed.specs.declared.typed_expr.ExprType.TheVariants.{NullPointer, Of, TextLiteral}
 use Rattle.life_core.specs.Function.{Function}
 use Rattle.life_core.specs.Kinds.{is_register_at}
-use Rattle.life_core.specs.Operands.{Argument, Location, Operand, PointerOf, Value}
+use Rattle.life_core.specs.Operands.{Argument, GivenOver, Location, Operand, PointerOf, Value}
 use Rattle.life_core.specs.Step.{Step}
 use Rattle.life_proper.specs.GivenOver.{given_argument}
 use Rattle.life_proper.specs.OperandTypes.{keeps_const, takes}
-use Rattle.life_proper.specs.Placed.{is_const_place, is_number_of, type_in, type_of}
+use Rattle.life_proper.specs.Placed.{is_const_place, is_given, is_number_of, type_in, type_of}
 use Rattle.life_proper.specs.WellFormed.{are_arguments_for, have_own_slots}
+use Rattle.life_proper.specs.Knowing.{known_at}
 use Rattle.life_proper.specs.declared.known.Known.{Known}
+use Rattle.life_proper.specs.declared.known.Known.TheVariants as known
 use Rattle.life_writer.specs.Pointers.{As, By, Pointing}
 use Rattle.life_elab_laws.proofs.Locations.{is_location}
 use Rattle.life_elab_laws.proofs.Making.{AreHeld, IsFilling, IsHeld, IsPlace, IsPointer, IsPointing, Keeps}
 use Rattle.life_elab_laws.proofs.Shaping.{IsFineStep}
+
+-- an object that is given over
+abbrev pub IsTaken : ℕ → ℕ → List Known → Type 0
+IsTaken x n k = (x < n) × (known_at k x ≡ known.Blank)
 
 -- a number in a register, or a pointer, for each of these
 abbrev pub AreNumbersFor : List TyId → List Argument → ℕ → List Known → Type 0
@@ -35,6 +41,14 @@ takes_from types t TextLiteral = is_view t
 
 abbrev pub IsTakenBy : Types → Ty → ExprType → Type 0
 IsTakenBy types u t = (t ≡ Of u) ⊎ (takes_from types u t ≡ true)
+
+-- .. or an object that is given over
+abbrev pub AreHandedFor : List TyId → List Argument → ℕ → List Known → Type 0
+AreHandedFor [] [] n k = Unit {0}
+AreHandedFor (id ∷ ids) (Value r ∷ xs) n k = IsHeld r n k × AreHandedFor ids xs n k
+AreHandedFor (id ∷ ids) (PointerOf l ∷ xs) n k = IsPointer l n k × AreHandedFor ids xs n k
+AreHandedFor (id ∷ ids) (GivenOver x ∷ xs) n k = IsTaken x n k × AreHandedFor ids xs n k
+AreHandedFor _ _ n k = ⊥
 
 module _ (types : Types) (texts : ℕ) (fs : List Function) (f : Function) where
   -- what is ready stays so where the locals that are there keep what is known of them
@@ -127,3 +141,27 @@ module _ (types : Types) (texts : ℕ) (fs : List Function) (f : Function) where
 
   abbrev pub arguments : List TyId → Gift (List Argument)
   arguments ids = record { typed = AreHanded ids; ready = AreNumbersFor ids; stays = numbers_stay ids }
+
+  -- .. or owners that are given over
+
+  pub record AreFit (ids : List TyId) (xs : List Argument) : Type 0 where
+    pub fit : are_arguments_for types texts fs f ids xs ≡ true
+    pub own : have_own_slots types texts fs f xs ≡ true
+
+  pub taken_stays : (x n m : ℕ) (k j : List Known) → n ≤ m → IsTaken x n k → Keeps f n None k j → IsTaken x m j
+  taken_stays x n m k j h p keeps = (omega (arith, h, p.0), keeps.below x p.0 tt ∙ p.1)
+
+  pub handed_stay : (ids : List TyId) (xs : List Argument) (n m : ℕ) (k j : List Known) → n ≤ m → AreHandedFor ids xs n k → Keeps f n None k j → AreHandedFor ids xs m j
+  handed_stay [] [] n m k j h p keeps = tt
+  handed_stay (id ∷ ids) (Value r ∷ xs) n m k j h p keeps = (held_stays r n m k j h p.0 keeps, handed_stay ids xs n m k j h p.1 keeps)
+  handed_stay (id ∷ ids) (PointerOf l ∷ xs) n m k j h p keeps = (pointer_stays l n m k j h p.0 keeps, handed_stay ids xs n m k j h p.1 keeps)
+  handed_stay (id ∷ ids) (GivenOver x ∷ xs) n m k j h p keeps = (taken_stays x n m k j h p.0 keeps, handed_stay ids xs n m k j h p.1 keeps)
+  handed_stay _ _ n m k j h p keeps = absurd p
+
+  abbrev pub all_handed : List TyId → Gift (List Argument)
+  all_handed ids = record { typed = AreFit ids; ready = AreHandedFor ids; stays = handed_stay ids }
+
+  -- ---- an owner that is given over, which what is known doesn't see
+
+  abbrev pub a_given : Ty → Gift ℕ
+  a_given t = record { typed = λ x. is_given types f t x ≡ true; ready = IsTaken; stays = taken_stays }

@@ -264,7 +264,7 @@ module _ (f : Function) where
   step_used _ x m = absurd m
 
   -- an object that is there stands
-  stands_open : (s : State) (k : List Known) (x : ℕ) → Alive f s k → is_object_at f x ≡ true → known_at k x ≡ known.Ready → Open s x
+  pub stands_open : (s : State) (k : List Known) (x : ℕ) → Alive f s k → is_object_at f x ≡ true → known_at k x ≡ known.Ready → Open s x
   stands_open s k x alive object ready = elim (open_or s x) [ inl o ↦ o | inr none ↦ absurd (go (slice_get f.locals x) refl object none) ]
     where
       clash : ◌≡◌ {A = Known} known.Blank known.Ready → ⊥
@@ -286,7 +286,7 @@ module _ (f : Function) where
       let parts = and_parts (is_no_object types f y) (list_all (is_no_object types f) xs) h in
       elim m [ inl e ↦ false≢true (sym (ap not (ap (is_object_at f) e ∙ object)) ∙ parts.0) | inr more ↦ none_given types xs x parts.1 object more ]
 
-  nil_right : (xs : List ℕ) (x : ℕ) → Among x (xs ++ []) → Among x xs
+  pub nil_right : (xs : List ℕ) (x : ℕ) → Among x (xs ++ []) → Among x xs
   nil_right xs x m = elim (among_either xs [] x m) [ inl h ↦ h | inr none ↦ absurd none ]
 
   -- .. by an instruction that is ready where these stand

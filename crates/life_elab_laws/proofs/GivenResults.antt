@@ -234,7 +234,7 @@ module _ (a : Around) (types : Types) (texts : ℕ) (fs : List Function) (f : Fu
         alias_returned o (to_place held here kept_const names) = aimed_back held kept_const ((uses a (whole_form e)).at s) (names s h.stands) (by_place here)
         alias_returned o (to_built none made) =
             aimed_back false (keeps_all constant) built
-            (temporary_made a v.visible types texts fs f setting (type_at a.program.types target) e.place s (giving.given (uses a (whole_form e)) (type_at a.program.types target) token s) o (made token s h.stands) h.stands) (by_building none)
+            (temporary_made a v.visible types texts fs f setting (type_at a.program.types target) e.place s (giving.given (uses a (whole_form e)) (type_at a.program.types target) token s) (inl o) (made token s h.stands) h.stands) (by_building none)
 
       -- a span of the whole of a vector
       walker_no_unique : (u : Ty) → is_walker_of_values a.program.types u ≡ true → is_unique u ≡ false

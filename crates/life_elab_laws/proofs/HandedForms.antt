@@ -1,5 +1,5 @@
 -- What a parameter is handed: a value in a register, or a pointer, which is its own location or written to a register.
-use Rattle.std.proofs.Common.{◌≡◌, ℕ, Bool, true, false, not, List, ◌∷◌, None, Some, Option, length, slice_get, unwrap_or, refl, sym, ap, ◌∙◌, subst, cond}
+use Rattle.std.proofs.Common.{◌≡◌, inl, inr, ℕ, Bool, true, false, List, ◌∷◌, None, Some, Option, length, slice_get, unwrap_or, refl, sym, ap, ◌∙◌, subst, cond}
 use Rattle.std.proofs.lemmas.Bool.{and_from, false≢true}
 use Rattle.life_types.specs.Pointees.{or_void, ty_of}
 use Rattle.life_types.specs.TypeTests.{is_value}
@@ -16,11 +16,11 @@ use Rattle.life_typed.specs.declared.typed_expr.Category.{Category}
 use Rattle.life_typed.specs.declared.typed_expr.ExprType.{ExprType}
 use Rattle.life_typed.specs.declared.typed_expr.ExprType.TheVariants.{NullPointer, Of, TextLiteral}
 use Rattle.life_core.specs.Function.{Function}
-use Rattle.life_core.specs.Operands.{Argument, Location, Operand, Place as Aimed, PointerOf, Value, object_named, whole}
+use Rattle.life_core.specs.Operands.{Argument, GivenOver, Location, Operand, Place as Aimed, PointerOf, Value, object_named, whole}
 use Rattle.life_core.specs.Step.{Aim}
 use Rattle.life_proper.specs.OperandTypes.{keeps_const, same, takes}
 use Rattle.life_proper.specs.Placed.{type_in}
-use Rattle.life_proper.specs.WellFormed.{are_arguments_for, is_argument_for, is_source_of}
+use Rattle.life_proper.specs.WellFormed.{is_source_of}
 use Rattle.life_well_typed.specs.Expressions.{typed_in}
 use Rattle.life_well_typed.specs.Given.{is_given}
 use Rattle.life_writer.specs.Around.{Around, own_type}
@@ -28,11 +28,12 @@ use Rattle.life_writer.specs.ExpressionForms.{all_uses, uses}
 use Rattle.life_writer.specs.Giving as giving
 use Rattle.life_writer.specs.Pointers.{located}
 use Rattle.life_writer.specs.Registers.{new_register, wanted}
-use Rattle.life_writer.specs.Temporaries.{temporary}
+use Rattle.life_writer.specs.Temporaries.{consumed, temporary}
 use Rattle.life_writer.specs.Uses.{Uses}
 use Rattle.life_writer.specs.Using.{pointer, pointing, register_type, value}
 use Rattle.life_writer.specs.Writing.{Gives, State, ◌>>◌, emit, gives, mapped}
-use Rattle.life_elab_laws.proofs.CallParts.{handed_part}
+use Rattle.life_elab_laws.proofs.FreshUniques.{null_builds}
+use Rattle.life_elab_laws.proofs.ServedTypes.{IsBuilt}
 use Rattle.life_elab_laws.proofs.Emitting.{new_targeted}
 use Rattle.life_elab_laws.proofs.ExpressionForms.{IsWhole, Standing}
 use Rattle.life_elab_laws.proofs.ExpressionTypes.{seen_kind}
@@ -41,16 +42,17 @@ use Rattle.life_elab_laws.proofs.Targets.{reference_no_slot, one_target, owner_t
 use Rattle.life_elab_laws.proofs.FormedFits.{IsBound, at_place, by_temporary, given_bound, given_raw}
 use Rattle.life_elab_laws.proofs.FormedVariables.{keeps_all, reference_there, type_later}
 use Rattle.life_elab_laws.proofs.Fronts.{IsFront, front_length, last_there}
-use Rattle.life_elab_laws.proofs.Gifts.{Gift, a_number, a_place, a_pointer, a_pointing, arguments, both, nothing as no_gift, takes_from}
+use Rattle.life_elab_laws.proofs.Gifts.{Gift, a_number, a_place, a_pointer, a_pointing, nothing as no_gift, takes_from}
 use Rattle.life_elab_laws.proofs.GivenKinds.{given_number, given_pointer, given_view}
 use Rattle.life_elab_laws.proofs.Growing.{Begins, added}
-use Rattle.life_elab_laws.proofs.HandedTypes.{IsHandedType, a_raw, a_reference, a_value, a_view, a_walker, an_alias}
+use Rattle.life_elab_laws.proofs.GivenOwners.{given_handing}
+use Rattle.life_elab_laws.proofs.HandedArguments.{Hands as AllHanded, number_handed, owner_handed, pointer_handed}
+use Rattle.life_elab_laws.proofs.HandedTypes.{IsHandedType, a_raw, a_reference, a_unique, a_value, a_view, a_walker, an_alias, an_owner, built_composed}
 use Rattle.life_elab_laws.proofs.Instructions.{emit_part, null_located_part}
 use Rattle.life_elab_laws.proofs.Locations.{IsPointed, at_location, by_literal, by_null, is_pointed, pointed_type}
-use Rattle.life_elab_laws.proofs.Making.{IsOpen}
 use Rattle.life_elab_laws.proofs.NewVariables.{bound_given}
 use Rattle.life_elab_laws.proofs.OperandsThere.{register_there}
-use Rattle.life_elab_laws.proofs.Parts.{Makes, Part, and_part, seen_part, then_part}
+use Rattle.life_elab_laws.proofs.Parts.{Makes, Part, then_part}
 use Rattle.life_elab_laws.proofs.PointerForms.{held_typed, own_typed, pointer_whole, points_whole, view_whole}
 use Rattle.life_elab_laws.proofs.Setting.{Setting}
 use Rattle.life_elab_laws.proofs.Shaped.{target_later, target_there}
@@ -60,11 +62,11 @@ use Rattle.life_elab_laws.proofs.Values.{by_values}
 use Rattle.life_elab_laws.proofs.VariablePlaces.{stands_later}
 use Rattle.life_elab_laws.proofs.WalkerSteps.{keeps_itself}
 use Rattle.life_elab_laws.proofs.WrittenLocals.{fits_below}
-use Rattle.life_served.specs.Served.{is_walker_of_values, is_owner_of_values, is_target}
+use Rattle.life_served.specs.Served.{is_walker_of_values, is_owner_of_values, is_target, is_unique_of_element}
 use Rattle.life_type_expr.specs.Lists.{fits_at_all}
 use Rattle.life_elab_laws.proofs.TypedKinds.{HasKind, a_null, a_number as is_number_kind, a_pointer as is_pointer_kind, a_text, a_view as is_view_kind, no_value}
-use Rattle.life_elab_laws.proofs.AliasForms.{IsAliased, whole_aliased, to_built, to_place}
-use Rattle.life_elab_laws.proofs.MadeForms.{temporary_made}
+use Rattle.life_elab_laws.proofs.AliasForms.{IsAliased, whole_aliased, to_built, to_place, value_builds}
+use Rattle.life_elab_laws.proofs.MadeForms.{Builds, temporary_made}
 
 -- what a table has has the type that is there
 found_type : (types : Types) (id : TyId) (t : Ty) → slice_get types.types id.0 ≡ Some t → type_at types id ≡ t
@@ -99,27 +101,6 @@ no_walker_given types e kind (ty.Span item constant) w given = refused kind
 no_walker_given types e kind _ w given = false≢true w
 
 module _ (types : Types) (texts : ℕ) (fs : List Function) (f : Function) where
-  -- a pointer before the others
-  pub pointer_handed_part : (id : TyId) (t u : Ty) (ids : List TyId) (first : State → Gives Location) (others : State → Gives (List Argument)) (s : State) → is_slot_at types id ≡ false → ty_of types id ≡ t → takes types t u ≡ true → IsOpen s
-      → Makes types texts fs f None s (first s) (a_pointer types texts fs f u) → Makes types texts fs f None (first s).state (others (first s).state) (arguments types texts fs f ids)
-      → Makes types texts fs f None s (first s >> λ l s. mapped (λ xs. PointerOf l ∷ xs) (others s)) (arguments types texts fs f (id ∷ ids))
-  pointer_handed_part id t u ids first others s plain at taken opened one more =
-      let l = first s in
-      let xs = others l.state in
-      let G = no_gift types texts fs f in
-      let P = a_pointer types texts fs f u in
-      let Q = arguments types texts fs f ids in
-      seen_part types texts fs f G tt None s (gives (l.given, xs.given) xs.state) (both types texts fs f P Q) (λ x. PointerOf x.0 ∷ x.1) (arguments types texts fs f (id ∷ ids))
-      (and_part types texts fs f G tt s l xs P Q opened one more)
-      (λ b h. record {
-        fit =
-            and_from (is_argument_for types texts fs f id (PointerOf l.given)) (are_arguments_for types texts fs f ids xs.given)
-            (and_from (not (is_slot_at types id)) (takes types (ty_of types id) (type_in types f l.given)) (ap not plain) (ap (λ (w : Ty). takes types w (type_in types f l.given)) at ∙ ap (takes types t) h.0.typed ∙ taken)) h.1.fit;
-        own = h.1.own;
-        given = h.1.given;
-      })
-      (λ n k h. h)
-
   -- ---- a reference, which is aimed by a register
 
   module _ (a : Around) (front : IsFront a.program.types.types types.types) (target : TyId) (constant held : Bool) (place : Place) (o : Operand) (s : State) (table : IsFront a.program.types.types s.types.types)
@@ -154,7 +135,7 @@ module _ (a : Around) (visible : List ℕ) (types : Types) (texts : ℕ) (fs : L
   Stood s = Standing a visible types texts fs f setting s
 
   abbrev Hands : List TyId → State → Gives (List Argument) → Type 0
-  Hands ids s w = Makes types texts fs f None s w (arguments types texts fs f ids)
+  Hands ids s w = AllHanded types texts fs f ids s w
 
   -- ---- a raw pointer, which nullptr is too
 
@@ -213,8 +194,8 @@ module _ (a : Around) (visible : List ℕ) (types : Types) (texts : ℕ) (fs : L
       let aim = aimed_part types texts fs f a setting.front target constant held u.place (w s).given (w s).state there.table worth kept in
       let v = aimed_to u t (w s) in
       let all = then_part types texts fs f (no_gift types texts fs f) tt None s (w s) v (a_place types texts fs f (type_at a.program.types target) held) (a_pointer types texts fs f t) stands.opened first aim in
-      pointer_handed_part types texts fs f id t t ids (λ s. aimed_to u t (w s)) (others_of es d ids) s (ap (is_slot_type types) (setting.front id.0 t at) ∙ reference_no_slot types target constant (target_later a.program.types types setting.front target worth)) (ap or_void (setting.front id.0 t at))
-      (and_from (same (ty_of types target) (ty_of types target)) (keeps_const constant constant) (one_target a.program.types types setting.front target worth) (keeps_itself constant)) stands.opened all
+      pointer_handed types texts fs f id t ids (others_of es d ids) s (ap or_void (setting.front id.0 t at)) t (λ s. aimed_to u t (w s)) (ap (is_slot_type types) (setting.front id.0 t at) ∙ reference_no_slot types target constant (target_later a.program.types types setting.front target worth))
+      (and_from (same (ty_of types target) (ty_of types target)) (keeps_const constant constant) (one_target a.program.types types setting.front target worth) (keeps_itself constant)) all
       (rest v.state (stands_later a visible s v.state all.grown stands))
 
   -- a reference to an owner
@@ -236,7 +217,33 @@ module _ (a : Around) (visible : List ℕ) (types : Types) (texts : ℕ) (fs : L
       go (to_built none made) =
           as_bound false none
           (aimed_first (uses a e) es d id ids target constant false (λ s. mapped object_named (giving.given (uses a e) (type_at a.program.types target) (behind_first d) s >> λ rest s. rest (temporary (uses a e).place (type_at a.program.types target)) s)) at wide (keeps_all constant) rest s stands
-          (temporary_made a visible types texts fs f setting (type_at a.program.types target) (uses a e).place s (giving.given (uses a e) (type_at a.program.types target) (behind_first d) s) o (made (behind_first d) s stands) stands))
+          (temporary_made a visible types texts fs f setting (type_at a.program.types target) (uses a e).place s (giving.given (uses a e) (type_at a.program.types target) (behind_first d) s) (inl o) (made (behind_first d) s stands) stands))
+
+  -- an owner or a unique_ptr that is built and given over
+  over_built : (t : Ty) (u : Uses) (behind : Place) (s : State) → IsBuilt a.program.types t → giving.argument a u t behind s ≡ mapped GivenOver (giving.given u t behind s >> λ rest r. rest (consumed u.place t) r)
+  over_built t u behind s (inl o) = go t o
+    where
+      go : (t : Ty) → is_owner_of_values a.program.types t ≡ true → giving.argument a u t behind s ≡ mapped GivenOver (giving.given u t behind s >> λ rest r. rest (consumed u.place t) r)
+      go ty.Text o = refl
+      go (ty.Vector item) o = refl
+      go _ o = absurd (false≢true o)
+  over_built t u behind s (inr w) = go t w
+    where
+      go : (t : Ty) → is_unique_of_element a.program.types t ≡ true → giving.argument a u t behind s ≡ mapped GivenOver (giving.given u t behind s >> λ rest r. rest (consumed u.place t) r)
+      go (ty.Unique target) w = refl
+      go _ w = absurd (false≢true w)
+
+  pub owner_before : (e es : Form) (d : DelimitersForm) (id : TyId) (ids : List TyId) (t : Ty) → slice_get a.program.types.types id.0 ≡ Some t → IsBuilt a.program.types t
+      → ((s : State) → Stood s → Builds a visible types texts fs f setting t s (giving.given (uses a e) t (behind_first d) s)) → ((s : State) → Stood s → Hands ids s (others_of es d ids s)) → (s : State) → Stood s
+      → Hands (id ∷ ids) s (giving.arguments a (all_uses a (e ⨟ es)) d (id ∷ ids) s)
+  owner_before e es d id ids t at o builds rest s stands =
+      let w = giving.given (uses a e) t (behind_first d) s in
+      let v = w.given (consumed (uses a e).place t) w.state in
+      let over = given_handing a visible types texts fs f setting t (uses a e).place s w o (builds s stands) stands in
+      subst (λ (x : Ty). Hands (id ∷ ids) s (giving.argument a (uses a e) x (behind_first d) s >> λ x s. mapped (λ xs. x ∷ xs) (others_of es d ids s))) (sym (found_type a.program.types id t at))
+      (subst (λ (g : Gives Argument). Hands (id ∷ ids) s (g >> λ x s. mapped (λ xs. x ∷ xs) (others_of es d ids s))) (sym (over_built t (uses a e) (behind_first d) s o))
+      (owner_handed types texts fs f id t ids (others_of es d ids) s (ap or_void (setting.front id.0 t at)) (λ s. giving.given (uses a e) t (behind_first d) s >> λ rest r. rest (consumed (uses a e).place t) r) (built_composed a.program.types t o) over
+      (rest v.state (stands_later a visible s v.state over.grown stands))))
 
   pub first_handed : (e es : Form) (d : DelimitersForm) (id : TyId) (ids : List TyId) → IsWhole a visible types texts fs f setting e → ((s : State) → Stood s → Hands ids s (giving.arguments a (all_uses a es) (behind_others d) ids s))
       → IsHandedType a.program.types id → is_given a.program.types (type_at a.program.types id) (typed_in e) ≡ true → (s : State) → Stood s → Hands (id ∷ ids) s (giving.arguments a (all_uses a (e ⨟ es)) d (id ∷ ids) s)
@@ -263,21 +270,24 @@ module _ (a : Around) (visible : List ℕ) (types : Types) (texts : ℕ) (fs : L
           let first = is.valued (given_number a.program.types t (typed_in e) worth given) (behind_first d) t worth None s tt stands in
           subst (Hands (id ∷ ids) s)
           (sym (ap (λ (w : Gives Argument). w >> λ x s. mapped (λ xs. x ∷ xs) (others_of es d ids s)) (by_values (λ x. giving.argument a (uses a e) x (behind_first d) s ≡ mapped Value (value (uses a e) (behind_first d) x None s)) refl refl refl refl refl t worth)))
-          (handed_part types texts fs f id t ids (value (uses a e) (behind_first d) t None) (others_of es d ids) s (type_later a.program.types types setting.front id worth) stands.opened first
+          (number_handed types texts fs f id t ids (others_of es d ids) s (type_later a.program.types types setting.front id worth) (value (uses a e) (behind_first d) t None) first
           (behind_first_part (value (uses a e) (behind_first d) t None s) (a_number types texts fs f t) first))
       go (a_raw target constant at worth) =
           let t = ty.Raw target constant in
           let found = raw_part e target constant s is worth (given_as t at) stands in
           as_type t at
-          (pointer_handed_part types texts fs f id t found.0 ids (pointer (uses a e) t) (others_of es d ids) s (plain t at refl) (later t at) found.1 stands.opened found.2
+          (pointer_handed types texts fs f id t ids (others_of es d ids) s (later t at) found.0 (pointer (uses a e) t) (plain t at refl) found.1 found.2
           (behind_first_part (pointer (uses a e) t s) (a_pointer types texts fs f found.0) found.2))
       go (an_alias target constant at o) = alias_first e es d id ids target constant (whole_aliased a visible types texts fs f setting e target constant o (given_as (ty.Reference target constant) at) is) rest at o s stands
       go (a_walker t at w) = absurd (no_walker_given a.program.types (typed_in e) is.kind.kind t w (given_as t at))
+      go (an_owner t at o) = owner_before e es d id ids t at (inl o) (λ s stands. value_builds a visible types texts fs f setting e is t o (given_as t at) (behind_first d) s stands) rest s stands
+      go (a_unique target at w) =
+          owner_before e es d id ids (ty.Unique target) at (inr w) (λ s stands. null_builds a visible types texts fs f setting e is target (given_as (ty.Unique target) at) (behind_first d) s stands) rest s stands
       go (a_view at) =
           let seen = seen_kind a.program.types (typed_in e) is.kind.kind (given_view a.program.types (typed_in e) (given_as ty.View at)) in
           let first = view_whole a visible types texts fs f setting e is seen s stands in
           as_type ty.View at
-          (pointer_handed_part types texts fs f id ty.View ty.View ids (pointer (uses a e) ty.View) (others_of es d ids) s (plain ty.View at refl) (later ty.View at) refl stands.opened first
+          (pointer_handed types texts fs f id ty.View ids (others_of es d ids) s (later ty.View at) ty.View (pointer (uses a e) ty.View) (plain ty.View at refl) refl first
           (behind_first_part (pointer (uses a e) ty.View s) (a_pointer types texts fs f ty.View) first))
       go (a_reference target constant at worth) = as_type (ty.Reference target constant) at (bound_first target constant at worth (given_bound a.program.types target constant (typed_in e) (value_target a.program.types (type_at a.program.types target) worth) (given_as (ty.Reference target constant) at)))
         where

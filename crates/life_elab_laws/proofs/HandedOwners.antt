@@ -1,5 +1,5 @@
 -- What a parameter is handed by an owner, an iterator or a span: a view of a string, a span of a vector, or another iterator or span.
-use Rattle.std.proofs.Common.{◌≡◌, ℕ, Bool, true, false, List, ◌∷◌, None, Some, Option, slice_get, refl, sym, ap, ◌∙◌, subst, unwrap_or}
+use Rattle.std.proofs.Common.{◌≡◌, inl, ℕ, Bool, true, false, List, ◌∷◌, None, Some, Option, slice_get, refl, sym, ap, ◌∙◌, subst, unwrap_or}
 use Rattle.std.proofs.lemmas.Bool.{and_from, false≢true}
 use Rattle.life_types.specs.Pointees.{or_void, ty_of}
 use Rattle.life_types.specs.Types.{Types, is_slot_type}
@@ -26,13 +26,15 @@ use Rattle.life_writer.specs.Pointers.{located}
 use Rattle.life_writer.specs.Uses.{own}
 use Rattle.life_writer.specs.Using.{pointer, pointing, register_type}
 use Rattle.life_writer.specs.Writing.{Gives, State, ◌>>◌, mapped}
+use Rattle.life_typed.specs.declared.typed_expr.Category.{Category}
 use Rattle.life_elab_laws.proofs.ExpressionForms.{Standing, pointer_part}
 use Rattle.life_elab_laws.proofs.FormedFits.{given_raw, given_string, given_vector, given_walker}
 use Rattle.life_elab_laws.proofs.FormedVariables.{owner_no_value, owner_no_location}
-use Rattle.life_elab_laws.proofs.Gifts.{a_pointer, a_pointing, arguments, takes_from}
+use Rattle.life_elab_laws.proofs.Gifts.{a_pointer, a_pointing, takes_from}
 use Rattle.life_elab_laws.proofs.GivenKinds.{given_number, given_pointer, given_view}
-use Rattle.life_elab_laws.proofs.HandedForms.{pointer_handed_part, alias_first}
-use Rattle.life_elab_laws.proofs.HandedTypes.{IsHandedType, an_alias, a_raw, a_reference, a_value, a_view, a_walker}
+use Rattle.life_elab_laws.proofs.HandedForms.{alias_first, owner_before}
+use Rattle.life_elab_laws.proofs.HandedArguments.{Hands as AllHanded, pointer_handed}
+use Rattle.life_elab_laws.proofs.HandedTypes.{IsHandedType, an_alias, an_owner, a_raw, a_reference, a_unique, a_value, a_view, a_walker}
 use Rattle.life_elab_laws.proofs.Locations.{is_location, is_pointed}
 use Rattle.life_elab_laws.proofs.MadeForms.{IsOwning, owning_owner}
 use Rattle.life_elab_laws.proofs.ObjectForms.{IsOwner}
@@ -45,7 +47,7 @@ use Rattle.life_elab_laws.proofs.VariablePlaces.{stands_later, walker_is}
 use Rattle.life_elab_laws.proofs.WalkerForms.{IsWalker, vector_points, walker_pointer}
 use Rattle.life_elab_laws.proofs.WalkerSteps.{keeps_itself}
 use Rattle.life_elab_laws.proofs.WrittenLocals.{fits_register}
-use Rattle.life_elab_laws.proofs.AliasForms.{owning_aliased, value_reference_refused, walker_reference_refused}
+use Rattle.life_elab_laws.proofs.AliasForms.{no_owner_given, owning_aliased, owning_builds, value_reference_refused, walker_reference_refused}
 use Rattle.life_elab_laws.proofs.Targets.{owner_target, value_target}
 use Rattle.life_elab_laws.proofs.Elements.{one_element}
 
@@ -55,6 +57,17 @@ pub owner_no_iterator : (types : Types) (t : Ty) (e : Typed) → is_owner_of_val
 owner_no_iterator types ty.Text e o target constant h = false≢true h
 owner_no_iterator types (ty.Vector item) e o target constant h = false≢true h
 owner_no_iterator types _ e o target constant h = false≢true o
+
+-- a unique_ptr
+owner_no_unique_given : (types : Types) (t : Ty) → is_owner_of_values types t ≡ true → (target : TyId) (c : Category) → fits_at_all (fits types (ty.Unique target) (Of t) c) ≡ true → ⊥
+owner_no_unique_given types ty.Text o target c h = false≢true h
+owner_no_unique_given types (ty.Vector item) o target c h = false≢true h
+owner_no_unique_given types _ o target c h = false≢true o
+
+walker_no_unique_given : (types : Types) (t : Ty) → is_walker_of_values types t ≡ true → (target : TyId) (c : Category) → fits_at_all (fits types (ty.Unique target) (Of t) c) ≡ true → ⊥
+walker_no_unique_given types (ty.Iterator item held) w target c h = false≢true h
+walker_no_unique_given types (ty.Span item held) w target c h = false≢true h
+walker_no_unique_given types _ w target c h = false≢true w
 
 pub walker_no_raw : (types more : Types) (t : Ty) → is_walker_of_values types t ≡ true → (target : TyId) (constant : Bool) → takes_from more (ty.Raw target constant) (Of t) ≡ true → ⊥
 walker_no_raw types more (ty.Iterator item held) w target constant h = false≢true h
@@ -71,7 +84,7 @@ module _ (a : Around) (visible : List ℕ) (types : Types) (texts : ℕ) (fs : L
   Stood s = Standing a visible types texts fs f setting s
 
   abbrev Hands : List TyId → State → Gives (List Argument) → Type 0
-  Hands ids s w = Makes types texts fs f None s w (arguments types texts fs f ids)
+  Hands ids s w = AllHanded types texts fs f ids s w
 
   abbrev others_of : Form → DelimitersForm → List TyId → State → Gives (List Argument)
   others_of es d ids s = giving.arguments a (all_uses a es) (behind_others d) ids s
@@ -85,7 +98,7 @@ module _ (a : Around) (visible : List ℕ) (types : Types) (texts : ℕ) (fs : L
       let w = pointer (uses a e) t s in
       subst (λ (x : Ty). Hands (id ∷ ids) s (giving.argument a (uses a e) x (behind_first d) s >> λ x s. mapped (λ xs. x ∷ xs) (others_of es d ids s))) (sym (ap (λ (o : Option Ty). unwrap_or o ty.Void) at))
       (subst (λ (g : Gives Argument). Hands (id ∷ ids) s (g >> λ x s. mapped (λ xs. x ∷ xs) (others_of es d ids s))) (sym alone)
-      (pointer_handed_part types texts fs f id t u ids (pointer (uses a e) t) (others_of es d ids) s (ap (is_slot_type types) (setting.front id.0 t at) ∙ none) (ap or_void (setting.front id.0 t at)) taken stands.opened first
+      (pointer_handed types texts fs f id t ids (others_of es d ids) s (ap or_void (setting.front id.0 t at)) u (pointer (uses a e) t) (ap (is_slot_type types) (setting.front id.0 t at) ∙ none) taken first
       (rest w.state (stands_later a visible s w.state first.grown stands))))
 
   -- ---- by an owner
@@ -130,6 +143,9 @@ module _ (a : Around) (visible : List ℕ) (types : Types) (texts : ℕ) (fs : L
           (and_from (same (ty_of types item) (ty_of types item)) (keeps_const constant constant) (one_element a.program.types types setting.front item w) (keeps_itself constant))
           (owner_pointer e o (ty.Span item constant) refl w s stands (vector_points a visible types texts fs f setting e o item constant to.is to.kept s stands))
       go (a_walker _ at w) = absurd (false≢true w)
+      go (a_unique target at w) =
+          absurd (owner_no_unique_given a.program.types o.ty o.owner target (typed_in e).category (subst (λ (x : ExprType). fits_at_all (fits a.program.types (ty.Unique target) x (typed_in e).category) ≡ true) o.is (given_as (ty.Unique target) at)))
+      go (an_owner t at owned) = owner_before a visible types texts fs f setting e es d id ids t at (inl owned) (λ s stands. owning_builds a visible types texts fs f setting e from t owned (given_as t at) (behind_first d) s stands) rest s stands
       go (an_alias target constant at owned) = alias_first a visible types texts fs f setting e es d id ids target constant (owning_aliased a visible types texts fs f setting e target constant owned (given_as (ty.Reference target constant) at) from) rest at owned s stands
       go (a_reference target constant at worth) = absurd (value_reference_refused a visible types texts fs f setting e target constant worth (given_as (ty.Reference target constant) at) from)
 
@@ -160,5 +176,10 @@ module _ (a : Around) (visible : List ℕ) (types : Types) (texts : ℕ) (fs : L
       go (a_walker (ty.Iterator item constant) at w) = walks (ty.Iterator item constant) at w refl refl
       go (a_walker (ty.Span item constant) at w) = walks (ty.Span item constant) at w refl refl
       go (a_walker _ at w) = absurd (false≢true w)
+      go (a_unique target at w) =
+          absurd (walker_no_unique_given a.program.types from.ty from.walker target (typed_in e).category (subst (λ (x : ExprType). fits_at_all (fits a.program.types (ty.Unique target) x (typed_in e).category) ≡ true) from.is (given_as (ty.Unique target) at)))
+      go (an_owner t at owned) =
+          absurd (no_owner_given a.program.types t owned from.ty (walker_is a.program.types from.ty from.walker).owner (typed_in e).category
+          (subst (λ (x : ExprType). fits_at_all (fits a.program.types t x (typed_in e).category) ≡ true) from.is (given_as t at)))
       go (an_alias target constant at owned) = absurd (walker_reference_refused a visible types texts fs f setting e target constant (owner_target a.program.types (type_at a.program.types target) owned) (given_as (ty.Reference target constant) at) from)
       go (a_reference target constant at worth) = absurd (walker_reference_refused a visible types texts fs f setting e target constant (value_target a.program.types (type_at a.program.types target) worth) (given_as (ty.Reference target constant) at) from)

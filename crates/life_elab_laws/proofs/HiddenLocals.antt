@@ -47,6 +47,7 @@ use Rattle.life_elab_laws.proofs.StillThere.{alive_grown, alive_passing}
 use Rattle.life_elab_laws.proofs.Targets.{owner_target}
 use Rattle.life_elab_laws.proofs.Types.{type_added, types_before}
 use Rattle.life_elab_laws.proofs.WrittenLocals.{AddsRegisters, fits_hidden, hidden_below, hidden_later, register_pushed}
+use Rattle.life_elab_laws.proofs.BornLocals.{filled_bears}
 
 -- ---- the local
 
@@ -150,6 +151,7 @@ module _ (types : Types) (texts : ℕ) (fs : List Function) (f : Function) where
                   then_opens f s s w.state (looked_of (trees (Acts place (step (whole r)) ∷ []))) (given_of (trees (Acts place (step (whole r)) ∷ []))) (hidden_grows place t s).count (λ y o. inl o) below
                   (step_apart f types (step (whole r)) place s k alive (hidden_fills f step r k (fills r k q) r).ready
                   (and_parts (list_all (is_no_object types f) (given_step (step (whole r)))) (step_keeps f (step (whole r))) (fine b p r is).given).0 below);
+              bears = filled_bears f (step (whole r)) place s k alive r (hidden_fills f step r k (fills r k q) r).after (λ object. omega arith);
             };
       };
     }

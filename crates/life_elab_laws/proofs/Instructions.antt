@@ -1,6 +1,6 @@
 -- Single instructions that write a register: what is asked of each, and that it is a part behind what its operands give.
 use Rattle.std.proofs.Common.{◌≡◌, ◌<◌, inl, inr, ℕ, Bool, true, false, ◌&&◌, cond, List, [], ◌∷◌, ◌++◌, length, slice_set, Option, Some, None, refl, sym, ap, ◌∙◌, subst, arith, zero, suc}
-use Rattle.std.proofs.lemmas.Bool.{and_from, and_parts}
+use Rattle.std.proofs.lemmas.Bool.{and_from, and_parts, false≢true}
 use Rattle.std.specs.List.{list_all}
 use Rattle.std.proofs.lemmas.Option.{slice_get_within}
 use Rattle.std.specs.Prelude.{ℤ}
@@ -36,7 +36,8 @@ use Rattle.life_writer.specs.Pointers.{As, By, Pointing, located}
 use Rattle.life_writer.specs.Registers.{as_type, computed, constant, conversion, converted, eval, load, new_register, target}
 use Rattle.life_writer.specs.Values as values
 use Rattle.life_writer.specs.Writing.{Gives, State, emit, gives}
-use Rattle.life_elab_laws.proofs.Emitting.{IsInto, IsNameless, IsWanted, Targets, keeps_set, nameless_register, new_targeted, targeted}
+use Rattle.life_elab_laws.proofs.BornLocals.{filled_bears, still_bears}
+use Rattle.life_elab_laws.proofs.Emitting.{IsInto, IsNameless, IsWanted, Targets, keeps_set, nameless_no_object, nameless_register, new_targeted, targeted}
 use Rattle.life_elab_laws.proofs.Falling.{Fills, falls_acts, falls_filling}
 use Rattle.life_elab_laws.proofs.Fronts.{last_there}
 use Rattle.life_elab_laws.proofs.Filling.{filling_fills}
@@ -117,6 +118,7 @@ module _ (types : Types) (texts : ℕ) (fs : List Function) (f : Function) where
               (λ y o. elim o [ inl m ↦ inl (inl (subst (Among y) t.grown.living m)) | inr m ↦ inl (inr (subst (Among y) t.level m)) ]) below
               (step_apart f types (step w.given) place s k alive (fills w.given (length s.locals) k (nameless_register f w.given is) p).ready
               (and_parts (list_all (is_no_object types f) (given_step (step w.given))) (step_keeps f (step w.given)) fine.0.given).0 below);
+          bears = filled_bears f (step w.given) place s k alive w.given (fills w.given (length s.locals) k (nameless_register f w.given is) p).after (λ object. absurd (false≢true (sym (nameless_no_object f w.given is) ∙ object)));
         };
       }
 
@@ -352,6 +354,7 @@ module _ (types : Types) (texts : ℕ) (fs : List Function) (f : Function) where
         gives = tt;
         alive = subst (Alive f s) (sym here.1) alive;
         apart = step_apart f types i place s k alive here.0 (and_parts (list_all (is_no_object types f) (given_step i)) (step_keeps f i) is.0.given).0;
+        bears = still_bears f i place s k alive (λ x. ap (λ (j : List Known). known_at j x) here.1);
       };
     };
   }
@@ -374,6 +377,7 @@ module _ (types : Types) (texts : ℕ) (fs : List Function) (f : Function) where
         gives = tt;
         alive = alive_same f s k (known_after (touched_by f i) k) (after h (length s.locals) zero k p).sized (λ y. (after h (length s.locals) (suc y) k p).below y (omega arith) tt) alive;
         apart = step_apart f types i place s k alive (ready h (length s.locals) k p) (and_parts (list_all (is_no_object types f) (given_step i)) (step_keeps f i) (fine h).given).0;
+        bears = still_bears f i place s k alive (λ x. (after h (length s.locals) (suc x) k p).below x (omega arith) tt);
       };
     };
   }

@@ -83,7 +83,7 @@ module _ (a : Around) (visible : List ℕ) (types : Types) (texts : ℕ) (fs : L
         form = Plain;
         act = concatenated place x.given y.given;
         lives = refl;
-        acts = λ at to t there.
+        acts = λ at to t there still new.
             let D = both types texts fs f (both types texts fs f P P) (a_place types texts fs f ty.Text false) in
             let z : (Seen × Seen) × Operand = ((x.given, y.given), to) in
             let set : State = changed_by Set place x.given to t in
@@ -93,7 +93,7 @@ module _ (a : Around) (visible : List ℕ) (types : Types) (texts : ℕ) (fs : L
             let E = both types texts fs f D (no_gift types texts fs f) in
             then_part types texts fs f D z None t (gives (z, tt) set) _ E (no_gift types texts fs f) there.opened all
             (changed_part types texts fs f E (z, tt) Append place y.given to set (gains types texts fs f) (stands_later a visible t set begun.grown there).opened (λ h. (h.0.0.1, h.0.1)) (λ n k h. (h.0.0.1, h.0.1)));
-        alone = λ e. joined_plain place x.given y.given;
+        alone = λ e. joined_plain _ place x.given y.given;
       }
 
   -- ---- a copy of a string
@@ -106,10 +106,10 @@ module _ (a : Around) (visible : List ℕ) (types : Types) (texts : ℕ) (fs : L
     form = Plain;
     act = copied_at at w.given;
     lives = refl;
-    acts = λ place to t there.
+    acts = λ place to t there still new.
         copies_part types texts fs f (both types texts fs f (a_place types texts fs f ty.Text constant) (a_place types texts fs f ty.Text false)) (w.given, to) a.program.types ty.Text constant to w.given at t refl
         (λ h. (h.1, h.0)) (λ n k h. (h.1, h.0));
-    alone = λ e. copied_at_plain at w.given;
+    alone = λ e. copied_at_plain _ at w.given;
   }
 
   -- ---- a string of a literal
@@ -124,9 +124,9 @@ module _ (a : Around) (visible : List ℕ) (types : Types) (texts : ℕ) (fs : L
         form = Plain;
         act = set_to w.given;
         lives = refl;
-        acts = λ place to t there.
+        acts = λ place to t there still new.
             changed_part types texts fs f (both types texts fs f P (a_place types texts fs f ty.Text false)) (w.given, to) Set place (InView w.given) to t (sets types texts fs f) there.opened (λ h. (h.0, h.1)) (λ n k h. (h.0, h.1));
-        alone = λ e. set_plain w.given;
+        alone = λ e. set_plain _ w.given;
       }
 
   -- ---- a string of what a view sees
@@ -141,7 +141,7 @@ module _ (a : Around) (visible : List ℕ) (types : Types) (texts : ℕ) (fs : L
         form = Plain;
         act = standing at (set_to w.given);
         lives = refl;
-        acts = λ place to t there.
+        acts = λ place to t there still new.
             changed_part types texts fs f (both types texts fs f P (a_place types texts fs f ty.Text false)) (w.given, to) Set at (InView w.given) to t (sets types texts fs f) there.opened (λ h. (h.0, h.1)) (λ n k h. (h.0, h.1));
-        alone = λ e. standing_plain at w.given;
+        alone = λ e. standing_plain _ at w.given;
       }

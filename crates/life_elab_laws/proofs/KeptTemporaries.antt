@@ -1,7 +1,5 @@
 -- A reference that is declared with what isn't a place of its type: what is computed is saved in a temporary that lives as long as it, or a call gives its result there.
-use Rattle.std.proofs.Common.{◌≡◌, ℕ, Bool, true, false, ◌&&◌, cond, not, List, [], ◌∷◌, ◌++◌, length, slice_get, Option, Some, None, refl, sym, ap, ◌∙◌, subst, arith, append_assoc, inl}
-use Rattle.std.proofs.lemmas.Bool.{and_parts}
-use Rattle.std.specs.List.{list_all}
+use Rattle.std.proofs.Common.{◌≡◌, ℕ, Bool, true, false, ◌&&◌, cond, not, List, [], ◌∷◌, ◌++◌, length, slice_get, Option, Some, None, refl, sym, ap, ◌∙◌, subst, arith, append_assoc, inl, flat_map}
 use Rattle.life_served.specs.Served.{is_served_variable}
 use Rattle.life_types.specs.TypeTests.{is_value}
 use Rattle.life_types.specs.Types.{Types}
@@ -16,9 +14,9 @@ use Rattle.life_typed.specs.declared.typed_program.TypedLocal.{TypedLocal}
 use Rattle.life_core.specs.Function.{Function}
 use Rattle.life_core.specs.Operands.{Place as Aimed, Location, object_named, whole}
 use Rattle.life_core.specs.Step.{Aim, Live, Save, Step}
-use Rattle.life_core.specs.Tree.{Acts, Tree, trees}
+use Rattle.life_core.specs.Tree.{Acts, Tree}
 use Rattle.life_core.specs.declared.instr.Form.TheVariants.{Plain}
-use Rattle.life_proper.specs.GivenOver.{given_step}
+use Rattle.life_proper.specs.GivenOver.{given_argument}
 use Rattle.life_proper.specs.WellFormed.{goes_to}
 use Rattle.life_well_typed.specs.Expressions.{parameter_types}
 use Rattle.life_well_typed.specs.Given.{is_number}
@@ -34,27 +32,27 @@ use Rattle.life_writer.specs.Using.{value}
 use Rattle.life_writer.specs.Variables.{end_pending, variable_local}
 use Rattle.life_writer.specs.Writing.{Gives, State, gives, mapped, with_code, ◌>>◌}
 use Rattle.life_elab.specs.Declarations.{variable as home}
-use Rattle.life_elab_laws.proofs.BoundVariables.{bound_does, kept_none, kept_place, kept_then, temporary_below, temporary_goes, temporary_lives, with_temporary, value_below}
-use Rattle.life_elab_laws.proofs.CallParts.{called_fine}
-use Rattle.life_elab_laws.proofs.Calls.{born_fills}
+use Rattle.life_elab_laws.proofs.BoundVariables.{bound_does, kept_none, kept_place, temporary_below, temporary_goes, temporary_lives, with_temporary, value_below}
 use Rattle.life_elab_laws.proofs.Declaring.{with_new}
 use Rattle.life_elab_laws.proofs.Doing.{Does}
 use Rattle.life_elab_laws.proofs.ExpressionForms.{IsWhole}
 use Rattle.life_elab_laws.proofs.ExpressionTypes.{answer_own}
-use Rattle.life_elab_laws.proofs.Falling.{falls_filling}
 use Rattle.life_elab_laws.proofs.Following.{Follows}
-use Rattle.life_elab_laws.proofs.Gifts.{a_number, arguments}
-use Rattle.life_elab_laws.proofs.GivenApart.{given_of, looked_of, step_apart}
+use Rattle.life_elab_laws.proofs.Gifts.{a_number, all_handed, nothing as no_gift}
+use Rattle.life_elab_laws.proofs.GivenApart.{AreApart}
 use Rattle.life_elab_laws.proofs.Growing.{Begins}
 use Rattle.life_elab_laws.proofs.PointerForms.{result_later}
 use Rattle.life_elab_laws.proofs.Saving.{saved_falls, saved_fine}
 use Rattle.life_elab_laws.proofs.Setting.{Setting}
-use Rattle.life_elab_laws.proofs.Shaping.{IsFineStep, fine_acts, fine_append, is_no_object, step_keeps}
+use Rattle.life_elab_laws.proofs.Shaping.{fine_acts, fine_append}
 use Rattle.life_elab_laws.proofs.Types.{same_types}
 use Rattle.life_elab_laws.proofs.Values.{by_values}
 use Rattle.life_types.specs.declared.ty.Ty.TheVariants as ty
 use Rattle.life_writer.specs.Around as around
 use Rattle.life_writer.specs.Giving as giving
+use Rattle.life_elab_laws.proofs.HandingCalls.{born_falls, born_fine, born_looks, born_named}
+use Rattle.life_elab_laws.proofs.Handing.{handing_none}
+use Rattle.life_types.specs.Pointees.{ty_of}
 
 module _ (a : Around) (types : Types) (texts : ℕ) (fs : List Function) (f : Function) (setting : Setting a types fs f) (v : Visible) (in_loop : Bool) (last : Place)
     (u : TypedLocal) (s : State) (h : Follows types f a v s) (at : slice_get a.function.locals v.declared ≡ Some u) (built : is_served_variable a.program.types u.ty ≡ true)
@@ -85,12 +83,12 @@ module _ (a : Around) (types : Types) (texts : ℕ) (fs : List Function) (f : Fu
       let aims = Acts e.place (Aim (whole (length kept.locals)) (Aimed (object_named x))) ∷ [] in
       subst (λ (c : List Tree). Born (with_code c (with_new (variable_local a u) kept)))
       (sym (append_assoc (w.state.code ++ lives) saves aims ∙ append_assoc w.state.code lives (saves ++ aims)))
-      (bound_does a types texts fs f setting v in_loop last u s h at built target constant is worth e.place w (a_number types texts fs f t) made (lives ++ saves)
+      (bound_does a types texts fs f setting v in_loop last u s h at built target constant is worth e.place w (a_number types texts fs f t) [] (handing_none types texts fs f (no_gift types texts fs f) tt s w (a_number types texts fs f t) made) (lives ++ saves)
       (λ b q.
       fine_append types texts fs f lives saves (fine_acts types texts fs f e.place (Live x Plain) (temporary_lives a types texts fs f e.place t (inl worth) w.state (value_below w.state.types t worth) b Plain))
       (fine_acts types texts fs f e.place (Save (object_named x) w.given) (saved_fine types texts fs f t w.given (object_named x) q (kept_place a types texts fs f e.place t (inl worth) w.state (value_below w.state.types t worth) b))))
-      (λ b k size q blank. saved_falls types f e.place x w.given k (omega (arith, size, temporary_below a types texts fs f e.place t (inl worth) w.state (value_below w.state.types t worth) b)) blank q.0 q.1)
-      (λ b q k alive r blank. kept_none a types texts fs f e.place t (inl worth) w.state (value_below w.state.types t worth)))
+      (λ b r k size q none blank. saved_falls types f e.place x w.given k (omega (arith, size, temporary_below a types texts fs f e.place t (inl worth) w.state (value_below w.state.types t worth) b)) blank q.0 q.1)
+      [] (λ z m. absurd m) (λ b q k alive r blank. kept_none a types texts fs f e.place t (inl worth) w.state (value_below w.state.types t worth)))
 
   kept_call_does : (c : Called) → form_call e.form ≡ Some c → compared.eq (own_type e.ty) t ≡ true → not (is_place e.category) ≡ true → Born (Kept (Some c))
   kept_call_does c found same plain =
@@ -101,20 +99,21 @@ module _ (a : Around) (types : Types) (texts : ℕ) (fs : List Function) (f : Fu
       let ids = parameter_types (Some k.of) in
       let calls = Acts e.place (called c.function w.given (whole x)) ∷ [] in
       let aims = Acts e.place (Aim (whole (length kept.locals)) (Aimed (object_named x))) ∷ [] in
-      let fits : Begins types f kept → (arguments types texts fs f ids).typed w.given → IsFineStep types texts fs f (called c.function w.given (whole x)) = λ b q.
-      called_fine types texts fs f c.function w.given k.of x (setting.callees c.function k.of k.there) q
-      (ap (λ (r : Ty). goes_to types texts fs f r (Some (whole x)))
+      let hands = k.hands s h.stands in
+      let callee = setting.callees c.function k.of k.there in
+      let goes : Begins types f kept → goes_to types texts fs f (ty_of types k.of.result) (Some (whole x)) ≡ true = λ b.
+      ap (λ (r : Ty). goes_to types texts fs f r (Some (whole x)))
       (result_later a v.visible types texts fs f setting c.function k.of k.there ∙ answer_own a.program.types (type_at a.program.types k.of.result) e.ty e.category k.answers plain ∙ same_types (own_type e.ty) t same)
-      ∙ temporary_goes a types texts fs f e.place t (inl worth) w.state (value_below w.state.types t worth) b worth) in
+      ∙ temporary_goes a types texts fs f e.place t (inl worth) w.state (value_below w.state.types t worth) b worth in
       subst (λ (c : List Tree). Born (with_code c (with_new (variable_local a u) kept)))
       (sym (append_assoc w.state.code calls aims))
-      (bound_does a types texts fs f setting v in_loop last u s h at built target constant is worth e.place w (arguments types texts fs f ids) (k.hands s h.stands) calls
-      (λ b q. fine_acts types texts fs f e.place (called c.function w.given (whole x)) (fits b q))
-      (λ b m size q blank. falls_filling types f e.place (called c.function w.given (whole x)) x m (born_fills f c.function ids w.given x m q x blank))
-      (λ b q m alive r blank.
-      kept_then a types texts fs f e.place t (inl worth) w.state (value_below w.state.types t worth) (looked_of (trees calls)) (given_of (trees calls))
-      (step_apart f types (called c.function w.given (whole x)) e.place w.state m alive (born_fills f c.function ids w.given x m r x blank).ready
-      (and_parts (list_all (is_no_object types f) (given_step (called c.function w.given (whole x)))) (step_keeps f (called c.function w.given (whole x))) (fits b q).given).0)))
+      (bound_does a types texts fs f setting v in_loop last u s h at built target constant is worth e.place w (all_handed types texts fs f ids) (flat_map given_argument w.given) hands calls
+      (λ b q. born_fine types texts fs f c.function k.of callee s w hands x e.place q (goes b))
+      (λ b r m size q none blank. born_falls types texts fs f c.function k.of callee s w hands x e.place r m q none blank (λ g. let lt = hands.below x g in omega (arith, lt)))
+      [] (born_named types texts fs f c.function k.of callee s w hands x e.place)
+      (λ b q m alive r blank under.
+      subst (λ (xs : List ℕ). AreApart f w.state kept xs []) (sym (born_looks types texts fs f c.function k.of callee s w hands x e.place m r))
+      (kept_none a types texts fs f e.place t (inl worth) w.state (value_below w.state.types t worth) under)))
 
   kept_does : Born (Kept (call_for e t))
   kept_does = go (compared.eq (own_type e.ty) t) refl (not (is_place e.category)) refl

@@ -5,6 +5,7 @@ pub mod Among
 pub mod AppendForms
 pub mod BaseSteps
 pub mod Beginning
+pub mod BornLocals
 pub mod BoundOwners
 pub mod BoundVariables
 pub mod Branching
@@ -41,17 +42,23 @@ pub mod FormedEnds
 pub mod FormedFits
 pub mod FormedLocals
 pub mod FormedVariables
+pub mod FreshUniques
 pub mod Fronts
 pub mod FunctionWriting
 pub mod Gifts
 pub mod GivenApart
 pub mod GivenKinds
+pub mod GivenOwners
 pub mod GivenResults
 pub mod GivingBack
 pub mod Growing
+pub mod HandedArguments
 pub mod HandedForms
 pub mod HandedOwners
 pub mod HandedTypes
+pub mod HandedUniques
+pub mod Handing
+pub mod HandingCalls
 pub mod Held
 pub mod HiddenLocals
 pub mod HiddenStay
@@ -62,6 +69,7 @@ pub mod KeptGiven
 pub mod KeptTemporaries
 pub mod Knowledge
 pub mod Leaving
+pub mod LentArguments
 pub mod ListForms
 pub mod Locations
 pub mod Looping
@@ -69,6 +77,7 @@ pub mod MadeForms
 pub mod MadeRanges
 pub mod Making
 pub mod MoveSteps
+pub mod MovedForms
 pub mod MovedOwners
 pub mod NamedTargets
 pub mod NewVariables
@@ -100,6 +109,7 @@ pub mod RangeOpening
 pub mod RangeStatements
 pub mod RangeTurns
 pub mod ReferredOwners
+pub mod ReplacedOwners
 pub mod ResultTypes
 pub mod Returning
 pub mod RowTypes
@@ -135,6 +145,8 @@ pub mod UniqueStatements
 pub mod UniqueSteps
 pub mod UniqueTests
 pub mod ValueTemporaries
+pub mod UnseenLocals
+pub mod UnseenWays
 pub mod Values
 pub mod VariablePlaces
 pub mod ViewForms

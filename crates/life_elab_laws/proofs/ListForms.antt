@@ -94,7 +94,7 @@ module _ (a : Around) (visible : List ℕ) (types : Types) (texts : ℕ) (fs : L
     form = Zero;
     act = λ place to r. r;
     lives = refl;
-    acts = λ place to r stands.
+    acts = λ place to r stands still new.
         gives_part types texts fs f (both types texts fs f (no_gift types texts fs f) (a_place types texts fs f vector false)) (tt, to) None tt r (no_gift types texts fs f) (λ b h. tt) (λ b k alive h. tt);
     alone = λ e. absurd (false≢true e);
   }
@@ -105,7 +105,7 @@ module _ (a : Around) (visible : List ℕ) (types : Types) (texts : ℕ) (fs : L
     form = Plain;
     act = filled_in a vector opening (all_uses a (e ⨟ es)) d;
     lives = refl;
-    acts = λ place to r stands.
+    acts = λ place to r stands still new.
         filled_part (both types texts fs f (no_gift types texts fs f) (a_place types texts fs f vector false)) (tt, to) to (λ h. h.1) (λ n k h. h.1) opening (e ⨟ es) d r givings all stands;
     alone = λ e. absurd (false≢true e);
   }

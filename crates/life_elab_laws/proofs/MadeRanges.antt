@@ -83,6 +83,7 @@ module _ (types : Types) (texts : ℕ) (fs : List Function) (f : Function) where
         gives = q;
         alive = alive_grown f s (typed_with t s) k refl (typed_grows t s) alive;
         apart = same_apart f s (typed_with t s) refl refl refl;
+        bears = λ x object m. absurd m;
       };
     };
   }

@@ -1,8 +1,8 @@
 -- An owner is moved from an object to a place.
-use Rattle.std.proofs.Common.{◌≡◌, ◌&&◌, ℕ, Bool, true, false, not, if◌then◌else◌, nat_eq, List, [], ◌∷◌, Option, Some, None, slice_get, refl, sym, ap, ◌∙◌, subst, arith}
+use Rattle.std.proofs.Common.{◌≡◌, ◌&&◌, ℕ, Bool, true, false, not, if◌then◌else◌, nat_eq, List, [], ◌∷◌, Option, Some, None, slice_get, refl, sym, ap, ◌∙◌, subst, arith, inl, inr}
 use Rattle.std.proofs.lemmas.Bool.{and_from, false≢true}
 use Rattle.std.proofs.lemmas.Bool.Decides.{nat_tests}
-use Rattle.life_served.specs.Served.{is_owner_of_values}
+use Rattle.life_served.specs.Served.{is_owner_of_values, is_unique_of_element}
 use Rattle.life_types.specs.Pointees.{ty_of}
 use Rattle.life_types.specs.TypeTests.{is_void}
 use Rattle.life_types.specs.Types.{Types}
@@ -24,6 +24,7 @@ use Rattle.life_proper.specs.declared.known.Known.{Known}
 use Rattle.life_proper.specs.declared.known.Known.TheVariants as known
 use Rattle.life_proper.proofs.ReadyTests.{both_known, uses_ready}
 use Rattle.life_writer.specs.Writing.{State, emit, gives}
+use Rattle.life_elab_laws.proofs.ServedTypes.{IsBuilt}
 use Rattle.life_elab_laws.proofs.Gifts.{Gift, IsPlaceOf, nothing}
 use Rattle.life_elab_laws.proofs.Held.{place_there}
 use Rattle.life_elab_laws.proofs.Instructions.{acted_part}
@@ -38,7 +39,15 @@ owner_moves table ty.Text o = refl
 owner_moves table (ty.Vector item) o = refl
 owner_moves table _ o = absurd (false≢true o)
 
-moved_same : (t : Ty) → is_owner t ≡ true → same t t ≡ true
+pub built_moves : (table : Types) (t : Ty) → IsBuilt table t → is_owner t ≡ true
+built_moves table t (inl o) = owner_moves table t o
+built_moves table t (inr u) = go t u
+  where
+    go : (t : Ty) → is_unique_of_element table t ≡ true → is_owner t ≡ true
+    go (ty.Unique target) u = refl
+    go _ u = absurd (false≢true u)
+
+pub moved_same : (t : Ty) → is_owner t ≡ true → same t t ≡ true
 moved_same ty.Text o = same_type ty.Text
 moved_same (ty.Vector item) o = same_type (ty.Vector item)
 moved_same (ty.Unique target) o = same_type (ty.Unique target)

@@ -3,7 +3,7 @@ use Rattle.std.specs.Prelude.{◌==◌}
 use Rattle.std.proofs.Common.{◌≡◌, ℕ, Bool, true, false, if◌then◌else◌, arith, List, Contains, length, slice_get, Option, Some, None, Ok, refl, sym, ap, ◌∙◌, subst, unwrap_or, Err}
 use Rattle.std.proofs.lemmas.Bool.{false≢true}
 use Rattle.std.proofs.lemmas.Bool.Decides.{nat_tests}
-use Rattle.life_served.specs.Served.{is_owner_of_values, is_walker_of_values}
+use Rattle.life_served.specs.Served.{is_owner_of_values, is_walker_of_values, owns_elements}
 use Rattle.life_types.specs.Types.{Types, class}
 use Rattle.life_types.specs.declared.place.Place.{Place}
 use Rattle.life_types.specs.declared.ty.Class.{Class}
@@ -11,7 +11,7 @@ use Rattle.life_types.specs.declared.ty.Class.TheVariants as classes
 use Rattle.life_types.specs.declared.ty.Ty.{Ty}
 use Rattle.life_types.specs.declared.ty.Ty.TheVariants as ty
 use Rattle.life_typed.specs.BaseTypes.{type_at}
-use Rattle.life_typed.specs.TypedForm.{Form, Typed, move, typed, whole as whole_form}
+use Rattle.life_typed.specs.TypedForm.{Typed, move, whole as whole_form}
 use Rattle.life_typed.specs.TypedStatement.{one}
 use Rattle.life_typed.specs.declared.typed_expr.Category.{Category}
 use Rattle.life_typed.specs.declared.typed_expr.Category.TheVariants as category
@@ -31,7 +31,8 @@ use Rattle.life_well_typed.specs.Expressions.{IsMoved, IsVariable}
 use Rattle.life_writer.specs.Around.{Around, own_type}
 use Rattle.life_writer.specs.Assigning.{acted, assigned_by, owner_by, replaced_by}
 use Rattle.life_writer.specs.ExpressionForms.{uses}
-use Rattle.life_writer.specs.OwnerForms.{moved_out_of}
+use Rattle.life_writer.specs.OwnerForms.{moved_from, moved_out_of}
+use Rattle.life_writer.specs.Uses.{Act}
 use Rattle.life_writer.specs.Using.{operand, temporary_of}
 use Rattle.life_writer.specs.Variables.{kind as local_kind, place_of_kind, variable, variable_place}
 use Rattle.life_writer.specs.Writing.{Gives, State, gives}
@@ -72,6 +73,8 @@ module _ (a : Around) (visible : List ℕ) (types : Types) (texts : ℕ) (fs : L
     pub ty : Ty
     pub at : slice_get a.program.types.types source.ty.0 ≡ Some ty
     pub owner : is_owner ty ≡ true
+    -- it is no unique_ptr, where it has elements
+    pub held : owns_elements ty ≡ true → is_owner_of_values a.program.types ty ≡ true
     pub is : e.ty ≡ Of ty
     pub value : e.category ≡ category.Value
 
@@ -107,13 +110,14 @@ module _ (a : Around) (visible : List ℕ) (types : Types) (texts : ℕ) (fs : L
           an_owner_taken (ty.Vector item) o is = taken l.constant is
           an_owner_taken _ o is = absurd (false≢true o)
 
-          made : (t : Ty) → slice_get a.program.types.types l.ty.0 ≡ Some t → is_owner t ≡ true → value_typed e.place (type_at a.program.types l.ty) (move x) ≡ e → IsMovedFrom x e
-          made t at o same = record {
+          made : (t : Ty) → slice_get a.program.types.types l.ty.0 ≡ Some t → is_owner t ≡ true → (owns_elements t ≡ true → is_owner_of_values a.program.types t ≡ true) → value_typed e.place (type_at a.program.types l.ty) (move x) ≡ e → IsMovedFrom x e
+          made t at o values same = record {
             source = l;
             found = found;
             ty = t;
             at = at;
             owner = o;
+            held = values;
             is = sym (ap (λ (y : Typed). y.ty) same) ∙ ap (λ (o : Option Ty). Of (unwrap_or o ty.Void)) at;
             value = sym (ap (λ (y : Typed). y.category) same);
           }
@@ -125,8 +129,8 @@ module _ (a : Around) (visible : List ℕ) (types : Types) (texts : ℕ) (fs : L
           kind (an_alias target constant at o) = absurd (refused constant kinds.Unsupported (moves (ty.Reference target constant) at))
           kind (a_view at) = absurd (refused l.constant kinds.Unsupported (moves ty.View at))
           kind (a_walker t at w) = absurd (no_walker t w (moves t at))
-          kind (a_unique target at w) = made (ty.Unique target) at refl (taken l.constant (moves (ty.Unique target) at))
-          kind (an_owner t at o) = made t at (owner_moves a.program.types t o) (an_owner_taken t o (moves t at))
+          kind (a_unique target at w) = made (ty.Unique target) at refl (λ n. absurd (false≢true n)) (taken l.constant (moves (ty.Unique target) at))
+          kind (an_owner t at o) = made t at (owner_moves a.program.types t o) (λ n. o) (an_owner_taken t o (moves t at))
 
   -- it is an object, and no reference
   pub moved_kind : (t : Ty) → is_owner t ≡ true → local_kind (class (Some t)) ≡ Object
@@ -230,10 +234,10 @@ module _ (a : Around) (visible : List ℕ) (types : Types) (texts : ℕ) (fs : L
   owner_class _ o = absurd (false≢true o)
 
   -- an owner that is named is given what another variable owns, at `move`
-  pub moved_assigned_part : (target : Typed) (x : ℕ) (e : Typed) (equals behind : Place) (s : State) → (to : IsObject a visible types texts fs f setting (whole_form target)) → to.constant ≡ false
-      → IsNamedAt (named_in (whole_form target)) ((uses a (whole_form target)).at) → onto_itself (named_in (whole_form target)) (Some x) ≡ None → e.form ≡ move x → Contains visible x → (is : IsMovedFrom x e) → is.ty ≡ to.ty → Stood s
-      → Makes types texts fs f None s (gives tt (assigned a target equals (one e) behind s)) (no_gift types texts fs f)
-  moved_assigned_part target x e equals behind s to free name other same c is alike stands =
+  pub moved_assigned_part : (target : Typed) (x : ℕ) (moved e : Typed) (place equals behind : Place) (s : State) → (to : IsObject a visible types texts fs f setting (whole_form target)) → to.constant ≡ false
+      → IsNamedAt (named_in (whole_form target)) ((uses a (whole_form target)).at) → onto_itself (named_in (whole_form target)) (Some x) ≡ None → (uses a (whole_form e)).replacing ≡ Some (moved_from place x) → e.category ≡ category.Value → Contains visible x
+      → (is : IsMovedFrom x moved) → is.ty ≡ to.ty → Stood s → Makes types texts fs f None s (gives tt (assigned a target equals (one e) behind s)) (no_gift types texts fs f)
+  moved_assigned_part target x moved e place equals behind s to free name other replaces value c is alike stands =
       let u = uses a (whole_form e) in
       let t = target_of (uses a (whole_form target)) in
       let o = operand (uses a (whole_form target)) s in
@@ -241,7 +245,7 @@ module _ (a : Around) (visible : List ℕ) (types : Types) (texts : ℕ) (fs : L
       let first = object_part a visible types texts fs f setting (whole_form target) to free s stands in
       let later = stands_later a visible s o.state first.grown stands in
       let from = object_named (variable o.state x) in
-      let second = subst (λ (u : Ty). Makes types texts fs f None o.state (gives from o.state) (a_place types texts fs f u false)) alike (source_part x e is c o.state later) in
+      let second = subst (λ (u : Ty). Makes types texts fs f None o.state (gives from o.state) (a_place types texts fs f u false)) alike (source_part x moved is c o.state later) in
       let stays : variable o.state x ≡ variable s x = ap (λ (vs : List ℕ). unwrap_or (slice_get vs x) 0) first.grown.variables in
       let placed = placed_operand a visible types texts fs f setting (whole_form target) to.id to.constant s to.place in
       let others =
@@ -251,8 +255,8 @@ module _ (a : Around) (visible : List ℕ) (types : Types) (texts : ℕ) (fs : L
       subst (λ (r : State). Makes types texts fs f None s (gives tt r) (no_gift types texts fs f))
       (sym (ap (λ (k : Class). assigned_by k u (own_type target.ty) t equals behind s) (ap (λ (w : Ty). class (Some w)) (ap own_type to.is) ∙ owner_class to.ty to.owner)
       ∙ ap (λ (w : Ty). acted (owner_by u.category u w s) t equals) (ap own_type to.is)
-      ∙ ap (λ (k : Category). acted (owner_by k u to.ty s) t equals) is.value
-      ∙ ap (λ (g : Form). acted (replaced_by (uses a (typed e.place e.ty e.category g)).replacing (temporary_of u to.ty) s) t equals) same))
+      ∙ ap (λ (k : Category). acted (owner_by k u to.ty s) t equals) value
+      ∙ ap (λ (r : Option (State → Gives Act)). acted (replaced_by r (temporary_of u to.ty) s) t equals) replaces))
       (then_part types texts fs f (no_gift types texts fs f) tt None s (gives (o.given, from) o.state) _ (both types texts fs f P P) (no_gift types texts fs f) stands.opened
       (and_part types texts fs f (no_gift types texts fs f) tt s o (gives from o.state) P P stands.opened first second)
-      (moves_part types texts fs f setting.registers (both types texts fs f P P) (o.given, from) to.ty o.given (variable o.state x) e.place o.state (owner_moves a.program.types to.ty to.owner) (λ h. h) (λ n k q. q) others))
+      (moves_part types texts fs f setting.registers (both types texts fs f P P) (o.given, from) to.ty o.given (variable o.state x) place o.state (owner_moves a.program.types to.ty to.owner) (λ h. h) (λ n k q. q) others))

@@ -6,6 +6,7 @@ use Rattle.life_core.specs.Function.{Function}
 use Rattle.life_core.specs.Tree.{Tree, trees}
 use Rattle.life_proper.specs.declared.known.Known.{Known}
 use Rattle.life_writer.specs.Writing.{Gives, State, gives, mapped}
+use Rattle.life_elab_laws.proofs.BornLocals.{Bears, codes_bear}
 use Rattle.life_elab_laws.proofs.Falling.{Falls, falls_append}
 use Rattle.life_elab_laws.proofs.Gifts.{Gift, both, nothing}
 use Rattle.life_elab_laws.proofs.GivenApart.{Apart, codes_apart, same_apart}
@@ -26,6 +27,8 @@ module _ (types : Types) (texts : ℕ) (fs : List Function) (f : Function) where
     pub alive : Alive f w.state after
     -- what it gives over is new, and nothing looks at it
     pub apart : Apart f s w.state (trees code)
+    -- .. and what it brings to life or writes is new, or stood before
+    pub bears : Bears f s (trees code)
 
   pub record Runs {A B : Type 0} (P : Gift types texts fs f A) (x : A) (into : Option ℕ) (s : State) (w : Gives B) (Q : Gift types texts fs f B) (code : List Tree) : Type 0 where
     pub fine : IsFine types texts fs f code
@@ -57,7 +60,7 @@ module _ (types : Types) (texts : ℕ) (fs : List Function) (f : Function) where
     runs = λ b p. record {
       fine = fine_none types texts fs f;
       typed = typed b p;
-      goes = λ k alive q. record { after = k; falls = refl; keeps = keeps_all f (length s.locals) into k; gives = ready b k alive q; alive = alive; apart = same_apart f s s refl refl refl };
+      goes = λ k alive q. record { after = k; falls = refl; keeps = keeps_all f (length s.locals) into k; gives = ready b k alive q; alive = alive; apart = same_apart f s s refl refl refl; bears = λ x object m. absurd m };
     };
   }
 
@@ -76,7 +79,7 @@ module _ (types : Types) (texts : ℕ) (fs : List Function) (f : Function) where
     runs = λ b p. let r = part.runs b (typed p) in record {
       fine = r.fine;
       typed = r.typed;
-      goes = λ k alive q. let g = r.goes k alive (ready (length s.locals) k q) in record { after = g.after; falls = g.falls; keeps = g.keeps; gives = g.gives; alive = g.alive; apart = g.apart };
+      goes = λ k alive q. let g = r.goes k alive (ready (length s.locals) k q) in record { after = g.after; falls = g.falls; keeps = g.keeps; gives = g.gives; alive = g.alive; apart = g.apart; bears = g.bears };
     };
   }
 
@@ -91,7 +94,7 @@ module _ (types : Types) (texts : ℕ) (fs : List Function) (f : Function) where
     runs = λ b p. let r = part.runs b p in record {
       fine = r.fine;
       typed = typed b r.typed;
-      goes = λ k alive q. let h = r.goes k alive q in record { after = h.after; falls = h.falls; keeps = h.keeps; gives = ready (length w.state.locals) h.after h.gives; alive = h.alive; apart = h.apart };
+      goes = λ k alive q. let h = r.goes k alive q in record { after = h.after; falls = h.falls; keeps = h.keeps; gives = ready (length w.state.locals) h.after h.gives; alive = h.alive; apart = h.apart; bears = h.bears };
     };
   }
 
@@ -120,6 +123,7 @@ module _ (types : Types) (texts : ℕ) (fs : List Function) (f : Function) where
           gives = h.gives;
           alive = h.alive;
           apart = codes_apart f s w.state v.state first.code second.code g.apart h.apart;
+          bears = codes_bear f s w.state first.code second.code first.grown g.bears h.bears;
         };
       };
     }
@@ -143,6 +147,7 @@ module _ (types : Types) (texts : ℕ) (fs : List Function) (f : Function) where
           gives = (Q.stays w.given (length w.state.locals) (length v.state.locals) k g.after second.grown.count q g.keeps, g.gives);
           alive = g.alive;
           apart = g.apart;
+          bears = g.bears;
         };
       };
     }

@@ -29,6 +29,7 @@ use Rattle.life_elab_laws.proofs.SomeKnown.{some_known, some_knows}
 use Rattle.life_elab_laws.proofs.TemporaryEnds.{TemporariesEnd}
 use Rattle.life_elab_laws.proofs.Under.{ActingUnder, DoesLevelUnder, MayBeKnown, leaves_under}
 use Rattle.life_elab_laws.proofs.WrittenLocals.{locals_added}
+use Rattle.life_elab_laws.proofs.BornLocals.{codes_bear}
 
 module _ (types : Types) (texts : ℕ) (fs : List Function) (f : Function) where
   -- ---- a part behind which its temporaries end
@@ -59,6 +60,7 @@ module _ (types : Types) (texts : ℕ) (fs : List Function) (f : Function) where
               apart =
                   codes_apart f s w.state after made.code (ending_is types texts fs f s w.state made.grown before place).code g.apart
                   ((ending_is types texts fs f s w.state made.grown before place).apart w.state after (omega arith) (λ x o. elim o [ inl m ↦ inl (inl m) | inr m ↦ inl (inr (among_take (length s.pending) w.state.pending x m)) ]));
+              bears = codes_bear f s w.state made.code (ending_is types texts fs f s w.state made.grown before place).code made.grown g.bears ((ending_is types texts fs f s w.state made.grown before place).bears w.state);
             };
       };
     }

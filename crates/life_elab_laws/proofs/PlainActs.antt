@@ -12,50 +12,50 @@ use Rattle.life_writer.specs.Writing.{State}
 use Rattle.life_elab_laws.proofs.Among.{Among, among_either, among_left, among_right}
 use Rattle.life_elab_laws.proofs.GivenApart.{looked_change, looked_of, looked_place, looked_spot, parts_of}
 
--- of what may be looked at by it
-pub record IsPlainAct (act : Act) (names : List ℕ) : Type 0 where
+-- of what may be looked at by it, where the variables are what they were
+pub record IsPlainAct (act : Act) (names : List ℕ) (steady : State → Type 0) : Type 0 where
   pub free : (place : Place) (to : Operand) (s : State) (pending : List ℕ) → act place to (record s { pending = pending }) ≡ record (act place to s) { pending = pending }
   pub code : Place → Operand → State → List Tree
   pub written : (place : Place) (to : Operand) (s : State) → (act place to s).code ≡ s.code ++ code place to s
-  pub looks : (place : Place) (to : Operand) (s : State) (y : ℕ) → Among y (looked_of (trees (code place to s))) → Among y names
+  pub looks : (place : Place) (to : Operand) (s : State) → steady s → (y : ℕ) → Among y (looked_of (trees (code place to s))) → Among y names
 
 nil_right : (xs : List ℕ) (y : ℕ) → Among y (xs ++ []) → Among y xs
 nil_right xs y m = elim (among_either xs [] y m) [ inl h ↦ h | inr none ↦ absurd none ]
 
 -- ---- a copy
 
-pub copied_plain : (from : Operand) → IsPlainAct (copied from) []
-copied_plain from = record {
+pub copied_plain : (steady : State → Type 0) (from : Operand) → IsPlainAct (copied from) [] steady
+copied_plain steady from = record {
   free = λ place to s pending. refl;
   code = λ place to s. Acts place (Copy to from) ∷ [];
   written = λ place to s. refl;
-  looks = λ place to s y m. m;
+  looks = λ place to s still y m. m;
 }
 
-pub copied_at_plain : (at : Place) (from : Operand) → IsPlainAct (copied_at at from) []
-copied_at_plain at from = record {
+pub copied_at_plain : (steady : State → Type 0) (at : Place) (from : Operand) → IsPlainAct (copied_at at from) [] steady
+copied_at_plain steady at from = record {
   free = λ place to s pending. refl;
   code = λ place to s. Acts at (Copy to from) ∷ [];
   written = λ place to s. refl;
-  looks = λ place to s y m. m;
+  looks = λ place to s still y m. m;
 }
 
 -- ---- what a view sees
 
-pub set_plain : (view : Location) → IsPlainAct (set_to view) []
-set_plain view = record {
+pub set_plain : (steady : State → Type 0) (view : Location) → IsPlainAct (set_to view) [] steady
+set_plain steady view = record {
   free = λ place to s pending. refl;
   code = λ place to s. Acts place (Changes to (Set (View view))) ∷ [];
   written = λ place to s. refl;
-  looks = λ place to s y m. m;
+  looks = λ place to s still y m. m;
 }
 
-pub standing_plain : (at : Place) (view : Location) → IsPlainAct (standing at (set_to view)) []
-standing_plain at view = record {
+pub standing_plain : (steady : State → Type 0) (at : Place) (view : Location) → IsPlainAct (standing at (set_to view)) [] steady
+standing_plain steady at view = record {
   free = λ place to s pending. refl;
   code = λ place to s. Acts at (Changes to (Set (View view))) ∷ [];
   written = λ place to s. refl;
-  looks = λ place to s y m. m;
+  looks = λ place to s still y m. m;
 }
 
 -- ---- two texts
@@ -101,8 +101,8 @@ set_quiet to c = refl
 append_quiet : (to : Operand) (c : Characters) → looked_change to (Append c) ≡ []
 append_quiet to c = refl
 
-pub joined_plain : (at : Place) (x y : Seen) → IsPlainAct (concatenated at x y) (seen_names x ++ seen_names y)
-joined_plain at x y = record {
+pub joined_plain : (steady : State → Type 0) (at : Place) (x y : Seen) → IsPlainAct (concatenated at x y) (seen_names x ++ seen_names y) steady
+joined_plain steady at x y = record {
   free = λ place to s pending.
       ap (λ (r : State). changed_by Append at y to r) (changed_free Set set_quiet at x to s pending) ∙ changed_free Append append_quiet at y to (changed_by Set at x to s) pending;
   code = λ place to s. changed_code Set set_quiet at x to s ++ changed_code Append append_quiet at y to (changed_by Set at x to s);
@@ -110,7 +110,7 @@ joined_plain at x y = record {
       changed_written Append append_quiet at y to (changed_by Set at x to s)
       ∙ ap (λ (c : List Tree). c ++ changed_code Append append_quiet at y to (changed_by Set at x to s)) (changed_written Set set_quiet at x to s)
       ∙ append_assoc s.code (changed_code Set set_quiet at x to s) (changed_code Append append_quiet at y to (changed_by Set at x to s));
-  looks = λ place to s z m.
+  looks = λ place to s still z m.
       elim (among_either (looked_of (trees (changed_code Set set_quiet at x to s))) (looked_of (trees (changed_code Append append_quiet at y to (changed_by Set at x to s)))) z
       (subst (Among z) (parts_of looked_spot (changed_code Set set_quiet at x to s) (changed_code Append append_quiet at y to (changed_by Set at x to s))) m)) [
         | inl h ↦ among_left (seen_names x) (seen_names y) z (changed_looks Set set_quiet at x to s z h)

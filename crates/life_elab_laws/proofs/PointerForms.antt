@@ -1,9 +1,9 @@
 -- Variables, calls, pointers, places behind them, literals, and what is seen: how each is written.
-use Rattle.std.proofs.Common.{◌≡◌, ◌⊎◌, inl, inr, ℕ, Bool, true, List, [], ◌∷◌, Contains, length, nat_lt, slice_get, Option, Some, None, refl, sym, ap, ◌∙◌, subst, unwrap_or}
+use Rattle.std.proofs.Common.{◌≡◌, ◌⊎◌, inl, inr, ℕ, Bool, true, List, [], ◌∷◌, Contains, length, nat_lt, slice_get, Option, Some, None, refl, sym, ap, ◌∙◌, subst, unwrap_or, false, ◌||◌}
 use Rattle.std.proofs.lemmas.Bool.{and_from, false≢true}
-use Rattle.life_served.specs.Served.{is_plain_type}
+use Rattle.life_served.specs.Served.{is_plain_type, is_walker_of_values}
 use Rattle.life_types.specs.Pointees.{or_void, ty_of}
-use Rattle.life_types.specs.TypeTests.{is_raw, is_value}
+use Rattle.life_types.specs.TypeTests.{is_raw, is_value, is_void}
 use Rattle.life_types.specs.Types.{Types}
 use Rattle.life_types.specs.declared.place.Place.{Place}
 use Rattle.life_types.specs.declared.ty.Ty.{Ty}
@@ -41,9 +41,11 @@ use Rattle.life_writer.specs.Using.{nullable, operand, operand_by, pointer, poin
 use Rattle.life_writer.specs.Variables.{variable, variable_place}
 use Rattle.life_writer.specs.Writing.{Gives, State, ◌>>◌, gives, mapped}
 use Rattle.life_elab_laws.proofs.Aiming.{literal_given, null_given, place_given}
-use Rattle.life_elab_laws.proofs.CallParts.{call_part}
+use Rattle.life_elab_laws.proofs.HandedArguments.{Hands as AllHanded}
+use Rattle.life_elab_laws.proofs.HandingCalls.{call_part}
+use Rattle.life_elab_laws.proofs.LentArguments.{plain_hands}
 use Rattle.life_elab_laws.proofs.CalledPointers.{pointed_call, referred_call, viewed_call, walked_call}
-use Rattle.life_elab_laws.proofs.ExpressionForms.{IsCall, IsForm, IsWhole, nullable_raw, of_number, place_form, pointer_form, pointer_own, pointing_itself, no_literal}
+use Rattle.life_elab_laws.proofs.ExpressionForms.{IsCall, IsForm, IsWhole, nullable_raw, of_number, place_form, pointer_form, pointer_own, pointing_itself, no_literal, no_null}
 use Rattle.life_elab_laws.proofs.ExpressionKinds.{IsAddressed, IsDereferenced, kind_local, variable_built}
 use Rattle.life_elab_laws.proofs.ExpressionTypes.{IsAnswered, answered_as, answers_nothing, answers_place, answers_raw, answers_value, answers_view, own_value, answers_owner, answers_walker}
 use Rattle.life_elab_laws.proofs.Filling.{aimed_filling, null_filling, text_filling}
@@ -76,7 +78,7 @@ module _ (a : Around) (visible : List ℕ) (types : Types) (texts : ℕ) (fs : L
   Points t s w = Makes types texts fs f None s w (a_pointing types texts fs f t)
 
   abbrev Hands : FunctionForm → State → Gives (List Argument) → Type 0
-  Hands of s w = Makes types texts fs f None s w (arguments types texts fs f (parameter_types (Some of)))
+  Hands of s w = AllHanded types texts fs f (parameter_types (Some of)) s w
 
   -- ---- variables
 
@@ -153,6 +155,11 @@ module _ (a : Around) (visible : List ℕ) (types : Types) (texts : ℕ) (fs : L
       let t = setting.results g of there in
       ap or_void (setting.front of.result.0 t.0 t.1) ∙ sym (ap (λ (o : Option Ty). unwrap_or o ty.Void) t.1)
 
+  pub walker_lent : (t : Ty) → is_walker_of_values a.program.types t ≡ true → (is_void t || is_value t) ≡ false
+  walker_lent (ty.Iterator target constant) w = refl
+  walker_lent (ty.Span target constant) w = refl
+  walker_lent _ w = absurd (false≢true w)
+
   module _ (g : ℕ) (given : Form) (delimiters : DelimitersForm) (e : Typed) (is : IsCall a visible types texts fs f setting (record { function = g; arguments = given; delimiters = delimiters }) e.ty e.category) where
     abbrev Answers : Type 0
     Answers = IsAnswered a.program.types (type_at a.program.types is.of.result) e.ty e.category
@@ -163,11 +170,15 @@ module _ (a : Around) (visible : List ℕ) (types : Types) (texts : ℕ) (fs : L
     later : ty_of types is.of.result ≡ type_at a.program.types is.of.result
     later = result_later g is.of is.there
 
+    -- where no owner is given over
+    lent : (t : Ty) → type_at a.program.types is.of.result ≡ t → (is_void t || is_value t) ≡ false → (s : State) → Standing s → Makes types texts fs f None s (handed s) (arguments types texts fs f (parameter_types (Some is.of)))
+    lent t same plain s stands = plain_hands a types texts fs f setting g is.of is.there (ap (λ (t : Ty). is_void t || is_value t) same ∙ plain) s (handed s) (is.hands s stands)
+
     computed : Answers → e.category ≡ category.Value → is_number e.ty ≡ true → (place : Place) (into : Option ℕ) (s : State) → IsIntoOf (own_type e.ty) s into → Standing s
         → Makes types texts fs f into s (computed_by into (own_type e.ty) place (λ r. called g (handed s).given (whole r)) (handed s).state) (a_number types texts fs f (own_type e.ty))
     computed (answers_nothing void own held) c n place into s wanted stands = absurd (false≢true (sym (ap is_number own) ∙ n))
     computed (answers_value v own held) c n place into s wanted stands =
-        call_part types texts fs f g is.of into (own_type e.ty) place s (handed s) (setting.callees g is.of is.there) (later ∙ sym (ap own_type own)) (own_value e.ty n) wanted stands.opened (is.hands s stands)
+        call_part types texts fs f g is.of (setting.callees g is.of is.there) s (handed s) (is.hands s stands) into (own_type e.ty) place (later ∙ sym (ap own_type own)) (own_value e.ty n) wanted
     computed (answers_raw target constant raw w own held) c n place into s wanted stands = absurd (false≢true (sym (ap is_number own) ∙ n))
     computed (answers_walker w own held) c n place into s wanted stands = absurd (false≢true (sym (walker_is a.program.types (type_at a.program.types is.of.result) w).value ∙ sym (ap is_number own) ∙ n))
     computed (answers_view view own held) c n place into s wanted stands = absurd (false≢true (sym (ap is_number own) ∙ n))
@@ -183,7 +194,7 @@ module _ (a : Around) (visible : List ℕ) (types : Types) (texts : ℕ) (fs : L
     named (answers_view view own held) id constant at v place s stands = absurd (value_place (sym held ∙ at))
     named (answers_owner target d refers o own held) id constant at v place s stands = absurd (owner_no_value a.program.types (type_at a.program.types target) o (ap (λ (i : TyId). is_value (type_at a.program.types i)) (place_same target id d constant (sym held ∙ at)) ∙ v))
     named (answers_place target d refers w own held) id constant at v place s stands =
-        let first = is.hands s stands in
+        let first = lent (ty.Reference target d) refers refl s stands in
         subst (λ (t : Ty). Placed (type_at a.program.types id) constant s (mapped through (built (Fill place (called g (handed s).given)) (wanted place None t) (handed s).state))) (sym (ap reference_to at))
         (referred_call types texts fs f g is.of (setting.callees g is.of is.there) s (handed s) first a.program.types setting.front id constant (value_target a.program.types (type_at a.program.types id) v) (later ∙ refers ∙ ap reference_to (sym held ∙ at)) place stands.opened
         (stands_later a visible s (handed s).state first.grown stands).table)
@@ -195,13 +206,13 @@ module _ (a : Around) (visible : List ℕ) (types : Types) (texts : ℕ) (fs : L
     pointed (answers_owner target constant refers o own held) p place s stands = absurd (owner_no_location a.program.types (type_at a.program.types target) o (sym (ap is_pointed own) ∙ p))
     pointed (answers_raw target constant raw w own held) p place s stands =
         subst (λ (t : ExprType). Points t s (mapped (λ (xs : List Argument). By (called g xs)) (handed s))) (sym own)
-        (pointed_call types texts fs f g is.of (setting.callees g is.of is.there) s (handed s) (is.hands s stands) a.program.types setting.front target constant w (later ∙ raw))
+        (pointed_call types texts fs f g is.of (setting.callees g is.of is.there) s (handed s) (lent (ty.Raw target constant) raw refl s stands) a.program.types setting.front target constant w (later ∙ raw))
     pointed (answers_walker w own held) p place s stands =
         subst (λ (t : ExprType). Points t s (mapped (λ (xs : List Argument). By (called g xs)) (handed s))) (sym own)
-        (walked_call types texts fs f g is.of (setting.callees g is.of is.there) s (handed s) (is.hands s stands) a.program.types (type_at a.program.types is.of.result) w later (walker_itself a.program.types types setting.front (type_at a.program.types is.of.result) w))
+        (walked_call types texts fs f g is.of (setting.callees g is.of is.there) s (handed s) (lent (type_at a.program.types is.of.result) refl (walker_lent (type_at a.program.types is.of.result) w) s stands) a.program.types (type_at a.program.types is.of.result) w later (walker_itself a.program.types types setting.front (type_at a.program.types is.of.result) w))
     pointed (answers_view view own held) p place s stands =
         subst (λ (t : ExprType). Points t s (mapped (λ (xs : List Argument). By (called g xs)) (handed s))) (sym own)
-        (viewed_call types texts fs f g is.of (setting.callees g is.of is.there) s (handed s) (is.hands s stands) (later ∙ view))
+        (viewed_call types texts fs f g is.of (setting.callees g is.of is.there) s (handed s) (lent ty.View view refl s stands) (later ∙ view))
 
     answers_no_literal : Answers → e.ty ≡ TextLiteral → ⊥
     answers_no_literal (answers_nothing void own held) at = no_literal a visible types texts fs f setting ty.Void (sym own ∙ at)
@@ -211,6 +222,15 @@ module _ (a : Around) (visible : List ℕ) (types : Types) (texts : ℕ) (fs : L
     answers_no_literal (answers_view view own held) at = no_literal a visible types texts fs f setting ty.View (sym own ∙ at)
     answers_no_literal (answers_place target constant refers w own held) at = no_literal a visible types texts fs f setting (type_at a.program.types target) (sym own ∙ at)
     answers_no_literal (answers_owner target constant refers o own held) at = no_literal a visible types texts fs f setting (type_at a.program.types target) (sym own ∙ at)
+
+    answers_no_null : Answers → e.ty ≡ NullPointer → ⊥
+    answers_no_null (answers_nothing void own held) at = no_null a visible types texts fs f setting ty.Void (sym own ∙ at)
+    answers_no_null (answers_value v own held) at = no_null a visible types texts fs f setting (type_at a.program.types is.of.result) (sym own ∙ at)
+    answers_no_null (answers_raw target constant raw w own held) at = no_null a visible types texts fs f setting (ty.Raw target constant) (sym own ∙ at)
+    answers_no_null (answers_walker w own held) at = no_null a visible types texts fs f setting (type_at a.program.types is.of.result) (sym own ∙ at)
+    answers_no_null (answers_view view own held) at = no_null a visible types texts fs f setting ty.View (sym own ∙ at)
+    answers_no_null (answers_place target constant refers w own held) at = no_null a visible types texts fs f setting (type_at a.program.types target) (sym own ∙ at)
+    answers_no_null (answers_owner target constant refers o own held) at = no_null a visible types texts fs f setting (type_at a.program.types target) (sym own ∙ at)
 
     call_of : IsKind a.program.types e → IsForm a visible types texts fs f setting (call g given delimiters) e
     call_of kind = record {
@@ -222,6 +242,7 @@ module _ (a : Around) (visible : List ℕ) (types : Types) (texts : ℕ) (fs : L
       decides = λ place b w at. absurd (none_some at);
       calls = λ c at. subst (λ (d : Called). IsCall a visible types texts fs f setting d e.ty e.category) (some_same at) is;
       as_literal = λ at. absurd (answers_no_literal is.answers at);
+      as_null = λ at. absurd (answers_no_null is.answers at);
     }
 
   pub call_form : (g : ℕ) (given : Form) (delimiters : DelimitersForm) (e : Typed) → is_plain_type e.ty ≡ true → HasResult a.program.types (slice_get a.program.functions g) e
@@ -322,7 +343,7 @@ module _ (a : Around) (visible : List ℕ) (types : Types) (texts : ℕ) (fs : L
 
   pub address_form : (inner : Form) (e : Typed) → (d : IsAddressed a.program.types (typed_in inner) e) → IsWhole a visible types texts fs f setting inner → IsForm a visible types texts fs f setting (address_of inner) e
   address_form inner e d is =
-      pointer_form a visible types texts fs f setting (address_of inner) e (record { kind = is_pointer_kind d.target d.constant typed_as (value_target a.program.types (type_at a.program.types d.target) d.worth); place = λ id c at. absurd (value_place (sym no ∙ at)) }) no (λ n. false≢true (sym (ap is_number typed_as) ∙ n)) refl (λ place b. refl) (λ at. absurd (no_literal a visible types texts fs f setting (ty.Raw d.target d.constant) (sym typed_as ∙ at)))
+      pointer_form a visible types texts fs f setting (address_of inner) e (record { kind = is_pointer_kind d.target d.constant typed_as (value_target a.program.types (type_at a.program.types d.target) d.worth); place = λ id c at. absurd (value_place (sym no ∙ at)) }) no (λ n. false≢true (sym (ap is_number typed_as) ∙ n)) refl (λ place b. refl) (λ at. absurd (no_literal a visible types texts fs f setting (ty.Raw d.target d.constant) (sym typed_as ∙ at))) (λ at. absurd (no_null a visible types texts fs f setting (ty.Raw d.target d.constant) (sym typed_as ∙ at)))
       (λ p place s stands. subst (λ (t : ExprType). Points t s (mapped (λ o. aimed (Aimed o)) (operand (uses a inner) s))) (sym typed_as)
       (seen_part types texts fs f (gifts.nothing types texts fs f) tt None s (operand (uses a inner) s) (a_place types texts fs f (type_at a.program.types d.target) d.constant) (λ o. aimed (Aimed o)) (a_pointing types texts fs f (Of (ty.Raw d.target d.constant)))
       (subst (λ (g : Gives Operand). Placed (type_at a.program.types d.target) d.constant s g) (sym (placed_operand inner d.target d.constant s d.place)) (is.names d.target d.constant d.place d.worth s stands))
@@ -340,7 +361,7 @@ module _ (a : Around) (visible : List ℕ) (types : Types) (texts : ℕ) (fs : L
 
   pub null_form : (e : Typed) → e.ty ≡ NullPointer → e.category ≡ category.Value → IsForm a visible types texts fs f setting null e
   null_form e t c =
-      pointer_form a visible types texts fs f setting null e (record { kind = a_null t c; place = λ id d at. absurd (value_place (sym c ∙ at)) }) c (λ n. false≢true (sym (ap is_number t) ∙ n)) refl (λ place b. refl) (λ at. absurd (null_text (sym t ∙ at)))
+      pointer_form a visible types texts fs f setting null e (record { kind = a_null t c; place = λ id d at. absurd (value_place (sym c ∙ at)) }) c (λ n. false≢true (sym (ap is_number t) ∙ n)) refl (λ place b. refl) (λ at. absurd (null_text (sym t ∙ at))) (λ at place. refl)
       (λ p place s stands. leaf_part types texts fs f (aimed Null) s (a_pointing types texts fs f e.ty) (λ b. subst (λ (t : ExprType). IsGivenAs types texts fs f t (aimed Null)) (sym t) (null_given types texts fs f)) (λ b k alive. null_filling f (length s.locals) k))
     where
       null_text : NullPointer ≡ TextLiteral → ⊥
@@ -349,10 +370,13 @@ module _ (a : Around) (visible : List ℕ) (types : Types) (texts : ℕ) (fs : L
   -- a literal is seen where it stands
   pub text_form : (n : ℕ) (e : Typed) → e.ty ≡ TextLiteral → e.category ≡ category.Value → nat_lt n texts ≡ true → IsForm a visible types texts fs f setting (text n) e
   text_form n e t c few =
-      pointer_form a visible types texts fs f setting (text n) e (record { kind = a_text t c; place = λ id d at. absurd (value_place (sym c ∙ at)) }) c (λ m. false≢true (sym (ap is_number t) ∙ m)) refl (λ place b. refl) (λ at place. record { place = place; number = n; few = few; is = refl })
+      pointer_form a visible types texts fs f setting (text n) e (record { kind = a_text t c; place = λ id d at. absurd (value_place (sym c ∙ at)) }) c (λ m. false≢true (sym (ap is_number t) ∙ m)) refl (λ place b. refl) (λ at place. record { place = place; number = n; few = few; is = refl }) (λ at. absurd (text_null (sym t ∙ at)))
       (λ p place s stands. leaf_part types texts fs f (aimed (Text n)) s (a_pointing types texts fs f e.ty)
       (λ b. subst (λ (t : ExprType). IsGivenAs types texts fs f t (aimed (Text n))) (sym t) (literal_given types texts fs f n few))
       (λ b k alive. text_filling f n (length s.locals) k))
+    where
+      text_null : TextLiteral ≡ NullPointer → ⊥
+      text_null e = cc
 
   -- ---- what is seen: a view, or a literal in a register
 

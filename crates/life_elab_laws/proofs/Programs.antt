@@ -8,7 +8,7 @@ use Rattle.life_types.specs.TypeTests.{is_void}
 use Rattle.life_types.specs.Types.{Types, class}
 use Rattle.life_types.specs.declared.ty.Ty.{Ty}
 use Rattle.life_types.specs.declared.ty.TyId.{TyId}
-use Rattle.life_served.specs.Served.{are_served_functions}
+use Rattle.life_served.specs.Served.{are_served_functions, takes_owners, are_served_parameters}
 use Rattle.life_typed.specs.BaseTypes.{type_at}
 use Rattle.life_typed.specs.Programs.{FunctionForm, ProgramForm, is_main}
 use Rattle.life_core.specs.Function.{Function}
@@ -26,7 +26,7 @@ use Rattle.life_well_typed.specs.Mains.{HasIntMain, HaveIntMains}
 use Rattle.life_well_typed.specs.Names.{HasNames, is_function_named}
 use Rattle.life_well_typed.specs.Results.{HasResults, HaveResults}
 use Rattle.life_elab_laws.proofs.Beginning.{first_locals, first_types}
-use Rattle.life_elab_laws.proofs.Callees.{IsBegun, IsFunctionOf, callee_from, gives_from, handed_at, served_parts, result_register, takes_handed, type_found}
+use Rattle.life_elab_laws.proofs.Callees.{IsBegun, IsFunctionOf, callee_from, gives_from, parameter_at, served_parts, result_register, takes_handed, type_found}
 use Rattle.life_elab_laws.proofs.Calls.{IsCallee}
 use Rattle.life_elab_laws.proofs.ExpressionKinds.{function_built}
 use Rattle.life_elab_laws.proofs.FormedLocals.{HasFormedHead, head_formed}
@@ -41,6 +41,7 @@ use Rattle.life_elab_laws.proofs.ShortPlaces.{short_function}
 use Rattle.life_elab_laws.proofs.WrittenLocals.{AreWrittenLocals}
 use Rattle.life_typed.specs.declared.basic.TheConstants.{CHAR}
 use Rattle.life_types.specs.declared.ty.Ty.TheVariants as ty
+use Rattle.life_elab_laws.proofs.HandedTypes.{handed_type, plain_parameter}
 
 -- ---- one function among others
 
@@ -123,7 +124,12 @@ module _ (p : ProgramForm) (typed : IsWellTyped p) (built : are_served_functions
     chars = chars;
     returned = λ g of there. (of_program g of there).built.result;
     result = is.built.result;
-    taken = λ g of there m id at. handed_at p.types (take (length of.parameters) of.locals) (of_program g of there).built.parameters m id at;
+    taken = λ g of there m id at.
+        handed_type p.types (takes_owners p.types of.result) id
+        (parameter_at p.types (takes_owners p.types of.result) (take (length of.parameters) of.locals) (of_program g of there).built.parameters m id at);
+    lent = λ g of there none m id at.
+        plain_parameter p.types id
+        (parameter_at p.types false (take (length of.parameters) of.locals) (subst (λ (b : Bool). are_served_parameters p.types b (take (length of.parameters) of.locals) ≡ true) none (of_program g of there).built.parameters) m id at);
     callees = callees;
     results = λ g of there. result_at p.types p.functions g of results there;
     gives = gives;

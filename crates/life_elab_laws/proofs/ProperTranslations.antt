@@ -1,10 +1,14 @@
 -- The core program of a well typed program that is served and that passes no limit is proper, and is served itself.
-use Rattle.std.proofs.Common.{◌≡◌, ◌&&◌, ◌+◌, true, [], ◌∷◌, length, sym, subst, ℕ, length-append}
+use Rattle.std.proofs.Common.{◌≡◌, ◌&&◌, ◌+◌, true, List, [], ◌∷◌, length, sym, ap, subst, ℕ, length-append}
 use Rattle.std.proofs.lemmas.Bool.{and_parts}
+use Rattle.std.specs.List.{list_all}
+use Rattle.life_types.specs.Types.{Types}
+use Rattle.life_types.specs.declared.ty.TyId.{TyId}
 use Rattle.life_served.specs.Served.{are_served_functions, has_no_structs, has_served_types, is_served}
 use Rattle.life_typed.specs.Programs.{ProgramForm}
 use Rattle.life_pset.specs.Limits.{IsProgramWithinLimits}
 use Rattle.life_core_served.specs.ProperPrograms.{IsProperProgram, IsServedProgram}
+use Rattle.life_core_served.specs.Served.{are_served_members, has_served_structs}
 use Rattle.life_proper.proofs.ProperFunctions.{ready_program}
 use Rattle.life_well_typed.specs.Functions.{IsWellTyped}
 use Rattle.life_well_typed.specs.Mains.{HasIntMain}
@@ -17,6 +21,10 @@ use Rattle.life_elab_laws.proofs.ProgramNames.{no_structs_there}
 use Rattle.life_elab_laws.proofs.Programs.{program_breaks, program_checked, program_short}
 use Rattle.life_elab_laws.proofs.WellFormedTranslations.{program_formed, program_keeps, program_serves, program_structs}
 use Rattle.life_elab_laws.proofs.WrittenResults.{program_writes_results}
+
+-- where there is no struct, all structs are served
+no_struct_served : (types : Types) → types.structs ≡ [] → has_served_structs types ≡ true
+no_struct_served types none = ap (λ (structs : List (List TyId)). list_all (are_served_members types) structs) none
 
 module _ (p : ProgramForm) (built : is_served p ≡ true) where
   tested : (has_no_structs p.structs && are_served_functions (length p.texts + 1) p.types p.functions) ≡ true
@@ -46,7 +54,7 @@ module _ (p : ProgramForm) (built : is_served p ≡ true) where
 
   pub served_served : IsWellTyped p → HasResults p → HasTable p → HasIntMain p → IsServedProgram (translated p)
   served_served typed results table mains = record {
-    structs = program_structs p typed served results table.chars mains (no_structs_there p.structs p.types.structs none table.structs);
+    structs = no_struct_served (translated p).types (program_structs p typed served results table.chars mains (no_structs_there p.structs p.types.structs none table.structs));
     serves = program_serves p typed served results table.chars mains;
   }
 

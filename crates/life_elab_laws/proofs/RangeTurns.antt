@@ -41,6 +41,7 @@ use Rattle.life_elab_laws.proofs.RangeOpening.{AreIterators, iterators}
 use Rattle.life_elab_laws.proofs.Shaping.{fine_asks, fine_behind}
 use Rattle.life_elab_laws.proofs.Under.{AsksUnder, DoesLevelUnder, TestsUnder, both_there, hidden_stay, level_more}
 use Rattle.life_elab_laws.proofs.WalkerSteps.{keeps_itself}
+use Rattle.life_elab_laws.proofs.BornLocals.{bears_then}
 
 module _ (types : Types) (texts : ℕ) (fs : List Function) (f : Function) (id : TyId) (constant : Bool) (alike : same (ty_of types id) (ty_of types id) ≡ true) (it : Iterators) where
   abbrev I : Ty
@@ -96,6 +97,7 @@ module _ (types : Types) (texts : ℕ) (fs : List Function) (f : Function) (id :
             alive_on = g.alive;
             alive_off = g.alive;
             apart = trees_apart f s w.state w.state (trees differ_part.code) (Asks colon (NonZero w.given)) g.apart (same_apart f w.state w.state refl refl refl);
+            bears = bears_then f s w.state (trees differ_part.code) (Asks colon (NonZero w.given)) differ_part.grown g.bears (λ x object none. absurd none);
           };
         }
           where

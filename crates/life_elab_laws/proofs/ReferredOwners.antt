@@ -1,9 +1,9 @@
 -- Owners behind pointers and references: what a raw pointer points to, what a call that gives a reference answers, and their addresses.
-use Rattle.std.proofs.Common.{◌≡◌, ℕ, Bool, true, false, List, Ok, Option, Some, None, refl, sym, ap, ◌∙◌, subst, slice_get, ◌∷◌, []}
+use Rattle.std.proofs.Common.{◌≡◌, ℕ, Bool, true, false, List, Ok, Option, Some, None, refl, sym, ap, ◌∙◌, subst, slice_get, ◌∷◌, [], ◌||◌}
 use Rattle.std.proofs.lemmas.Bool.{and_from, false≢true}
 use Rattle.life_served.specs.Served.{is_owner_of_values, is_owner_type, is_target, owns_elements, is_walker, is_walker_of_values, is_walker_type}
 use Rattle.life_types.specs.Pointees.{ty_of}
-use Rattle.life_types.specs.TypeTests.{is_value}
+use Rattle.life_types.specs.TypeTests.{is_value, is_void}
 use Rattle.life_types.specs.Types.{Types}
 use Rattle.life_types.specs.declared.place.Place.{Place}
 use Rattle.life_types.specs.declared.ty.Ty.{Ty}
@@ -41,14 +41,14 @@ use Rattle.life_writer.specs.Using.{operand}
 use Rattle.life_writer.specs.Writing.{Gives, State, gives, mapped}
 use Rattle.life_elab_laws.proofs.Aiming.{place_given}
 use Rattle.life_elab_laws.proofs.CalledPointers.{referred_call, walked_call}
-use Rattle.life_elab_laws.proofs.ExpressionForms.{Hands, IsForm, IsWhole, Placed, Points, Standing, no_literal, pointer_form}
+use Rattle.life_elab_laws.proofs.ExpressionForms.{Hands, IsForm, IsWhole, Placed, Points, Standing, no_literal, pointer_form, no_null}
 use Rattle.life_elab_laws.proofs.ExpressionTypes.{IsAnswered, answered_as, answers_nothing, answers_owner, answers_place, answers_raw, answers_value, answers_view, answers_walker}
 use Rattle.life_elab_laws.proofs.Filling.{aimed_filling}
 use Rattle.life_elab_laws.proofs.FormedVariables.{behind_place}
 use Rattle.life_elab_laws.proofs.Gifts.{a_place, a_pointer, a_pointing, nothing as no_gift}
 use Rattle.life_elab_laws.proofs.ObjectForms.{IsObject, IsObjectAt}
 use Rattle.life_elab_laws.proofs.Parts.{seen_part}
-use Rattle.life_elab_laws.proofs.PointerForms.{own_typed, placed_operand, raw_target, result_later}
+use Rattle.life_elab_laws.proofs.PointerForms.{own_typed, placed_operand, raw_target, result_later, walker_lent}
 use Rattle.life_elab_laws.proofs.ResultTypes.{result_is}
 use Rattle.life_elab_laws.proofs.Setting.{Setting}
 use Rattle.life_elab_laws.proofs.Targets.{IsTarget, one_target, owner_target, target_is, target_no_void, target_type, to_owner, to_value}
@@ -57,6 +57,7 @@ use Rattle.life_elab_laws.proofs.Values.{by_values}
 use Rattle.life_elab_laws.proofs.VariablePlaces.{stands_later, walker_is}
 use Rattle.life_elab_laws.proofs.WalkerForms.{IsWalkerAt}
 use Rattle.life_elab_laws.proofs.FormedFits.{walker_itself}
+use Rattle.life_elab_laws.proofs.LentArguments.{plain_hands}
 
 -- ---- what is behind a raw pointer
 
@@ -195,7 +196,9 @@ module _ (a : Around) (visible : List ℕ) (types : Types) (texts : ℕ) (fs : L
 
           names : (s : State) → Stood s → PlacedAs (type_at a.program.types target) constant s ((form_uses a (call g given delimiters) place e.ty e.category).at s)
           names s stands =
-              let first = subst (λ (ids : List TyId). Hands a visible types texts fs f setting of s (giving.arguments a (all_uses a given) delimiters ids s)) (sym (ap parameters_of at)) (hands of at s stands) in
+              let first =
+              plain_hands a types texts fs f setting g of at (ap (λ (t : Ty). is_void t || is_value t) x.2) s (giving.arguments a (all_uses a given) delimiters (around.parameter_types a g) s)
+              (subst (λ (ids : List TyId). Hands a visible types texts fs f setting of s (giving.arguments a (all_uses a given) delimiters ids s)) (sym (ap parameters_of at)) (hands of at s stands)) in
               subst (λ (t : Ty). PlacedAs (type_at a.program.types target) constant s (mapped through (built (Fill place (called g (giving.arguments a (all_uses a given) delimiters (around.parameter_types a g) s).given)) (wanted place None t) (giving.arguments a (all_uses a given) delimiters (around.parameter_types a g) s).state))) (sym (ap reference_to x.5))
               (referred_call types texts fs f g of (setting.callees g of at) s (giving.arguments a (all_uses a given) delimiters (around.parameter_types a g) s) first a.program.types setting.front target constant (owner_target a.program.types (type_at a.program.types target) x.3)
               (result_later a visible types texts fs f setting g of at ∙ x.2) place stands.opened (stands_later a visible s (giving.arguments a (all_uses a given) delimiters (around.parameter_types a g) s).state first.grown stands).table)
@@ -242,7 +245,9 @@ module _ (a : Around) (visible : List ℕ) (types : Types) (texts : ℕ) (fs : L
             walker = x.0;
             place = λ id constant held. absurd (value_place (sym x.2 ∙ held));
             points = λ s stands.
-                let first = subst (λ (ids : List TyId). Hands a visible types texts fs f setting of s (giving.arguments a (all_uses a given) delimiters ids s)) (sym (ap parameters_of at)) (hands of at s stands) in
+                let first =
+                plain_hands a types texts fs f setting g of at (walker_lent a visible types texts fs f setting (type_at a.program.types of.result) x.0) s (giving.arguments a (all_uses a given) delimiters (around.parameter_types a g) s)
+                (subst (λ (ids : List TyId). Hands a visible types texts fs f setting of s (giving.arguments a (all_uses a given) delimiters ids s)) (sym (ap parameters_of at)) (hands of at s stands)) in
                 walked_call types texts fs f g of (setting.callees g of at) s (giving.arguments a (all_uses a given) delimiters (around.parameter_types a g) s) first a.program.types (type_at a.program.types of.result) x.0
                 (result_later a visible types texts fs f setting g of at) (walker_itself a.program.types types setting.front (type_at a.program.types of.result) x.0);
           }
@@ -252,7 +257,7 @@ module _ (a : Around) (visible : List ℕ) (types : Types) (texts : ℕ) (fs : L
   pub owner_address_form : (inner : Form) (e : Typed) → IsObject a visible types texts fs f setting inner → IsAddress a.program.types (typed_in inner).category e → IsForm a visible types texts fs f setting (address_of inner) e
   owner_address_form inner e is h =
       pointer_form a visible types texts fs f setting (address_of inner) e (record { kind = is_pointer_kind is.id is.constant typed_as wide; place = λ id c at. absurd (value_place (sym no ∙ at)) }) no (λ n. false≢true (sym (ap is_number typed_as) ∙ n)) refl (λ place b. refl)
-      (λ at. absurd (no_literal a visible types texts fs f setting (ty.Raw is.id is.constant) (sym typed_as ∙ at)))
+      (λ at. absurd (no_literal a visible types texts fs f setting (ty.Raw is.id is.constant) (sym typed_as ∙ at))) (λ at. absurd (no_null a visible types texts fs f setting (ty.Raw is.id is.constant) (sym typed_as ∙ at)))
       (λ p place s stands. subst (λ (t : ExprType). Points a visible types texts fs f setting t s (mapped (λ o. aimed (Aimed o)) (operand (uses a inner) s))) (sym typed_as)
       (seen_part types texts fs f (no_gift types texts fs f) tt None s (operand (uses a inner) s) (a_place types texts fs f is.ty is.constant) (λ o. aimed (Aimed o)) (a_pointing types texts fs f (Of (ty.Raw is.id is.constant)))
       (subst (λ (g : Gives Operand). PlacedAs is.ty is.constant s g) (sym (placed_operand a visible types texts fs f setting inner is.id is.constant s is.place)) (is.names s stands))

@@ -37,7 +37,7 @@ use Rattle.life_elab_laws.proofs.GivenApart.{Apart, codes_apart}
 use Rattle.life_elab_laws.proofs.Growing.{Begins, begins_before}
 use Rattle.life_elab_laws.proofs.Held.{blank_there}
 use Rattle.life_elab_laws.proofs.Knowledge.{at_set, beside_set, set_length}
-use Rattle.life_elab_laws.proofs.MadeForms.{Builds, Found, gift_of}
+use Rattle.life_elab_laws.proofs.MadeForms.{Builds, Found, gift_of, one_new}
 use Rattle.life_elab_laws.proofs.Making.{Alive, IsOpen, opened_later}
 use Rattle.life_elab_laws.proofs.Opens.{Opening, Opens}
 use Rattle.life_elab_laws.proofs.OrderedTypes.{order_then, type_ordered}
@@ -62,7 +62,7 @@ module _ (a : Around) (types : Types) (texts : ℕ) (fs : List Function) (f : Fu
   -- ---- what is built
 
   pub fits : FitsTemporary types t
-  fits = inr (owner_later a.program.types types setting.front t owner)
+  fits = inr (inl (owner_later a.program.types types setting.front t owner))
 
   -- behind what is found, without the temporaries of that
   abbrev there : State
@@ -122,7 +122,7 @@ module _ (a : Around) (types : Types) (texts : ℕ) (fs : List Function) (f : Fu
   acted = is.act place (object_named x) begun
 
   acts : Part types texts fs f P (is.found, object_named x) None begun (gives tt acted) (no_gift types texts fs f)
-  acts = is.acts place (object_named x) begun stood
+  acts = is.acts place (object_named x) begun stood (λ n c. refl) (one_new a v.visible types texts fs f setting s x is.part.grown.count)
 
   pub acted_table : IsFront a.program.types.types acted.types.types
   acted_table = front_then a.program.types.types begun.types.types acted.types.types stood.table acts.grown.types

@@ -6,7 +6,7 @@ use Rattle.life_types.specs.Types.{Types}
 use Rattle.life_types.specs.declared.ty.Ty.{Ty}
 use Rattle.life_types.specs.declared.ty.Ty.TheVariants as ty
 use Rattle.life_types.specs.declared.ty.TyId.{TyId}
-use Rattle.life_served.specs.Served.{is_owner_of_values, is_pointing, is_served_type, is_served_variable, is_unique_of_value, is_walker_of_values}
+use Rattle.life_served.specs.Served.{is_owner_of_values, is_pointing, is_served_type, is_served_variable, is_unique_of_element, is_walker_of_values}
 
 -- the test of a type
 abbrev pub serves : Types → Ty → Bool
@@ -14,16 +14,16 @@ serves types t = is_value t || is_served_type types t
 
 -- what it lets through
 abbrev pub IsServedType : Types → Ty → Type 0
-IsServedType types t = ((is_value t || is_pointing types t) ≡ true) ⊎ ((is_owner_of_values types t ≡ true) ⊎ ((is_walker_of_values types t ≡ true) ⊎ (is_unique_of_value types t ≡ true)))
+IsServedType types t = ((is_value t || is_pointing types t) ≡ true) ⊎ ((is_owner_of_values types t ≡ true) ⊎ ((is_walker_of_values types t ≡ true) ⊎ (is_unique_of_element types t ≡ true)))
 
 pub served_type_is : (types : Types) (t : Ty) → serves types t ≡ true → IsServedType types t
 served_type_is types t h = elim (or_cases (is_value t) (is_served_type types t) h) [
   | inl v ↦ inl (or_left (is_value t) (is_pointing types t) v)
-  | inr s ↦ elim (or_cases (is_pointing types t) (is_owner_of_values types t || (is_walker_of_values types t || is_unique_of_value types t)) s) [
+  | inr s ↦ elim (or_cases (is_pointing types t) (is_owner_of_values types t || (is_walker_of_values types t || is_unique_of_element types t)) s) [
     | inl p ↦ inl (or_right (is_value t) (is_pointing types t) p)
-    | inr more ↦ elim (or_cases (is_owner_of_values types t) (is_walker_of_values types t || is_unique_of_value types t) more) [
+    | inr more ↦ elim (or_cases (is_owner_of_values types t) (is_walker_of_values types t || is_unique_of_element types t) more) [
       | inl o ↦ inr (inl o)
-      | inr others ↦ elim (or_cases (is_walker_of_values types t) (is_unique_of_value types t) others) [ inl w ↦ inr (inr (inl w)) | inr u ↦ inr (inr (inr u)) ]
+      | inr others ↦ elim (or_cases (is_walker_of_values types t) (is_unique_of_element types t) others) [ inl w ↦ inr (inr (inl w)) | inr u ↦ inr (inr (inr u)) ]
     ]
   ]
 ]
@@ -31,15 +31,19 @@ served_type_is types t h = elim (or_cases (is_value t) (is_served_type types t) 
 pub type_serves : (types : Types) (t : Ty) → IsServedType types t → serves types t ≡ true
 type_serves types t (inl b) = elim (or_cases (is_value t) (is_pointing types t) b) [
   | inl v ↦ or_left (is_value t) (is_served_type types t) v
-  | inr p ↦ or_right (is_value t) (is_served_type types t) (or_left (is_pointing types t) (is_owner_of_values types t || (is_walker_of_values types t || is_unique_of_value types t)) p)
+  | inr p ↦ or_right (is_value t) (is_served_type types t) (or_left (is_pointing types t) (is_owner_of_values types t || (is_walker_of_values types t || is_unique_of_element types t)) p)
 ]
 type_serves types t (inr more) =
-    or_right (is_value t) (is_served_type types t) (or_right (is_pointing types t) (is_owner_of_values types t || (is_walker_of_values types t || is_unique_of_value types t)) (go more))
+    or_right (is_value t) (is_served_type types t) (or_right (is_pointing types t) (is_owner_of_values types t || (is_walker_of_values types t || is_unique_of_element types t)) (go more))
   where
-    go : (is_owner_of_values types t ≡ true) ⊎ ((is_walker_of_values types t ≡ true) ⊎ (is_unique_of_value types t ≡ true)) → (is_owner_of_values types t || (is_walker_of_values types t || is_unique_of_value types t)) ≡ true
-    go (inl o) = or_left (is_owner_of_values types t) (is_walker_of_values types t || is_unique_of_value types t) o
-    go (inr (inl w)) = or_right (is_owner_of_values types t) (is_walker_of_values types t || is_unique_of_value types t) (or_left (is_walker_of_values types t) (is_unique_of_value types t) w)
-    go (inr (inr u)) = or_right (is_owner_of_values types t) (is_walker_of_values types t || is_unique_of_value types t) (or_right (is_walker_of_values types t) (is_unique_of_value types t) u)
+    go : (is_owner_of_values types t ≡ true) ⊎ ((is_walker_of_values types t ≡ true) ⊎ (is_unique_of_element types t ≡ true)) → (is_owner_of_values types t || (is_walker_of_values types t || is_unique_of_element types t)) ≡ true
+    go (inl o) = or_left (is_owner_of_values types t) (is_walker_of_values types t || is_unique_of_element types t) o
+    go (inr (inl w)) = or_right (is_owner_of_values types t) (is_walker_of_values types t || is_unique_of_element types t) (or_left (is_walker_of_values types t) (is_unique_of_element types t) w)
+    go (inr (inr u)) = or_right (is_owner_of_values types t) (is_walker_of_values types t || is_unique_of_element types t) (or_right (is_walker_of_values types t) (is_unique_of_element types t) u)
+
+-- what is built where it has come to life, by an act of its own: an owner, or a unique_ptr
+abbrev pub IsBuilt : Types → Ty → Type 0
+IsBuilt types t = (is_owner_of_values types t ≡ true) ⊎ (is_unique_of_element types t ≡ true)
 
 -- it is in the table
 pub variable_found : (types : Types) (id : TyId) → is_served_variable types id ≡ true → (t : Ty) × (slice_get types.types id.0 ≡ Some t) × IsServedType types t

@@ -8,11 +8,11 @@ use Rattle.life_types.specs.declared.ty.NameId.{NameId}
 use Rattle.life_types.specs.declared.ty.Ty.{Ty}
 use Rattle.life_types.specs.declared.ty.Ty.TheVariants as ty
 use Rattle.life_types.specs.declared.ty.TyId.{TyId}
-use Rattle.life_served.specs.Served.{is_element, is_owner_of_values, is_owner_within, is_pointing, is_served_variable, is_target, is_unique_of_value, is_walker_of_values}
+use Rattle.life_served.specs.Served.{is_element, is_owner_of_values, is_owner_within, is_pointing, is_served_variable, is_target, is_unique_of_element, is_walker_of_values}
 use Rattle.life_typed.specs.BaseTypes.{type_at}
 use Rattle.life_core.specs.declared.program.Local.{Local}
 use Rattle.life_elab_laws.proofs.Fronts.{IsFront, each_at}
-use Rattle.life_elab_laws.proofs.ServedTypes.{IsServedType, serves, type_serves, variable_found}
+use Rattle.life_elab_laws.proofs.ServedTypes.{IsServedType, serves, type_serves, variable_found, IsBuilt}
 use Rattle.life_elab_laws.proofs.Targets.{IsTarget, owner_target, target_is, target_type, to_owner, to_value, value_target}
 use Rattle.life_core.specs.Kinds.{is_object}
 use Rattle.life_elab_laws.proofs.Elements.{IsElement, has_value, has_owner, element_is, inner_element, value_element}
@@ -93,9 +93,13 @@ module _ (few more : Types) (front : IsFront few.types more.types) where
   walker_later (ty.Span target constant) w = element_later target w
   walker_later _ w = absurd (false≢true w)
 
-  pub unique_later : (t : Ty) → is_unique_of_value few t ≡ true → is_unique_of_value more t ≡ true
-  unique_later (ty.Unique target) u = value_later target u
+  pub unique_later : (t : Ty) → is_unique_of_element few t ≡ true → is_unique_of_element more t ≡ true
+  unique_later (ty.Unique target) u = element_later target u
   unique_later _ u = absurd (false≢true u)
+
+  pub built_later : (t : Ty) → IsBuilt few t → IsBuilt more t
+  built_later t (inl o) = inl (owner_later t o)
+  built_later t (inr u) = inr (unique_later t u)
 
   served_later : (t : Ty) → IsServedType few t → IsServedType more t
   served_later t (inl b) = inl (type_later t b)

@@ -16,7 +16,7 @@ use Rattle.life_writer.specs.Writing.{State}
 use Rattle.life_elab_laws.proofs.ExpressionKinds.{variable_built}
 use Rattle.life_elab_laws.proofs.Fronts.{IsFront}
 use Rattle.life_elab_laws.proofs.ServedTypes.{IsServedType, serves, type_serves}
-use Rattle.life_elab_laws.proofs.Shaped.{AreShaped, IsShaped, all_shaped, is_passing, owner_later, variable_later}
+use Rattle.life_elab_laws.proofs.Shaped.{AreShaped, IsShaped, all_shaped, is_passing, owner_later, variable_later, unique_later}
 use Rattle.life_elab_laws.proofs.WrittenLocals.{AreWrittenLocals, FitsNameless, FitsTemporary, IsIntermediate, IsOwn}
 
 -- .. in each table that the one so far begins
@@ -38,7 +38,8 @@ module _ (a : Around) (s : State) (whole : Types) (front : IsFront a.program.typ
         where
           reached : FitsTemporary a.program.types is.ty → IsServedType whole is.ty
           reached (inl value) = inl (or_left (is_value is.ty) (is_pointing whole is.ty) value)
-          reached (inr owner) = inr (inl (owner_later a.program.types whole front is.ty owner))
+          reached (inr (inl owner)) = inr (inl (owner_later a.program.types whole front is.ty owner))
+          reached (inr (inr unique)) = inr (inr (inr (unique_later a.program.types whole front is.ty unique)))
 
   own_shaped : (l : Local) → IsOwn a l → IsShaped whole l
   own_shaped l is lasts =

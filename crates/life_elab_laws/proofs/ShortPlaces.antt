@@ -1,5 +1,5 @@
 -- The places of a function that is translated have eight steps at most: its objects are values and owners of values, which have no more, and such are behind its parameters.
-use Rattle.std.proofs.Common.{◌≡◌, ◌<◌, ◌≤◌, ◌+◌, inl, ℕ, zero, suc, Bool, true, false, ◌&&◌, ◌||◌, List, [], ◌∷◌, ◌++◌, if◌then◌else◌, flat_map, map, nat_lt, slice_get, Option, Some, None, is_none, not, refl, ap, ◌∙◌, subst, sym, unwrap_or, arith, inr}
+use Rattle.std.proofs.Common.{◌≡◌, ◌<◌, ◌≤◌, ◌+◌, inl, ℕ, zero, suc, Bool, true, false, ◌&&◌, ◌||◌, List, [], ◌∷◌, ◌++◌, if◌then◌else◌, flat_map, map, nat_lt, slice_get, Option, Some, None, is_none, not, refl, ap, ◌∙◌, subst, sym, unwrap_or, arith, inr, ◌⊎◌}
 use Rattle.std.proofs.lemmas.Bool.{false≢true, or_cases}
 use Rattle.std.proofs.lemmas.Bool.Decides.{nat_tests}
 use Rattle.life_served.specs.Served.{is_served_variable, is_element, is_owner_of_values, is_owner_within, is_target}
@@ -28,7 +28,7 @@ use Rattle.life_pset.specs.declared.element.Element.{Element}
 use Rattle.life_pset.specs.declared.element.Element.TheVariants as element
 use Rattle.life_elab_laws.proofs.ServedTypes.{IsServedType, serves, type_serves, value_serves}
 use Rattle.life_elab_laws.proofs.Shaped.{AreShaped, IsShaped}
-use Rattle.life_elab_laws.proofs.HandedTypes.{IsHandedType, a_raw, a_reference, a_value, a_view, a_walker, an_alias}
+use Rattle.life_elab_laws.proofs.HandedTypes.{IsHandedType, a_raw, a_reference, a_value, a_view, a_walker, an_alias, an_owner, a_unique}
 use Rattle.life_pset.specs.Places.{longer, owned_place, owned_step, root_place, too_long}
 use Rattle.life_elab_laws.proofs.Elements.{IsElement, has_owner, has_value, element_is, element_target}
 use Rattle.life_pset.specs.declared.element.Root.{Root}
@@ -140,7 +140,7 @@ module _ (types : Types) where
       go : (o : Option Ty) → serves types (unwrap_or o ty.Void) ≡ true → AreShort (map element.At (places_in (local_place x) (tree_of types (tree_within id.0 types) o)))
       go (Some ty.Text) b = (omega arith, (omega arith, tt))
       go (Some (ty.Vector item)) b = (omega arith, element_parts id.0 item (owned_place (local_place x)) (omega arith) (plain (is_element types (type_at types item)) b))
-      go (Some (ty.Unique target)) b = (omega arith, value_parts id.0 target (owned_place (local_place x)) (omega arith, tt) b)
+      go (Some (ty.Unique target)) b = (omega arith, element_parts id.0 target (owned_place (local_place x)) (omega arith) b)
       go (Some (ty.Struct number)) b = absurd (false≢true b)
       go _ b = (omega arith, tt)
 
@@ -285,6 +285,32 @@ module _ (types : Types) where
   target_behind id t target at has h r =
       subst (λ (o : Option TyId). AreShort (map element.At (places_in (root_place r) (tree_if types o)))) (sym (ap (λ (o : Option Ty). target_of (or_void o)) at ∙ has)) (target_short target h r)
 
+  -- an owner is one location where it is an object, and else none
+  owner_locations : (k : LocalKind) (id : TyId) (t : Ty) → slice_get types.types id.0 ≡ Some t → is_owner_of_values types t ≡ true → (at : AbsPlace) → (locations_in types k id at ≡ at ∷ []) ⊎ (locations_in types k id at ≡ [])
+  unfolding tree_at
+  owner_locations Object id ty.Text found o at = inl (ap (λ (v : Option Ty). if is_variable Object (or_void v) then at ∷ [] else pointers_in at (tree_at types id)) found)
+  owner_locations Object id (ty.Vector item) found o at = inl (ap (λ (v : Option Ty). if is_variable Object (or_void v) then at ∷ [] else pointers_in at (tree_at types id)) found)
+  owner_locations Register id ty.Text found o at = inr (ap (λ (v : Option Ty). pointers_in at (tree_of types (tree_within id.0 types) v)) found)
+  owner_locations Register id (ty.Vector item) found o at = inr (ap (λ (v : Option Ty). pointers_in at (tree_of types (tree_within id.0 types) v)) found)
+  owner_locations Range id ty.Text found o at = inr (ap (λ (v : Option Ty). pointers_in at (tree_of types (tree_within id.0 types) v)) found)
+  owner_locations Range id (ty.Vector item) found o at = inr (ap (λ (v : Option Ty). pointers_in at (tree_of types (tree_within id.0 types) v)) found)
+  owner_locations k id _ found o at = absurd (false≢true o)
+
+  owner_inputs : (k : LocalKind) (x : ℕ) (id : TyId) (t : Ty) → slice_get types.types id.0 ≡ Some t → is_owner_of_values types t ≡ true
+      → AreShortInputs (inputs_among types x (shape_if types true id) 0 (locations_in types k (shape_if types true id) (local_place x)))
+  owner_inputs k x id t found o =
+      let same = same_shape true id (ap (λ (v : Option Ty). serves types (unwrap_or v ty.Void)) found ∙ type_serves types t (inr (inl o))) in
+      subst (λ (i : TyId). AreShortInputs (inputs_among types x i 0 (locations_in types k i (local_place x)))) (sym same)
+      (elim (owner_locations k id t found o (local_place x)) [
+        | inl one ↦ subst (λ (xs : List AbsPlace). AreShortInputs (inputs_among types x id 0 xs)) (sym one) (one_input x id (λ r. subst (λ (v : Option TyId). AreShort (map element.At (places_in (root_place r) (tree_if types v)))) (sym (no_target t found o)) (omega arith, tt)))
+        | inr other ↦ subst (λ (xs : List AbsPlace). AreShortInputs (inputs_among types x id 0 xs)) (sym other) tt
+      ])
+    where
+      no_target : (t : Ty) → slice_get types.types id.0 ≡ Some t → is_owner_of_values types t ≡ true → target_of (ty_of types id) ≡ None
+      no_target ty.Text found o = ap (λ (v : Option Ty). target_of (or_void v)) found
+      no_target (ty.Vector item) found o = ap (λ (v : Option Ty). target_of (or_void v)) found
+      no_target _ found o = absurd (false≢true o)
+
   handed_inputs : (k : LocalKind) (x : ℕ) (id : TyId) → IsHandedType types id → AreShortInputs (inputs_among types x (shape_if types true id) 0 (locations_in types k (shape_if types true id) (local_place x)))
   handed_inputs k x id (a_value w) =
       let same = same_shape true id (value_serves types (type_at types id) w) in
@@ -304,6 +330,10 @@ module _ (types : Types) where
   handed_inputs k x id (a_walker (ty.Span target constant) at w) =
       pointer_inputs k x id (ty.Span target constant) at (inr (inr (inl w))) refl (λ n place. refl) (target_behind id (ty.Span target constant) target at refl (element_target types (type_at types target) w))
   handed_inputs k x id (a_walker _ at w) = absurd (false≢true w)
+  handed_inputs k x id (an_owner t at o) = owner_inputs k x id t at o
+  handed_inputs k x id (a_unique target at w) =
+      pointer_inputs k x id (ty.Unique target) at (inr (inr (inr w))) refl (λ n place. refl)
+      (λ r. subst (λ (o : Option Ty). AreShort (map element.At (places_in (root_place r) (tree_if types (target_of (or_void o)))))) (sym at) (omega arith, tt))
 
   local_short : (n x : ℕ) (l : Local) → (x < n → IsHandedType types l.ty) → AreShortInputs (local_inputs types n x l)
   local_short n x l handed = go (nat_lt x n) refl

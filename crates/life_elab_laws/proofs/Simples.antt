@@ -11,10 +11,10 @@ use Rattle.life_types.specs.declared.ty.Ty.{Ty}
 use Rattle.life_types.specs.declared.ty.Ty.TheVariants as ty
 use Rattle.life_tree.specs.declared.operator.CompoundOperator.{CompoundOperator}
 use Rattle.life_tree.specs.declared.operator.StepOperator.{StepOperator}
-use Rattle.life_served.specs.Served.{are_served_elements, calls_any, fills_owner, fills_unique, form_type, is_call, is_changing, is_number_type, is_owner_of_values, is_owner_type, is_served_any, is_served_assigned, is_served_change, is_served_either, is_served_expression, is_served_left, is_served_object, is_served_owner, is_served_renewed, is_served_reset, is_served_simple, is_served_target, is_served_unique, is_served_walker, is_vector, is_vector_type, is_view_type, is_walker_of_values, is_walker_type}
+use Rattle.life_served.specs.Served.{are_served_elements, calls_any, fills_owner, fills_unique, form_type, is_call, is_changing, is_number_type, is_owner_of_values, is_owner_type, is_served_any, is_served_assigned, is_served_change, is_served_either, is_served_expression, is_served_left, is_served_object, is_served_owner, is_served_owning, is_served_renewed, is_served_reset, is_served_simple, is_served_target, is_served_unique, is_served_walker, is_vector, is_vector_type, is_view_type, is_walker_of_values, is_walker_type}
 use Rattle.life_typed.specs.Operators.{promoted}
 use Rattle.life_typed.specs.Statements.{can_step, compounded}
-use Rattle.life_typed.specs.TypedForm.{Form, Typed, call, forms, method, move, text, typed, whole as whole_form}
+use Rattle.life_typed.specs.TypedForm.{Form, Typed, call, forms, method, text, typed, whole as whole_form}
 use Rattle.life_typed.specs.TypedStatement.{ListForm, SimpleForm, assign, compound, discarded, one, several, step}
 use Rattle.life_typed.specs.declared.typed_expr.Category.{Category}
 use Rattle.life_typed.specs.declared.typed_expr.Category.TheVariants as category
@@ -30,7 +30,7 @@ use Rattle.life_core.specs.declared.operation.Operation.TheVariants as operation
 use Rattle.life_core.specs.declared.operation.Operator.{Operator}
 use Rattle.life_proper.specs.OperandTypes.{is_promoted, keeps_const, same}
 use Rattle.life_proper.specs.WellFormed.{answer_of, is_itself}
-use Rattle.life_well_typed.specs.Expressions.{IsExpression, parameter_types, IsMadeOf, typed_in}
+use Rattle.life_well_typed.specs.Expressions.{IsExpression, IsMadeOf, typed_in}
 use Rattle.life_well_typed.specs.Given.{is_given, is_number}
 use Rattle.life_well_typed.specs.Members.{is_listed}
 use Rattle.life_well_typed.specs.Statements.{IsSimple}
@@ -51,19 +51,18 @@ use Rattle.life_writer.specs.Writing.{State, Gives, ◌>>◌, emit, gives, mappe
 use Rattle.life_elab.specs.SimpleForms.{advanced, appended, assigned, combined, done, stepped, target_of, thrown, thrown_by, direction}
 use Rattle.life_elab.specs.Simples.{compound_operator, held, put_back, step_operator}
 use Rattle.life_elab_laws.proofs.Aiming.{literal_given, pointed_fine, pointed_keeps, pointed_ready}
-use Rattle.life_elab_laws.proofs.CallParts.{alone_fine}
-use Rattle.life_elab_laws.proofs.Calls.{alone_after, alone_ready}
+use Rattle.life_elab_laws.proofs.HandingCalls.{alone_call_part}
 use Rattle.life_elab_laws.proofs.ExpressionTypes.{IsAnswered, answers_nothing, answers_place, answers_raw, answers_value, answers_view, own_no_iterator, own_no_text, own_value, seen_kind, answers_owner, answers_walker}
 use Rattle.life_elab_laws.proofs.ExpressionForms.{IsCall, IsWhole}
 use Rattle.life_elab_laws.proofs.Expressions.{asked_expression, givings, named_unique, object_expression, owner_expression, walker_expression, whole_expression}
 use Rattle.life_elab_laws.proofs.PointerForms.{placed_operand, pointer_whole, points_whole, result_later}
 use Rattle.life_elab_laws.proofs.FormedFits.{given_raw, given_seen, given_owner, given_string, given_walker, given_vector}
 use Rattle.life_elab_laws.proofs.Filling.{text_filling}
-use Rattle.life_elab_laws.proofs.Gifts.{Gift, takes_from, a_number, a_place, a_pointer, a_pointing, arguments, both, nothing}
+use Rattle.life_elab_laws.proofs.Gifts.{Gift, takes_from, a_number, a_place, a_pointer, a_pointing, both, nothing}
 use Rattle.life_elab_laws.proofs.GivenKinds.{given_number, given_pointer, given_view}
-use Rattle.life_elab_laws.proofs.Instructions.{acted_as_part, acted_part, as_type_part, constant_part, converted_part, literal_located_part, load_part, operator_part}
+use Rattle.life_elab_laws.proofs.Instructions.{acted_as_part, as_type_part, constant_part, converted_part, literal_located_part, load_part, operator_part}
 use Rattle.life_elab_laws.proofs.Locations.{is_location, is_pointed, seen_pointed, location_is, view_location}
-use Rattle.life_elab_laws.proofs.Making.{IsOpen, Keeps, keeps_all, opened_later}
+use Rattle.life_elab_laws.proofs.Making.{IsOpen, opened_later}
 use Rattle.life_elab_laws.proofs.Parts.{Makes, Part, and_part, gives_part, keep_part, leaf_part, seen_part, then_part, under_part}
 use Rattle.life_elab_laws.proofs.RowTypes.{promoted_is}
 use Rattle.life_elab_laws.proofs.Setting.{Setting}
@@ -81,12 +80,13 @@ use Rattle.life_elab_laws.proofs.ObjectForms.{IsObject, IsOwner}
 use Rattle.life_elab_laws.proofs.JoinedForms.{literal_builds}
 use Rattle.life_elab_laws.proofs.ListForms.{list_builds}
 use Rattle.life_elab_laws.proofs.Saving.{saved_part}
-use Rattle.life_elab_laws.proofs.MadeForms.{Builds, BuildsIn, is_made, IsOwning, stands_there, temporary_dead, temporary_made}
-use Rattle.life_elab_laws.proofs.MovedOwners.{given_moved, IsNamedAt, moved_assigned_part, moved_from_variable}
+use Rattle.life_elab_laws.proofs.MadeForms.{Builds, BuildsIn, IsMade, IsOwning, is_made, stands_there, temporary_dead, temporary_made}
+use Rattle.life_elab_laws.proofs.MovedOwners.{given_moved, IsNamedAt, moved_assigned_part}
 use Rattle.life_elab_laws.proofs.MoveSteps.{moves_part, owner_moves}
 use Rattle.life_elab_laws.proofs.NamedTargets.{named_target, named_unique_target}
 use Rattle.life_names.specs.declared.fault.IllKind.{IllKind}
 use Rattle.life_elab_laws.proofs.OwnerSteps.{copies_part}
+use Rattle.life_elab_laws.proofs.ReplacedOwners.{IsReplaced, replaced}
 use Rattle.life_elab_laws.proofs.SeenForms.{string_points}
 use Rattle.life_elab_laws.proofs.UniqueStatements.{reset_part, unique_assigned_part}
 use Rattle.life_elab_laws.proofs.WalkerForms.{IsWalker, walker_pointer, walker_points, vector_points}
@@ -291,13 +291,7 @@ module _ (a : Around) (visible : List ℕ) (types : Types) (texts : ℕ) (fs : L
       → Acts s (giving.arguments a (all_uses a c.arguments) c.delimiters (around.parameter_types a c.function) s >> λ given s. emit e.place (called_alone c.function given) s)
   alone_part e c s is void stands =
       let w = giving.arguments a (all_uses a c.arguments) c.delimiters (around.parameter_types a c.function) s in
-      let P = arguments types texts fs f (parameter_types (Some is.of)) in
-      let callee = setting.callees c.function is.of is.there in
-      then_part types texts fs f no_gift tt None s w _ P no_gift stands.opened (is.hands s stands)
-      (acted_part types texts fs f P w.given e.place (called_alone c.function w.given) w.state
-      (λ h. alone_fine types texts fs f c.function w.given is.of callee h (result_later a visible types texts fs f setting c.function is.of is.there ∙ void))
-      (λ n k p. alone_ready f c.function (parameter_types (Some is.of)) w.given n k p)
-      (λ n m k p. subst (Keeps f m None k) (sym (alone_after f c.function (parameter_types (Some is.of)) w.given n k p)) (keeps_all f m None k)))
+      alone_call_part types texts fs f c.function is.of (setting.callees c.function is.of is.there) s w (is.hands s stands) e.place (result_later a visible types texts fs f setting c.function is.of is.there ∙ void)
 
   -- what is thrown away has a value
   value_thrown : (e : Uses) (behind : Place) (t : Ty) (s : State) → own e ≡ t → is_value t ≡ true → thrown category.Value e behind s ≡ (value e behind (own e) None s).state
@@ -380,11 +374,11 @@ module _ (a : Around) (visible : List ℕ) (types : Types) (texts : ℕ) (fs : L
   changed_statement : (form : Form) (e : Typed) (behind : Place) (s : State) → e.form ≡ form → is_served_change texts form ≡ true → Whole e → Standing s → Acts s (thrown e.category (uses a (whole_form e)) behind s)
   changed_statement (method base m given d) e behind s same b h stands =
       let one = and_parts (is_changing m) _ b in
-      let two = and_parts (is_owner_type (form_type base)) (is_served_object texts base && are_served_elements texts given) one.1 in
-      let three = and_parts (is_served_object texts base) (are_served_elements texts given) two.1 in
+      let two = and_parts (is_owner_type (form_type base)) (is_served_owner texts base && are_served_elements texts given) one.1 in
+      let three = and_parts (is_served_owner texts base) (are_served_elements texts given) two.1 in
       let made : IsMadeOf a.program a.function.locals visible e (method base m given d) = subst (IsMadeOf a.program a.function.locals visible e) same h in
       change_part a visible types texts fs f setting base m given d e behind s same
-      (object_expression a visible types texts fs f setting base three.0 (ap is_owner_type (operand_typed base) ∙ two.0) made.1)
+      (asked_expression a visible types texts fs f setting base three.0 (ap is_owner_type (operand_typed base) ∙ two.0) made.1)
       (givings a visible types texts fs f setting given three.1 made.2) one.0 made.0 stands
   changed_statement _ e behind s same b h stands = absurd (false≢true b)
 
@@ -476,12 +470,12 @@ module _ (a : Around) (visible : List ℕ) (types : Types) (texts : ℕ) (fs : L
       let w = temporary_of u to.ty s in
       let o = operand (uses a (whole_form target)) w.state in
       let P = a_place types texts fs f to.ty false in
-      let first = temporary_made a visible types texts fs f setting to.ty u.place s (u.object s) to.owner builds stands in
+      let first = temporary_made a visible types texts fs f setting to.ty u.place s (u.object s) (inl to.owner) builds stands in
       let later = stands_later a visible s w.state first.grown stands in
       let second = object_part a visible types texts fs f setting (whole_form target) to free w.state later in
       let apart =
       ap (λ (g : Gives Operand). is_itself types texts fs f w.given g.given) (placed_operand a visible types texts fs f setting (whole_form target) to.id to.constant w.state to.place)
-      ∙ to.apart w.state later w.given (temporary_dead a visible types texts fs f setting to.ty u.place s (u.object s) to.owner builds stands) in
+      ∙ to.apart w.state later w.given (temporary_dead a visible types texts fs f setting to.ty u.place s (u.object s) (inl to.owner) builds stands) in
       subst (Acts s)
       (sym (ap (λ (k : Class). assigned_by k u (own_type target.ty) (target_of (uses a (whole_form target))) equals behind s) (ap (λ (t : Ty). class (Some t)) (ap own_type to.is) ∙ owner_class to.ty to.owner)
       ∙ ap (λ (t : Ty). acted (owner_by u.category u t s) (target_of (uses a (whole_form target))) equals) (ap own_type to.is)
@@ -491,11 +485,10 @@ module _ (a : Around) (visible : List ℕ) (types : Types) (texts : ℕ) (fs : L
       (and_part types texts fs f no_gift tt s (mapped object_named w) o P P stands.opened first second)
       (moves_part types texts fs f setting.registers (both_of P P) (object_named w.given, o.given) to.ty o.given w.given equals o.state (owner_moves a.program.types to.ty to.owner) (λ h. (h.1, h.0)) (λ n k q. (q.1, q.0)) apart))
 
-  -- .. of a literal, or one that is moved
+  -- .. of a literal
   filled_part : (target e : Typed) (equals behind : Place) (s : State) → (to : IsObject a visible types texts fs f setting (whole_form target)) → to.constant ≡ false → (form : Form) → e.form ≡ form → fills_owner texts form ≡ true
-      → is_given a.program.types to.ty e ≡ true → Whole e → IsNamedAt a visible types texts fs f setting (named_in (whole_form target)) ((uses a (whole_form target)).at) → is_none (self_fault target.form (one e)) ≡ true → Standing s
-      → Acts s (assigned a target equals (one e) behind s)
-  filled_part target e equals behind s to free (text n) same few given h name other stands =
+      → is_given a.program.types to.ty e ≡ true → Whole e → Standing s → Acts s (assigned a target equals (one e) behind s)
+  filled_part target e equals behind s to free (text n) same few given h stands =
       let told : IsMadeOf a.program a.function.locals visible e (text n) = subst (IsMadeOf a.program a.function.locals visible e) same h in
       let string = string_only to.ty to.owner (subst (λ (x : ExprType). fits_at_all (fits a.program.types to.ty x e.category) ≡ true) told.0 given) in
       let w = located e.place ty.View (aimed (Text n)) s in
@@ -512,16 +505,7 @@ module _ (a : Around) (visible : List ℕ) (types : Types) (texts : ℕ) (fs : L
       string_only ty.Text o fit = refl
       string_only (ty.Vector item) o fit = absurd (false≢true fit)
       string_only _ o fit = absurd (false≢true o)
-  filled_part target e equals behind s to free (move x) same few given h name other stands =
-      let told : IsMadeOf a.program a.function.locals visible e (move x) = subst (IsMadeOf a.program a.function.locals visible e) same h in
-      let is = moved_from_variable a visible types texts fs f setting x e told.1 in
-      let free_of : onto_itself (named_in (whole_form target)) (Some x) ≡ None = none_there (onto_itself (named_in target.form) (Some x)) (ap (λ (g : Form). is_none (onto_itself (named_in target.form) (moved_in g))) (sym same) ∙ other) in
-      moved_assigned_part a visible types texts fs f setting target x e equals behind s to free name free_of same told.0 is (given_moved a visible types texts fs f setting to.ty is.ty e (owner_moves a.program.types to.ty to.owner) is.owner is.is given) stands
-    where
-      none_there : (o : Option IllKind) → is_none o ≡ true → o ≡ None
-      none_there None e = refl
-      none_there (Some k) e = absurd (false≢true e)
-  filled_part target e equals behind s to free _ same few given h name other stands = absurd (false≢true few)
+  filled_part target e equals behind s to free _ same few given h stands = absurd (false≢true few)
 
   -- an iterator or a span
   walker_assigned_part : (target e : Typed) (equals behind : Place) (s : State) → (to : IsWalker a visible types texts fs f setting (whole_form target)) → (from : IsWalker a visible types texts fs f setting (whole_form e)) → is_given a.program.types to.ty e ≡ true → Standing s
@@ -573,17 +557,34 @@ module _ (a : Around) (visible : List ℕ) (types : Types) (texts : ℕ) (fs : L
       elim (or_cases (is_owner_type e.ty && is_served_owner texts (whole_form e)) (fills_owner texts e.form) both.1) [
         | inl owner ↦
             let source = and_parts (is_owner_type e.ty) (is_served_owner texts (whole_form e)) owner in
-            from_owner to free given (owner_expression a visible types texts fs f setting (whole_form e) source.1 source.0 h.1.1)
-        | inr fills ↦
-            filled_part target e equals behind s to free e.form refl fills given h.1.1 (named_target a visible types texts fs f setting (whole_form target) goal.1 goal.0 h.0.1)
-            (and_parts (is_none (whole_fault a.program.types target.category)) (is_none (self_fault target.form (one e))) h.2).1 stands
+            from_owner to free given (owner_expression a visible types texts fs f setting (whole_form e) source.1 source.0 h.1.1) (replaced a visible types texts fs f setting (whole_form e) source.1 source.0 h.1.1)
+            (named_target a visible types texts fs f setting (whole_form target) goal.1 goal.0 h.0.1)
+        | inr fills ↦ filled_part target e equals behind s to free e.form refl fills given h.1.1 stands
       ]
     where
-      from_owner : (to : IsObject a visible types texts fs f setting (whole_form target)) → to.constant ≡ false → is_given a.program.types to.ty e ≡ true → IsOwning a visible types texts fs f setting (whole_form e) → Acts s (assigned a target equals (one e) behind s)
-      from_owner to free given (stands_there from) = copied_part target e equals behind s to free from (given_owner a.program.types to.ty from.ty e to.owner from.owner from.is given) stands
-      from_owner to free given (is_made from) =
-          made_assigned_part target (uses a (whole_form e)) equals behind s to free from.value from.plain
+      none_there : (o : Option IllKind) → is_none o ≡ true → o ≡ None
+      none_there None e = refl
+      none_there (Some k) e = absurd (false≢true e)
+
+      -- nothing is moved onto itself
+      other : (n : ℕ) → moved_in (whole_form e) ≡ Some n → onto_itself (named_in (whole_form target)) (Some n) ≡ None
+      other n moves =
+          ap (onto_itself (named_in (whole_form target))) (sym moves)
+          ∙ none_there (onto_itself (named_in target.form) (moved_in e.form)) (and_parts (is_none (whole_fault a.program.types target.category)) (is_none (self_fault target.form (one e))) h.2).1
+
+      made : (to : IsObject a visible types texts fs f setting (whole_form target)) → to.constant ≡ false → is_given a.program.types to.ty e ≡ true → IsMade a visible types texts fs f setting (whole_form e) → IsReplaced a visible types texts fs f setting (whole_form e)
+          → IsNamedAt a visible types texts fs f setting (named_in (whole_form target)) ((uses a (whole_form target)).at) → Acts s (assigned a target equals (one e) behind s)
+      made to free given from (inl plain) name =
+          made_assigned_part target (uses a (whole_form e)) equals behind s to free from.value plain
           (subst (λ (t : Ty). Builds a visible types texts fs f setting t s ((uses a (whole_form e)).object s)) (given_owner a.program.types to.ty from.ty e to.owner from.owner from.is given) (from.builds s stands)) stands
+      made to free given from (inr moves) name =
+          moved_assigned_part a visible types texts fs f setting target moves.number moves.moved e moves.place equals behind s to free name (other moves.number moves.named) moves.replaces from.value moves.seen moves.from
+          (given_moved a visible types texts fs f setting to.ty moves.from.ty e (owner_moves a.program.types to.ty to.owner) moves.from.owner moves.typed given) stands
+
+      from_owner : (to : IsObject a visible types texts fs f setting (whole_form target)) → to.constant ≡ false → is_given a.program.types to.ty e ≡ true → IsOwning a visible types texts fs f setting (whole_form e) → IsReplaced a visible types texts fs f setting (whole_form e)
+          → IsNamedAt a visible types texts fs f setting (named_in (whole_form target)) ((uses a (whole_form target)).at) → Acts s (assigned a target equals (one e) behind s)
+      from_owner to free given (stands_there from) way name = copied_part target e equals behind s to free from (given_owner a.program.types to.ty from.ty e to.owner from.owner from.is given) stands
+      from_owner to free given (is_made from) way name = made to free given from way name
 
   -- .. of a list of its elements
   list_assigned_part : (target : Typed) (list : ListForm) (equals behind : Place) (s : State) → is_served_assigned texts target (several list) ≡ true → IsSimple a.program a.function.locals a.function.result visible (assign target equals (several list)) → Standing s
@@ -722,13 +723,13 @@ module _ (a : Around) (visible : List ℕ) (types : Types) (texts : ℕ) (fs : L
       (promoted_value (own_type target.ty) (own_type e.ty)) (promoted_is (own_type target.ty) (own_type e.ty)) stands)
 
   -- .. of characters
-  gained_part : (target : Typed) (o : CompoundOperator) (place : Place) (e : Typed) (behind : Place) (s : State) → (is_served_target texts target && is_served_any texts e) ≡ true
+  gained_part : (target : Typed) (o : CompoundOperator) (place : Place) (e : Typed) (behind : Place) (s : State) → (is_served_owning texts target && is_served_any texts e) ≡ true
       → IsSimple a.program a.function.locals a.function.result visible (compound target o place e) → Standing s → Acts s (done a (compound target o place e) behind s)
   gained_part target o place e behind s b h stands =
       let either : Bool = is_served_either (whole_form e) (is_served_owner texts (whole_form e)) (is_served_expression texts e) in
-      let two = and_parts (is_served_target texts target) either b in
-      let one = and_parts (is_owner_type target.ty) (is_served_object texts (whole_form target)) two.0 in
-      let to = object_expression a visible types texts fs f setting (whole_form target) one.1 one.0 h.1.1 in
+      let two = and_parts (is_served_owning texts target) either b in
+      let one = and_parts (is_owner_type target.ty) (is_served_owner texts (whole_form target)) two.0 in
+      let to = asked_expression a visible types texts fs f setting (whole_form target) one.1 one.0 h.1.1 in
       let from : IsEither a visible types texts fs f setting (whole_form e) = elim (either_served (whole_form e) (is_served_owner texts (whole_form e)) (is_served_expression texts e) two.1) [
         | inl value ↦ inl (whole e value h.2)
         | inr owner ↦ inr (asked_expression a visible types texts fs f setting (whole_form e) owner.1 owner.0 h.2)
@@ -737,7 +738,7 @@ module _ (a : Around) (visible : List ℕ) (types : Types) (texts : ℕ) (fs : L
       let fits : fits_at_all (compounded o to.ty e.ty) ≡ true = subst (λ (t : Ty). fits_at_all (compounded o t e.ty) ≡ true) own_is (subst (λ (t : Ty). fits_at_all (compounded o t e.ty) ≡ true) (own_same target.ty) h.0) in
       let told = text_gains a.program.types o to.ty e.ty to.owner fits in
       subst (λ (t : Ty). Acts s (cond (is_text t) (appended a target place e s) (combined a target o place e behind (promoted t (own_type e.ty)) s))) (sym (own_is ∙ told.0))
-      (appended_part a visible types texts fs f setting (whole_form target) (whole_form e) place s to told.0 (to_free target.category to.constant (ap is_constant to.place) (and_parts (is_place target.ty target.category) (not (is_constant target.category)) h.1.0).1) from told.1 stands)
+      (appended_part a visible types texts fs f setting (whole_form target) (whole_form e) place s to told.0 (to_free target.category to.constant to.told (and_parts (is_place target.ty target.category) (not (is_constant target.category)) h.1.0).1) from told.1 stands)
 
   -- ---- steps
 
@@ -774,7 +775,7 @@ module _ (a : Around) (visible : List ℕ) (types : Types) (texts : ℕ) (fs : L
       ]
   done_part (assign target equals (several list)) behind s b h stands = list_assigned_part target list equals behind s b h stands
   done_part (compound target o place e) behind s b h stands =
-      elim (or_cases (is_served_expression texts target && is_served_expression texts e) (is_served_target texts target && is_served_any texts e) b) [ inl values ↦ counted_part target o place e behind s values h stands | inr texts_too ↦ gained_part target o place e behind s texts_too h stands ]
+      elim (or_cases (is_served_expression texts target && is_served_expression texts e) (is_served_owning texts target && is_served_any texts e) b) [ inl values ↦ counted_part target o place e behind s values h stands | inr texts_too ↦ gained_part target o place e behind s texts_too h stands ]
   done_part (step target o place) behind s b h stands = elim (or_cases (is_served_expression texts target) (is_served_walker texts (whole_form target)) b) [ inl value ↦ number_stepped_part target o place behind s value h stands | inr walks ↦ walker_stepped_part target o place behind s walks h stands ]
   done_part (discarded e) behind s b h stands = elim (or_cases ((((is_call e.form || is_number_type e.ty) && is_served_expression texts e) || is_served_change texts e.form) || is_served_left texts e) (is_served_reset e.form) b) [ inl known ↦ known_part known | inr resets ↦ reset_statement e.form e behind s refl resets h stands ]
     where

@@ -1,5 +1,5 @@
 -- Expressions that make a string: texts that are joined, and a string of a string, a view or a literal.
-use Rattle.std.proofs.Common.{◌≡◌, ◌⊎◌, inl, inr, ℕ, Bool, true, false, if◌then◌else◌, List, None, Ok, refl, sym, ap, ◌∙◌, subst}
+use Rattle.std.proofs.Common.{◌≡◌, ◌⊎◌, inl, inr, ℕ, Bool, true, false, if◌then◌else◌, List, Ok, refl, sym, ap, ◌∙◌, subst}
 use Rattle.std.proofs.lemmas.Bool.{false≢true}
 use Rattle.life_served.specs.Served.{is_owner_of_values}
 use Rattle.life_types.specs.Types.{Types}
@@ -40,12 +40,12 @@ use Rattle.life_elab_laws.proofs.TypedKinds.{IsCombined, err_ok, ok_same}
 use Rattle.life_elab_laws.proofs.EqualityRows.{concatenates}
 
 -- what a string is made of
-record MakesText (inner e : Typed) : Type 0 where
+pub record MakesText (inner e : Typed) : Type 0 where
   pub seen : makes_text inner.ty ≡ true
   pub is : e.ty ≡ Of ty.Text
   pub value : e.category ≡ category.Value
 
-makes_a_text : (closing : Place) (inner e : Typed) → text_made e.place closing inner ≡ Ok e → MakesText inner e
+pub makes_a_text : (closing : Place) (inner e : Typed) → text_made e.place closing inner ≡ Ok e → MakesText inner e
 makes_a_text closing inner e h = go (makes_text inner.ty) refl h
   where
     v : Typed
@@ -72,7 +72,7 @@ module _ (a : Around) (visible : List ℕ) (types : Types) (texts : ℕ) (fs : L
   Stood s = Standing a visible types texts fs f setting s
 
   abbrev MadeAt : Typed → Uses → Type 0
-  MadeAt e u = IsMadeAt a visible types texts fs f setting e u.object u.replacing
+  MadeAt e u = IsMadeAt a visible types texts fs f setting e u.object
 
   abbrev Made : State → Gives Remaining → Type 0
   Made s w = Builds a visible types texts fs f setting ty.Text s w
@@ -91,7 +91,6 @@ module _ (a : Around) (visible : List ℕ) (types : Types) (texts : ℕ) (fs : L
         value = c.is.1;
         builds = λ s stands.
             joined_builds a visible types texts fs f setting left right place s (appended_finds a visible types texts fs f setting left l fit.left) (appended_finds a visible types texts fs f setting right r fit.right) stands;
-        plain = refl;
       }
       go _ joins fit = absurd (false≢true joins)
 
@@ -110,8 +109,8 @@ module _ (a : Around) (visible : List ℕ) (types : Types) (texts : ℕ) (fs : L
     as_own : (t : Ty) → own u ≡ t → m ≡ string_of t u place e.ty e.category
     as_own t own_is = ap (λ (x : Ty). string_of x u place e.ty e.category) own_is
 
-    made : (n : Uses) → m ≡ n → n.replacing ≡ None → ((s : State) → Stood s → Made s (n.object s)) → MadeAt e m
-    made n same plain builds = subst (MadeAt e) (sym same) (record { ty = ty.Text; is = told.is; owner = refl; value = told.value; builds = builds; plain = plain })
+    made : (n : Uses) → m ≡ n → ((s : State) → Stood s → Made s (n.object s)) → MadeAt e m
+    made n same builds = subst (MadeAt e) (sym same) (record { ty = ty.Text; is = told.is; owner = refl; value = told.value; builds = builds })
 
     own_is : (t : ExprType) → (typed_in inner).ty ≡ t → own u ≡ own_type t
     own_is t at = ap own_type (sym (own_typed a visible types texts fs f setting inner) ∙ at)
@@ -119,7 +118,7 @@ module _ (a : Around) (visible : List ℕ) (types : Types) (texts : ℕ) (fs : L
     -- of a view or a literal
     pub text_of_view : IsWhole a visible types texts fs f setting inner → MadeAt e m
     text_of_view is =
-        made (string_of ty.View u place e.ty e.category) (go (seen_type (typed_in inner).ty sees_it)) refl
+        made (string_of ty.View u place e.ty e.category) (go (seen_type (typed_in inner).ty sees_it))
         (λ s stands. view_builds a visible types texts fs f setting place s (pointer u ty.View s) (view_whole a visible types texts fs f setting inner is sees_it s stands))
       where
         sees_it : is_seen (typed_in inner).ty ≡ true
@@ -134,10 +133,10 @@ module _ (a : Around) (visible : List ℕ) (types : Types) (texts : ℕ) (fs : L
     text_of_owner (stands_there is) =
         let text = owner_text a.program.types is.ty is.owner (sym (ap makes_text is.is) ∙ told.seen) in
         made (string_of_string (category.Place is.id is.constant) u place e.ty e.category)
-        (as_own ty.Text (own_is (Of is.ty) is.is ∙ text) ∙ ap (λ (c : Category). string_of_string c u place e.ty e.category) (sym (held_typed a visible types texts fs f setting inner) ∙ is.place)) refl
+        (as_own ty.Text (own_is (Of is.ty) is.is ∙ text) ∙ ap (λ (c : Category). string_of_string c u place e.ty e.category) (sym (held_typed a visible types texts fs f setting inner) ∙ is.place))
         (λ s stands. copy_builds a visible types texts fs f setting place is.constant s (u.at s) (subst (λ (t : Ty). Placed a visible types texts fs f setting t is.constant s (u.at s)) text (is.names s stands)))
     text_of_owner (is_made is) =
         let text = owner_text a.program.types is.ty is.owner (sym (ap makes_text is.is) ∙ told.seen) in
         made (string_of_string category.Value u place e.ty e.category)
-        (as_own ty.Text (own_is (Of is.ty) is.is ∙ text) ∙ ap (λ (c : Category). string_of_string c u place e.ty e.category) (sym (held_typed a visible types texts fs f setting inner) ∙ is.value)) is.plain
+        (as_own ty.Text (own_is (Of is.ty) is.is ∙ text) ∙ ap (λ (c : Category). string_of_string c u place e.ty e.category) (sym (held_typed a visible types texts fs f setting inner) ∙ is.value))
         (λ s stands. subst (λ (t : Ty). Builds a visible types texts fs f setting t s (u.object s)) text (is.builds s stands))

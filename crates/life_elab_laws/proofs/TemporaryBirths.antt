@@ -3,7 +3,7 @@ use Rattle.std.proofs.Common.{◌≡◌, ◌<◌, ◌⊎◌, inl, inr, ℕ, true
 use Rattle.std.proofs.lemmas.Bool.{and_parts, false≢true, or_left}
 use Rattle.std.specs.List.{list_all}
 use Rattle.std.proofs.lemmas.Option.{slice_get_within}
-use Rattle.life_served.specs.Served.{is_owner_of_values}
+use Rattle.life_served.specs.Served.{is_owner_of_values, is_unique_of_element}
 use Rattle.life_types.specs.Trees.{HasPartsBelow}
 use Rattle.life_types.specs.TypeTests.{is_pointer, is_reference}
 use Rattle.life_types.specs.Types.{Types}
@@ -28,6 +28,7 @@ use Rattle.life_writer.specs.Registers.{type_number, typed_with}
 use Rattle.life_writer.specs.Temporaries.{nameless_of, temporary}
 use Rattle.life_writer.specs.Writing.{Gives, State, emit, gives}
 use Rattle.life_elab_laws.proofs.Among.{Among, among_contains, among_either, among_left, among_right, ascend_more}
+use Rattle.life_elab_laws.proofs.BornLocals.{filled_bears}
 use Rattle.life_elab_laws.proofs.Emitting.{keeps_set}
 use Rattle.life_elab_laws.proofs.Falling.{Fills, falls_filling}
 use Rattle.life_elab_laws.proofs.FormedVariables.{object_place, owner_no_reference}
@@ -50,28 +51,38 @@ use Rattle.life_elab_laws.proofs.WrittenLocals.{AddsRegisters, FitsTemporary, re
 -- a temporary is no pointer
 temporary_plain : (types : Types) (t : Ty) → FitsTemporary types t → is_pointer t ≡ false
 temporary_plain types t (inl value) = by_values (λ u. is_pointer u ≡ false) refl refl refl refl refl t value
-temporary_plain types t (inr owner) = go t owner
+temporary_plain types t (inr (inl owner)) = go t owner
   where
     go : (u : Ty) → is_owner_of_values types u ≡ true → is_pointer u ≡ false
     go ty.Text o = refl
     go (ty.Vector item) o = refl
     go _ o = absurd (false≢true o)
+temporary_plain types t (inr (inr unique)) = go t unique
+  where
+    go : (u : Ty) → is_unique_of_element types u ≡ true → is_pointer u ≡ false
+    go (ty.Unique target) w = refl
+    go _ w = absurd (false≢true w)
 
 pub no_reference : (types : Types) (t : Ty) → FitsTemporary types t → is_reference t ≡ false
 no_reference types t (inl value) = value_no_reference t value
-no_reference types t (inr owner) = owner_no_reference types t owner
+no_reference types t (inr (inl owner)) = owner_no_reference types t owner
+no_reference types t (inr (inr unique)) = go t unique
+  where
+    go : (u : Ty) → is_unique_of_element types u ≡ true → is_reference u ≡ false
+    go (ty.Unique target) w = refl
+    go _ w = absurd (false≢true w)
 
 module _ (types : Types) (texts : ℕ) (fs : List Function) (f : Function) (place : Place) (step : ℕ → Step) (t : Ty) (s : State) (fits : FitsTemporary types t)
     (opened : IsOpen s) (before : ArePending s) (within : HasPartsBelow s.types (length s.types.types) t) where
   -- its number, and its local
-  abbrev x : ℕ
+  abbrev pub x : ℕ
   x = length s.locals
 
   abbrev l : Local
   l = nameless_of Object place (type_number t (typed_with t s))
 
   -- where its place in memory is known
-  abbrev begun : State
+  abbrev pub begun : State
   begun = ((temporary place t).begins s).state
 
   -- .. and an instruction has brought it to life
@@ -111,8 +122,8 @@ module _ (types : Types) (texts : ℕ) (fs : List Function) (f : Function) (plac
       beside y (inr (inl e)) c = let lt = opened y c in omega (arith, e, lt)
       beside y (inr (inr none)) c = none
 
-  grows : Grows s born.state
-  grows = record {
+  pub born_grows : Grows s born.state
+  born_grows = record {
     locals = front_append s.locals (l ∷ []);
     types = types_before s.types.types t;
     count = omega (arith, length-append s.locals (l ∷ []));
@@ -124,8 +135,8 @@ module _ (types : Types) (texts : ℕ) (fs : List Function) (f : Function) (plac
     outside = refl;
   }
 
-  registers : AddsRegisters types s born.state
-  registers = (
+  pub born_registers : AddsRegisters types s born.state
+  born_registers = (
     register_pushed types begun.types s.locals l (record { nameless = refl; ty = t; typed = type_added s.types.types t; fits = inr (inl (refl, fits)) }),
     type_ordered s.types t within,
   )
@@ -148,6 +159,31 @@ module _ (types : Types) (texts : ℕ) (fs : List Function) (f : Function) (plac
     pub born_place : IsPlaceOf types texts fs f t false (object_named x)
     born_place = object_place types texts fs f x t false born_object born_typed
 
+    -- ---- on a way
+
+    module _ (k : List Known) (alive : Alive f s k) where
+      pub born_within : x < length k
+      born_within = omega (arith, alive.sized, slice_get_within f.locals x l there)
+
+      -- it isn't there before
+      pub born_blank : known_at k x ≡ known.Blank
+      born_blank = alive.blank x l there refl (λ m. let far = opened x (among_contains s.living x m) in omega (arith, far)) (λ m. let far = below x m in omega (arith, far))
+
+      pub born_alive : Alive f born.state (slice_set k x known.Ready)
+      born_alive = record {
+        sized = set_length k x known.Ready ∙ alive.sized;
+        living = λ y c. beside_set k x y known.Ready (λ e. let far = opened y c in omega (arith, e, far)) ∙ alive.living y c;
+        pending = λ y m. pending y (among_either s.pending (x ∷ []) y m);
+        blank = λ y z at lasts out no.
+            beside_set k x y known.Ready (λ e. no (among_right s.pending (x ∷ []) y (inl e)))
+            ∙ alive.blank y z at lasts out (λ m. no (among_left s.pending (x ∷ []) y m));
+      }
+        where
+          pending : (y : ℕ) → Among y s.pending ⊎ Among y (x ∷ []) → known_at (slice_set k x known.Ready) y ≡ known.Ready
+          pending y (inl old) = beside_set k x y known.Ready (λ e. let far = below y old in omega (arith, e, far)) ∙ alive.pending y old
+          pending y (inr (inl e)) = subst (λ (z : ℕ). known_at (slice_set k x known.Ready) z ≡ known.Ready) e (at_set k x known.Ready born_within)
+          pending y (inr (inr none)) = absurd none
+
   -- behind what gave y
   module _ {A : Type 0} (P : Gift types texts fs f A) (y : A) (fine : Begins types f born.state → P.typed y → IsFineStep types texts fs f (step x))
       (fills : (k : List Known) → P.ready y x k → known_at k x ≡ known.Blank → Fills f k (step x) x) where
@@ -156,36 +192,22 @@ module _ (types : Types) (texts : ℕ) (fs : List Function) (f : Function) (plac
       after = slice_set k x known.Ready;
       falls = falls_filling types f place (step x) x k (fills k q blank);
       keeps = keeps_set f x None x known.Ready k (λ y lt b e. omega (arith, lt, e));
-      gives = record { local = x; uses = refl; below = omega (arith, length-append s.locals (l ∷ [])); held = at_set k x known.Ready lt };
-      alive = record {
-        sized = set_length k x known.Ready ∙ alive.sized;
-        living = λ y c. beside_set k x y known.Ready (λ e. let far = opened y c in omega (arith, e, far)) ∙ alive.living y c;
-        pending = λ y m. pending y (among_either s.pending (x ∷ []) y m);
-        blank = λ y z at lasts out no.
-            beside_set k x y known.Ready (λ e. no (among_right s.pending (x ∷ []) y (inl e)))
-            ∙ alive.blank y z at lasts out (λ m. no (among_left s.pending (x ∷ []) y m));
-      };
+      gives = record { local = x; uses = refl; below = omega (arith, length-append s.locals (l ∷ [])); held = at_set k x known.Ready (born_within b k alive) };
+      alive = born_alive b k alive;
       apart = λ under.
-          then_opens f s s born.state (looked_of (trees (Acts place (step x) ∷ []))) (given_of (trees (Acts place (step x) ∷ []))) grows.count
+          then_opens f s s born.state (looked_of (trees (Acts place (step x) ∷ []))) (given_of (trees (Acts place (step x) ∷ []))) born_grows.count
           (λ y o. one_pending x (length born.state.locals) s.living s.pending y (omega (arith, length-append s.locals (l ∷ []))) o) under
           (step_apart f types (step x) place s k alive (fills k q blank).ready (and_parts (list_all (is_no_object types f) (given_step (step x))) (step_keeps f (step x)) (fine b p).given).0 under);
+      bears = filled_bears f (step x) place s k alive x (fills k q blank).after (λ object. omega arith);
     }
       where
-        lt : x < length k
-        lt = omega (arith, alive.sized, slice_get_within f.locals x l (there b))
-
         blank : known_at k x ≡ known.Blank
-        blank = alive.blank x l (there b) refl (λ m. let far = opened x (among_contains s.living x m) in omega (arith, far)) (λ m. let far = below x m in omega (arith, far))
-
-        pending : (y : ℕ) → Among y s.pending ⊎ Among y (x ∷ []) → known_at (slice_set k x known.Ready) y ≡ known.Ready
-        pending y (inl old) = beside_set k x y known.Ready (λ e. let far = below y old in omega (arith, e, far)) ∙ alive.pending y old
-        pending y (inr (inl e)) = subst (λ (z : ℕ). known_at (slice_set k x known.Ready) z ≡ known.Ready) e (at_set k x known.Ready lt)
-        pending y (inr (inr none)) = absurd none
+        blank = born_blank b k alive
 
     pub born_part : Part types texts fs f P y None s born (a_place types texts fs f t false)
     born_part = record {
-      grown = grows;
-      registers = registers;
+      grown = born_grows;
+      registers = born_registers;
       code = Acts place (step x) ∷ [];
       written = refl;
       runs = λ b p. record {

@@ -131,6 +131,21 @@ text_value types e (a_text is v) at = v
 text_value types e (no_value is v) at = v
 text_value types e (a_null is v) at = v
 
+-- .. and so is nullptr
+pub null_value : (types : Types) (e : Typed) → HasKind types e → e.ty ≡ NullPointer → e.category ≡ category.Value
+null_value types e kind at = go kind
+  where
+    not_null : (t : Ty) → Of t ≡ NullPointer → ⊥
+    not_null t e = cc
+
+    go : HasKind types e → e.category ≡ category.Value
+    go (a_number t is v) = absurd (not_null t (sym is ∙ at))
+    go (a_pointer target constant is v) = absurd (not_null (ty.Raw target constant) (sym is ∙ at))
+    go (a_view is) = absurd (not_null ty.View (sym is ∙ at))
+    go (a_text is v) = v
+    go (no_value is v) = v
+    go (a_null is v) = v
+
 -- .. and nothing of these is an owner
 pub kind_no_owner : (types : Types) (e : Typed) → HasKind types e → (t : Ty) → is_owner_of_values types t ≡ true → e.ty ≡ Of t → ⊥
 kind_no_owner types e kind t o at = go kind

@@ -1,4 +1,4 @@
--- unique_ptrs to values that are named: what they own, a pointer to that, and whether there is something.
+-- unique_ptrs that are named: what they own, a pointer to that, and whether there is something.
 use Rattle.std.proofs.Common.{◌≡◌, ℕ, Bool, true, false, List, Contains, length, slice_get, Option, Some, None, Ok, refl, sym, ap, ◌∙◌, subst, unwrap_or}
 use Rattle.std.proofs.lemmas.Bool.{and_parts, false≢true}
 use Rattle.life_elab_laws.proofs.UniqueSteps.{got_filling, got_given, target_part}
@@ -11,7 +11,7 @@ use Rattle.life_core.specs.Operands.{Get, Operand, Owner, object_named}
 use Rattle.life_core.specs.declared.operand.Which.TheVariants as which
 use Rattle.life_well_typed.specs.Members.{IsCalled}
 use Rattle.life_well_typed.specs.Expressions.{IsExpression, IsMadeOf, IsVariable, typed_in}
-use Rattle.life_elab_laws.proofs.ExpressionForms.{IsForm, Placed, Points, Standing, no_literal, pointer_form}
+use Rattle.life_elab_laws.proofs.ExpressionForms.{IsForm, Placed, Points, Standing, no_literal, pointer_form, no_null}
 use Rattle.life_elab_laws.proofs.Making.{IsPlace}
 use Rattle.life_elab_laws.proofs.VariablePlaces.{IsVariableAt, IsVariableType, an_alias, a_raw, a_reference, a_unique, a_value, a_view, a_walker, an_owner, kind_is, place_is, variable_there, variable_type}
 use Rattle.life_elab_laws.proofs.Parts.{Makes, leaf_part, seen_part, then_part}
@@ -24,7 +24,6 @@ use Rattle.life_types.specs.declared.ty.Ty.{Ty}
 use Rattle.life_types.specs.declared.ty.Ty.TheVariants as ty
 use Rattle.life_types.specs.declared.place.Place.{Place}
 use Rattle.life_elab_laws.proofs.Setting.{Setting}
-use Rattle.life_elab_laws.proofs.Targets.{value_target}
 use Rattle.life_writer.specs.Writing.{Gives, State, ◌>>◌, gives, mapped}
 use Rattle.life_core.specs.Tree.{Tree}
 use Rattle.life_types.specs.declared.ty.TyId.{TyId}
@@ -38,14 +37,15 @@ use Rattle.life_writer.specs.Behind.{closed_by}
 use Rattle.life_typed.specs.Operators.{dereferenced}
 use Rattle.life_type_expr.specs.Operands.{dereferenced_to, pointed_to, variable_of}
 use Rattle.life_elab_laws.proofs.ObjectForms.{IsReached}
-use Rattle.life_elab_laws.proofs.Elements.{value_element}
+use Rattle.life_elab_laws.proofs.Elements.{element_target, element_there}
+use Rattle.life_elab_laws.proofs.Shaped.{element_further}
 use Rattle.life_proper.specs.WellFormed.{is_itself}
 use Rattle.life_writer.specs.ExpressionForms.{form_uses, target_at, uses}
 use Rattle.life_elab_laws.proofs.ViewForms.{gives_as}
 use Rattle.life_well_typed.specs.Given.{is_number}
-use Rattle.life_served.specs.Served.{is_owner_of_values, is_served_unique, is_unique_type, is_walker_of_values}
-use Rattle.life_types.specs.TypeTests.{is_unique, is_value}
-use Rattle.life_elab_laws.proofs.FormedVariables.{object_formed, type_later}
+use Rattle.life_served.specs.Served.{is_element, is_owner_of_values, is_served_unique, is_unique_type, is_walker_of_values}
+use Rattle.life_types.specs.TypeTests.{is_unique}
+use Rattle.life_elab_laws.proofs.FormedVariables.{object_formed}
 use Rattle.life_elab_laws.proofs.TypedKinds.{a_pointer, ok_same, owner_named, value_place, value_simple, walker_named}
 use Rattle.life_writer.specs.Using.{location_in, operand}
 use Rattle.life_writer.specs.MethodForms.{got}
@@ -75,7 +75,7 @@ module _ (a : Around) (visible : List ℕ) (types : Types) (texts : ℕ) (fs : L
   pub record IsUniqueAt (e : Typed) (at : State → Gives Operand) (decision : Behind → Option (State → Gives Tree)) : Type 0 where
     pub target : TyId
     pub is : e.ty ≡ Of (ty.Unique target)
-    pub worth : is_value (type_at a.program.types target) ≡ true
+    pub worth : is_element a.program.types (type_at a.program.types target) ≡ true
     pub id : TyId
     pub constant : Bool
     pub place : e.category ≡ category.Place id constant
@@ -216,7 +216,7 @@ module _ (a : Around) (visible : List ℕ) (types : Types) (texts : ℕ) (fs : L
           is = sym (ap (λ (y : Typed). y.ty) one);
           place = sym (ap (λ (y : Typed). y.category) one);
           here = refl;
-          worth = value_element a.program.types (type_at a.program.types is.target) is.worth;
+          worth = is.worth;
           names = λ place s stands. unique_target place s stands;
           behind = λ place s y. ap (λ (x : Ty). is_itself types texts fs f y (target_at x (uses a form) place (category.Place is.target false) s).given) own_unique;
         }
@@ -225,7 +225,7 @@ module _ (a : Around) (visible : List ℕ) (types : Types) (texts : ℕ) (fs : L
 
     pub unique_get_form : (given : Form) (d : DelimitersForm) (e : Typed) → IsCalled a.program.types (typed_in form).ty (typed_in form).category methods.Get given e → IsForm a visible types texts fs f setting (method form methods.Get given d) e
     unique_get_form given d e h =
-        pointer_form a visible types texts fs f setting (method form methods.Get given d) e (record { kind = a_pointer is.target false told.0 (value_target a.program.types (type_at a.program.types is.target) is.worth); place = λ id c at. absurd (value_place (sym told.1 ∙ at)) }) told.1 (λ n. false≢true (sym (ap is_number told.0) ∙ n)) refl (λ place b. refl) (λ at. absurd (no_literal a visible types texts fs f setting (ty.Raw is.target false) (sym told.0 ∙ at)))
+        pointer_form a visible types texts fs f setting (method form methods.Get given d) e (record { kind = a_pointer is.target false told.0 (element_target a.program.types (type_at a.program.types is.target) is.worth); place = λ id c at. absurd (value_place (sym told.1 ∙ at)) }) told.1 (λ n. false≢true (sym (ap is_number told.0) ∙ n)) refl (λ place b. refl) (λ at. absurd (no_literal a visible types texts fs f setting (ty.Raw is.target false) (sym told.0 ∙ at))) (λ at. absurd (no_null a visible types texts fs f setting (ty.Raw is.target false) (sym told.0 ∙ at)))
         (λ p place s stands. subst (λ (t : ExprType). Points a visible types texts fs f setting t s (got (uses a form) s)) (sym told.0) (points s stands))
       where
         told : (e.ty ≡ Of (ty.Raw is.target false)) × (e.category ≡ category.Value)
@@ -236,5 +236,5 @@ module _ (a : Around) (visible : List ℕ) (types : Types) (texts : ℕ) (fs : L
             subst (λ (w : Gives Operand). Points a visible types texts fs f setting (Of (ty.Raw is.target false)) s (mapped (λ o. aimed (Get (location_in o))) w)) (sym (unique_operand s stands))
             (seen_part types texts fs f (no_gift types texts fs f) tt None s (gives (object_named (variable s is.number)) s) (a_place types texts fs f (ty.Unique is.target) false) (λ o. aimed (Get (location_in o))) (a_pointing types texts fs f (Of (ty.Raw is.target false)))
             (unique_placed s stands)
-            (λ b q. got_given types texts fs f setting.registers is.target false (variable s is.number) (ap is_value (type_later a.program.types types setting.front is.target is.worth) ∙ is.worth) q)
+            (λ b q. got_given types texts fs f setting.registers is.target false (variable s is.number) (ap (is_element types) (element_there a.program.types types setting.front is.target is.worth) ∙ element_further a.program.types types setting.front (type_at a.program.types is.target) is.worth) q)
             (λ n k q. got_filling types texts fs f setting.registers (variable s is.number) n k q))

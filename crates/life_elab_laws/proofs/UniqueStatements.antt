@@ -1,6 +1,7 @@
 -- unique_ptrs that are named are made to own something else, or nothing: by an assignment, and by `reset`.
 use Rattle.std.proofs.Common.{◌≡◌, ℕ, true, false, List, [], is_none, Option, Some, None, refl, sym, ap, ◌∙◌, subst}
 use Rattle.std.proofs.lemmas.Bool.{false≢true}
+use Rattle.life_elab_laws.proofs.Expressions.{whole_if_any}
 use Rattle.life_elab_laws.proofs.Making.{AreHeld}
 use Rattle.life_writer.specs.Around.{Around, own_type, type_of}
 use Rattle.life_typed.specs.Delimiters.{DelimitersForm}
@@ -103,7 +104,7 @@ module _ (a : Around) (visible : List ℕ) (types : Types) (texts : ℕ) (fs : L
         → IsNamedAt a visible types texts fs f setting (named_in (whole_form target)) ((uses a (whole_form target)).at) → is_none (onto_itself (named_in (whole_form target)) (moved_in form)) ≡ true → Stood s → Assigns s
     unique_assigned_part null s same fills told given name other stands = by_form null s same told.1 (nulled_part (whole_form target) to equals s stands)
     unique_assigned_part (make_unique id argument closing) s same fills told given name other stands =
-        let owned = made_as a visible types texts fs f setting to.target to.worth id argument closing e fills given told in
+        let owned = made_as a visible types texts fs f setting to.target to.worth id argument closing e fills given told (whole_if_any a visible types texts fs f setting argument fills told.3) in
         let w = owned_operand (type_of a id) (uses_if a argument) closing s in
         by_form (make_unique id argument closing) s same (ap (λ (y : Typed). y.category) told.0)
         (made_part (whole_form target) to w (a_made types texts fs f setting.registers to.target) w.given (made_uses_of w.given) e.place s (owned.makes s stands) (λ q. q) (λ n k q. q) stands)

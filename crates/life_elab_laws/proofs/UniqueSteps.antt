@@ -1,4 +1,4 @@
--- Instructions on unique_ptrs to values that are variables: what they are made to own, what they own, and a pointer to that.
+-- Instructions on unique_ptrs that are variables: what they are made to own, what they own, and a pointer to that.
 use Rattle.std.proofs.Common.{◌≡◌, inl, inr, ℕ, Bool, true, false, cond, not, List, [], ◌∷◌, None, length, refl, sym, ap, ◌∙◌, subst, Some, slice_get}
 use Rattle.std.proofs.lemmas.Bool.{and_from, and_parts, false≢true}
 use Rattle.std.specs.List.{list_all}
@@ -33,9 +33,10 @@ use Rattle.life_writer.specs.Pointers.{aimed}
 use Rattle.life_writer.specs.Registers.{new_register}
 use Rattle.life_writer.specs.Writing.{Gives, State, emit, gives}
 use Rattle.life_elab_laws.proofs.ChangeSteps.{register_no_object}
+use Rattle.life_elab_laws.proofs.Elements.{element_target, element_there}
 use Rattle.life_elab_laws.proofs.Emitting.{new_targeted}
 use Rattle.life_elab_laws.proofs.Filling.{all_there}
-use Rattle.life_elab_laws.proofs.FormedVariables.{behind_place, reference_there, type_later, value_no_void}
+use Rattle.life_elab_laws.proofs.FormedVariables.{behind_place, reference_there}
 use Rattle.life_elab_laws.proofs.Fronts.{IsFront, front_length, last_there}
 use Rattle.life_elab_laws.proofs.Gifts.{Gift, IsGivenAs, IsPlaceOf, IsTakenBy, a_place, all_stay, nothing}
 use Rattle.life_elab_laws.proofs.Growing.{Begins, added}
@@ -43,11 +44,13 @@ use Rattle.life_elab_laws.proofs.Held.{place_there}
 use Rattle.life_elab_laws.proofs.Instructions.{acted_typed_part, emit_part}
 use Rattle.life_elab_laws.proofs.Making.{AreHeld, IsFilling, IsPlace}
 use Rattle.life_elab_laws.proofs.MoveSteps.{moved_there}
-use Rattle.life_elab_laws.proofs.OperandsThere.{register_there, type_either, value_same}
+use Rattle.life_elab_laws.proofs.OperandsThere.{register_there, type_either}
 use Rattle.life_elab_laws.proofs.OwnerSteps.{place_held}
 use Rattle.life_elab_laws.proofs.Parts.{Part}
+use Rattle.life_elab_laws.proofs.Shaped.{element_further}
 use Rattle.life_elab_laws.proofs.Shaping.{IsFineStep, is_no_object}
-use Rattle.life_elab_laws.proofs.Targets.{value_target}
+use Rattle.life_served.specs.Served.{is_element, is_target}
+use Rattle.life_elab_laws.proofs.Targets.{target_no_void, target_same}
 use Rattle.life_elab_laws.proofs.Types.{type_added}
 use Rattle.life_elab_laws.proofs.WrittenLocals.{fits_below, fits_register}
 use Rattle.life_core.specs.declared.program.Local.{Local}
@@ -126,7 +129,7 @@ module _ (types : Types) (texts : ℕ) (fs : List Function) (f : Function)
 
   -- ---- a pointer to what it owns
 
-  pub got_given : (target : TyId) (constant : Bool) (y : ℕ) → is_value (ty_of types target) ≡ true → IsPlaceOf types texts fs f (ty.Unique target) constant (object_named y) → IsGivenAs types texts fs f (Of (ty.Raw target false)) (aimed (Get (whole y)))
+  pub got_given : (target : TyId) (constant : Bool) (y : ℕ) → is_element types (ty_of types target) ≡ true → IsPlaceOf types texts fs f (ty.Unique target) constant (object_named y) → IsGivenAs types texts fs f (Of (ty.Raw target false)) (aimed (Get (whole y)))
   got_given target constant y v is = λ u l loc at taken. record {
     given = refl;
     formed =
@@ -142,7 +145,7 @@ module _ (types : Types) (texts : ℕ) (fs : List Function) (f : Function)
       taken_by _ e = absurd (false≢true e)
 
       fits : (u : Ty) → IsTakenBy types u (Of (ty.Raw target false)) → gets types u (ty_of types target) ≡ true
-      fits u (inl e) = subst (λ (w : Ty). gets types w (ty_of types target) ≡ true) (same_of e) (value_same (ty_of types target) v)
+      fits u (inl e) = subst (λ (w : Ty). gets types w (ty_of types target) ≡ true) (same_of e) (target_same types (ty_of types target) (element_target types (ty_of types target) v))
       fits u (inr e) = taken_by u e
 
   pub got_filling : (y n : ℕ) (k : List Known) → IsPlace (object_named y) n k → IsFilling f (λ p. Aim p (Get (whole y))) n k
@@ -150,22 +153,22 @@ module _ (types : Types) (texts : ℕ) (fs : List Function) (f : Function)
 
   -- ---- what it owns, which is reached through a register
 
-  pub target_part : (few : Types) (place : Place) (target : TyId) (constant : Bool) (t : Ty) (y : ℕ) (s : State) → IsFront few.types types.types → IsFront few.types s.types.types → type_at few target ≡ t → is_value t ≡ true
+  pub target_part : (few : Types) (place : Place) (target : TyId) (constant : Bool) (t : Ty) (y : ℕ) (s : State) → IsFront few.types types.types → IsFront few.types s.types.types → type_at few target ≡ t → is_element few t ≡ true
       → Part types texts fs f (a_place types texts fs f (ty.Unique target) constant) (object_named y) None s (element place (category.Place target false) (Owner (object_named y)) which.Target s) (a_place types texts fs f t false)
   target_part few place target constant t y s front table here v =
       emit_part types texts fs f (a_place types texts fs f (ty.Unique target) constant) (object_named y) None s w place (λ r. Element (whole r) (Owner (object_named y)) which.Target) (behind w.given)
       (a_place types texts fs f t false)
-      (new_targeted types f place reference s fits (fits_below few s.types (front_length few.types s.types.types table) reference (value_target few (type_at few target) (ap is_value here ∙ v))))
+      (new_targeted types f place reference s fits (fits_below few s.types (front_length few.types s.types.types table) reference (ap (is_target few) here ∙ element_target few t v)))
       (λ b h. let at = at_reference b in (
         record {
           given = refl;
           formed =
               and_from (aims_at types (type_in types f (whole w.given)) (type_of_element types f (Owner (object_named y)) which.Target)) _
               (ap (λ (u : Ty). aims_at types u (type_of_element types f (Owner (object_named y)) which.Target)) at ∙ ap (λ (u : Ty). same (ty_of types target) (owned_target types u)) h.typed
-              ∙ ap (λ (u : Ty). same u u) later ∙ value_same t v)
+              ∙ ap (λ (u : Ty). same u u) later ∙ target_same few t (element_target few t v))
               (ap (λ (u : Ty). keeps_const (is_constant u) (is_const_base types f (Owner (object_named y)))) at);
         },
-        behind_place types texts fs f (whole w.given) reference target false t (record { typed = at; kept = kept_reference b }) refl refl refl later (value_no_void t v),
+        behind_place types texts fs f (whole w.given) reference target false t (record { typed = at; kept = kept_reference b }) refl refl refl later (target_no_void few t (element_target few t v)),
       ))
       (λ r n k e p. record { ready = uses_ready k (y ∷ []) (r ∷ []) (place_there (object_named y) n k p); after = refl })
       (λ k lt e. record { local = w.given; uses = refl; below = lt; held = e })
@@ -177,15 +180,19 @@ module _ (types : Types) (texts : ℕ) (fs : List Function) (f : Function)
       w = new_register place (ty.Reference target false) s
 
       later : ty_of types target ≡ t
-      later = type_later few types front target (ap is_value here ∙ v) ∙ here
+      later = element_there few types front target (ap (is_element few) here ∙ v) ∙ here
+
+      -- in the finished table it may be pointed to too
+      wide : is_target types t ≡ true
+      wide = element_target types t (element_further few types front t v)
 
       fits : fits_register types (ty.Reference target false) ≡ true
-      fits = value_target types (type_at types target) (ap is_value (sym (type_either types target) ∙ later) ∙ v)
+      fits = ap (is_target types) (sym (type_either types target) ∙ later) ∙ wide
 
       at_reference : Begins types f (new_register place (ty.Reference target false) s).state → type_in types f (whole (length s.locals)) ≡ ty.Reference target false
       at_reference b =
           let l = added place (ty.Reference target false) s in
-          reference_there types f (length s.locals) l target false (b.locals (length s.locals) l (last_there s.locals l)) (b.table l.ty.0 (ty.Reference target false) (type_added s.types.types (ty.Reference target false))) (value_target types (ty_of types target) (ap is_value later ∙ v))
+          reference_there types f (length s.locals) l target false (b.locals (length s.locals) l (last_there s.locals l)) (b.table l.ty.0 (ty.Reference target false) (type_added s.types.types (ty.Reference target false))) (ap (is_target types) later ∙ wide)
 
       kept_reference : Begins types f (new_register place (ty.Reference target false) s).state → is_register_at f (length s.locals) ≡ true
       kept_reference b = let l = added place (ty.Reference target false) s in register_there types f (length s.locals) l (b.locals (length s.locals) l (last_there s.locals l)) refl

@@ -1,5 +1,5 @@
 -- A temporary of a value type: what is computed is saved there, or a call gives its result there.
-use Rattle.std.proofs.Common.{◌≡◌, inl, ℕ, Bool, true, false, ◌&&◌, cond, not, List, None, Option, Some, length, refl, sym, ap, ◌∙◌, subst, arith, slice_get}
+use Rattle.std.proofs.Common.{◌≡◌, inl, ℕ, Bool, true, false, ◌&&◌, cond, not, List, None, Option, Some, length, refl, sym, ap, ◌∙◌, subst, arith, slice_get, ◌∷◌, [], length-append, if◌then◌else◌}
 use Rattle.life_types.specs.Pointees.{ty_of}
 use Rattle.life_types.specs.Trees.{HasPartsBelow}
 use Rattle.life_types.specs.TypeTests.{is_value}
@@ -25,25 +25,38 @@ use Rattle.life_writer.specs.Calls.{Called, called, expression_call}
 use Rattle.life_writer.specs.ExpressionForms.{all_uses, uses}
 use Rattle.life_writer.specs.Giving.{call_to, value_by}
 use Rattle.life_writer.specs.Giving as giving
-use Rattle.life_writer.specs.Temporaries.{temporary}
+use Rattle.life_writer.specs.Temporaries.{temporary, nameless_of}
 use Rattle.life_writer.specs.Uses.{Uses, filled, own, saved}
 use Rattle.life_writer.specs.Using.{value}
 use Rattle.life_writer.specs.Writing.{Gives, State, ◌>>◌, emit, gives, mapped}
 use Rattle.life_writer.proofs.Called.{calling, form_calls}
-use Rattle.life_elab_laws.proofs.CallParts.{called_fine, goes_object}
-use Rattle.life_elab_laws.proofs.Calls.{born_fills}
+use Rattle.life_elab_laws.proofs.CallParts.{goes_object}
 use Rattle.life_elab_laws.proofs.ExpressionForms.{IsWhole, Placed, Standing}
 use Rattle.life_elab_laws.proofs.ExpressionTypes.{answer_own}
-use Rattle.life_elab_laws.proofs.Gifts.{a_number, a_place, arguments, both, nothing as no_gift}
-use Rattle.life_elab_laws.proofs.Parts.{Makes, and_part, keep_part, seen_part, then_part}
+use Rattle.life_elab_laws.proofs.Gifts.{a_number, a_place, both, nothing as no_gift}
+use Rattle.life_elab_laws.proofs.Parts.{Makes, and_part, keep_part, seen_part}
 use Rattle.life_elab_laws.proofs.PointerForms.{held_typed, own_typed, result_later}
 use Rattle.life_elab_laws.proofs.Saving.{saved_part}
 use Rattle.life_elab_laws.proofs.Setting.{Setting}
-use Rattle.life_elab_laws.proofs.TemporaryBirths.{born, born_object, born_part, born_typed, lived_part, lived_there}
+use Rattle.life_elab_laws.proofs.TemporaryBirths.{born_object, born_typed, lived_part, lived_there, begun, born_alive, born_blank, born_grows, born_place, born_registers, born_within}
 use Rattle.life_elab_laws.proofs.Types.{same_types}
 use Rattle.life_elab_laws.proofs.Values.{by_values}
 use Rattle.life_elab_laws.proofs.VariablePlaces.{stands_later}
 use Rattle.life_elab_laws.proofs.WrittenLocals.{fits_below, value_fits}
+use Rattle.life_elab_laws.proofs.HandedArguments.{Hands}
+use Rattle.life_elab_laws.proofs.HandingCalls.{Receives, call_received}
+use Rattle.life_elab_laws.proofs.GivenApart.{one_pending}
+use Rattle.life_elab_laws.proofs.Held.{blank_there}
+use Rattle.life_elab_laws.proofs.Knowledge.{at_set}
+use Rattle.life_core.specs.declared.program.Local.{Local}
+use Rattle.life_core.specs.declared.program.LocalKind.TheVariants.{Object}
+use Rattle.life_core.specs.Kinds.{is_object_at}
+use Rattle.life_proper.specs.Knowing.{known_at}
+use Rattle.life_proper.specs.ReadyKnown.{are_known}
+use Rattle.life_proper.specs.declared.known.Known.{Known}
+use Rattle.life_proper.specs.declared.known.Known.TheVariants as known
+use Rattle.life_proper.proofs.ReadyTests.{one_known}
+use Rattle.life_writer.specs.Registers.{type_number, typed_with}
 
 -- the call that an expression is
 pub call_seen : (a : Around) (form : Form) → (uses a form).call ≡ calling a (expression_call form)
@@ -79,7 +92,7 @@ module _ (a : Around) (visible : List ℕ) (types : Types) (texts : ℕ) (fs : L
 
     -- .. or a call gives its result
     module _ (g : ℕ) (of : FunctionForm) (there : slice_get a.program.functions g ≡ Some of) (same : ty_of types of.result ≡ t) (s : State) (w : Gives (List Argument)) (stands : Stood s)
-        (made : Makes types texts fs f None s w (arguments types texts fs f (parameter_types (Some of)))) where
+        (hands : Hands types texts fs f (parameter_types (Some of)) s w) where
       abbrev x : ℕ
       x = length w.state.locals
 
@@ -87,20 +100,41 @@ module _ (a : Around) (visible : List ℕ) (types : Types) (texts : ℕ) (fs : L
       calls y = called g w.given (whole y)
 
       later : Stood w.state
-      later = stands_later a visible s w.state made.grown stands
+      later = stands_later a visible s w.state hands.grown stands
+
+      -- it takes the result of the call
+      receives : Receives types texts fs f None w.state x (begun types texts fs f place calls t w.state (inl worth) later.opened later.pends (within w.state))
+      receives = record {
+        grown = born_grows types texts fs f place calls t w.state (inl worth) later.opened later.pends (within w.state);
+        registers = born_registers types texts fs f place calls t w.state (inl worth) later.opened later.pends (within w.state);
+        unwritten = refl;
+        opens = λ y o. one_pending x (length (begun types texts fs f place calls t w.state (inl worth) later.opened later.pends (within w.state)).locals) w.state.living w.state.pending y (omega (arith, length-append w.state.locals (new ∷ []))) o;
+        below = omega (arith, length-append w.state.locals (new ∷ []));
+        beside = λ y lt b e. omega (arith, lt, e);
+        aside = λ b y lt object e. omega (arith, lt, e);
+        new = λ b object. omega arith;
+        blank = λ b k alive. one k (is_object_at f x) (born_blank types texts fs f place calls t w.state (inl worth) later.opened later.pends (within w.state) b k alive);
+        there = λ b k alive. at_set k x known.Ready (born_within types texts fs f place calls t w.state (inl worth) later.opened later.pends (within w.state) b k alive);
+        alive = λ b k alive. born_alive types texts fs f place calls t w.state (inl worth) later.opened later.pends (within w.state) b k alive;
+      }
+        where
+          new : Local
+          new = nameless_of Object place (type_number t (typed_with t w.state))
+
+          one : (k : List Known) (object : Bool) → known_at k x ≡ known.Blank → are_known known.Blank k (if object then x ∷ [] else []) ≡ true
+          one k true blank = one_known known.Blank k x (blank_there k x blank)
+          one k false blank = refl
 
       called_there : PlacedThere s (mapped object_named (filled place (called g w.given) (temporary place t) w.state))
       called_there =
-          let P = arguments types texts fs f (parameter_types (Some of)) in
-          then_part types texts fs f (no_gift types texts fs f) tt None s w (born types texts fs f place calls t w.state (inl worth) later.opened later.pends (within w.state)) P (a_place types texts fs f t false) stands.opened made
-          (born_part types texts fs f place calls t w.state (inl worth) later.opened later.pends (within w.state) P w.given
-          (λ b q.
-          called_fine types texts fs f g w.given of x (setting.callees g of there) q
-          (ap (λ (u : Ty). goes_to types texts fs f u (Some (whole x))) same
+          call_received types texts fs f g of (setting.callees g of there) s w hands None x (begun types texts fs f place calls t w.state (inl worth) later.opened later.pends (within w.state)) (object_named x) (a_place types texts fs f t false) place receives
+          (λ b.
+          ap (λ (u : Ty). goes_to types texts fs f u (Some (whole x))) same
           ∙ goes_object types texts fs f t x worth
           (born_typed types texts fs f place calls t w.state (inl worth) later.opened later.pends (within w.state) b)
-          (born_object types texts fs f place calls t w.state (inl worth) later.opened later.pends (within w.state) b)))
-          (λ k q blank. born_fills f g (parameter_types (Some of)) w.given x k q x blank))
+          (born_object types texts fs f place calls t w.state (inl worth) later.opened later.pends (within w.state) b))
+          (λ b. born_place types texts fs f place calls t w.state (inl worth) later.opened later.pends (within w.state) b)
+          (λ k ready. record { local = x; uses = refl; below = receives.below; held = ready })
 
   -- ---- what an expression gives it
 

@@ -2,7 +2,7 @@
 use Rattle.std.proofs.Common.{◌≡◌, ◌<◌, inl, inr, ℕ, Bool, true, false, List, [], ◌∷◌, Contains, length, slice_get, Option, Some, refl, sym, ap, ◌∙◌, subst, unwrap_or, arith}
 use Rattle.std.proofs.lemmas.Bool.{false≢true}
 use Rattle.std.proofs.lemmas.Option.{slice_get_within}
-use Rattle.life_served.specs.Served.{is_owner_of_values, is_served_variable, is_target, is_walker, is_walker_of_values, owns_elements}
+use Rattle.life_served.specs.Served.{is_element, is_owner_of_values, is_served_variable, is_target, is_walker, is_walker_of_values, owns_elements}
 use Rattle.life_types.specs.TypeTests.{is_value, is_pointer, is_reference, is_view}
 use Rattle.life_types.specs.Types.{Types, class, class_at}
 use Rattle.life_types.specs.declared.ty.Ty.{Ty}
@@ -35,7 +35,7 @@ use Rattle.life_elab_laws.proofs.PendingTemporaries.{ArePending}
 
 -- ---- what a variable is
 
--- a value, or a pointer or reference to one or to an owner, a view, an iterator or a span, an owner of values, or a unique_ptr to a value
+-- a value, or a pointer or reference to one or to an owner, a view, an iterator or a span, an owner of values, or a unique_ptr to what a vector may have
 pub data IsVariableType (types : Types) (id : TyId) : Type 0 where
   a_value : (t : Ty) → slice_get types.types id.0 ≡ Some t → is_value t ≡ true → IsVariableType types id
   a_raw : (target : TyId) (constant : Bool) → slice_get types.types id.0 ≡ Some (ty.Raw target constant) → is_target types (type_at types target) ≡ true → IsVariableType types id
@@ -44,7 +44,7 @@ pub data IsVariableType (types : Types) (id : TyId) : Type 0 where
   a_view : slice_get types.types id.0 ≡ Some ty.View → IsVariableType types id
   a_walker : (t : Ty) → slice_get types.types id.0 ≡ Some t → is_walker_of_values types t ≡ true → IsVariableType types id
   an_owner : (t : Ty) → slice_get types.types id.0 ≡ Some t → is_owner_of_values types t ≡ true → IsVariableType types id
-  a_unique : (target : TyId) → slice_get types.types id.0 ≡ Some (ty.Unique target) → is_value (type_at types target) ≡ true → IsVariableType types id
+  a_unique : (target : TyId) → slice_get types.types id.0 ≡ Some (ty.Unique target) → is_element types (type_at types target) ≡ true → IsVariableType types id
 
 pub variable_type : (types : Types) (id : TyId) → is_served_variable types id ≡ true → IsVariableType types id
 variable_type types id b = let found = variable_found types id b in go found.0 found.1 found.2

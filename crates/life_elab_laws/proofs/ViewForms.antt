@@ -30,7 +30,7 @@ use Rattle.life_writer.specs.Pointers.{By}
 use Rattle.life_writer.specs.Uses.{own}
 use Rattle.life_writer.specs.Using.{pointer, value}
 use Rattle.life_writer.specs.Writing.{State, gives}
-use Rattle.life_elab_laws.proofs.ExpressionForms.{IsForm, IsWhole, Points, Standing, pointer_form, value_form, no_literal}
+use Rattle.life_elab_laws.proofs.ExpressionForms.{IsForm, IsWhole, Points, Standing, pointer_form, value_form, no_literal, no_null}
 use Rattle.life_elab_laws.proofs.GivenKinds.{taken_number}
 use Rattle.life_elab_laws.proofs.Gifts.{a_number, a_pointer, a_pointing, both, nothing as no_gift}
 use Rattle.life_elab_laws.proofs.ObjectForms.{emptied_part, sized_part, view_asked}
@@ -140,7 +140,7 @@ module _ (a : Around) (visible : List ℕ) (types : Types) (texts : ℕ) (fs : L
       of_view methods.Substr b at c =
           let x = gives_as (Of ty.View, category.Value) e c.2 in
           pointer_form a visible types texts fs f setting (method base methods.Substr given d) e (record { kind = a_view x.0; place = λ id k place. absurd (value_place (sym x.1 ∙ place)) }) x.1
-          (λ n. false≢true (sym (ap is_number x.0) ∙ n)) refl (λ place b. refl) (λ at. absurd (no_literal a visible types texts fs f setting ty.View (sym x.0 ∙ at)))
+          (λ n. false≢true (sym (ap is_number x.0) ∙ n)) refl (λ place b. refl) (λ at. absurd (no_literal a visible types texts fs f setting ty.View (sym x.0 ∙ at))) (λ at. absurd (no_null a visible types texts fs f setting ty.View (sym x.0 ∙ at)))
           (λ p place s stands. subst (λ (t : ExprType). Points a visible types texts fs f setting t s (cut (uses a base) (all_uses a given) d s)) (sym x.0) (cut_part base is at given d s whole c.1 stands))
       of_view methods.Front b at c = absurd (none_some c.2)
       of_view methods.Back b at c = absurd (none_some c.2)

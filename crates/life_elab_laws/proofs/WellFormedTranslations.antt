@@ -26,10 +26,10 @@ use Rattle.life_elab_laws.proofs.ServedLocals.{all_pass, local_served}
 use Rattle.life_elab_laws.proofs.KeptGiven.{keeps_all}
 use Rattle.life_elab_laws.proofs.ProgramNames.{no_members, own_names}
 use Rattle.life_elab_laws.proofs.Programs.{IsWritten, each_written, front, grows, of_program, one_body, one_head, passed_by_all, whole, whole_order}
-use Rattle.life_elab_laws.proofs.WrittenLocals.{IsIntermediate, IsOwn, fits_later, hidden_later, hidden_local, local_later, owner_local, register_local, value_fits}
+use Rattle.life_elab_laws.proofs.WrittenLocals.{IsIntermediate, IsOwn, fits_later, hidden_later, hidden_local, local_later, owner_local, register_local, value_fits, unique_local}
 use Rattle.life_typed.specs.BaseTypes.{type_at}
 use Rattle.life_elab_laws.proofs.FormedLocals.{variable_fits}
-use Rattle.life_elab_laws.proofs.Shaped.{owner_later}
+use Rattle.life_elab_laws.proofs.Shaped.{owner_later, unique_later}
 use Rattle.life_typed.specs.declared.basic.TheConstants.{CHAR}
 use Rattle.life_types.specs.declared.ty.Ty.TheVariants as ty
 
@@ -61,7 +61,10 @@ module _ (p : ProgramForm) (typed : IsWellTyped p) (built : are_served_functions
           | inr other ↦ local_served types l is.ty (w.later l.ty.0 is.ty is.typed) (elim other [
             | inl temporary ↦ elim temporary.1 [
               | inl value ↦ register_local types is.ty (value_fits types is.ty value)
-              | inr owner ↦ owner_local types is.ty (owner_later p.types types front_is is.ty owner)
+              | inr made ↦ elim made [
+                | inl owner ↦ owner_local types is.ty (owner_later p.types types front_is is.ty owner)
+                | inr unique ↦ unique_local types is.ty (unique_later p.types types front_is is.ty unique)
+              ]
             ]
             | inr hidden ↦ hidden_local types is.ty (hidden_later (written (around p f) w.before).types types w.later is.ty hidden.1)
           ])

@@ -8,7 +8,7 @@ use Rattle.life_types.specs.Types.{Types, class_at}
 use Rattle.life_types.specs.declared.ty.Ty.{Ty}
 use Rattle.life_types.specs.declared.ty.Ty.TheVariants as ty
 use Rattle.life_types.specs.declared.ty.TyId.{TyId}
-use Rattle.life_served.specs.Served.{is_element, is_owner_of_values, is_pointing, is_unique_of_value}
+use Rattle.life_served.specs.Served.{is_element, is_owner_of_values, is_pointing, is_unique_of_element}
 use Rattle.life_typed.specs.BaseTypes.{type_at}
 use Rattle.life_typed.specs.declared.typed_program.TypedLocal.{TypedLocal}
 use Rattle.life_core.specs.declared.program.Local.{Local}
@@ -16,10 +16,11 @@ use Rattle.life_core.specs.declared.program.LocalKind.TheVariants.{Register, Obj
 use Rattle.life_writer.specs.Around.{Around}
 use Rattle.life_writer.specs.Variables.{kind}
 use Rattle.life_writer.specs.Writing.{State}
+use Rattle.life_elab_laws.proofs.ServedTypes.{IsBuilt}
 use Rattle.life_elab_laws.proofs.Fronts.{IsFront}
 use Rattle.life_elab_laws.proofs.OrderedTypes.{KeepsOrder, order_none, order_then}
 use Rattle.life_elab_laws.proofs.Elements.{element_target}
-use Rattle.life_elab_laws.proofs.Shaped.{element_later, owner_later, target_later, value_later}
+use Rattle.life_elab_laws.proofs.Shaped.{element_later, owner_later, target_later}
 use Rattle.life_elab_laws.proofs.Targets.{owner_target, target_within}
 use Rattle.life_elab_laws.proofs.Values.{by_values}
 use Rattle.life_core.specs.declared.program.LocalKind.{LocalKind}
@@ -81,7 +82,7 @@ hidden_pointer types _ h = absurd (false≢true h)
 abbrev pub fits_local : Types → Ty → Bool
 fits_local types ty.Text = true
 fits_local types (ty.Vector element) = is_element types (type_at types element)
-fits_local types (ty.Unique target) = is_value (type_at types target)
+fits_local types (ty.Unique target) = is_element types (type_at types target)
 fits_local types t = fits_register types t
 
 pub register_local : (types : Types) (t : Ty) → fits_register types t ≡ true → fits_local types t ≡ true
@@ -95,7 +96,7 @@ owner_local types ty.Text o = refl
 owner_local types (ty.Vector element) o = o
 owner_local types _ o = absurd (false≢true o)
 
-pub unique_local : (types : Types) (t : Ty) → is_unique_of_value types t ≡ true → fits_local types t ≡ true
+pub unique_local : (types : Types) (t : Ty) → is_unique_of_element types t ≡ true → fits_local types t ≡ true
 unique_local types (ty.Unique target) u = u
 unique_local types _ u = absurd (false≢true u)
 
@@ -109,7 +110,7 @@ hidden_local types _ h = absurd (false≢true h)
 pub local_later : (few more : Types) → IsFront few.types more.types → (t : Ty) → fits_local few t ≡ true → fits_local more t ≡ true
 local_later few more front ty.Text h = refl
 local_later few more front (ty.Vector element) h = element_later few more front element h
-local_later few more front (ty.Unique target) h = value_later few more front target h
+local_later few more front (ty.Unique target) h = element_later few more front target h
 local_later few more front (ty.Raw target constant) h = target_later few more front target h
 local_later few more front (ty.Reference target constant) h = target_later few more front target h
 local_later few more front (ty.Iterator target constant) h = element_later few more front target h
@@ -139,6 +140,15 @@ owner_below few table le ty.Text o = tt
 owner_below few table le (ty.Vector element) o = omega (arith, le, element_within few element o)
 owner_below few table le _ o = absurd (false≢true o)
 
+-- .. a unique_ptr
+unique_below : (few table : Types) → length few.types ≤ length table.types → (t : Ty) → is_unique_of_element few t ≡ true → HasPartsBelow table (length table.types) t
+unique_below few table le (ty.Unique target) u = omega (arith, le, element_within few target u)
+unique_below few table le _ u = absurd (false≢true u)
+
+pub built_below : (few table : Types) → length few.types ≤ length table.types → (t : Ty) → IsBuilt few t → HasPartsBelow table (length table.types) t
+built_below few table le t (inl o) = owner_below few table le t o
+built_below few table le t (inr u) = unique_below few table le t u
+
 -- .. and what is hidden
 pub hidden_below : (table : Types) (t : Ty) → fits_hidden table t ≡ true → HasPartsBelow table (length table.types) t
 hidden_below table (ty.Reference target constant) h = target_within table target (owner_target table (type_at table target) h)
@@ -147,9 +157,9 @@ hidden_below table (ty.Span target constant) h = element_within table target h
 hidden_below table ty.View h = tt
 hidden_below table _ h = absurd (false≢true h)
 
--- a temporary: a value, or an owner of values
+-- a temporary: a value, an owner of values, or a unique_ptr
 abbrev pub FitsTemporary : Types → Ty → Type 0
-FitsTemporary types t = (is_value t ≡ true) ⊎ (is_owner_of_values types t ≡ true)
+FitsTemporary types t = (is_value t ≡ true) ⊎ IsBuilt types t
 
 -- a register, or a temporary, or what is hidden, which may be of a type that only the table so far has
 abbrev pub FitsNameless : (types table : Types) → LocalKind → Ty → Type 0

@@ -1,4 +1,4 @@
--- Which programs are served so far: values, strings, vectors of values and of such owners, raw pointers and references to these, views of characters, literals, iterators and spans, and unique_ptrs to values.
+-- Which programs are served so far: values, strings, vectors of values and of such owners, raw pointers and references to these, views of characters, literals, iterators and spans, and unique_ptrs.
 use Rattle.std.specs.Prelude.{ℕ, zero, suc, ◌+◌, ◌-◌, ◌^◌, Bool, true, false, ◌&&◌, ◌||◌, not, if◌then◌else◌, List, [], ◌∷◌, drop, take, length, nat_lt, Option, Some, None, slice_get}
 use Rattle.life_types.specs.TypeTests.{is_reference, is_unique, is_value, is_view, is_void}
 use Rattle.life_types.specs.Types.{Types}
@@ -58,14 +58,14 @@ is_walker_of_values types (ty.Iterator target constant) = is_element types (type
 is_walker_of_values types (ty.Span target constant) = is_element types (type_at types target)
 is_walker_of_values types _ = false
 
--- a unique_ptr to a value
-abbrev pub is_unique_of_value : Types → Ty → Bool
-is_unique_of_value types (ty.Unique target) = is_value (type_at types target)
-is_unique_of_value types _ = false
+-- a unique_ptr to a value or to such an owner
+abbrev pub is_unique_of_element : Types → Ty → Bool
+is_unique_of_element types (ty.Unique target) = is_element types (type_at types target)
+is_unique_of_element types _ = false
 
 -- one that isn't among those that each table begins with
 abbrev pub is_served_type : Types → Ty → Bool
-is_served_type types t = is_pointing types t || (is_owner_of_values types t || (is_walker_of_values types t || is_unique_of_value types t))
+is_served_type types t = is_pointing types t || (is_owner_of_values types t || (is_walker_of_values types t || is_unique_of_element types t))
 
 abbrev pub are_served_types : Types → List Ty → Bool
 are_served_types types [] = true
@@ -75,13 +75,21 @@ are_served_types types (t ∷ ts) = is_served_type types t && are_served_types t
 abbrev pub has_served_types : Types → Bool
 has_served_types types = are_served_types types (drop 8 types.types) && nat_lt (length types.types) (2 ^ 32 - 1)
 
--- what a parameter may hold
-abbrev pub is_served_parameter : Types → TyId → Bool
-is_served_parameter types id = is_value (type_at types id) || (is_pointing types (type_at types id) || is_walker_of_values types (type_at types id))
+-- what is given over as a whole: an owner, or a unique_ptr
+abbrev pub is_owning : Types → Ty → Bool
+is_owning types t = is_owner_of_values types t || is_unique_of_element types t
 
-abbrev pub are_served_parameters : Types → List TypedLocal → Bool
-are_served_parameters types [] = true
-are_served_parameters types (v ∷ vs) = is_served_parameter types v.ty && are_served_parameters types vs
+-- what a parameter may hold; what is given over where the function gives a value or nothing
+abbrev pub is_served_parameter : Types → (owners : Bool) → TyId → Bool
+is_served_parameter types owners id =
+    is_value (type_at types id) || (is_pointing types (type_at types id) || (is_walker_of_values types (type_at types id) || (owners && is_owning types (type_at types id))))
+
+abbrev pub are_served_parameters : Types → (owners : Bool) → List TypedLocal → Bool
+are_served_parameters types owners [] = true
+are_served_parameters types owners (v ∷ vs) = is_served_parameter types owners v.ty && are_served_parameters types owners vs
+
+abbrev pub takes_owners : Types → (result : TyId) → Bool
+takes_owners types id = is_void (type_at types id) || is_value (type_at types id)
 
 -- .. and any variable
 abbrev pub is_served_variable : Types → TyId → Bool
@@ -321,8 +329,21 @@ module _ (texts : ℕ) where
     -- .. that a function is called with: of any type
     pub are_served_arguments : Form → Bool
     are_served_arguments nothing = true
-    are_served_arguments (e ⨟ es) = (is_served_either e (is_served_owner e) (is_served_form e) || is_served_walker e) && are_served_arguments es
+    are_served_arguments (e ⨟ es) = (is_served_either e (is_served_owner e) (is_served_form e) || (is_served_walker e || is_served_fresh e)) && are_served_arguments es
     are_served_arguments _ = false
+
+    -- a unique_ptr that is made, or moved out of a variable
+    pub is_served_fresh : Form → Bool
+    is_served_fresh (make_unique target argument closing) = is_served_made argument
+    is_served_fresh (move x) = true
+    is_served_fresh (typed place t category form) = is_unique_type t && is_served_fresh form
+    is_served_fresh _ = false
+
+    -- what is made anew has a number, or what stands there at first
+    pub is_served_made : Form → Bool
+    is_served_made nothing = true
+    is_served_made (typed place t category form) = is_number_type t && (is_plain_type t && is_served_form form)
+    is_served_made _ = false
 
     -- an owner at a place: one that is named, that a call refers to, that is behind a pointer or an iterator, or that is an element
     pub is_served_object : Form → Bool
@@ -336,9 +357,10 @@ module _ (texts : ℕ) where
     is_served_object (typed place t category form) = is_served_object form
     is_served_object _ = false
 
-    -- an owner: one at a place, or a string that is made
+    -- an owner: one at a place, a string that is made, or what is moved out of a variable
     pub is_served_owner : Form → Bool
     is_served_owner (local x) = true
+    is_served_owner (move x) = true
     is_served_owner (call f arguments delimiters) = are_served_arguments arguments
     is_served_owner (paren inner closing) = is_served_owner inner
     is_served_owner (dereference e) = is_served_form e || (is_served_walker e || is_served_unique e)
@@ -390,22 +412,21 @@ module _ (texts : ℕ) where
   abbrev pub is_served_owning : Typed → Bool
   is_served_owning e = is_owner_type e.ty && is_served_owner (whole e)
 
-  -- what an owner is made of as a whole, beside other owners: a literal that is there, or what is moved out of a variable
+  -- what an owner is made of as a whole, beside other owners: a literal that is there
   abbrev pub fills_owner : Form → Bool
   fills_owner (text n) = nat_lt n texts
-  fills_owner (move x) = true
   fills_owner _ = false
 
-  -- what a unique_ptr is made of: nothing, a new value, or what is moved out of a variable
+  -- what a unique_ptr is made of: nothing, what is made anew, or what is moved out of a variable
   abbrev pub fills_unique : Form → Bool
   fills_unique null = true
-  fills_unique (make_unique target argument closing) = is_served_form argument
+  fills_unique (make_unique target argument closing) = is_served_made argument
   fills_unique (move x) = true
   fills_unique _ = false
 
   -- ---- declarations and simple statements
 
-  -- an owner, a view, a span or a reference is given an owner, an owner a literal or what is moved, an iterator or a span another one, or a unique_ptr what it owns
+  -- an owner, a view, a span or a reference is given an owner, an owner a literal, an iterator or a span another one, or a unique_ptr what it owns
   abbrev pub is_served_owned : Ty → Typed → Bool
   is_served_owned t e =
       (takes_owner t && is_served_owning e)
@@ -427,7 +448,7 @@ module _ (texts : ℕ) where
   abbrev pub is_served_target : Typed → Bool
   is_served_target e = is_owner_type e.ty && is_served_object (whole e)
 
-  -- an owner is copied or made, also of a literal, or is given what is moved, a view sees a string, a span a vector, an iterator or a span becomes another one, or a unique_ptr owns another value
+  -- an owner is copied or made, also of a literal, a view sees a string, a span a vector, an iterator or a span becomes another one, or a unique_ptr owns another value
   abbrev pub is_served_renewed : (target e : Typed) → Bool
   is_served_renewed target e =
       (is_served_target target && (is_served_owning e || fills_owner e.form))
@@ -441,7 +462,7 @@ module _ (texts : ℕ) where
 
   -- an owner is changed, which stands alone
   abbrev pub is_served_change : Form → Bool
-  is_served_change (method base called arguments delimiters) = is_changing called && (is_owner_type (form_type base) && (is_served_object base && are_served_elements arguments))
+  is_served_change (method base called arguments delimiters) = is_changing called && (is_owner_type (form_type base) && (is_served_owner base && are_served_elements arguments))
   is_served_change _ = false
 
   -- an expression with a value, or an owner
@@ -455,7 +476,7 @@ module _ (texts : ℕ) where
 
   -- of numbers, or a string gains characters
   abbrev pub is_served_compound : (target e : Typed) → Bool
-  is_served_compound target e = (is_served_expression target && is_served_expression e) || (is_served_target target && is_served_any e)
+  is_served_compound target e = (is_served_expression target && is_served_expression e) || (is_served_owning target && is_served_any e)
 
   abbrev pub is_served_stepped : Typed → Bool
   is_served_stepped target = is_served_expression target || is_served_walker (whole target)
@@ -529,7 +550,7 @@ module _ (texts : ℕ) where
 abbrev pub is_served_function : (texts : ℕ) → Types → FunctionForm → Bool
 is_served_function texts types f =
     is_served_result types f.result
-    && (are_served_parameters types (take (length f.parameters) f.locals) && (are_served_variables types f.locals && is_served_statement texts types f.locals f.body))
+    && (are_served_parameters types (takes_owners types f.result) (take (length f.parameters) f.locals) && (are_served_variables types f.locals && is_served_statement texts types f.locals f.body))
 
 abbrev pub are_served_functions : (texts : ℕ) → Types → List FunctionForm → Bool
 are_served_functions texts types [] = true

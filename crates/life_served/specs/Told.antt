@@ -7,14 +7,14 @@ use Rattle.life_typed.specs.declared.typed_expr.ExprType.{ExprType}
 use Rattle.life_typed.specs.declared.typed_expr.Method.{Method}
 use Rattle.life_typed.specs.declared.typed_expr.TypedExpr.{TypedExpr, out-TypedExpr}
 use Rattle.life_typed.specs.declared.typed_expr.TypedOperand.{TypedOperand}
-use Rattle.life_served.specs.Served.{form_type, is_asking, is_edge, is_end, is_equality, is_erase, is_get, is_owner_type, is_plain_type, is_served_form, is_served_object, is_served_owner, is_served_unique, is_served_walker, is_subspan, is_testing, is_unique_type, is_walker_type}
+use Rattle.life_served.specs.Served.{form_type, is_asking, is_edge, is_end, is_equality, is_erase, is_get, is_owner_type, is_plain_type, is_served_form, is_served_fresh, is_served_object, is_served_owner, is_served_unique, is_served_walker, is_subspan, is_testing, is_unique_type, is_walker_type}
 use Rattle.life_served.specs.declared.told.Told.{Told}
 
 abbrev pub told : ℕ → Form → Told
-told texts f = record { value = is_served_form texts f; owner = is_served_owner texts f; walker = is_served_walker texts f; object = is_served_object texts f; owns = is_owner_type (form_type f); unique = is_served_unique f }
+told texts f = record { value = is_served_form texts f; owner = is_served_owner texts f; walker = is_served_walker texts f; object = is_served_object texts f; owns = is_owner_type (form_type f); unique = is_served_unique f; fresh = is_served_fresh texts f }
 
 abbrev pub value_alone : Bool → Told
-value_alone value = record { value = value; owner = false; walker = false; object = false; owns = false; unique = false }
+value_alone value = record { value = value; owner = false; walker = false; object = false; owns = false; unique = false; fresh = false }
 
 -- an owner as such, and anything else as what has a value
 abbrev pub either : Told → Bool
@@ -22,17 +22,25 @@ either t = if t.owns then t.owner else t.value
 
 -- a variable
 abbrev pub named : Told
-named = record { value = true; owner = true; walker = true; object = true; owns = false; unique = true }
+named = record { value = true; owner = true; walker = true; object = true; owns = false; unique = true; fresh = false }
+
+-- what is moved out of one is an owner, or a unique_ptr
+abbrev pub moved_out : Told
+moved_out = record { value = false; owner = true; walker = false; object = false; owns = false; unique = false; fresh = true }
+
+-- .. as a unique_ptr is that is made
+abbrev pub made_anew : Bool → Told
+made_anew given = record { value = false; owner = false; walker = false; object = false; owns = false; unique = false; fresh = given }
 
 abbrev pub parenthesised : Told → Told
-parenthesised t = record { value = t.value; owner = t.owner; walker = t.walker; object = t.object; owns = false; unique = t.unique }
+parenthesised t = record { value = t.value; owner = t.owner; walker = t.walker; object = t.object; owns = false; unique = t.unique; fresh = false }
 
 abbrev pub typed_as : ExprType → Told → Told
-typed_as ty t = record { value = is_plain_type ty && t.value; owner = t.owner; walker = is_walker_type ty && t.walker; object = t.object; owns = is_owner_type ty; unique = is_unique_type ty && t.unique }
+typed_as ty t = record { value = is_plain_type ty && t.value; owner = t.owner; walker = is_walker_type ty && t.walker; object = t.object; owns = is_owner_type ty; unique = is_unique_type ty && t.unique; fresh = is_unique_type ty && t.fresh }
 
 -- what stands at a place may be an owner
 abbrev pub placed : Bool → Told
-placed there = record { value = there; owner = there; walker = false; object = there; owns = false; unique = false }
+placed there = record { value = there; owner = there; walker = false; object = there; owns = false; unique = false; fresh = false }
 
 abbrev pub dereferenced : Told → Told
 dereferenced t = placed (t.value || (t.walker || t.unique))
@@ -49,7 +57,7 @@ addressed t = value_alone (if t.owns then t.object else t.value)
 
 -- a call answers a value, an iterator or a span, or the owner that a reference refers to
 abbrev pub answered : Bool → Told
-answered given = record { value = given; owner = given; walker = given; object = given; owns = false; unique = false }
+answered given = record { value = given; owner = given; walker = given; object = given; owns = false; unique = false; fresh = false }
 
 abbrev pub indexed : Told → Bool → Told
 indexed t position = placed ((either t || t.walker) && position)
@@ -63,11 +71,12 @@ asked m t given = record {
   object = is_edge m && (t.owns && t.owner);
   owns = false;
   unique = false;
+  fresh = false;
 }
 
 -- `erase` of what stands at an iterator
 abbrev pub erased : Told → Bool → Told
-erased t walks = record { value = false; owner = false; walker = t.owns && (t.object && walks); object = false; owns = false; unique = false }
+erased t walks = record { value = false; owner = false; walker = t.owns && (t.object && walks); object = false; owns = false; unique = false; fresh = false }
 
 -- any of them
 abbrev pub called : Method → Told → (given walks : Bool) → Told
@@ -78,6 +87,7 @@ called m t given walks = record {
   object = is_edge m && (t.owns && t.owner);
   owns = false;
   unique = false;
+  fresh = false;
 }
 
 abbrev pub combined : BinaryOperator → Told → Told → Told
@@ -88,10 +98,11 @@ combined o t u = record {
   object = false;
   owns = false;
   unique = false;
+  fresh = false;
 }
 
 abbrev pub made_text : Told → Told
-made_text t = record { value = false; owner = either t; walker = false; object = false; owns = false; unique = false }
+made_text t = record { value = false; owner = either t; walker = false; object = false; owns = false; unique = false; fresh = false }
 
 -- what a new value is given, if anything
 abbrev pub given_value : Option (Box TypedExpr Global) → Form

@@ -5,10 +5,10 @@ ghost use Rattle.life_typed.specs.TypedStatement.{optional_view};
 ghost use Rattle.life_served.specs.Served as spec;
 ghost use Rattle.life_served.specs.Told as telling;
 
-use crate::kinds::{is_changing, is_erase, is_reset, is_served_method};
+use crate::kinds::{is_changing, is_erase, is_number_type, is_reset, is_served_method};
 use crate::told::{
     Told, addressed, answered, asked, combined, dereferenced, either, erased, indexed, inverted,
-    made_text, named, parenthesised, tests, typed_as, value_alone,
+    made_anew, made_text, moved_out, named, parenthesised, tests, typed_as, value_alone,
 };
 use life_typed::{ExprForm, TypedExpr, TypedOperand};
 
@@ -47,6 +47,8 @@ fn told_by(texts: usize, form: &ExprForm, operand: Told) -> Told
         | ExprForm::Input => value_alone(true),
         ExprForm::Text(number) => value_alone((*number as usize) < texts),
         ExprForm::Local(_) => named(),
+        ExprForm::Move(_) => moved_out(),
+        ExprForm::MakeUnique { argument, .. } => made_anew(is_served_made(texts, argument)),
         ExprForm::Call { arguments, .. } => answered(are_served_arguments(texts, arguments)),
         ExprForm::Paren { .. } => parenthesised(operand),
         ExprForm::TextOf { .. } => made_text(operand),
@@ -92,12 +94,23 @@ fn are_served_arguments(texts: usize, arguments: &[TypedExpr]) -> bool
 {
     'arguments: for argument in arguments {
         let told = told_of(texts, argument);
-        let served = either(told) | told.walker;
+        let served = either(told) | (told.walker | told.fresh);
         if !served {
             return false;
         }
     }
     true
+}
+
+// What is made anew has a number, or what stands there at first.
+#[cycle(expressions)]
+fn is_served_made(texts: usize, operand: &Option<Box<TypedExpr>>) -> bool
+    ensures { result ≡ spec.is_served_made texts (telling.given_value operand.now) }
+{
+    match operand {
+        Some(operand) => is_number_type(operand.ty) && told_of(texts, operand).value,
+        None => true,
+    }
 }
 
 // Whether the first of several is an iterator.
@@ -168,7 +181,7 @@ fn is_change_of(texts: usize, form: &ExprForm, base: Told) -> bool
             ..
         } => {
             is_changing(*method)
-                && (base.owns && (base.object && are_served_elements(texts, arguments)))
+                && (base.owns && (base.owner && are_served_elements(texts, arguments)))
         }
         _ => false,
     }
@@ -224,36 +237,24 @@ pub fn calls_any(form: &ExprForm) -> bool
     }
 }
 
-// What a new value is given, if anything.
-fn is_served_operand(texts: usize, operand: &Option<Box<TypedExpr>>) -> bool
-    ensures { result ≡ spec.is_served_form texts (telling.given_value operand.now) }
-{
-    match operand {
-        Some(operand) => is_served_expression(texts, operand),
-        None => true,
-    }
-}
-
 /// What a unique_ptr is made of: nothing, a new value, or what is moved out of a variable.
 pub fn fills_unique(texts: usize, form: &ExprForm) -> bool
     ensures { (f : Form) → result ≡ spec.fills_unique texts (form_view form.now f) }
 {
     match form {
         ExprForm::Null => true,
-        ExprForm::MakeUnique { argument, .. } => is_served_operand(texts, argument),
+        ExprForm::MakeUnique { argument, .. } => is_served_made(texts, argument),
         ExprForm::Move(_) => true,
         _ => false,
     }
 }
 
-/// What an owner is made of as a whole, beside other owners: a literal that is there, or what is moved out of
-/// a variable.
+/// What an owner is made of as a whole, beside other owners: a literal that is there.
 pub fn fills_owner(texts: usize, form: &ExprForm) -> bool
     ensures { (f : Form) → result ≡ spec.fills_owner texts (form_view form.now f) }
 {
     match form {
         ExprForm::Text(number) => (*number as usize) < texts,
-        ExprForm::Move(_) => true,
         _ => false,
     }
 }

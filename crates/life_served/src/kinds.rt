@@ -88,12 +88,12 @@ fn is_walker_of_values(types: &TypeTable, ty: Ty) -> bool
     }
 }
 
-// A unique_ptr to a value.
-fn is_unique_of_value(types: &TypeTable, ty: Ty) -> bool
-    ensures { result ≡ spec.is_unique_of_value types.now ty }
+// A unique_ptr to a value or to such an owner.
+fn is_unique_of_element(types: &TypeTable, ty: Ty) -> bool
+    ensures { result ≡ spec.is_unique_of_element types.now ty }
 {
     match ty {
-        Ty::Unique(target) => is_value(type_at(types, target)),
+        Ty::Unique(target) => is_element(types, type_at(types, target)),
         _ => false,
     }
 }
@@ -103,7 +103,7 @@ fn is_served_type(types: &TypeTable, ty: Ty) -> bool
 {
     is_pointing(types, ty)
         || (is_owner_of_values(types, ty)
-            || (is_walker_of_values(types, ty) || is_unique_of_value(types, ty)))
+            || (is_walker_of_values(types, ty) || is_unique_of_element(types, ty)))
 }
 
 /// All types beside those that each table begins with. A table that is full counts as not served.
@@ -120,12 +120,29 @@ pub fn has_served_types(types: &TypeTable) -> bool
     false
 }
 
-/// What a parameter may hold.
-pub fn is_served_parameter(types: &TypeTable, id: TyId) -> bool
-    ensures { result ≡ spec.is_served_parameter types.now id }
+// What is given over as a whole: an owner, or a unique_ptr.
+fn is_owning(types: &TypeTable, ty: Ty) -> bool
+    ensures { result ≡ spec.is_owning types.now ty }
+{
+    is_owner_of_values(types, ty) || is_unique_of_element(types, ty)
+}
+
+/// What a parameter may hold; what is given over where the function gives a value or nothing.
+pub fn is_served_parameter(types: &TypeTable, owners: bool, id: TyId) -> bool
+    ensures { result ≡ spec.is_served_parameter types.now owners id }
 {
     let ty = type_at(types, id);
-    is_value(ty) || (is_pointing(types, ty) || is_walker_of_values(types, ty))
+    is_value(ty)
+        || (is_pointing(types, ty)
+            || (is_walker_of_values(types, ty) || (owners && is_owning(types, ty))))
+}
+
+/// Whether a function that gives back this may take owners.
+pub fn takes_owners(types: &TypeTable, given: TyId) -> bool
+    ensures { result ≡ spec.takes_owners types.now given }
+{
+    let ty = type_at(types, given);
+    is_void(ty) || is_value(ty)
 }
 
 /// What any variable may hold.

@@ -109,7 +109,7 @@ fn is_served_compound(texts: usize, target: &TypedExpr, value: &TypedExpr) -> bo
 {
     let to = told_of(texts, target);
     let from = told_of(texts, value);
-    (to.value & from.value) | (is_target(to) & either(from))
+    (to.value & from.value) | (is_owning(to) & either(from))
 }
 
 // Of a number, or of an iterator.

@@ -23,6 +23,8 @@ pub struct Told {
     pub owns: bool,
     /// As a unique_ptr that is named.
     pub unique: bool,
+    /// As a unique_ptr that is made, or moved out of a variable.
+    pub fresh: bool,
 }
 
 pub fn value_alone(value: bool) -> Told
@@ -35,6 +37,7 @@ pub fn value_alone(value: bool) -> Told
         object: false,
         owns: false,
         unique: false,
+        fresh: false,
     }
 }
 
@@ -56,6 +59,36 @@ pub fn named() -> Told
         object: true,
         owns: false,
         unique: true,
+        fresh: false,
+    }
+}
+
+/// What is moved out of a variable is an owner, or a unique_ptr.
+pub fn moved_out() -> Told
+    ensures { result ≡ spec.moved_out }
+{
+    Told {
+        value: false,
+        owner: true,
+        walker: false,
+        object: false,
+        owns: false,
+        unique: false,
+        fresh: true,
+    }
+}
+/// What is made by `std::make_unique` is a unique_ptr.
+pub fn made_anew(given: bool) -> Told
+    ensures { result ≡ spec.made_anew given }
+{
+    Told {
+        value: false,
+        owner: false,
+        walker: false,
+        object: false,
+        owns: false,
+        unique: false,
+        fresh: given,
     }
 }
 
@@ -70,6 +103,7 @@ pub fn parenthesised(inner: Told) -> Told
         object: inner.object,
         owns: false,
         unique: inner.unique,
+        fresh: false,
     }
 }
 
@@ -84,6 +118,7 @@ pub fn typed_as(ty: ExprType, form: Told) -> Told
         object: form.object,
         owns: is_owner_type(ty),
         unique: is_unique_type(ty) & form.unique,
+        fresh: is_unique_type(ty) & form.fresh,
     }
 }
 
@@ -98,6 +133,7 @@ fn placed(there: bool) -> Told
         object: there,
         owns: false,
         unique: false,
+        fresh: false,
     }
 }
 
@@ -142,6 +178,7 @@ pub fn answered(given: bool) -> Told
         object: given,
         owns: false,
         unique: false,
+        fresh: false,
     }
 }
 
@@ -164,6 +201,7 @@ pub fn asked(method: Method, base: Told, arguments: bool) -> Told
         object: is_edge(method) & owning,
         owns: false,
         unique: false,
+        fresh: false,
     }
 }
 
@@ -178,6 +216,7 @@ pub fn erased(base: Told, walks: bool) -> Told
         object: false,
         owns: false,
         unique: false,
+        fresh: false,
     }
 }
 
@@ -195,6 +234,7 @@ pub fn combined(operator: BinaryOperator, left: Told, right: Told) -> Told
         object: false,
         owns: false,
         unique: false,
+        fresh: false,
     }
 }
 
@@ -209,5 +249,6 @@ pub fn made_text(inner: Told) -> Told
         object: false,
         owns: false,
         unique: false,
+        fresh: false,
     }
 }

@@ -78,10 +78,11 @@ named_in (form.paren inner closing) = named_in inner
 named_in (form.typed place t c inner) = named_in inner
 named_in other = None
 
--- the variable that it moves from
+-- the variable that it moves from, also in parentheses, or where a string is made of what is moved: that is the string which is moved
 abbrev pub moved_in : Form → Option ℕ
 moved_in (form.move n) = Some n
 moved_in (form.paren inner closing) = moved_in inner
+moved_in (form.text_of inner closing) = moved_in inner
 moved_in (form.typed place t c inner) = moved_in inner
 moved_in other = None
 

@@ -124,11 +124,13 @@ fn moved_by(form: &ExprForm, operand: Option<u32>) -> Option<u32>
     match form {
         ExprForm::Move(number) => Some(*number),
         ExprForm::Paren { .. } => operand,
+        ExprForm::TextOf { .. } => operand,
         _ => None,
     }
 }
 
-/// The variable that an expression moves from, also in parentheses.
+/// The variable that an expression moves from, also in parentheses, or where a string is made of what is
+/// moved: that is the string which is moved.
 fn moved_in(expression: &TypedExpr) -> Option<u32>
     ensures { result ≡ spec.moved_in (typed_view expression.now).form }
 {

@@ -4,9 +4,9 @@ use Rattle.life_typed.specs.declared.typed_expr.ExprForm.{ExprForm}
 use Rattle.life_typed.specs.declared.typed_expr.TypedExpr.{TypedExpr, out-TypedExpr}
 use Rattle.life_typed.specs.declared.typed_expr.TypedOperand.{TypedOperand, out-TypedOperand}
 use Rattle.life_served.specs.Served.{is_served_form, is_served_walker}
-use Rattle.life_served.specs.Told.{asked, combined, dereferenced, erased, indexed, inside, inverted, made_text, parenthesised, told, typed_as, within}
+use Rattle.life_served.specs.Told.{asked, combined, dereferenced, erased, indexed, inside, inverted, made_anew, made_text, parenthesised, told, typed_as, within}
 use Rattle.life_served.specs.declared.told.Told.{Told}
-use Rattle.life_served.proofs.Arms.{seen_binary, seen_dereference, seen_index, seen_local, seen_method, seen_not, seen_paren, seen_text}
+use Rattle.life_served.proofs.Arms.{seen_binary, seen_dereference, seen_index, seen_local, seen_make, seen_method, seen_move, seen_not, seen_paren, seen_text}
 use Rattle.life_served.proofs.Inside.{all_told, further_told, whole_seen}
 use Rattle.life_served.proofs.Tellings.{asked_called, erased_called}
 use Rattle.life_served.proofs.expressions.+expressions.Goals as goal
@@ -36,6 +36,14 @@ told_by-returns-in-Local t c = λ f h. c.named.ensures ∙ sym (seen_local c.arg
 
 pub told_by-returns-in-Paren : goal.told_by-returns-in-Paren
 told_by-returns-in-Paren t c = λ f h. c.parenthesised.ensures ∙ ap parenthesised (sym h) ∙ sym (seen_paren c.args.texts f c.in-Paren.closing) ∙ sym (ap (λ (x : ExprForm). told c.args.texts (form_view x f)) c.in-Paren.is)
+
+pub told_by-returns-in-Move : goal.told_by-returns-in-Move
+told_by-returns-in-Move t c = λ f h. c.moved_out.ensures ∙ sym (seen_move c.args.texts f c.in-Move.field-0) ∙ sym (ap (λ (x : ExprForm). told c.args.texts (form_view x f)) c.in-Move.is)
+
+pub told_by-returns-in-MakeUnique : goal.told_by-returns-in-MakeUnique
+told_by-returns-in-MakeUnique t c = λ f h.
+    c.made_anew.ensures ∙ ap made_anew c.is_served_made.ensures
+    ∙ sym (seen_make c.args.texts f c.in-MakeUnique.element c.in-MakeUnique.argument c.in-MakeUnique.closing) ∙ sym (ap (λ (x : ExprForm). told c.args.texts (form_view x f)) c.in-MakeUnique.is)
 
 pub told_by-returns-in-TextOf : goal.told_by-returns-in-TextOf
 told_by-returns-in-TextOf t c = λ f h. c.made_text.ensures ∙ ap made_text (sym h) ∙ sym (seen_text c.args.texts f c.in-TextOf.closing) ∙ sym (ap (λ (x : ExprForm). told c.args.texts (form_view x f)) c.in-TextOf.is)

@@ -1,0 +1,123 @@
+-- What an owner that is a value is assigned by: it is moved from a temporary, but for one that is moved out of a variable, which needs none.
+use Rattle.std.proofs.Common.{◌≡◌, ◌⊎◌, inl, inr, ℕ, true, List, Contains, Option, Some, None, refl, sym, ap, ◌∙◌, subst}
+use Rattle.std.proofs.lemmas.Bool.{and_parts, false≢true}
+use Rattle.life_served.specs.Served.{is_edge, is_owner_type, is_served_form, is_served_owner}
+use Rattle.life_types.specs.TypeTests.{is_text}
+use Rattle.life_types.specs.Types.{Types}
+use Rattle.life_types.specs.declared.place.Place.{Place}
+use Rattle.life_types.specs.declared.ty.Ty.{Ty}
+use Rattle.life_types.specs.declared.ty.Ty.TheVariants as ty
+use Rattle.life_typed.specs.Delimiters.{DelimitersForm}
+use Rattle.life_typed.specs.TypedForm.{Form, Typed, binary, call, dereference, index, local, method, move, paren, text_of, typed}
+use Rattle.life_typed.specs.declared.typed_expr.Category.{Category}
+use Rattle.life_typed.specs.declared.typed_expr.Category.TheVariants as category
+use Rattle.life_typed.specs.declared.typed_expr.ExprType.{ExprType}
+use Rattle.life_typed.specs.declared.typed_expr.ExprType.TheVariants.{Of}
+use Rattle.life_typed.specs.declared.typed_expr.Method.{Method}
+use Rattle.life_typed.specs.declared.typed_expr.Method.TheVariants as methods
+use Rattle.life_type_stmt.specs.Simples.{moved_in}
+use Rattle.life_core.specs.Function.{Function}
+use Rattle.life_well_typed.specs.Expressions.{IsExpression, IsMadeOf, typed_in}
+use Rattle.life_writer.specs.Around.{Around, own_type}
+use Rattle.life_writer.specs.ExpressionForms.{binary_uses, form_uses, uses}
+use Rattle.life_writer.specs.OwnerForms.{moved_from, string_of, string_of_string}
+use Rattle.life_writer.specs.Rows.{row_between}
+use Rattle.life_writer.specs.Uses.{Act, Uses, own}
+use Rattle.life_writer.specs.Writing.{Gives, State}
+use Rattle.life_writer.specs.declared.rows.Row.{Row}
+use Rattle.life_writer.specs.declared.rows.Row.TheVariants.{Advanced, Compared, Computed, Concatenated, IsNull, Joined, NotNull}
+use Rattle.life_elab_laws.proofs.ElementForms.{either_served}
+use Rattle.life_elab_laws.proofs.ExpressionTypes.{own_no_text}
+use Rattle.life_elab_laws.proofs.Expressions.{whole_expression}
+use Rattle.life_elab_laws.proofs.MovedOwners.{IsMovedFrom, moved_from_variable}
+use Rattle.life_elab_laws.proofs.PointerForms.{own_typed}
+use Rattle.life_elab_laws.proofs.Setting.{Setting}
+use Rattle.life_elab_laws.proofs.StringForms.{makes_a_text}
+use Rattle.life_elab_laws.proofs.TypedKinds.{ok_same}
+
+-- nothing between operands needs none
+row_plain : (w : Row) (left right : Uses) (place : Place) (t : ExprType) (c : Category) → (binary_uses w left right place t c).replacing ≡ None
+row_plain (Computed by common) left right place t c = refl
+row_plain (Joined by) left right place t c = refl
+row_plain (IsNull side) left right place t c = refl
+row_plain (NotNull side) left right place t c = refl
+row_plain (Compared equal) left right place t c = refl
+row_plain Concatenated left right place t c = refl
+row_plain (Advanced direction) left right place t c = refl
+
+module _ (a : Around) (visible : List ℕ) (types : Types) (texts : ℕ) (fs : List Function) (f : Function) (setting : Setting a types fs f) where
+  -- the variable with this number, if there is one, is moved from, which has this type
+  pub record IsMovingAt (name : Option ℕ) (t : ExprType) (replacing : Option (State → Gives Act)) : Type 0 where
+    pub number : ℕ
+    pub moved : Typed
+    pub place : Place
+    pub seen : Contains visible number
+    pub from : IsMovedFrom a visible types texts fs f setting number moved
+    pub typed : t ≡ Of from.ty
+    pub replaces : replacing ≡ Some (moved_from place number)
+    pub named : name ≡ Some number
+
+  abbrev pub IsReplacedAt : Option ℕ → ExprType → Option (State → Gives Act) → Type 0
+  IsReplacedAt name t replacing = (replacing ≡ None) ⊎ IsMovingAt name t replacing
+
+  abbrev pub IsReplaced : Form → Type 0
+  IsReplaced form = IsReplacedAt (moved_in form) (typed_in form).ty ((uses a form).replacing)
+
+  -- a string that is a value is what `std::string(..)` makes of it
+  module _ (inner : Form) (closing : Place) (e : Typed) (place : Place) (told : e.ty ≡ Of ty.Text) where
+    abbrev u : Uses
+    u = uses a inner
+
+    abbrev MadeReplaced : Uses → Type 0
+    MadeReplaced m = IsReplacedAt (moved_in inner) e.ty m.replacing
+
+    text_replaced : ((own u ≡ ty.Text) → IsReplaced inner) → MadeReplaced (form_uses a (text_of inner closing) place e.ty e.category)
+    text_replaced replaced = by_type (own u) refl
+      where
+        string_replaced : own u ≡ ty.Text → IsReplaced inner → IsReplacedAt (moved_in inner) e.ty u.replacing
+        string_replaced text (inl none) = inl none
+        string_replaced text (inr m) =
+            let one : m.from.ty ≡ ty.Text = sym (ap own_type m.typed) ∙ ap own_type (own_typed a visible types texts fs f setting inner) ∙ text in
+            inr (record { number = m.number; moved = m.moved; place = m.place; seen = m.seen; from = m.from; typed = told ∙ ap Of (sym one); replaces = m.replaces; named = m.named })
+
+        by_category : own u ≡ ty.Text → (c : Category) → u.category ≡ c → MadeReplaced (string_of_string c u place e.ty e.category)
+        by_category text (category.Place id constant) held = inl refl
+        by_category text category.Value held = string_replaced text (replaced text)
+
+        by_type : (t : Ty) → own u ≡ t → MadeReplaced (string_of t u place e.ty e.category)
+        by_type ty.Text text = by_category text u.category refl
+        by_type _ other = inl refl
+
+  edge_plain : (m : Method) (base given : Form) (d : DelimitersForm) (place : Place) (t : ExprType) (c : Category) → is_edge m ≡ true → (form_uses a (method base m given d) place t c).replacing ≡ None
+  edge_plain methods.Front base given d place t c edge = refl
+  edge_plain methods.Back base given d place t c edge = refl
+  edge_plain _ base given d place t c edge = absurd (false≢true edge)
+
+  mutual
+    pub replaced : (form : Form) → is_served_owner texts form ≡ true → is_owner_type (typed_in form).ty ≡ true → IsExpression a.program a.function.locals visible form → IsReplaced form
+    replaced (typed place t c form) b n h = replaced_made form (record { place = place; ty = t; category = c; form = form }) b n h place
+    replaced _ b n h = absurd h
+
+    replaced_made : (form : Form) (e : Typed) → is_served_owner texts form ≡ true → is_owner_type e.ty ≡ true → IsMadeOf a.program a.function.locals visible e form → (place : Place) → IsReplacedAt (moved_in form) e.ty ((form_uses a form place e.ty e.category).replacing)
+    replaced_made (local x) e b n h place = inl refl
+    replaced_made (move x) e b n h place =
+        let is = moved_from_variable a visible types texts fs f setting x e h.1 in
+        inr (record { number = x; moved = e; place = place; seen = h.0; from = is; typed = is.is; replaces = refl; named = refl })
+    replaced_made (call g given delimiters) e b n h place = inl refl
+    replaced_made (paren inner closing) e b n h place =
+        let t : (typed_in inner).ty ≡ e.ty = ap (λ (y : Typed). y.ty) (ok_same h.0) in
+        subst (λ (x : ExprType). IsReplacedAt (moved_in inner) x ((uses a inner).replacing)) t (replaced inner b (ap is_owner_type t ∙ n) h.1)
+    replaced_made (dereference inner) e b n h place = inl refl
+    replaced_made (index base position closing) e b n h place = inl refl
+    replaced_made (method base which given delimiters) e b n h place = inl (edge_plain which base given delimiters place e.ty e.category (and_parts (is_edge which) _ b).0)
+    replaced_made (binary o left right) e b n h place = inl (row_plain (row_between o left right) (uses a left) (uses a right) place e.ty e.category)
+    replaced_made (text_of inner closing) e b n h place =
+        text_replaced inner closing e place (makes_a_text closing (typed_in inner) e h.0).is
+        (λ text. elim (either_served inner (is_served_owner texts inner) (is_served_form texts inner) b) [
+          | inl value ↦
+              let is = whole_expression a visible types texts fs f setting inner value h.1 in
+              absurd (false≢true (sym (own_no_text a.program.types (typed_in inner) is.kind.kind) ∙ ap (λ (x : ExprType). is_text (own_type x)) (own_typed a visible types texts fs f setting inner) ∙ ap is_text text))
+          | inr owner ↦ replaced inner owner.1 owner.0 h.1
+        ])
+    replaced_made (typed at t c form) e b n h place = absurd h
+    replaced_made _ e b n h place = absurd (false≢true b)
