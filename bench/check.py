@@ -37,7 +37,7 @@ def blocks_file():
 
 
 def usual_file():
-    """Usual functions of the whole grammar up to the largest size: all of it is parsed, and then it is told unsupported."""
+    """Usual functions of the whole grammar up to the largest size: all of it is parsed and typed, and they are too many."""
     function = """
 [[life::ret(values)]] const int* largest{n}(const std::vector<int>& values, long limit) {{
   const int* best = nullptr;
@@ -104,6 +104,56 @@ def functions_file(count):
     return "\n".join(lines).encode() + b"\n"
 
 
+def usual_functions_file(groups):
+    """Three usual functions a group, over vectors, strings, views and what one of them gives back, with what they include."""
+    text = "#include <iostream>\n#include <string>\n#include <string_view>\n#include <vector>\n"
+    group = """
+[[life::ret(values, null)]] const int* largest{n}(const std::vector<int>& values, int limit) {{
+  const int* best = nullptr;
+  for (const int& value : values) {{
+    if (value < limit && (!best || *best < value)) {{
+      best = &value;  // the largest so far
+    }}
+  }}
+  return best;
+}}
+
+std::size_t words{n}(std::string_view text) {{
+  std::size_t count = 0;
+  bool inside = false;
+  for (char c : text) {{
+    if (c == ' ') {{
+      inside = false;
+    }} else if (!inside) {{
+      inside = true;
+      ++count;
+    }}
+  }}
+  return count;
+}}
+
+int collect{n}(std::vector<int>& values, const std::string& name) {{
+  std::string text = name + ", number " + '{digit}';
+  for (std::size_t i = 0; i < words{n}(text); ++i) {{
+    values.push_back(i * {n});
+  }}
+  const int* best = largest{n}(values, 1000);
+  if (best != nullptr) {{
+    std::cout << text << ": " << *best << std::endl;
+    return *best;
+  }}
+  return 0;
+}}
+"""
+    text += "".join(group.format(n=n, digit=n % 10) for n in range(groups))
+    return text.encode() + b"""
+int main() {
+  std::vector<int> values;
+  return collect0(values, "a name");
+}
+"""
+
+
 def moving_file(pointers, objects):
     """Pointers to so many objects in a loop, each of which takes what the next one pointed to: their sets grow turn by turn."""
     lines = ["int main() {"]
@@ -133,6 +183,7 @@ def dense_file(pointers, objects, turns):
 FILES = [
     ("200 small functions", partial(functions_file, 200)),
     ("1,000 small functions", partial(functions_file, 1000)),
+    ("1,000 usual functions", partial(usual_functions_file, 333)),
     ("one comment, 1 MiB", comment_file),
     ("tokens, 1 MiB", names_file),
     ("usual code, 1 MiB", usual_file),

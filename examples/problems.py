@@ -7,6 +7,7 @@ for file in sys.argv[2:]:
     done = subprocess.run([sys.argv[1], "check", file, "--json"], capture_output=True, text=True)
     for d in json.loads(done.stdout)["diagnostics"] if done.stdout else []:
         print(f"{file}:{d['line']}:{d['column']}: warning: {d['kind']}: {d['name']}: {d['cause']}")
-    print(f"{file}: {done.stderr}" if done.stderr else "", end="", file=sys.stderr)
+    for line in done.stderr.splitlines():
+        print(f"{file}:{line}" if line[0].isdigit() else f"{file}: {line}", file=sys.stderr)
     worst = max(worst, done.returncode)
 sys.exit(worst)

@@ -1,0 +1,36 @@
+// A field ends at a mark; what is found is a part of the text alone, as the head of the helper says: the mark may go.
+#include <iostream>
+#include <string>
+#include <string_view>
+
+[[life::ret(text)]] std::string_view up_to(std::string_view text, std::string_view mark) {
+  for (std::size_t i = 0; i + mark.size() <= text.size(); ++i) {
+    if (text.substr(i, mark.size()) == mark) {
+      return text.substr(0, i);
+    }
+  }
+  return text;
+}
+
+int main() {
+  std::string record = "pear->fruit->food";
+  std::string_view rest = record;
+  std::string_view field;
+  std::size_t longest = 0;
+  {
+    std::string mark = "-";
+    mark += '>';
+    while (!rest.empty()) {
+      field = up_to(rest, mark);
+      if (field.size() > longest) {
+        longest = field.size();
+      }
+      rest = rest.substr(field.size());
+      if (!rest.empty()) {
+        rest = rest.substr(mark.size());
+      }
+    }
+  }
+  std::cout << "last is " << field << ", longest " << longest << std::endl;
+  return longest;
+}

@@ -1,0 +1,32 @@
+// The helper that is given a copy names its first number by a reference, and hands the copy on to be changed.
+#include <iostream>
+#include <vector>
+
+void take(std::vector<int>& readings, bool least) {
+  auto found = readings.begin();
+  for (auto it = readings.begin(); it != readings.end(); ++it) {
+    if (least && *it < *found || !least && *it > *found) {
+      found = it;
+    }
+  }
+  readings.erase(found);
+}
+
+int middle(std::vector<int> readings) {
+  bool least = true;
+  int& first = readings.front();
+  while (readings.size() > 1) {
+    take(readings, least);
+    least = !least;
+  }
+  return first;
+}
+
+int main() {
+  std::vector<int> readings = {31, 4, 15, 9, 26, 5, 35};
+  std::cout << middle(readings) << " of " << readings.size() << std::endl;
+  readings.push_back(1);
+  readings.push_back(2);
+  std::cout << middle(readings) << " of " << readings.size() << std::endl;
+  return middle(readings);
+}

@@ -1,0 +1,28 @@
+// A loop goes over a view of a temporary that was an argument, and has ended before the first turn.
+#include <iostream>
+#include <string>
+#include <string_view>
+
+std::string_view without_blanks(std::string_view text) {
+  while (!text.empty() && text[0] == ' ') {
+    text = text.substr(1);
+  }
+  while (!text.empty() && text[text.size() - 1] == ' ') {
+    text = text.substr(0, text.size() - 1);
+  }
+  return text;
+}
+
+int main() {
+  std::string word = "owl";
+  int count = 0;
+  for (char c : without_blanks("  " + word + "s ")) {
+    std::cout << c << '-';
+    ++count;
+  }
+  for (char c : word + "!") {
+    std::cout << c;
+  }
+  std::cout << std::endl;
+  return count;
+}
