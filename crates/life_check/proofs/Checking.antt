@@ -1,5 +1,5 @@
 -- From what a part of the check finds to what the text comes to.
-use Rattle.std.proofs.Common.{◌≡◌, ℕ, true, false, List, Option, None, Some, Result, Ok, Err, refl, sym, subst}
+use Rattle.std.proofs.Common.{◌≡◌, ℕ, Bool, true, false, List, Option, None, Some, Result, Ok, Err, refl, sym, subst}
 use Rattle.life_served.specs.Served.{is_served}
 use Rattle.life_core.specs.Function.{Program}
 use Rattle.life_elab.specs.Elaborated.{Elaborates}
@@ -37,22 +37,25 @@ finds_as P Q (Err fault.NoMemory) to found = tt
 -- ---- texts whose tree has types
 
 module _ (typed : ProgramForm) where
-  pub unserved_finds : is_served typed ≡ false → Finds (TypedComesTo typed) (Err unsupported)
-  unserved_finds not = subst (λ b. ServedComesTo b typed (Faulty unsupported)) (sym not) refl
+  -- the first limit that is passed decides
+  of_limits : (limit : Option LimitFault) → over typed (translated typed) ≡ limit → (f : Finding) → LimitedComesTo limit typed f → TypedComesTo typed f
+  of_limits limit passed f is = subst (λ o. LimitedComesTo o typed f) (sym passed) is
 
-  module _ (served : is_served typed ≡ true) where
-    of_limits : (limit : Option LimitFault) → over typed (translated typed) ≡ limit → (f : Finding) → LimitedComesTo limit (translated typed) f → TypedComesTo typed f
-    of_limits limit passed f is =
-        subst (λ b. ServedComesTo b typed f) (sym served) (subst (λ o. LimitedComesTo o (translated typed) f) (sym passed) is)
+  pub limited_finds : (reason : ElabFault) → Elaborates typed (Err reason) → Finds (TypedComesTo typed) (Err (limit_fault reason))
+  limited_finds (elab.Limit passed) is = of_limits (Some passed) is (Faulty (fault.Limit passed)) refl
+  limited_finds elab.NoMemory is = tt
 
-    pub core_finds : (core : Program) (result : Result Checked CheckFault) → core ≡ translated typed → over typed (translated typed) ≡ None
-        → Finds (IsListed core) result → Finds (TypedComesTo typed) result
-    core_finds core result is none found =
-        finds_as (IsListed core) (TypedComesTo typed) result (λ f listed. of_limits None none f (subst (λ c. IsListed c f) is listed)) found
+  -- .. and where none is, whether the program is served
+  module _ (none : over typed (translated typed) ≡ None) where
+    of_served : (served : Bool) → is_served typed ≡ served → (f : Finding) → ServedComesTo served (translated typed) f → TypedComesTo typed f
+    of_served served is f comes = of_limits None none f (subst (λ b. ServedComesTo b (translated typed) f) (sym is) comes)
 
-    pub limited_finds : (reason : ElabFault) → Elaborates typed (Err reason) → Finds (TypedComesTo typed) (Err (limit_fault reason))
-    limited_finds (elab.Limit passed) is = of_limits (Some passed) is (Faulty (fault.Limit passed)) refl
-    limited_finds elab.NoMemory is = tt
+    pub unserved_finds : is_served typed ≡ false → Finds (TypedComesTo typed) (Err unsupported)
+    unserved_finds not = of_served false not (Faulty unsupported) refl
+
+    pub core_finds : is_served typed ≡ true → (core : Program) (result : Result Checked CheckFault) → core ≡ translated typed → Finds (IsListed core) result → Finds (TypedComesTo typed) result
+    core_finds served core result is found =
+        finds_as (IsListed core) (TypedComesTo typed) result (λ f listed. of_served true served f (subst (λ c. IsListed c f) is listed)) found
 
 -- ---- trees
 

@@ -25,17 +25,17 @@ no_fault p ds fault e = absurd (clash e)
 the_program : (p q : Program) (ds es : List Diag) → Listed p ds ≡ Listed q es → p ≡ q
 the_program p q ds es same = cc
 
-of_limits : (passed : Option LimitFault) (core p : Program) (ds : List Diag) → LimitedComesTo passed core (Listed p ds) → p ≡ core
-of_limits None core p ds is = the_program p core ds is.diagnostics is.is
-of_limits (Some fault) core p ds is = no_fault p ds _ is
+of_served : (served : Bool) (core p : Program) (ds : List Diag) → ServedComesTo served core (Listed p ds) → p ≡ core
+of_served true core p ds is = the_program p core ds is.diagnostics is.is
+of_served false core p ds is = no_fault p ds _ is
 
-of_served : (served : Bool) (typed : ProgramForm) (p : Program) (ds : List Diag) → ServedComesTo served typed (Listed p ds) → p ≡ translated typed
-of_served true typed p ds is = of_limits (over typed (translated typed)) (translated typed) p ds is
-of_served false typed p ds is = no_fault p ds _ is
+of_limits : (passed : Option LimitFault) (typed : ProgramForm) (p : Program) (ds : List Diag) → LimitedComesTo passed typed (Listed p ds) → p ≡ translated typed
+of_limits None typed p ds is = of_served (is_served typed) (translated typed) p ds is
+of_limits (Some fault) typed p ds is = no_fault p ds _ is
 
 of_resolved : (bytes : List ℕ) (tree : Parsed) → Parses bytes (Ok tree) → (r : Result ProgramForm Broken) → resolved tree ≡ r → (p : Program) (ds : List Diag) → ResolvedComesTo r (Listed p ds) → IsProgramOf bytes p
 of_resolved bytes tree parsed (Ok typed) same p ds is =
-    record { tree = tree; typed = typed; parsed = parsed; has_types = same; is = of_served (is_served typed) typed p ds is }
+    record { tree = tree; typed = typed; parsed = parsed; has_types = same; is = of_limits (over typed (translated typed)) typed p ds is }
 of_resolved bytes tree parsed (Err e) same p ds is = no_fault p ds _ is
 
 of_reason : (bytes : List ℕ) (reason : Option ParseFault) (p : Program) (ds : List Diag) → ParsingComesTo bytes reason (Listed p ds) → IsProgramOf bytes p

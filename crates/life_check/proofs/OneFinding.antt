@@ -26,16 +26,16 @@ one_program p a b x y =
     let same : x.diagnostics ≡ y.diagnostics = only_listing x.listed y.listed in
     x.is ∙ ap (λ (ds : List Diag). Listed p ds) same ∙ sym y.is
 
-one_of_limits : (passed : Option LimitFault) (core : Program) (a b : Finding) → LimitedComesTo passed core a → LimitedComesTo passed core b → a ≡ b
-one_of_limits None core a b p q = one_program core a b p q
-one_of_limits (Some fault) core a b p q = p ∙ sym q
+one_served : (served : Bool) (core : Program) (a b : Finding) → ServedComesTo served core a → ServedComesTo served core b → a ≡ b
+one_served true core a b p q = one_program core a b p q
+one_served false core a b p q = p ∙ sym q
 
-one_served : (served : Bool) (typed : ProgramForm) (a b : Finding) → ServedComesTo served typed a → ServedComesTo served typed b → a ≡ b
-one_served true typed a b p q = one_of_limits (over typed (translated typed)) (translated typed) a b p q
-one_served false typed a b p q = p ∙ sym q
+one_of_limits : (passed : Option LimitFault) (typed : ProgramForm) (a b : Finding) → LimitedComesTo passed typed a → LimitedComesTo passed typed b → a ≡ b
+one_of_limits None typed a b p q = one_served (is_served typed) (translated typed) a b p q
+one_of_limits (Some fault) typed a b p q = p ∙ sym q
 
 one_resolved : (r : Result ProgramForm Broken) (a b : Finding) → ResolvedComesTo r a → ResolvedComesTo r b → a ≡ b
-one_resolved (Ok typed) a b p q = one_served (is_served typed) typed a b p q
+one_resolved (Ok typed) a b p q = one_of_limits (over typed (translated typed)) typed a b p q
 one_resolved (Err e) a b p q = p ∙ sym q
 
 -- the types of a text hang on its tokens alone

@@ -14,7 +14,7 @@ use Rattle.life_core.specs.Linked.{points_of}
 use Rattle.life_elab.specs.Bounds.{HaveNumberedLocals, HaveShortPlaces}
 use Rattle.life_elab.specs.Functions.{function_from}
 use Rattle.life_elab.specs.Over as over
-use Rattle.life_elab.specs.Over.{first_of, over_function, over_functions, passes}
+use Rattle.life_elab.specs.Over.{first_of, over_function, over_functions, over_locals, over_parts, over_structs, passes}
 use Rattle.life_elab.specs.ProgramForms.{functions, translated, written}
 use Rattle.life_elab.specs.Programs.{Functions as Written, around, with_function}
 use Rattle.life_typed.specs.Programs.{FunctionForm, ProgramForm}
@@ -56,9 +56,10 @@ within types f none numbered short =
 each_within : (types : Types) (fs : List Function) → over_functions types fs ≡ None → HaveNumberedLocals fs → HaveShortPlaces types fs → (i : ℕ) (f : Function) → slice_get fs i ≡ Some f → IsWithinLimits types f
 each_within types [] none numbered short i f at = absurd (none-some f at)
 each_within types (g ∷ gs) none numbered short zero f at =
-    subst (IsWithinLimits types) (same_Some g f at) (within types g (first_none (over_function types g) (over_functions types gs) none).0 numbered.0 short.0)
+    let first = (first_none (over_parts types g) (over_functions types gs) none).0 in
+    subst (IsWithinLimits types) (same_Some g f at) (within types g (first_none (over_locals types g.locals) (over_function types g) first).1 numbered.0 short.0)
 each_within types (g ∷ gs) none numbered short (suc i) f at =
-    each_within types gs (first_none (over_function types g) (over_functions types gs) none).1 numbered.1 short.1 i f at
+    each_within types gs (first_none (over_parts types g) (over_functions types gs) none).1 numbered.1 short.1 i f at
 
 -- ---- translated programs
 
@@ -80,11 +81,12 @@ none_mapped g (Some x) h = absurd (none-some (g x) (sym h))
 module _ (p : ProgramForm) (core : Program) (is : core ≡ translated p) (none : over.over p (translated p) ≡ None) (numbered : HaveNumberedLocals core.functions) (short : HaveShortPlaces (translated p).types (translated p).functions) where
   its_limits : IsProgramWithinLimits (translated p)
   its_limits =
-      let both = first_none (over.too_many p) (over_functions (translated p).types (translated p).functions) none in
+      let both = first_none (over.too_many p) (over.over_each (translated p).types p.structs (translated p).functions) none in
+      let functions_pass = (first_none (over_structs (translated p).types 0 p.structs) (over_functions (translated p).types (translated p).functions) both.1).1 in
       let past = none_past p.functions 1024 (none_mapped (λ (f : FunctionForm). over.limit Functions f.first_place) (slice_get p.functions 1024) both.0) in
       record {
         few = omega (arith, count_functions p p.functions (record { types = p.types; functions = [] }), past);
-        each = each_within (translated p).types (translated p).functions both.1 (subst (λ (c : Program). HaveNumberedLocals c.functions) is numbered) short;
+        each = each_within (translated p).types (translated p).functions functions_pass (subst (λ (c : Program). HaveNumberedLocals c.functions) is numbered) short;
       }
 
   -- so it is proper where it is proper within them

@@ -29,18 +29,18 @@ pub record IsListed (p : Program) (finding : Finding) : Type 0 where
   pub listed : AreProgramDiagnostics p diagnostics
   pub is : finding ≡ Listed p diagnostics
 
--- a core program with its diagnostics, or the first limit that it passes
-abbrev pub LimitedComesTo : Option LimitFault → Program → Finding → Type 0
-LimitedComesTo None core finding = IsListed core finding
-LimitedComesTo (Some fault) core finding = finding ≡ Faulty (Limit fault)
+-- a core program, with its diagnostics where it is served
+abbrev pub ServedComesTo : Bool → Program → Finding → Type 0
+ServedComesTo true core finding = IsListed core finding
+ServedComesTo false core finding = finding ≡ Faulty unsupported
 
--- the core program of a typed one that is served
-abbrev pub ServedComesTo : Bool → ProgramForm → Finding → Type 0
-ServedComesTo true typed finding = LimitedComesTo (over typed (translated typed)) (translated typed) finding
-ServedComesTo false typed finding = finding ≡ Faulty unsupported
+-- that of a typed program, or the first limit that it passes, whatever its forms are
+abbrev pub LimitedComesTo : Option LimitFault → ProgramForm → Finding → Type 0
+LimitedComesTo None typed finding = ServedComesTo (is_served typed) (translated typed) finding
+LimitedComesTo (Some fault) typed finding = finding ≡ Faulty (Limit fault)
 
 abbrev pub TypedComesTo : ProgramForm → Finding → Type 0
-TypedComesTo typed finding = ServedComesTo (is_served typed) typed finding
+TypedComesTo typed finding = LimitedComesTo (over typed (translated typed)) typed finding
 
 -- the typed program of a tree that has types; else it is the first rule that the tree breaks
 abbrev pub ResolvedComesTo : Result ProgramForm Broken → Finding → Type 0

@@ -42,8 +42,9 @@ use std::sync::ledger::Ledger;
 /// # Errors
 ///
 /// `Lex`, `Syntax` or the limit of nesting where the text has no tree, `Ill` with the first rule of names
-/// and types that the tree breaks, or `Unsupported` at line 1, column 1 where it has a form that is not
-/// checked yet, and `Limit` with the first limit that the program passes. `NoMemory` for want of memory.
+/// and types that the tree breaks, `Limit` with the first limit that the program passes, and else
+/// `Unsupported` at line 1, column 1 where it has a form that is not checked yet. `NoMemory` for want of
+/// memory.
 pub fn check_text<L: Ledger>(
     alloc: Global,
     bytes: &[u8],
@@ -81,7 +82,7 @@ fn typed_of(alloc: Global, tree: Program) -> Result<Typed, IllFault>
     resolve(alloc, &tree)
 }
 
-// A text whose tree has types: it is served and passes no limit, or not.
+// A text whose tree has types: it passes no limit and is served, or not.
 fn check_typed<L: Ledger>(
     alloc: Global,
     typed: Typed,
@@ -91,10 +92,11 @@ fn check_typed<L: Ledger>(
     ensures finds { Finds (TypedComesTo (program_view typed)) result }
     ensures ticks { TakesFew (TypedComesTo (program_view typed)) steps.old steps.new }
 {
-    if !is_served(&typed) {
+    let served = is_served(&typed);
+    let program = core_of(alloc, typed)?;
+    if !served {
         return Err(unsupported());
     }
-    let program = core_of(alloc, typed)?;
     translations_are_proper();
     translations_have_short_places();
     check_program(alloc, program, steps)

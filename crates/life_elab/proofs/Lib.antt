@@ -1,11 +1,12 @@
 pub mod ElementWriting
-pub mod FormLimits
 pub mod LimitCounts
 pub mod ListWriting
 pub mod LoopWriting
 pub mod NumberedLocals
 pub mod OpenBranches
 pub mod Parameters
+pub mod PassedPaths
+pub mod PathSteps
 pub mod RangeWriting
 pub mod SeenStatements
 pub mod SimpleChoices

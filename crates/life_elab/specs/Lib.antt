@@ -4,11 +4,12 @@ pub mod Declarations
 pub mod Elaborated
 pub mod Functions
 pub mod IteratorViews
+pub mod KeptPaths
 pub mod Last
 pub mod LastTokens
-pub mod LimitForms
 pub mod OpenedViews
 pub mod Over
+pub mod Paths
 pub mod ProgramForms
 pub mod Programs
 pub mod RangeForms

@@ -8,6 +8,7 @@ mod ends;
 mod fault;
 mod functions;
 mod limits;
+mod paths;
 mod points;
 mod programs;
 mod ranges;

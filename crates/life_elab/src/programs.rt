@@ -90,10 +90,10 @@ fn functions(alloc: Global, typed: &Typed) -> Result<(Vec<CoreFn>, TypeTable), N
 ///
 /// # Errors
 ///
-/// `Limit` exactly where the program passes a limit, with the first: 1,024 functions, and of each
-/// function in the order of the file 256 locations, 1,024 points and 2,048 elements. `NoMemory` for
-/// want of memory, which more locals or types than 32 bits number count as, and so do trees that no
-/// source has.
+/// `Limit` exactly where the program passes a limit, with the first: 1,024 functions, then of each
+/// struct in the order of the file 32 members and 8 steps of a path, and then of each function 8 steps
+/// of a path of a local, 256 locations, 1,024 points and 2,048 elements. `NoMemory` for want of memory,
+/// which more locals, structs or types than 32 bits number count as, and so do trees that no source has.
 pub fn elaborate(alloc: Global, typed: &Typed) -> Result<CoreProgram, ElabFault>
     ensures program { Elaborates (program_view typed.now) result }
     ensures numbered { IfOk result (λ core. HaveNumberedLocals (program_of core).functions) }

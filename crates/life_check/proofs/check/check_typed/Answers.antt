@@ -7,19 +7,19 @@ use Rattle.life_check.proofs.Checking.{core_finds, limited_finds, unserved_finds
 use Rattle.life_check.proofs.PassedLimits.{translated_proper}
 use Rattle.life_check.proofs.check.check_typed.Goals as goal
 
-pub returns-then-not-is_served-clause-finds : goal.returns-then-not-is_served-clause-finds
-returns-then-not-is_served-clause-finds g c = rw c.unsupported.ensures (unserved_finds (program_view c.args.typed) (sym c.is_served.ensures ∙ c.if-not-is_served.true))
-
 pub returns-in_err-program-clause-finds : goal.returns-in_err-program-clause-finds
 returns-in_err-program-clause-finds g c =
     let e = err_from_is_err_and c.from_residual.result c.from_residual.ensures.1 in
-    rw (e.1, e.2)
-    (limited_finds (program_view c.args.typed) (sym c.is_served.ensures ∙ c.if-not-is_served.false) c.in_err-program.field-0.0 c.in_err-program.ensures.program)
+    rw (e.1, e.2) (limited_finds (program_view c.args.typed) c.in_err-program.field-0.0 c.in_err-program.ensures.program)
+
+pub returns-then-not-served-clause-finds : goal.returns-then-not-served-clause-finds
+returns-then-not-served-clause-finds g c =
+    rw c.unsupported.ensures (unserved_finds (program_view c.args.typed) c.in_ok-program.ensures.program.1 (sym c.is_served-served.ensures ∙ c.if-not-served.true))
 
 pub check_program-requires-clause-proper : goal.check_program-requires-clause-proper
 check_program-requires-clause-proper g c =
     let p = program_view c.args.typed in
-    let served = sym c.is_served.ensures ∙ c.if-not-is_served.false in
+    let served = sym c.is_served-served.ensures ∙ c.if-not-served.false in
     let typed = c.requires.well_typed in
     let results = c.requires.results in
     translated_proper p (program_of c.in_ok-program.program) c.in_ok-program.ensures.program.0 c.in_ok-program.ensures.program.1 c.in_ok-program.ensures.numbered
@@ -28,11 +28,11 @@ check_program-requires-clause-proper g c =
 
 pub check_program-requires-clause-served : goal.check_program-requires-clause-served
 check_program-requires-clause-served g c =
-    let served = sym c.is_served.ensures ∙ c.if-not-is_served.false in
+    let served = sym c.is_served-served.ensures ∙ c.if-not-served.false in
     subst IsServedProgram (sym c.in_ok-program.ensures.program.0)
     (c.translations_are_proper.ensures.served (program_view c.args.typed) c.requires.well_typed c.requires.results c.requires.table c.requires.mains served)
 
 pub returns-clause-finds : goal.returns-clause-finds
 returns-clause-finds g c =
-    core_finds (program_view c.args.typed) (sym c.is_served.ensures ∙ c.if-not-is_served.false) (program_of c.in_ok-program.program) c.check_program.result c.in_ok-program.ensures.program.0
-    c.in_ok-program.ensures.program.1 c.check_program.ensures.finds
+    core_finds (program_view c.args.typed) c.in_ok-program.ensures.program.1 (sym c.is_served-served.ensures ∙ c.if-not-served.false) (program_of c.in_ok-program.program) c.check_program.result
+    c.in_ok-program.ensures.program.0 c.check_program.ensures.finds
