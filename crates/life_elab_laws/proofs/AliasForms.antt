@@ -1,5 +1,5 @@
 -- What a reference to an owner is given: a place that it refers to, or an owner that is built for it: a copy, one that is made, or a string of a literal.
-use Rattle.std.proofs.Common.{◌≡◌, ℕ, Bool, true, false, List, None, refl, sym, ap, ◌∙◌, subst, length}
+use Rattle.std.proofs.Common.{◌≡◌, ℕ, Bool, true, false, List, None, Option, refl, sym, ap, ◌∙◌, subst, length}
 use Rattle.std.proofs.lemmas.Bool.{false≢true}
 use Rattle.life_served.specs.Served.{is_owner_of_values, owns_elements, is_target, is_walker_of_values}
 use Rattle.life_types.specs.Types.{Types}
@@ -11,6 +11,7 @@ use Rattle.life_typed.specs.BaseTypes.{type_at}
 use Rattle.life_typed.specs.Conversions.{fits, is_place_of}
 use Rattle.life_typed.specs.TypedForm.{Form}
 use Rattle.life_typed.specs.declared.typed_expr.Category.{Category}
+use Rattle.life_typed.specs.declared.typed_expr.Category.TheVariants as category
 use Rattle.life_typed.specs.declared.typed_expr.ExprType.{ExprType}
 use Rattle.life_typed.specs.declared.typed_expr.ExprType.TheVariants.{NullPointer, Of, TextLiteral}
 use Rattle.life_type_expr.specs.Lists.{fits_at_all}
@@ -35,13 +36,13 @@ use Rattle.life_elab_laws.proofs.FormedVariables.{const_same, owner_no_value}
 use Rattle.life_elab_laws.proofs.Gifts.{a_place, a_pointer, a_pointing, both, nothing as no_gift}
 use Rattle.life_elab_laws.proofs.Instructions.{literal_located_part}
 use Rattle.life_elab_laws.proofs.JoinedForms.{literal_builds}
-use Rattle.life_elab_laws.proofs.MadeForms.{Builds, IsOwning, is_made, of_copy, stands_there, owning_owner}
+use Rattle.life_elab_laws.proofs.MadeForms.{Builds, IsOwning, is_made, lived_builds, of_copy, stands_there, owning_owner}
 use Rattle.life_elab_laws.proofs.OwnerSteps.{copies_part}
 use Rattle.life_elab_laws.proofs.Parts.{leaf_part, then_part}
 use Rattle.life_elab_laws.proofs.PlainActs.{copied_plain}
 use Rattle.life_elab_laws.proofs.PointerForms.{held_typed}
 use Rattle.life_elab_laws.proofs.Setting.{Setting}
-use Rattle.life_elab_laws.proofs.Targets.{owner_target, value_target, IsTarget, target_is, to_owner, to_value}
+use Rattle.life_elab_laws.proofs.Targets.{owner_target, value_target, IsTarget, target_is, to_owner, to_struct, to_value, struct_target}
 use Rattle.life_elab_laws.proofs.TypedKinds.{HasKind, a_null, a_number, a_pointer as is_pointer_kind, a_text, a_view, kind_no_owner, no_value, place_same, value_place}
 use Rattle.life_elab_laws.proofs.Values.{by_values}
 use Rattle.life_elab_laws.proofs.GivenKinds.{given_number}
@@ -59,7 +60,7 @@ no_owner_given types (ty.Vector item) o (ty.Vector found) none c h = false≢tru
 no_owner_given types (ty.Vector item) o _ none c h = false≢true h
 no_owner_given types _ o u none c h = false≢true o
 
-null_refused : (types : Types) (t : Ty) → is_owner_of_values types t ≡ true → (c : Category) → fits_at_all (fits types t NullPointer c) ≡ true → ⊥
+pub null_refused : (types : Types) (t : Ty) → is_owner_of_values types t ≡ true → (c : Category) → fits_at_all (fits types t NullPointer c) ≡ true → ⊥
 null_refused types ty.Text o c h = false≢true h
 null_refused types (ty.Vector item) o c h = false≢true h
 null_refused types _ o c h = false≢true o
@@ -69,6 +70,17 @@ literal_string : (types : Types) (t : Ty) → is_owner_of_values types t ≡ tru
 literal_string types ty.Text o c h = refl
 literal_string types (ty.Vector item) o c h = absurd (false≢true h)
 literal_string types _ o c h = absurd (false≢true o)
+
+-- .. nor does a struct come of an owner, an iterator or a span
+owner_no_struct_given : (types : Types) (t : Ty) → is_owner_of_values types t ≡ true → (number : ℕ) (c : Category) → fits_at_all (fits types (ty.Struct number) (Of t) c) ≡ true → ⊥
+owner_no_struct_given types ty.Text o number c h = false≢true h
+owner_no_struct_given types (ty.Vector item) o number c h = false≢true h
+owner_no_struct_given types _ o number c h = false≢true o
+
+walker_no_struct_given : (types : Types) (t : Ty) → is_walker_of_values types t ≡ true → (number : ℕ) (c : Category) → fits_at_all (fits types (ty.Struct number) (Of t) c) ≡ true → ⊥
+walker_no_struct_given types (ty.Iterator item held) w number c h = false≢true h
+walker_no_struct_given types (ty.Span item held) w number c h = false≢true h
+walker_no_struct_given types _ w number c h = false≢true w
 
 module _ (a : Around) (visible : List ℕ) (types : Types) (texts : ℕ) (fs : List Function) (f : Function) (setting : Setting a types fs f) where
   abbrev Stood : State → Type 0
@@ -90,18 +102,12 @@ module _ (a : Around) (visible : List ℕ) (types : Types) (texts : ℕ) (fs : L
 
   -- a copy of one at a place
   pub copied_builds : (t : Ty) (constant : Bool) (s : State) (w : Gives Operand) → is_owner_of_values a.program.types t ≡ true → PlacedAs t constant s w → BuildsAs t s (mapped (λ from. lived Plain (copied from)) w)
-  copied_builds t constant s w o placed = record {
-    making = of_copy t constant;
-    found = w.given;
-    part = placed;
-    form = Plain;
-    act = copied w.given;
-    lives = refl;
-    acts = λ place to s' there still new.
-        copies_part types texts fs f (both types texts fs f (a_place types texts fs f t constant) (a_place types texts fs f t false)) (w.given, to) a.program.types t constant to w.given place s' o
-        (λ h. (h.1, h.0)) (λ n k h. (h.1, h.0));
-    alone = λ e. copied_plain _ w.given;
-  }
+  copied_builds t constant s w o placed =
+      lived_builds a visible types texts fs f setting true t s w.state (of_copy t constant) w.given Plain (copied w.given) placed refl
+      (λ place to s' there still new.
+      copies_part types texts fs f (both types texts fs f (a_place types texts fs f t constant) (a_place types texts fs f t false)) (w.given, to) a.program.types t constant to w.given place s' o
+      (λ h. (h.1, h.0)) (λ n k h. (h.1, h.0)))
+      (λ e. copied_plain _ w.given)
 
   -- what an expression that is an owner gives it
   pub owning_builds : (form : Form) → IsOwning a visible types texts fs f setting form → (t : Ty) → is_owner_of_values a.program.types t ≡ true → is_given a.program.types t (typed_in form) ≡ true → (behind : Place) (s : State) → Stood s
@@ -119,8 +125,8 @@ module _ (a : Around) (visible : List ℕ) (types : Types) (texts : ℕ) (fs : L
           (subst (λ (x : Ty). BuildsAs x s ((uses a form).object s)) alike (is.builds s stands))
 
   -- a string of a literal
-  pub literal_there : (object : State → Gives Remaining) → IsLiteral a visible types texts fs f setting object → (s : State) → Stood s → BuildsAs ty.Text s (object s)
-  literal_there object is s stands =
+  pub literal_there : (object : State → Gives Remaining) (named : Option ℕ) → IsLiteral a visible types texts fs f setting object named → (s : State) → Stood s → BuildsAs ty.Text s (object s)
+  literal_there object named is s stands =
       let w = located is.place ty.View (aimed (Text is.number)) s in
       subst (λ (x : State → Gives Remaining). BuildsAs ty.Text s (x s)) (sym is.is)
       (literal_builds a visible types texts fs f setting s w
@@ -129,22 +135,35 @@ module _ (a : Around) (visible : List ℕ) (types : Types) (texts : ℕ) (fs : L
       (literal_located_part types texts fs f (aimed (Text is.number)) is.place s)))
 
   -- what has a value is a literal, where it is given to an owner
-  pub value_builds : (form : Form) → IsWhole a visible types texts fs f setting form → (t : Ty) → is_owner_of_values a.program.types t ≡ true → is_given a.program.types t (typed_in form) ≡ true → (behind : Place) (s : State) → Stood s
-      → BuildsAs t s (giving.given (uses a form) t behind s)
-  value_builds form is t o given behind s stands = subst (BuildsAs t s) (sym (owner_given t (uses a form) behind s o)) (go is.kind.kind)
+  pub given_literal : (form : Form) → IsWhole a visible types texts fs f setting form → (t : Ty) → is_owner_of_values a.program.types t ≡ true → is_given a.program.types t (typed_in form) ≡ true
+      → ((typed_in form).ty ≡ TextLiteral) × ((typed_in form).category ≡ category.Value)
+  given_literal form is t o given = go is.kind.kind
     where
       as_told : (x : ExprType) → (typed_in form).ty ≡ x → fits_at_all (fits a.program.types t x (typed_in form).category) ≡ true
       as_told x at = subst (λ (x : ExprType). fits_at_all (fits a.program.types t x (typed_in form).category) ≡ true) at given
 
-      go : HasKind a.program.types (typed_in form) → BuildsAs t s (object_by (uses a form).category (uses a form).at (uses a form).object s)
-      go (a_text at v) =
-          subst (λ (c : Category). BuildsAs t s (object_by c (uses a form).at (uses a form).object s)) (sym v ∙ held_typed a visible types texts fs f setting form)
-          (subst (λ (x : Ty). BuildsAs x s ((uses a form).object s)) (sym (literal_string a.program.types t o (typed_in form).category (as_told TextLiteral at))) (literal_there ((uses a form).object) (is.as_literal at) s stands))
+      go : HasKind a.program.types (typed_in form) → ((typed_in form).ty ≡ TextLiteral) × ((typed_in form).category ≡ category.Value)
+      go (a_text at v) = (at, v)
       go (a_number u at v) = absurd (no_owner_given a.program.types t o u (by_values (λ u. owns_elements u ≡ false) refl refl refl refl refl u v) (typed_in form).category (as_told (Of u) at))
       go (is_pointer_kind target constant at w) = absurd (no_owner_given a.program.types t o (ty.Raw target constant) refl (typed_in form).category (as_told (Of (ty.Raw target constant)) at))
       go (a_view at) = absurd (no_owner_given a.program.types t o ty.View refl (typed_in form).category (as_told (Of ty.View) at))
       go (no_value at v) = absurd (no_owner_given a.program.types t o ty.Void refl (typed_in form).category (as_told (Of ty.Void) at))
       go (a_null at v) = absurd (null_refused a.program.types t o (typed_in form).category (as_told NullPointer at))
+
+  -- .. of which it is built
+  pub literal_object : (form : Form) → IsWhole a visible types texts fs f setting form → (t : Ty) → is_owner_of_values a.program.types t ≡ true → is_given a.program.types t (typed_in form) ≡ true → (s : State) → Stood s
+      → BuildsAs t s ((uses a form).object s)
+  literal_object form is t o given s stands =
+      let literal = given_literal form is t o given in
+      let string = literal_string a.program.types t o (typed_in form).category (subst (λ (x : ExprType). fits_at_all (fits a.program.types t x (typed_in form).category) ≡ true) literal.0 given) in
+      subst (λ (x : Ty). BuildsAs x s ((uses a form).object s)) (sym string) (literal_there ((uses a form).object) ((uses a form).named) (is.as_literal literal.0) s stands)
+
+  pub value_builds : (form : Form) → IsWhole a visible types texts fs f setting form → (t : Ty) → is_owner_of_values a.program.types t ≡ true → is_given a.program.types t (typed_in form) ≡ true → (behind : Place) (s : State) → Stood s
+      → BuildsAs t s (giving.given (uses a form) t behind s)
+  value_builds form is t o given behind s stands =
+      let literal = given_literal form is t o given in
+      subst (BuildsAs t s) (sym (owner_given t (uses a form) behind s o))
+      (subst (λ (c : Category). BuildsAs t s (object_by c (uses a form).at (uses a form).object s)) (sym literal.1 ∙ held_typed a visible types texts fs f setting form) (literal_object form is t o given s stands))
 
   -- ---- what a reference refers to, or what is built for it
 
@@ -191,7 +210,21 @@ module _ (a : Around) (visible : List ℕ) (types : Types) (texts : ℕ) (fs : L
           let o = owning_owner a visible types texts fs f setting form from in
           owner_no_value a.program.types o.ty o.owner (subst (λ (x : ExprType). is_number x ≡ true) o.is (given_number a.program.types (type_at a.program.types target) (typed_in form) worth initial))
 
-  -- .. and no reference to one, or to an owner, is given an iterator or a span
+  -- .. nor is a reference to a struct
+  pub struct_reference_refused : (form : Form) (target : TyId) (constant : Bool) (number : ℕ) → type_at a.program.types target ≡ ty.Struct number → is_given a.program.types (ty.Reference target constant) (typed_in form) ≡ true → IsOwning a visible types texts fs f setting form → ⊥
+  struct_reference_refused form target constant number structure given from =
+      go from (given_bound a.program.types target constant (typed_in form) (struct_target a.program.types (type_at a.program.types target) number structure) given)
+    where
+      go : IsOwning a visible types texts fs f setting form → IsBound a.program.types target constant (typed_in form) → ⊥
+      go (stands_there is) (at_place there) =
+          false≢true (subst (λ (t : Ty). is_owner_of_values a.program.types t ≡ true) (sym is.here ∙ ap (type_at a.program.types) (place_same is.id target is.constant there.held (sym is.place ∙ there.place)) ∙ structure) is.owner)
+      go (is_made is) (at_place there) = value_place (sym is.value ∙ there.place)
+      go from (by_temporary none initial) =
+          let o = owning_owner a visible types texts fs f setting form from in
+          owner_no_struct_given a.program.types o.ty o.owner number (typed_in form).category
+          (subst (λ (x : ExprType). fits_at_all (fits a.program.types (ty.Struct number) x (typed_in form).category) ≡ true) o.is (subst (λ (t : Ty). is_given a.program.types t (typed_in form) ≡ true) structure initial))
+
+  -- .. and no reference to one, to an owner or to a struct, is given an iterator or a span
   pub walker_reference_refused : (form : Form) (target : TyId) (constant : Bool) → is_target a.program.types (type_at a.program.types target) ≡ true → is_given a.program.types (ty.Reference target constant) (typed_in form) ≡ true → IsWalker a visible types texts fs f setting form → ⊥
   walker_reference_refused form target constant wide given from = go (given_bound a.program.types target constant (typed_in form) wide given) (target_is a.program.types (type_at a.program.types target) wide)
     where
@@ -205,6 +238,11 @@ module _ (a : Around) (visible : List ℕ) (types : Types) (texts : ℕ) (fs : L
       go (at_place there) (to_value v) = false≢true (sym (walker_is a.program.types from.ty from.walker).value ∙ ap is_value (same (sym from.is ∙ from.place target there.held there.place)) ∙ v)
       go (at_place there) (to_owner o) =
           false≢true (sym (walker_is a.program.types from.ty from.walker).owner ∙ ap owns_elements (same (sym from.is ∙ from.place target there.held there.place)) ∙ owner_is a.program.types (type_at a.program.types target) o)
+      go (at_place there) (to_struct number s) =
+          false≢true (subst (λ (u : Ty). is_walker_of_values a.program.types u ≡ true) (same (sym from.is ∙ from.place target there.held there.place) ∙ s) walks)
+      go (by_temporary none initial) (to_struct number s) =
+          walker_no_struct_given a.program.types from.ty walks number (typed_in form).category
+          (subst (λ (x : ExprType). fits_at_all (fits a.program.types (ty.Struct number) x (typed_in form).category) ≡ true) from.is (subst (λ (t : Ty). is_given a.program.types t (typed_in form) ≡ true) s initial))
       go (by_temporary none initial) (to_value v) =
           false≢true (sym (walker_is a.program.types from.ty from.walker).value ∙ subst (λ (x : ExprType). is_number x ≡ true) from.is (given_number a.program.types (type_at a.program.types target) (typed_in form) v initial))
       go (by_temporary none initial) (to_owner o) =

@@ -13,16 +13,15 @@ use Rattle.life_typed.specs.BaseTypes.{type_at}
 use Rattle.life_typed.specs.declared.typed_program.TypedLocal.{TypedLocal}
 use Rattle.life_core.specs.Function.{Function}
 use Rattle.life_core.specs.Operands.{Place as Aimed, object_named, whole}
-use Rattle.life_core.specs.Step.{Aim, Live}
+use Rattle.life_core.specs.Step.{Aim}
 use Rattle.life_core.specs.Tree.{Acts as Act, Tree, trees}
 use Rattle.life_core.specs.declared.program.Local.{Local}
 use Rattle.life_proper.specs.Checking.{flow}
 use Rattle.life_proper.specs.Knowing.{known_at}
-use Rattle.life_proper.specs.ReadyKnown.{can_leave}
+use Rattle.life_proper.specs.ReadyKnown.{can_leave, set_known}
 use Rattle.life_proper.specs.WellFormed.{is_source_of}
 use Rattle.life_proper.specs.declared.known.Known.{Known}
 use Rattle.life_proper.specs.declared.known.Known.TheVariants as known
-use Rattle.life_proper.proofs.ReadyTests.{one_known}
 use Rattle.life_well_typed.specs.Visible.{Visible, with_next}
 use Rattle.life_writer.specs.Around.{Around, result_local}
 use Rattle.life_writer.specs.Uses.{Remaining}
@@ -42,10 +41,9 @@ use Rattle.life_elab_laws.proofs.Following.{Adds, Follows, adds_settled, adds_th
 use Rattle.life_elab_laws.proofs.FormedVariables.{keeps_all}
 use Rattle.life_elab_laws.proofs.Fronts.{IsFront, front_append, front_itself, front_length, last_there}
 use Rattle.life_elab_laws.proofs.Gifts.{Gift, IsPlaceOf, a_place, both, nothing}
-use Rattle.life_elab_laws.proofs.GivenApart.{Apart, codes_apart}
+use Rattle.life_elab_laws.proofs.GivenApart.{Apart, codes_apart, AreApart}
 use Rattle.life_elab_laws.proofs.GivingBack.{fine_known}
 use Rattle.life_elab_laws.proofs.Growing.{Begins, begins_before}
-use Rattle.life_elab_laws.proofs.Held.{blank_there}
 use Rattle.life_elab_laws.proofs.Knowledge.{at_set, beside_set, ready_set, set_length}
 use Rattle.life_elab_laws.proofs.MadeForms.{BuildsIn, Found, gift_of, one_new}
 use Rattle.life_elab_laws.proofs.Making.{Alive, IsOpen, opened_later}
@@ -62,6 +60,9 @@ use Rattle.life_elab_laws.proofs.TemporaryEnds.{temporary_ends}
 use Rattle.life_elab_laws.proofs.Types.{types_before}
 use Rattle.life_elab_laws.proofs.VariablePlaces.{Stands}
 use Rattle.life_elab_laws.proofs.WrittenLocals.{FitsTemporary, locals_added, own_added, owner_below}
+use Rattle.life_core.specs.declared.instr.Form.TheVariants.{Plain}
+use Rattle.life_elab_laws.proofs.Handing.{GoesHanding, RunsHanding, handed_apart}
+use Rattle.life_elab_laws.proofs.OwnLocals.{first_own}
 
 module _ (a : Around) (types : Types) (texts : ℕ) (fs : List Function) (f : Function) (setting : Setting a types fs f) (v : Visible) (in_loop : Bool) (last : Place)
     (u : TypedLocal) (s : State) (h : Follows types f a v s) (at : slice_get a.function.locals v.declared ≡ Some u) (built : is_served_variable a.program.types u.ty ≡ true)
@@ -86,7 +87,7 @@ module _ (a : Around) (types : Types) (texts : ℕ) (fs : List Function) (f : Fu
   there = settled types f s w.state
 
   first : Follows types f a v there
-  first = follows_settled types f a v s w.state is.part.grown h
+  first = follows_settled types f a v s w.state is.hands.grown h
 
   pub within : HasPartsBelow w.state.types (length w.state.types.types) (type_at a.program.types target)
   within = owner_below a.program.types w.state.types (front_length a.program.types.types w.state.types.types first.stands.table) (type_at a.program.types target) owner
@@ -102,7 +103,7 @@ module _ (a : Around) (types : Types) (texts : ℕ) (fs : List Function) (f : Fu
 
   -- it has come to life
   abbrev begun : State
-  begun = emit place (Live x is.form) kept
+  begun = emit (is.comes.at place) (is.comes.step x) kept
 
   abbrev there_kept : State
   there_kept = with_temporary a types texts fs f place t fits there within
@@ -110,16 +111,17 @@ module _ (a : Around) (types : Types) (texts : ℕ) (fs : List Function) (f : Fu
   second : Follows types f a v there_kept
   second = follows_temporary a types texts fs f place t fits there within v first
 
-  before : ArePending w.state
-  before = is.part.grown.pends h.stands.pends
+  before : ArePending (first_own a) w.state
+  before = is.hands.grown.pends _ h.stands.pends
 
   below : (y : ℕ) → Among y w.state.pending → y < x
   below y m = let was = before.each y m in slice_get_within w.state.locals y was.local was.there
 
-  begun_pends : ArePending begun
+  begun_pends : ArePending (first_own a) begun
   begun_pends = record {
+    past = omega (arith, before.past, length-append w.state.locals (tl ∷ []));
     ascend = before.ascend;
-    each = λ y m. temporary_later w.state.locals begun.locals w.state.types.types begun.types.types y (front_append w.state.locals (tl ∷ [])) (types_before w.state.types.types t) (before.each y m);
+    each = λ y m. temporary_later _ w.state.locals begun.locals w.state.types.types begun.types.types y (front_append w.state.locals (tl ∷ [])) (types_before w.state.types.types t) (before.each y m);
     beside = λ y m c. elim (Contains-push_cases w.state.living x y c) [ inl old ↦ before.beside y m old | inr e ↦ let lt = below y m in omega (arith, e, lt) ];
   }
 
@@ -135,14 +137,14 @@ module _ (a : Around) (types : Types) (texts : ℕ) (fs : List Function) (f : Fu
   }
 
   part : Part types texts fs f (both types texts fs f Q (a_place types texts fs f t false)) (is.found, object_named x) None begun (gives tt (is.act place (object_named x) begun)) (nothing types texts fs f)
-  part = is.acts place (object_named x) begun stood (λ n c. refl) (one_new a v.visible types texts fs f setting s x is.part.grown.count)
+  part = is.acts place (object_named x) begun stood (λ n c. refl) (one_new a v.visible types texts fs f setting s x h.stands.opened is.hands.grown.count)
 
   -- it is built
   abbrev acted : State
   acted = is.act place (object_named x) begun
 
-  pends : ArePending acted
-  pends = part.grown.pends begun_pends
+  pends : ArePending (first_own a) acted
+  pends = part.grown.pends _ begun_pends
 
   -- ---- nothing was pending before
 
@@ -207,17 +209,17 @@ module _ (a : Around) (types : Types) (texts : ℕ) (fs : List Function) (f : Fu
   finished_is = ap (λ (r : State). record r { pending = take n acted.pending }) e.written
 
   abbrev comes : List Tree
-  comes = Act place (Live x is.form) ∷ []
+  comes = Act (is.comes.at place) (is.comes.step x) ∷ []
 
   abbrev aims : List Tree
   aims = Act place (Aim (whole y) (Aimed (object_named x))) ∷ []
 
   abbrev all_code : List Tree
-  all_code = is.part.code ++ (comes ++ (part.code ++ (aims ++ e.code)))
+  all_code = is.hands.code ++ (comes ++ (part.code ++ (aims ++ e.code)))
 
   adds : Adds types f s (with_new l level)
   adds =
-      adds_then types f s there (with_new l level) (adds_settled types f s w.state is.part.grown)
+      adds_then types f s there (with_new l level) (adds_settled types f s w.state is.hands.grown)
       (adds_then types f there there_kept (with_new l level) (adds_temporary a types texts fs f place t fits there within v first)
       (adds_then types f there_kept level (with_new l level)
       (record {
@@ -238,7 +240,7 @@ module _ (a : Around) (types : Types) (texts : ℕ) (fs : List Function) (f : Fu
   x_living = subst (λ (ys : List ℕ). Contains ys x) (sym part.grown.living) (Contains-push w.state.living x)
 
   opened : IsOpen w.state
-  opened = opened_later s w.state is.part.grown h.stands.opened
+  opened = opened_later s w.state is.hands.grown h.stands.opened
 
   opened_acted : IsOpen acted
   opened_acted = opened_later begun acted part.grown stood.opened
@@ -276,8 +278,8 @@ module _ (a : Around) (types : Types) (texts : ℕ) (fs : List Function) (f : Fu
     reference_there : slice_get f.locals y ≡ Some l
     reference_there = b.locals y l (last_there acted.locals l)
 
-    found_first : Runs types texts fs f (nothing types texts fs f) tt None s (gives is.found w.state) Q is.part.code
-    found_first = is.part.runs (begins_before_it a types texts fs f place t fits w.state within begins) tt
+    found_first : RunsHanding types texts fs f (nothing types texts fs f) tt is.over s (gives is.found w.state) Q is.hands.code
+    found_first = is.hands.runs (begins_before_it a types texts fs f place t fits w.state within begins) tt
 
     is_place : IsPlaceOf types texts fs f t false (object_named x)
     is_place = kept_place a types texts fs f place t fits w.state within begins
@@ -297,19 +299,19 @@ module _ (a : Around) (types : Types) (texts : ℕ) (fs : List Function) (f : Fu
 
     ends_fine : IsFine types texts fs f e.code
     ends_fine =
-        e.fine (all_among (ends_here types texts fs f) over (λ z m. temporary_ends types texts fs f setting.registers z (temporary_later acted.locals f.locals acted.types.types types.types z old.locals old.table (pends.each z (over_pending z m)))))
+        e.fine (all_among (ends_here types texts fs f) over (λ z m. temporary_ends types texts fs f (first_own a) setting.own z (temporary_later _ acted.locals f.locals acted.types.types types.types z old.locals old.table (pends.each z (over_pending z m)))))
 
     all_fine : IsFine types texts fs f all_code
     all_fine =
-        fine_append types texts fs f is.part.code (comes ++ (part.code ++ (aims ++ e.code))) found_first.fine
+        fine_append types texts fs f is.hands.code (comes ++ (part.code ++ (aims ++ e.code))) found_first.fine
         (fine_append types texts fs f comes (part.code ++ (aims ++ e.code))
-        (fine_acts types texts fs f place (Live x is.form) (temporary_lives a types texts fs f place t fits w.state within begins is.form))
+        (is.comes.fine found_first.typed place x (temporary_lives a types texts fs f place t fits w.state within begins Plain).formed is_place)
         (fine_append types texts fs f part.code (aims ++ e.code) acts_then.fine (fine_append types texts fs f aims e.code aims_fine ends_fine)))
 
     -- ---- on a way
 
     module _ (k : List Known) (knows : Knows f s.living k) where
-      g : Goes types texts fs f None s (gives is.found w.state) Q is.part.code k
+      g : GoesHanding types texts fs f is.over s (gives is.found w.state) Q is.hands.code k
       g = found_first.goes k (knows_alive types f a v s h k knows) tt
 
       lt : x < length g.after
@@ -363,9 +365,9 @@ module _ (a : Around) (types : Types) (texts : ℕ) (fs : List Function) (f : Fu
 
       falls : Falls types f all_code k final
       falls =
-          falls_append types f is.part.code (comes ++ (part.code ++ (aims ++ e.code))) k g.after final g.falls
-          (falls_append types f comes (part.code ++ (aims ++ e.code)) g.after j final
-          (falls_filling types f place (Live x is.form) x g.after (record { ready = one_known known.Blank g.after x (blank_there g.after x blank); after = refl }))
+          falls_append types f is.hands.code (comes ++ (part.code ++ (aims ++ e.code))) k (set_known known.Ready is.over g.after) final g.falls
+          (falls_append types f comes (part.code ++ (aims ++ e.code)) (set_known known.Ready is.over g.after) j final
+          (is.comes.falls found_first place x g.after g.gives g.blank blank (λ m. let far = is.hands.below x m in omega (arith, far)))
           (falls_append types f part.code (aims ++ e.code) j r.after final r.falls
           (falls_append types f aims e.code r.after i final
           (falls_filling types f place (Aim (whole y) (Aimed (object_named x))) y r.after
@@ -398,15 +400,15 @@ module _ (a : Around) (types : Types) (texts : ℕ) (fs : List Function) (f : Fu
           ]
 
       all_apart : Apart f s finished (trees all_code)
-      all_apart =
-          codes_apart f s w.state finished is.part.code (comes ++ (part.code ++ (aims ++ e.code))) g.apart
-          (codes_apart f w.state begun finished comes (part.code ++ (aims ++ e.code)) (kept_none a types texts fs f place t fits w.state within)
+      all_apart under =
+          handed_apart types texts fs f is.over [] s w.state begun finished is.hands.code comes (part.code ++ (aims ++ e.code)) under (λ z m. inr (is.comes.named place x z m)) (g.apart under)
+          (λ low. subst (λ (xs : List ℕ). AreApart f w.state begun xs []) (sym (is.comes.looks place x g.after g.gives)) (kept_none a types texts fs f place t fits w.state within low))
           (codes_apart f begun acted finished part.code (aims ++ e.code) r.apart
           (codes_apart f acted news finished aims e.code aims_apart
-          (e.apart news finished (omega arith) (λ z o. elim o [ inl m ↦ inl (inl m) | inr m ↦ inl (inr (among_take n acted.pending z m)) ])))))
+          (e.apart news finished (omega arith) (λ z o. elim o [ inl m ↦ inl (inl m) | inr m ↦ inl (inr (among_take n acted.pending z m)) ]))))
 
     first_begins : Begins types f s
-    first_begins = begins_before types f s w.state is.part.grown (begins_before_it a types texts fs f place t fits w.state within begins)
+    first_begins = begins_before types f s w.state is.hands.grown (begins_before_it a types texts fs f place t fits w.state within begins)
 
     acting : Acting types texts fs f in_loop s finished all_code
     acting = record {
@@ -426,16 +428,16 @@ module _ (a : Around) (types : Types) (texts : ℕ) (fs : List Function) (f : Fu
     locals = λ are.
         own_added types a acted l (record { number = v.declared; variable = u; there = at; of = its_local a u })
         (locals_added types a begun acted part.grown.types part.registers
-        (temporary_written a types texts fs f place t fits w.state within (locals_added types a s w.state is.part.grown.types is.part.registers are)));
-    order = order_then s.types w.state.types acted.types is.part.registers.1 (order_then w.state.types kept.types acted.types (type_ordered w.state.types t within) part.registers.1);
+        (temporary_written a types texts fs f place t fits w.state within (locals_added types a s w.state is.hands.grown.types is.hands.registers are)));
+    order = order_then s.types w.state.types acted.types is.hands.registers.1 (order_then w.state.types kept.types acted.types (type_ordered w.state.types t within) part.registers.1);
     follows = new;
     code = all_code;
     written =
-        ap (λ (c : List Tree). (c ++ aims) ++ e.code) (part.written ∙ ap (λ (c : List Tree). (c ++ comes) ++ part.code) is.part.written)
-        ∙ append_assoc (((s.code ++ is.part.code) ++ comes) ++ part.code) aims e.code
-        ∙ append_assoc ((s.code ++ is.part.code) ++ comes) part.code (aims ++ e.code)
-        ∙ append_assoc (s.code ++ is.part.code) comes (part.code ++ (aims ++ e.code))
-        ∙ append_assoc s.code is.part.code (comes ++ (part.code ++ (aims ++ e.code)));
+        ap (λ (c : List Tree). (c ++ aims) ++ e.code) (part.written ∙ ap (λ (c : List Tree). (c ++ comes) ++ part.code) is.hands.written)
+        ∙ append_assoc (((s.code ++ is.hands.code) ++ comes) ++ part.code) aims e.code
+        ∙ append_assoc ((s.code ++ is.hands.code) ++ comes) part.code (aims ++ e.code)
+        ∙ append_assoc (s.code ++ is.hands.code) comes (part.code ++ (aims ++ e.code))
+        ∙ append_assoc s.code is.hands.code (comes ++ (part.code ++ (aims ++ e.code)));
     acts = acting;
     returns = λ b gives o k. fine_known types f (result_local a) texts fs all_code (all_fine b) o;
   }

@@ -2,7 +2,7 @@
 use Rattle.std.proofs.Common.{◌≡◌, ◌<◌, ◌⊎◌, inl, inr, ℕ, Bool, true, false, List, [], ◌∷◌, ◌++◌, Contains, length, slice_get, slice_set, take, Some, refl, sym, ap, ◌∙◌, subst, arith, append_assoc, length-append, append-nil}
 use Rattle.std.proofs.lemmas.Bool.{or_left}
 use Rattle.std.proofs.lemmas.List.Elements.{Contains-append_left, Contains-push_cases}
-use Rattle.std.proofs.lemmas.Option.{slice_get_within}
+use Rattle.std.proofs.lemmas.Option.{slice_get_within, same_Some}
 use Rattle.life_served.specs.Served.{is_served_variable, is_target}
 use Rattle.life_types.specs.Trees.{HasPartsBelow}
 use Rattle.life_types.specs.TypeTests.{is_value}
@@ -69,6 +69,7 @@ use Rattle.life_elab_laws.proofs.Targets.{value_target}
 use Rattle.life_elab_laws.proofs.TemporaryBirths.{no_reference}
 use Rattle.life_elab_laws.proofs.Handing.{Handing, HandingAlone, RunsHanding, handed_apart}
 use Rattle.life_proper.specs.GivenOver.{given_spot}
+use Rattle.life_elab_laws.proofs.OwnLocals.{first_own}
 
 -- what a value is of is in the table
 pub value_below : (table : Types) (t : Ty) → is_value t ≡ true → HasPartsBelow table (length table.types) t
@@ -150,9 +151,14 @@ module _ (a : Around) (types : Types) (texts : ℕ) (fs : List Function) (f : Fu
       lives = Contains-append_left s.living (length s.locals ∷ []) (variable s x) is.lives;
     }
 
-    lives : (y : ℕ) → Among y s.living ⊎ Among y (length s.locals ∷ []) → IsLiving with_temporary y
-    lives y (inl m) = let is = h.living y m in record { local = is.local; there = front_append s.locals (temporary_local ∷ []) y is.local is.there; lasts = is.lasts }
-    lives y (inr (inl e)) = record { local = temporary_local; there = subst (λ (z : ℕ). slice_get with_temporary.locals z ≡ Some temporary_local) e (last_there s.locals temporary_local); lasts = refl }
+    lives : (y : ℕ) → Among y s.living ⊎ Among y (length s.locals ∷ []) → IsLiving (first_own a) with_temporary y
+    lives y (inl m) = let is = h.living y m in record {
+      beyond = λ z there none. is.beyond is.local is.there (ap (λ (r : Local). r.name) (same_Some is.local z (sym (front_append s.locals (temporary_local ∷ []) y is.local is.there) ∙ there)) ∙ none);
+      local = is.local;
+      there = front_append s.locals (temporary_local ∷ []) y is.local is.there;
+      lasts = is.lasts;
+    }
+    lives y (inr (inl e)) = record { beyond = λ z there none. omega (arith, e, h.stands.pends.past); local = temporary_local; there = subst (λ (z : ℕ). slice_get with_temporary.locals z ≡ Some temporary_local) e (last_there s.locals temporary_local); lasts = refl }
     lives y (inr (inr none)) = absurd none
 
     sorted : Begins types f with_temporary → (y : ℕ) → Among y s.living ⊎ Among y (length s.locals ∷ []) → may_end types f y ≡ true
@@ -167,7 +173,7 @@ module _ (a : Around) (types : Types) (texts : ℕ) (fs : List Function) (f : Fu
       stands = record {
         table = front_then a.program.types.types s.types.types with_temporary.types.types h.stands.table (types_before s.types.types t);
         opened = opened;
-        pends = none_pending with_temporary.locals with_temporary.types.types with_temporary.living s.pending h.pending;
+        pends = none_pending _ with_temporary.locals with_temporary.types.types with_temporary.living s.pending (omega (arith, h.stands.pends.past, length-append s.locals (temporary_local ∷ []))) h.pending;
         seen = λ x w c at. moved x w (h.stands.seen x w c at);
         apart = h.stands.apart;
       };
@@ -279,11 +285,11 @@ module _ (a : Around) (types : Types) (texts : ℕ) (fs : List Function) (f : Fu
       abbrev done : State
       done = with_code (w.state.code ++ code) (with_new l kept)
 
-      can : TemporariesEnd types texts fs f
-      can = temporary_ends types texts fs f setting.registers
+      can : TemporariesEnd types texts fs f (first_own a)
+      can = temporary_ends types texts fs f (first_own a) setting.own
 
       abbrev ends : List ℕ
-      ends = ending types texts fs f s w.state made.grown h.stands.pends last
+      ends = ending types texts fs f s w.state made.grown _ h.stands.pends last
 
       e : IsEnded types texts fs f ends last done
       e = ended types texts fs f ends last done
@@ -299,10 +305,10 @@ module _ (a : Around) (types : Types) (texts : ℕ) (fs : List Function) (f : Fu
 
       -- neither is one of those that end
       x_beside : Among x ends → ⊥
-      x_beside m = let lt = ends_below types texts fs f s w.state made.grown h.stands.pends last x m in omega (arith, lt)
+      x_beside m = let lt = ends_below types texts fs f s w.state made.grown _ h.stands.pends last x m in omega (arith, lt)
 
       y_beside : Among y ends → ⊥
-      y_beside m = let lt = ends_below types texts fs f s w.state made.grown h.stands.pends last y m in omega (arith, lt, length-append w.state.locals (temporary_local a types texts fs f place t (inl worth) w.state (value_below w.state.types t worth) ∷ []))
+      y_beside m = let lt = ends_below types texts fs f s w.state made.grown _ h.stands.pends last y m in omega (arith, lt, length-append w.state.locals (temporary_local a types texts fs f place t (inl worth) w.state (value_below w.state.types t worth) ∷ []))
 
       module _ (b : Begins types f (with_new l kept)) where
         begun : Begins types f kept
@@ -329,7 +335,7 @@ module _ (a : Around) (types : Types) (texts : ℕ) (fs : List Function) (f : Fu
             })
 
         ends_fine_here : IsFine types texts fs f e.code
-        ends_fine_here = e.fine (all_among (ends_here types texts fs f) ends (λ z m. can z (ends_temporary types texts fs f s w.state made.grown h.stands.pends last before z m)))
+        ends_fine_here = e.fine (all_among (ends_here types texts fs f) ends (λ z m. can z (ends_temporary types texts fs f s w.state made.grown _ h.stands.pends last before z m)))
 
         all_fine : IsFine types texts fs f all_code
         all_fine =
@@ -341,7 +347,7 @@ module _ (a : Around) (types : Types) (texts : ℕ) (fs : List Function) (f : Fu
         went : (k : List Known) → Knows f s.living k → More k → Leaves f in_loop (kept.living ++ y ∷ []) (take s.outside s.living) (flow types f (trees all_code) (Some k))
         went k knows more =
             let g = part.goes k (knows_alive types f a v s h k knows) more in
-            let mid : Knows f w.state.living (set_blank ends g.after) = alive_knows types f there_first (set_blank ends g.after) first.pending (ends_alive types texts fs f s w.state made.grown h.stands.pends last g.after g.alive) in
+            let mid : Knows f w.state.living (set_blank ends g.after) = alive_knows types f there_first (set_blank ends g.after) first.pending (ends_alive types texts fs f s w.state made.grown _ h.stands.pends last g.after g.alive) in
             let blank : known_at g.after x ≡ known.Blank = sym (blank_beside ends g.after x x_beside) ∙ blank_temporary a types texts fs f place t (inl worth) there_first (value_below there_first.types t worth) v first begun (set_blank ends g.after) mid in
             let y_there : y < length g.after = omega (arith, g.alive.sized, new_below types f a setting.front v u l (its_local a u) there_kept second at built b) in
             let x_lower : x < y = omega (arith, length-append w.state.locals (temporary_local a types texts fs f place t (inl worth) w.state (value_below w.state.types t worth) ∷ [])) in
@@ -362,8 +368,8 @@ module _ (a : Around) (types : Types) (texts : ℕ) (fs : List Function) (f : Fu
             let fills = filling_fills f (λ p. Aim p (Aimed (object_named x))) y i (aimed_filling f (object_named x) y i (record { local = x; uses = refl; below = x_lower; held = at_set g.after x known.Ready x_there })) y
             (reference_kept a types texts fs f setting.front u kept b target constant found wide) in
             let ready : can_leave j ends ≡ true =
-            ends_there ends j (ends_apart types texts fs f s w.state made.grown h.stands.pends last)
-            (λ z m. ready_set i y z y_within (ready_set g.after x z x_there (g.alive.pending z (ends_pending types texts fs f s w.state made.grown h.stands.pends last z m)))) in
+            ends_there ends j (ends_apart types texts fs f s w.state made.grown _ h.stands.pends last)
+            (λ z m. ready_set i y z y_within (ready_set g.after x z x_there (g.alive.pending z (ends_pending types texts fs f s w.state made.grown _ h.stands.pends last z m)))) in
             subst (Leaves f in_loop (kept.living ++ y ∷ []) (take s.outside s.living))
             (sym (falls_append types f made.code (code ++ e.code) k (set_known known.Ready over g.after) (set_blank ends j) g.falls
             (falls_append types f code e.code (set_known known.Ready over g.after) j (set_blank ends j)
@@ -386,7 +392,7 @@ module _ (a : Around) (types : Types) (texts : ℕ) (fs : List Function) (f : Fu
         known_apart : (k : List Known) → Knows f s.living k → More k → Apart f s finished (trees all_code)
         known_apart k knows more under =
             let g = part.goes k (knows_alive types f a v s h k knows) more in
-            let mid : Knows f w.state.living (set_blank ends g.after) = alive_knows types f there_first (set_blank ends g.after) first.pending (ends_alive types texts fs f s w.state made.grown h.stands.pends last g.after g.alive) in
+            let mid : Knows f w.state.living (set_blank ends g.after) = alive_knows types f there_first (set_blank ends g.after) first.pending (ends_alive types texts fs f s w.state made.grown _ h.stands.pends last g.after g.alive) in
             let blank : known_at g.after x ≡ known.Blank = sym (blank_beside ends g.after x x_beside) ∙ blank_temporary a types texts fs f place t (inl worth) there_first (value_below there_first.types t worth) v first begun (set_blank ends g.after) mid in
             handed_apart types texts fs f over given s w.state (with_new l kept) finished made.code code e.code under
             (λ z m. named z (subst (Among z) (parts_of given_spot brings aims ∙ append-nil (given_of (trees brings))) m)) (g.apart under)

@@ -9,17 +9,14 @@ use Rattle.life_types.specs.declared.ty.Ty.{Ty}
 use Rattle.life_typed.specs.declared.typed_program.TypedLocal.{TypedLocal}
 use Rattle.life_core.specs.Function.{Function}
 use Rattle.life_core.specs.Operands.{object_named}
-use Rattle.life_core.specs.Step.{Live}
 use Rattle.life_core.specs.Tree.{Acts as Act, Tree, trees}
-use Rattle.life_core.specs.declared.instr.Form.{Form}
 use Rattle.life_core.specs.declared.program.Local.{Local}
 use Rattle.life_proper.specs.Checking.{flow}
 use Rattle.life_proper.specs.Knowing.{known_at}
-use Rattle.life_proper.specs.ReadyKnown.{can_leave}
+use Rattle.life_proper.specs.ReadyKnown.{can_leave, set_known}
 use Rattle.life_proper.specs.WellFormed.{can_live}
 use Rattle.life_proper.specs.declared.known.Known.{Known}
 use Rattle.life_proper.specs.declared.known.Known.TheVariants as known
-use Rattle.life_proper.proofs.ReadyTests.{one_known}
 use Rattle.life_well_typed.specs.Visible.{Visible, with_next}
 use Rattle.life_writer.specs.Around.{Around, result_local}
 use Rattle.life_writer.specs.Variables.{end_pending, variable_local}
@@ -31,30 +28,34 @@ use Rattle.life_elab_laws.proofs.Emitting.{keeps_set}
 use Rattle.life_elab_laws.proofs.EndSteps.{IsEnded, ended, ends_here}
 use Rattle.life_elab_laws.proofs.Ending.{blank_beside, blank_in, blank_length, ends_there, set_blank}
 use Rattle.life_elab_laws.proofs.Exits.{Knows, Leaves, leaves_falling, leaves_may}
-use Rattle.life_elab_laws.proofs.Falling.{Falls, falls_append, falls_filling}
+use Rattle.life_elab_laws.proofs.Falling.{Falls, falls_append}
 use Rattle.life_elab_laws.proofs.Following.{Adds, Follows, adds_settled, adds_then, follows_again, follows_settled, knows_alive, settled, take_itself}
 use Rattle.life_elab_laws.proofs.Fronts.{IsFront, front_append, front_itself, front_then, last_there}
 use Rattle.life_elab_laws.proofs.Gifts.{Gift, IsPlaceOf, a_place, both, nothing}
 use Rattle.life_elab_laws.proofs.GivingBack.{fine_known}
-use Rattle.life_elab_laws.proofs.GivenApart.{Apart, codes_apart}
+use Rattle.life_elab_laws.proofs.GivenApart.{Apart, codes_apart, AreApart}
 use Rattle.life_elab_laws.proofs.Growing.{Begins, begins_before}
-use Rattle.life_elab_laws.proofs.Held.{blank_there}
 use Rattle.life_elab_laws.proofs.Knowledge.{at_set, beside_set, set_length}
 use Rattle.life_elab_laws.proofs.Making.{Alive, IsOpen, opened_later}
 use Rattle.life_elab_laws.proofs.OrderedTypes.{order_then}
-use Rattle.life_elab_laws.proofs.Parts.{Goes, Makes, Part, Runs}
+use Rattle.life_elab_laws.proofs.Parts.{Goes, Part, Runs, Makes}
 use Rattle.life_elab_laws.proofs.PendingTemporaries.{ArePending, temporary_later}
 use Rattle.life_elab_laws.proofs.Setting.{Setting}
 use Rattle.life_elab_laws.proofs.Shaped.{is_passing, named_lasts}
-use Rattle.life_elab_laws.proofs.Shaping.{IsFine, fine_acts, fine_append}
+use Rattle.life_elab_laws.proofs.Shaping.{IsFine, fine_append}
 use Rattle.life_elab_laws.proofs.SomeKnown.{some_known, some_knows}
 use Rattle.life_elab_laws.proofs.TemporaryEnds.{temporary_ends}
 use Rattle.life_elab_laws.proofs.VariablePlaces.{Stands}
 use Rattle.life_elab_laws.proofs.WrittenLocals.{locals_added, own_added}
+use Rattle.life_elab_laws.proofs.Coming.{Comes, lived_comes}
+use Rattle.life_elab_laws.proofs.Handing.{GoesHanding, HandingAlone, RunsHanding, handed_apart, handing_none}
+use Rattle.life_core.specs.Step.{Live}
+use Rattle.life_core.specs.declared.instr.Form.{Form}
+use Rattle.life_elab_laws.proofs.OwnLocals.{first_own}
 
 module _ (a : Around) (types : Types) (texts : ℕ) (fs : List Function) (f : Function) (setting : Setting a types fs f) (v : Visible) (in_loop : Bool) (last : Place)
     (u : TypedLocal) (s : State) (h : Follows types f a v s) (at : slice_get a.function.locals v.declared ≡ Some u) (built : is_served_variable a.program.types u.ty ≡ true) where
-  module _ {A : Type 0} (w : Gives A) (Q : Gift types texts fs f A) (made : Makes types texts fs f None s w Q) (form : Form) where
+  module _ {A : Type 0} (handed : List ℕ) (w : Gives A) (Q : Gift types texts fs f A) (made : HandingAlone types texts fs f handed s w Q) (t : Ty) (come : Comes types texts fs f handed s w Q made t) where
     -- its number, its local, and where it has come to life
     abbrev x : ℕ
     x = length w.state.locals
@@ -63,10 +64,10 @@ module _ (a : Around) (types : Types) (texts : ℕ) (fs : List Function) (f : Fu
     l = variable_local a u
 
     abbrev pub begun : State
-    begun = emit u.place (Live x form) (with_new l w.state)
+    begun = emit (come.at u.place) (come.step x) (with_new l w.state)
 
     -- what stands there, and what makes that of it
-    module _ (t : Ty) (act : State → State) (lives : Begins types f begun → can_live types texts fs f x ≡ true) (is_place : Begins types f begun → IsPlaceOf types texts fs f t false (object_named x))
+    module _ (act : State → State) (lives : Begins types f begun → can_live types texts fs f x ≡ true) (is_place : Begins types f begun → IsPlaceOf types texts fs f t false (object_named x))
         (builds : Stands a v.visible begun → Part types texts fs f (both types texts fs f Q (a_place types texts fs f t false)) (w.given, object_named x) None begun (gives tt (act begun)) (nothing types texts fs f)) where
       -- without its temporaries
       abbrev there : State
@@ -77,16 +78,17 @@ module _ (a : Around) (types : Types) (texts : ℕ) (fs : List Function) (f : Fu
 
       -- ---- what is pending
 
-      before : ArePending w.state
-      before = made.grown.pends h.stands.pends
+      before : ArePending (first_own a) w.state
+      before = made.grown.pends _ h.stands.pends
 
       below : (y : ℕ) → Among y w.state.pending → y < x
       below y m = let is = before.each y m in slice_get_within w.state.locals y is.local is.there
 
-      begun_pends : ArePending begun
+      begun_pends : ArePending (first_own a) begun
       begun_pends = record {
+        past = omega (arith, before.past, length-append w.state.locals (l ∷ []));
         ascend = before.ascend;
-        each = λ y m. temporary_later w.state.locals begun.locals w.state.types.types w.state.types.types y (front_append w.state.locals (l ∷ [])) (front_itself w.state.types.types) (before.each y m);
+        each = λ y m. temporary_later _ w.state.locals begun.locals w.state.types.types w.state.types.types y (front_append w.state.locals (l ∷ [])) (front_itself w.state.types.types) (before.each y m);
         beside = λ y m c. elim (Contains-push_cases w.state.living x y c) [ inl old ↦ before.beside y m old | inr e ↦ let lt = below y m in omega (arith, e, lt) ];
       }
 
@@ -104,8 +106,8 @@ module _ (a : Around) (types : Types) (texts : ℕ) (fs : List Function) (f : Fu
       abbrev done : State
       done = act begun
 
-      pends : ArePending done
-      pends = part.grown.pends begun_pends
+      pends : ArePending (first_own a) done
+      pends = part.grown.pends _ begun_pends
 
       -- nothing was before
       abbrev n : ℕ
@@ -138,7 +140,7 @@ module _ (a : Around) (types : Types) (texts : ℕ) (fs : List Function) (f : Fu
       finished_is = ap (λ (r : State). record r { pending = take n done.pending }) e.written
 
       abbrev comes : List Tree
-      comes = Act u.place (Live x form) ∷ []
+      comes = Act (come.at u.place) (come.step x) ∷ []
 
       abbrev whole : List Tree
       whole = made.code ++ (comes ++ (part.code ++ e.code))
@@ -179,7 +181,7 @@ module _ (a : Around) (types : Types) (texts : ℕ) (fs : List Function) (f : Fu
         before_begun : Begins types f w.state
         before_begun = record { locals = front_then w.state.locals begun.locals f.locals (front_append w.state.locals (l ∷ [])) begins.locals; table = begins.table }
 
-        first : Runs types texts fs f (nothing types texts fs f) tt None s w Q made.code
+        first : RunsHanding types texts fs f (nothing types texts fs f) tt handed s w Q made.code
         first = made.runs before_begun tt
 
         second : Runs types texts fs f (both types texts fs f Q (a_place types texts fs f t false)) (w.given, object_named x) None begun (gives tt done) (nothing types texts fs f) part.code
@@ -187,19 +189,19 @@ module _ (a : Around) (types : Types) (texts : ℕ) (fs : List Function) (f : Fu
 
         ends_fine : IsFine types texts fs f e.code
         ends_fine =
-            e.fine (all_among (ends_here types texts fs f) over (λ y m. temporary_ends types texts fs f setting.registers y (temporary_later done.locals f.locals done.types.types types.types y b.locals b.table (pends.each y (over_pending y m)))))
+            e.fine (all_among (ends_here types texts fs f) over (λ y m. temporary_ends types texts fs f (first_own a) setting.own y (temporary_later _ done.locals f.locals done.types.types types.types y b.locals b.table (pends.each y (over_pending y m)))))
 
         all_fine : IsFine types texts fs f whole
         all_fine =
             fine_append types texts fs f made.code (comes ++ (part.code ++ e.code)) first.fine
             (fine_append types texts fs f comes (part.code ++ e.code)
-            (fine_acts types texts fs f u.place (Live x form) (record { given = refl; formed = lives begins }))
+            (come.fine first.typed u.place x (lives begins) (is_place begins))
             (fine_append types texts fs f part.code e.code second.fine ends_fine))
 
         -- ---- on a way
 
         module _ (k : List Known) (knows : Knows f s.living k) where
-          g : Goes types texts fs f None s w Q made.code k
+          g : GoesHanding types texts fs f handed s w Q made.code k
           g = first.goes k (knows_alive types f a v s h k knows) tt
 
           lt : x < length g.after
@@ -246,9 +248,9 @@ module _ (a : Around) (types : Types) (texts : ℕ) (fs : List Function) (f : Fu
 
           falls : Falls types f whole k final
           falls =
-              falls_append types f made.code (comes ++ (part.code ++ e.code)) k g.after final g.falls
-              (falls_append types f comes (part.code ++ e.code) g.after j final
-              (falls_filling types f u.place (Live x form) x g.after (record { ready = one_known known.Blank g.after x (blank_there g.after x blank); after = refl }))
+              falls_append types f made.code (comes ++ (part.code ++ e.code)) k (set_known known.Ready handed g.after) final g.falls
+              (falls_append types f comes (part.code ++ e.code) (set_known known.Ready handed g.after) j final
+              (come.falls first u.place x g.after g.gives g.blank blank (λ m. let far = made.below x m in omega (arith, far)))
               (falls_append types f part.code e.code j r.after final r.falls (e.falls r.after ready)))
 
           known_there : Knows f done.living final
@@ -267,11 +269,11 @@ module _ (a : Around) (types : Types) (texts : ℕ) (fs : List Function) (f : Fu
               ]
 
           all_apart : Apart f s finished (trees whole)
-          all_apart =
-              codes_apart f s w.state finished made.code (comes ++ (part.code ++ e.code)) g.apart
-              (codes_apart f w.state begun finished comes (part.code ++ e.code) (new_none f l w.state)
+          all_apart under =
+              handed_apart types texts fs f handed [] s w.state begun finished made.code comes (part.code ++ e.code) under (λ y m. inr (come.named u.place x y m)) (g.apart under)
+              (λ low. subst (λ (xs : List ℕ). AreApart f w.state begun xs []) (sym (come.looks u.place x g.after g.gives)) (new_none f l w.state low))
               (codes_apart f begun done finished part.code e.code r.apart
-              (e.apart done finished (omega arith) (λ y o. elim o [ inl m ↦ inl (inl m) | inr m ↦ inl (inr (among_take n done.pending y m)) ]))))
+              (e.apart done finished (omega arith) (λ y o. elim o [ inl m ↦ inl (inl m) | inr m ↦ inl (inr (among_take n done.pending y m)) ])))
 
         first_begins : Begins types f s
         first_begins = begins_before types f s w.state made.grown before_begun
@@ -309,3 +311,11 @@ module _ (a : Around) (types : Types) (texts : ℕ) (fs : List Function) (f : Fu
 
       pub built_does : Does types texts fs f a (with_next v) in_loop s (end_pending n last (act begun))
       built_does = subst (Does types texts fs f a (with_next v) in_loop s) (sym finished_is) finished_does
+
+  -- .. by itself
+  pub lived_does : {A : Type 0} (w : Gives A) (Q : Gift types texts fs f A) (made : Makes types texts fs f None s w Q) (form : Form) (t : Ty) (act : State → State) → let begun = emit u.place (Live (length w.state.locals) form) (with_new (variable_local a u) w.state) in
+      (Begins types f begun → can_live types texts fs f (length w.state.locals) ≡ true) → (Begins types f begun → IsPlaceOf types texts fs f t false (object_named (length w.state.locals)))
+      → (Stands a v.visible begun → Part types texts fs f (both types texts fs f Q (a_place types texts fs f t false)) (w.given, object_named (length w.state.locals)) None begun (gives tt (act begun)) (nothing types texts fs f))
+      → Does types texts fs f a (with_next v) in_loop s (end_pending (length s.pending) last (act begun))
+  lived_does w Q made form t act lives is_place builds =
+      built_does [] w Q (handing_none types texts fs f (nothing types texts fs f) tt s w Q made) t (lived_comes types texts fs f s w Q made form t) act lives is_place builds

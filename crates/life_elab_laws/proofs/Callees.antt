@@ -1,5 +1,5 @@
 -- What the core functions of a program that is served take and give.
-use Rattle.std.proofs.Common.{◌≡◌, ◌<◌, ◌≤◌, ℕ, zero, suc, true, false, List, [], ◌∷◌, ◌++◌, length, map, slice_get, take, Option, Some, None, refl, sym, ap, ◌∙◌, subst, unwrap_or, arith, Bool}
+use Rattle.std.proofs.Common.{◌≡◌, ◌<◌, ◌≤◌, ℕ, zero, suc, true, false, List, [], ◌∷◌, ◌++◌, length, map, slice_get, take, Option, Some, None, refl, sym, ap, ◌∙◌, subst, unwrap_or, arith, Bool, if◌then◌else◌}
 use Rattle.std.proofs.lemmas.Bool.{and_parts, false≢true}
 use Rattle.std.proofs.lemmas.Option.{none-some, same_Some}
 use Rattle.life_types.specs.Pointees.{or_void, ty_of}
@@ -8,7 +8,7 @@ use Rattle.life_types.specs.Types.{Types, class, class_at}
 use Rattle.life_types.specs.declared.ty.Ty.{Ty}
 use Rattle.life_types.specs.declared.ty.Ty.TheVariants as ty
 use Rattle.life_types.specs.declared.ty.TyId.{TyId}
-use Rattle.life_served.specs.Served.{are_served_variables, is_served_function, is_served_result, is_served_statement, are_served_parameters, is_served_parameter, is_walker_of_values, takes_owners}
+use Rattle.life_served.specs.Served.{are_served_variables, is_served_function, is_served_result, is_served_statement, are_served_parameters, is_served_parameter, is_walker_of_values, takes_owners, is_owner_of_values}
 use Rattle.life_typed.specs.BaseTypes.{type_at}
 use Rattle.life_typed.specs.Ends.{ends}
 use Rattle.life_typed.specs.Programs.{FunctionForm, ProgramForm, is_main}
@@ -27,10 +27,10 @@ use Rattle.life_elab_laws.proofs.Beginning.{parameter_locals, parameters_front, 
 use Rattle.life_elab_laws.proofs.Calls.{IsCallee}
 use Rattle.life_elab_laws.proofs.Fronts.{IsFront, front_cut, front_then}
 use Rattle.life_elab_laws.proofs.HandedTypes.{IsHandedType, handed_later, handed_type}
-use Rattle.life_elab_laws.proofs.ResultTypes.{IsResultType, gives_alias, gives_walker, gives_nothing, gives_raw, gives_reference, gives_value, gives_view, past_end, result_is}
+use Rattle.life_elab_laws.proofs.ResultTypes.{IsResultType, gives_alias, gives_walker, gives_nothing, gives_raw, gives_reference, gives_value, gives_view, past_end, result_is, gives_struct, gives_owner, gives_unique}
 use Rattle.life_elab_laws.proofs.Setting.{GivesBack, asked, unasked}
 use Rattle.life_elab_laws.proofs.Types.{value_class}
-use Rattle.life_core.specs.declared.program.LocalKind.TheVariants.{Register}
+use Rattle.life_elab_laws.proofs.OwnLocals.{first_own}
 
 -- what stands in a table is the type there
 pub type_found : (types : Types) (id : TyId) (t : Ty) → slice_get types.types id.0 ≡ Some t → type_at types id ≡ t
@@ -145,6 +145,16 @@ module _ (p : ProgramForm) (of : FunctionForm) (T types : Types) (core : Functio
           walker_some (ty.Iterator target constant) w = refl
           walker_some (ty.Span target constant) w = refl
           walker_some _ w = absurd (false≢true w)
+      go (gives_owner o) = pointing (owner_some (type_at p.types of.result) o) (λ int. false≢true (subst (λ (t : Ty). is_owner_of_values p.types t ≡ true) int o))
+        where
+          owner_some : (t : Ty) → is_owner_of_values p.types t ≡ true → is_void t ≡ false
+          owner_some ty.Text o = refl
+          owner_some (ty.Vector item) o = refl
+          owner_some _ o = absurd (false≢true o)
+      go (gives_unique target unique w) = pointing (ap is_void unique) (λ int. clash (sym int ∙ unique))
+        where
+          clash : ty.Int ≡ ty.Unique target → ⊥
+          clash e = cc
       go (gives_view view) = pointing (ap is_void view) (λ int. clash (sym int ∙ view))
         where
           clash : ty.Int ≡ ty.View → ⊥
@@ -157,11 +167,23 @@ module _ (p : ProgramForm) (of : FunctionForm) (T types : Types) (core : Functio
         where
           clash : ty.Int ≡ ty.Reference target constant → ⊥
           clash e = cc
+      go (gives_struct target constant number refers structure) = pointing (ap is_void refers) (λ int. clash (sym int ∙ refers))
+        where
+          clash : ty.Int ≡ ty.Reference target constant → ⊥
+          clash e = cc
 
-  -- the local of its result is a register, and has no name
-  pub result_register : (l : Local) → slice_get core.locals core.parameters ≡ Some l → is_void (ty_of types core.result) ≡ false → (l.name ≡ None) × (l.kind ≡ Register)
-  result_register l at some =
-      let type_is : ty_of types core.result ≡ type_at p.types of.result = ap or_void result_type ∙ sym (type_found p.types of.result is.ty is.result) in
-      let register = register_there (around p of) T is.typed.parameters begun.table is.ty is.result is.built.result (sym (ap is_void type_is) ∙ some) in
+  -- what the core function gives back is what is told of it
+  result_void : is_void (ty_of types core.result) ≡ is_void (type_at p.types of.result)
+  result_void = ap is_void (ap or_void result_type ∙ sym (type_found p.types of.result is.ty is.result))
+
+  -- the local of its result has no name
+  pub result_nameless : (l : Local) → slice_get core.locals core.parameters ≡ Some l → is_void (ty_of types core.result) ≡ false → l.name ≡ None
+  result_nameless l at some =
+      let register = register_there (around p of) T is.typed.parameters begun.table is.ty is.result is.built.result (sym result_void ∙ some) in
       let same : l ≡ register.local = same_Some l register.local (sym at ∙ ap (slice_get core.locals) begun.count ∙ begun.locals (length of.parameters) register.local register.there) in
-      (ap (λ (x : Local). x.name) same ∙ register.nameless, ap (λ (x : Local). x.kind) same ∙ register.kind)
+      ap (λ (x : Local). x.name) same ∙ register.nameless
+
+  -- .. and its own locals lie beyond that
+  pub result_before : is_void (ty_of types core.result) ≡ false → core.parameters < first_own (around p of)
+  result_before some =
+      subst (λ (n : ℕ). core.parameters < n) (sym (ap (λ (b : Bool). if b then 0 else suc (length of.parameters)) (sym result_void ∙ some))) (omega (arith, begun.count))

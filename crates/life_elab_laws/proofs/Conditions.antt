@@ -105,7 +105,7 @@ module _ (types : Types) (texts : ℕ) (fs : List Function) (f : Function) where
 
   -- all that isn't a temporary is known as before
   abbrev pub Spares : (k j : List Known) → Type 0
-  Spares k j = (y : ℕ) → (IsTemporary f.locals types.types y → ⊥) → known_at j y ≡ known_at k y
+  Spares k j = (y : ℕ) → ((low : ℕ) → IsTemporary low f.locals types.types y → ⊥) → known_at j y ≡ known_at k y
 
   -- of what a part gives
   module _ {A : Type 0} (place : Place) (test : A → Test) (s : State) (w : Gives A) (Q : Gift types texts fs f A)
@@ -139,17 +139,17 @@ module _ (types : Types) (texts : ℕ) (fs : List Function) (f : Function) where
         }
 
     -- where what was made for it ends
-    module _ (before : ArePending s) (can : TemporariesEnd types texts fs f) (token : Place) where
+    module _ (low : ℕ) (before : ArePending low s) (can : TemporariesEnd types texts fs f low) (token : Place) where
       abbrev after : State
-      after = behind types texts fs f s w.state made.grown before token
+      after = behind types texts fs f s w.state made.grown low before token
 
       abbrev end_code : List Tree
-      end_code = (ending_is types texts fs f s w.state made.grown before token).code
+      end_code = (ending_is types texts fs f s w.state made.grown low before token).code
 
       ending_tests : Tests (Some token) s (behind_code place (test w.given) (taken s after))
       ending_tests = record {
-        grown = behind_grows types texts fs f s w.state made.grown before token;
-        level = λ told. ends_level types texts fs f s w.state made.grown before token;
+        grown = behind_grows types texts fs f s w.state made.grown low before token;
+        level = λ told. ends_level types texts fs f s w.state made.grown low before token;
         registers = made.registers;
         unwritten = refl;
         runs = λ b. subst (λ (c : List Tree). AsksAll s after (Then (trees (c ++ end_code)) (Asks place (test w.given)))) (sym made.written) (all b (made.runs b tt));
@@ -158,22 +158,22 @@ module _ (types : Types) (texts : ℕ) (fs : List Function) (f : Function) where
           all : Begins types f w.state → Runs types texts fs f (nothing types texts fs f) tt None (with_code [] s) w Q made.code → AsksAll s after (Then (trees (made.code ++ end_code)) (Asks place (test w.given)))
           all b r = record {
             fine = fine_behind types texts fs f (made.code ++ end_code) (Asks place (test w.given))
-                (fine_append types texts fs f made.code end_code r.fine (ends_fine types texts fs f s w.state made.grown before token b can))
+                (fine_append types texts fs f made.code end_code r.fine (ends_fine types texts fs f s w.state made.grown low before token b can))
                 (fine_asks types texts fs f place (test w.given) (formed w.given r.typed));
             goes = λ k alive. went k (r.goes k alive tt);
           }
             where
               went : (k : List Known) → (g : Goes types texts fs f None (with_code [] s) w Q made.code k) → Asked s after (Then (trees (made.code ++ end_code)) (Asks place (test w.given))) k
               went k g =
-                  let j : List Known = set_blank (ending types texts fs f s w.state made.grown before token) g.after in
-                  let keeps = keeps_then f (length s.locals) (length s.locals) None k g.after j (omega arith) g.keeps (ends_keep types texts fs f s w.state made.grown before token g.after) in
-                  let there = ends_alive types texts fs f s w.state made.grown before token g.after g.alive in
+                  let j : List Known = set_blank (ending types texts fs f s w.state made.grown low before token) g.after in
+                  let keeps = keeps_then f (length s.locals) (length s.locals) None k g.after j (omega arith) g.keeps (ends_keep types texts fs f s w.state made.grown low before token g.after) in
+                  let there = ends_alive types texts fs f s w.state made.grown low before token g.after g.alive in
                   record {
                     on = j;
                     off = j;
                     decides = decides_behind types f (made.code ++ end_code) (Asks place (test w.given)) k j j j
-                        (falls_append types f made.code end_code k g.after j g.falls (ends_fall types texts fs f s w.state made.grown before token g.after g.alive))
-                        (decides_asks types f place (test w.given) j (ready w.given (length w.state.locals) g.after j r.typed g.gives (ends_spare types texts fs f s w.state made.grown before token b g.after)));
+                        (falls_append types f made.code end_code k g.after j g.falls (ends_fall types texts fs f s w.state made.grown low before token g.after g.alive))
+                        (decides_asks types f place (test w.given) j (ready w.given (length w.state.locals) g.after j r.typed g.gives (ends_spare types texts fs f s w.state made.grown low before token b g.after)));
                     keeps_on = keeps;
                     keeps_off = keeps;
                     alive_on = there;
@@ -181,24 +181,24 @@ module _ (types : Types) (texts : ℕ) (fs : List Function) (f : Function) where
                     apart =
                         trees_apart f s after after (trees (made.code ++ end_code)) (Asks place (test w.given))
                         (codes_apart f s w.state after made.code end_code g.apart
-                        ((ending_is types texts fs f s w.state made.grown before token).apart w.state after (omega arith) (λ x o. elim o [ inl m ↦ inl (inl m) | inr m ↦ inl (inr (among_take (length s.pending) w.state.pending x m)) ])))
+                        ((ending_is types texts fs f s w.state made.grown low before token).apart w.state after (omega arith) (λ x o. elim o [ inl m ↦ inl (inl m) | inr m ↦ inl (inr (among_take (length s.pending) w.state.pending x m)) ])))
                         (same_apart f after after refl refl refl);
                     bears =
-                        bears_then f s after (trees (made.code ++ end_code)) (Asks place (test w.given)) (behind_grows types texts fs f s w.state made.grown before token)
-                        (codes_bear f s w.state made.code end_code made.grown g.bears ((ending_is types texts fs f s w.state made.grown before token).bears w.state)) (λ x object m. absurd m);
+                        bears_then f s after (trees (made.code ++ end_code)) (Asks place (test w.given)) (behind_grows types texts fs f s w.state made.grown low before token)
+                        (codes_bear f s w.state made.code end_code made.grown g.bears ((ending_is types texts fs f s w.state made.grown low before token).bears w.state)) (λ x object m. absurd m);
                   }
 
-    pub tested_part : (ends : Option Place) → ArePending s → TemporariesEnd types texts fs f → Tests ends s (behind_code place (test w.given) (taken s (end_tested (length s.pending) ends w.state)))
-    tested_part None before can = lasting_tests
-    tested_part (Some token) before can =
-        subst (λ (r : State). Tests (Some token) s (behind_code place (test w.given) (taken s r))) (sym (behind_is types texts fs f s w.state made.grown before token)) (ending_tests before can token)
+    pub tested_part : (ends : Option Place) → (low : ℕ) → ArePending low s → TemporariesEnd types texts fs f low → Tests ends s (behind_code place (test w.given) (taken s (end_tested (length s.pending) ends w.state)))
+    tested_part None low before can = lasting_tests
+    tested_part (Some token) low before can =
+        subst (λ (r : State). Tests (Some token) s (behind_code place (test w.given) (taken s r))) (sym (behind_is types texts fs f s w.state made.grown low before token)) (ending_tests low before can token)
 
   -- a number is in a register, and no temporary is a pointer
   number_spared : (t : Ty) (r : ℕ) (k j : List Known) → is_number_of types f t r ≡ true → Spares k j → known_at k r ≡ known.Ready → known_at j r ≡ known.Ready
   number_spared t r k j number spares there = spares r never ∙ there
     where
-      never : IsTemporary f.locals types.types r → ⊥
-      never is = false≢true (sym (ap (has_kind is_register) is.there ∙ ap is_register is.kind) ∙ (and_parts (is_register_at f r) _ number).0)
+      never : (low : ℕ) → IsTemporary low f.locals types.types r → ⊥
+      never low is = false≢true (sym (ap (has_kind is_register) is.there ∙ ap is_register is.kind) ∙ (and_parts (is_register_at f r) _ number).0)
 
   pointer_spared : (l : Location) (t : Ty) (n : ℕ) (k j : List Known) → is_raw t ≡ true → type_in types f l ≡ t → IsPointer l n k → Spares k j → known_at j l.local ≡ known.Ready
   pointer_spared l t n k j raw typed h spares = ap (λ (q : Location). known_at j q.local) h.is ∙ spares h.local never ∙ h.held
@@ -208,23 +208,23 @@ module _ (types : Types) (texts : ℕ) (fs : List Function) (f : Function) where
       no_pointer (ty.Raw target constant) plain = absurd (false≢true (sym plain))
       no_pointer _ plain = (refl, refl)
 
-      never : IsTemporary f.locals types.types h.local → ⊥
-      never is =
+      never : (low : ℕ) → IsTemporary low f.locals types.types h.local → ⊥
+      never low is =
           let no = no_pointer is.ty is.plain in
           false≢true (sym no.1 ∙ ap is_raw (sym (type_there types f h.local is.local is.ty is.there is.typed no.0)) ∙ ap (λ (q : Location). is_raw (type_in types f q)) (sym h.is) ∙ ap is_raw typed ∙ raw)
 
-  pub non_zero_part : (place : Place) (ends : Option Place) (t : Ty) (value : State → Gives ℕ) (s : State) → ArePending s → TemporariesEnd types texts fs f
+  pub non_zero_part : (place : Place) (ends : Option Place) (t : Ty) (value : State → Gives ℕ) (s : State) → (low : ℕ) → ArePending low s → TemporariesEnd types texts fs f low
       → Makes types texts fs f None (with_code [] s) (value (with_code [] s)) (a_number types texts fs f t) → Tests ends s (non_zero place ends value s)
-  non_zero_part place ends t value s before can made =
+  non_zero_part place ends t value s low before can made =
       tested_part place NonZero s (value (with_code [] s)) (a_number types texts fs f t)
-      (λ r n k j number h spares. uses_ready j (r ∷ []) [] (one_there j r (number_spared t r k j number spares h.1))) (λ r h. number_any types f t r h) made ends before can
+      (λ r n k j number h spares. uses_ready j (r ∷ []) [] (one_there j r (number_spared t r k j number spares h.1))) (λ r h. number_any types f t r h) made ends low before can
 
-  pub not_null_part : (place : Place) (ends : Option Place) (t : Ty) (pointer : State → Gives Location) (s : State) → is_raw t ≡ true → ArePending s → TemporariesEnd types texts fs f
+  pub not_null_part : (place : Place) (ends : Option Place) (t : Ty) (pointer : State → Gives Location) (s : State) → is_raw t ≡ true → (low : ℕ) → ArePending low s → TemporariesEnd types texts fs f low
       → Makes types texts fs f None (with_code [] s) (pointer (with_code [] s)) (a_pointer types texts fs f t) → Tests ends s (not_null place ends pointer s)
-  not_null_part place ends t pointer s raw before can made =
+  not_null_part place ends t pointer s raw low before can made =
       tested_part place NotNull s (pointer (with_code [] s)) (a_pointer types texts fs f t)
       (λ l n k j at h spares. uses_ready j (l.local ∷ []) [] (one_there j l.local (pointer_spared l t n k j raw at.typed h spares)))
-      (λ l h. or_left (is_raw (type_in types f l)) (is_unique (type_in types f l)) (ap is_raw h.typed ∙ raw)) made ends before can
+      (λ l h. or_left (is_raw (type_in types f l)) (is_unique (type_in types f l)) (ap is_raw h.typed ∙ raw)) made ends low before can
 
   -- ---- conditions of others
 
@@ -418,15 +418,15 @@ module _ (types : Types) (texts : ℕ) (fs : List Function) (f : Function) where
 
   -- ---- any condition
 
-  pub condition_part : (decision : Option (State → Gives Tree)) (t : Ty) (place : Place) (ends : Option Place) (pointer : State → Gives Location) (value : State → Gives ℕ) (s : State) → is_unique t ≡ false → ArePending s → TemporariesEnd types texts fs f
+  pub condition_part : (decision : Option (State → Gives Tree)) (t : Ty) (place : Place) (ends : Option Place) (pointer : State → Gives Location) (value : State → Gives ℕ) (s : State) → is_unique t ≡ false → (low : ℕ) → ArePending low s → TemporariesEnd types texts fs f low
       → ((w : State → Gives Tree) → decision ≡ Some w → Tests ends s (w s))
       → (decision ≡ None → is_raw t ≡ true → Makes types texts fs f None (with_code [] s) (pointer (with_code [] s)) (a_pointer types texts fs f t))
       → (decision ≡ None → is_raw t ≡ false → Makes types texts fs f None (with_code [] s) (value (with_code [] s)) (a_number types texts fs f t))
       → Tests ends s (condition_by decision t place ends pointer value s)
-  condition_part (Some w) t place ends pointer value s plain before can decided pointed valued = decided w refl
-  condition_part None t place ends pointer value s plain before can decided pointed valued =
+  condition_part (Some w) t place ends pointer value s plain low before can decided pointed valued = decided w refl
+  condition_part None t place ends pointer value s plain low before can decided pointed valued =
       subst (λ (b : Bool). Tests ends s (cond (is_raw t || b) (not_null place ends pointer s) (non_zero place ends value s))) (sym plain) (go (is_raw t) refl)
     where
       go : (b : Bool) → is_raw t ≡ b → Tests ends s (cond (b || false) (not_null place ends pointer s) (non_zero place ends value s))
-      go true e = not_null_part place ends t pointer s e before can (pointed refl e)
-      go false e = non_zero_part place ends t value s before can (valued refl e)
+      go true e = not_null_part place ends t pointer s e low before can (pointed refl e)
+      go false e = non_zero_part place ends t value s low before can (valued refl e)

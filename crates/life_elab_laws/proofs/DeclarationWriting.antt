@@ -2,7 +2,7 @@
 use Rattle.std.proofs.Common.{◌≡◌, ◌<◌, ℕ, Bool, true, false, ◌&&◌, ◌||◌, cond, not, List, [], ◌∷◌, ◌++◌, Contains, length, slice_get, Option, Some, None, refl, sym, ap, ◌∙◌, subst, unwrap_or, arith, append_assoc, inl, inr, nat_lt, flat_map}
 use Rattle.std.proofs.lemmas.Bool.{and_parts, false≢true, or_cases, and_from}
 use Rattle.std.specs.List.{list_all}
-use Rattle.life_served.specs.Served.{is_owner_of_values, is_owner_type, is_served_declaration, is_served_declared, is_served_expression, is_served_initial, is_served_owned, is_served_owner, is_served_variable, is_served_walker, is_walker, is_walker_of_values, owns_elements, is_served_owning, are_served_elements, is_element, is_target, takes_list, takes_owner, fills_owner}
+use Rattle.life_served.specs.Served.{is_owner_of_values, is_owner_type, is_served_declaration, is_served_declared, is_served_expression, is_served_initial, is_served_owned, is_served_owner, is_served_variable, is_served_walker, is_walker, is_walker_of_values, owns_elements, is_served_owning, are_served_elements, are_served_listed, is_element, is_target, takes_list, takes_owner, takes_value, fills_owner, is_served_struct, is_struct, takes_struct, is_vector, is_served_fresh}
 use Rattle.std.proofs.lemmas.Option.{slice_get_within}
 use Rattle.life_served.specs.Served.{fills_unique}
 use Rattle.life_types.specs.Pointees.{ty_of}
@@ -59,7 +59,7 @@ use Rattle.life_elab_laws.proofs.Doing.{Does}
 use Rattle.life_elab_laws.proofs.ExpressionKinds.{variable_built}
 use Rattle.life_elab_laws.proofs.ExpressionForms.{IsWhole}
 use Rattle.life_elab_laws.proofs.ExpressionTypes.{answer_own, seen_kind}
-use Rattle.life_elab_laws.proofs.Expressions.{owner_expression, walker_expression, whole_expression, givings, whole_if_any}
+use Rattle.life_elab_laws.proofs.Expressions.{owner_expression, walker_expression, whole_expression, givings, struct_expression, giving_if_any, fresh_expression}
 use Rattle.life_elab_laws.proofs.PointerForms.{points_whole, result_later}
 use Rattle.life_elab_laws.proofs.GivenKinds.{given_number, given_pointer, given_view}
 use Rattle.life_elab_laws.proofs.Falling.{Fills, falls_filling}
@@ -81,8 +81,10 @@ use Rattle.life_elab_laws.proofs.TypedKinds.{none_some, value_simple}
 use Rattle.life_elab_laws.proofs.Types.{same_types}
 use Rattle.life_elab_laws.proofs.Values.{by_values}
 use Rattle.life_elab_laws.proofs.MadeForms.{Builds, BuildsIn, gift_of, is_made, IsMade, IsOwning, owning_owner, stands_there, one_new}
-use Rattle.life_elab_laws.proofs.VariablePlaces.{a_raw, a_reference, a_unique, a_value, a_view, a_walker, an_alias, an_owner, IsVariableType, owner_is, variable_type, walker_is}
+use Rattle.life_elab_laws.proofs.VariablePlaces.{a_raw, a_reference, a_struct, a_unique, a_value, a_view, a_walker, an_alias, an_owner, IsVariableType, owner_is, variable_type, walker_is, a_struct_alias}
 use Rattle.life_elab_laws.proofs.ObjectForms.{IsObject, IsOwner, other_number}
+use Rattle.life_elab_laws.proofs.FreshUniques.{IsFresh}
+use Rattle.life_elab_laws.proofs.MoveSteps.{owner_moves}
 use Rattle.life_elab_laws.proofs.MovedOwners.{IsMovedFrom, given_moved, moved_from_variable, moved_kind, moved_out_part, moved_plain}
 use Rattle.life_elab_laws.proofs.OwnerBirths.{lives_then}
 use Rattle.life_elab_laws.proofs.OwnerSteps.{copy_fine, place_held}
@@ -90,7 +92,7 @@ use Rattle.life_elab_laws.proofs.SeenForms.{string_points}
 use Rattle.life_core.specs.Touched.{place_uses}
 use Rattle.life_typed.specs.declared.typed_expr.Category.{Category}
 use Rattle.life_typed.specs.declared.typed_expr.ExprType.TheVariants.{Of, TextLiteral}
-use Rattle.life_elab_laws.proofs.BuiltVariables.{built_does}
+use Rattle.life_elab_laws.proofs.BuiltVariables.{built_does, lived_does}
 use Rattle.life_elab_laws.proofs.Instructions.{literal_located_part}
 use Rattle.life_elab_laws.proofs.ViewSteps.{pointer_is_held}
 use Rattle.life_proper.specs.Placed.{is_const_place, type_of as type_of_place}
@@ -105,17 +107,25 @@ use Rattle.life_writer.specs.Lists.{built_type, list_object, listed}
 use Rattle.life_elab_laws.proofs.TemporaryEnds.{TemporariesEnd, temporary_ends}
 use Rattle.life_elab_laws.proofs.Elements.{one_element}
 use Rattle.life_elab_laws.proofs.PushedElements.{AreGiving}
-use Rattle.life_elab_laws.proofs.AliasForms.{IsAliased, owning_aliased, value_reference_refused, whole_aliased, to_built, to_place}
+use Rattle.life_elab_laws.proofs.AliasForms.{IsAliased, owning_aliased, value_reference_refused, whole_aliased, to_built, to_place, struct_reference_refused}
 use Rattle.life_elab_laws.proofs.BoundOwners.{bound_owner_does}
-use Rattle.life_elab_laws.proofs.Targets.{owner_target, value_target}
+use Rattle.life_elab_laws.proofs.Targets.{owner_target, value_target, struct_target}
 use Rattle.life_elab_laws.proofs.Making.{AreHeld}
 use Rattle.life_elab_laws.proofs.UniqueSteps.{IsMadeFor, a_made, made_uses_of, makes_part, null_fits}
-use Rattle.life_elab_laws.proofs.UniqueMaking.{IsOwnedBy, made_as}
+use Rattle.life_elab_laws.proofs.UniqueMaking.{IsOwnedBy}
+use Rattle.life_elab_laws.proofs.OwnedContents.{IsContentOf, content_as, is_found, is_over}
+use Rattle.life_elab_laws.proofs.OwnedVariables.{made_declared}
 use Rattle.life_core.specs.declared.instr.Made.{Made}
 use Rattle.life_core.specs.declared.instr.Made.TheVariants as owning
 use Rattle.life_elab_laws.proofs.UniqueForms.{owner_no_unique, walker_no_unique}
+use Rattle.life_elab_laws.proofs.FormedFits.{given_struct}
+use Rattle.life_elab_laws.proofs.StructBirths.{struct_copied, struct_listed}
+use Rattle.life_elab_laws.proofs.StructForms.{IsStruct}
+use Rattle.life_elab_laws.proofs.StructLists.{listings}
 use Rattle.life_elab_laws.proofs.HandedArguments.{Hands}
 use Rattle.life_elab_laws.proofs.HandingCalls.{born_falls, born_fine, born_looks, born_named}
+use Rattle.life_elab_laws.proofs.StructReferences.{kind_no_struct, struct_alone, struct_aliased, IsStructAlias}
+use Rattle.life_elab_laws.proofs.OwnLocals.{first_own}
 
 module _ (a : Around) (types : Types) (texts : ℕ) (fs : List Function) (f : Function) (setting : Setting a types fs f) (v : Visible) (in_loop : Bool) where
   module _ (u : TypedLocal) (s : State) (h : Follows types f a v s) (at : slice_get a.function.locals v.declared ≡ Some u) (built : is_served_variable a.program.types u.ty ≡ true) (last : Place) where
@@ -123,8 +133,8 @@ module _ (a : Around) (types : Types) (texts : ℕ) (fs : List Function) (f : Fu
     abbrev Born : State → Type 0
     Born s' = Does types texts fs f a (with_next v) in_loop s (end_pending (length s.pending) last s')
 
-    can : TemporariesEnd types texts fs f
-    can = temporary_ends types texts fs f setting.registers
+    can : TemporariesEnd types texts fs f (first_own a)
+    can = temporary_ends types texts fs f (first_own a) setting.own
 
     abbrev Whole : Typed → Type 0
     Whole e = IsExpression a.program a.function.locals v.visible (whole_form e)
@@ -154,18 +164,18 @@ module _ (a : Around) (types : Types) (texts : ℕ) (fs : List Function) (f : Fu
         (λ b k size q blank. falls_filling types f u.place (Live (length s.locals) Plain) (length s.locals) k (live_fills types f (length s.locals) Plain k blank))
         (λ b q k alive r blank. new_none f (variable_local a u) s)
 
-    -- an owner, by whatever builds it
-    builds_does : {plain : Bool} (t : Ty) → slice_get a.program.types.types u.ty.0 ≡ Some t → is_owner_of_values a.program.types t ≡ true → (w : Gives Remaining) → BuildsIn a v.visible types texts fs f setting plain t s w → Born (w.given (home a u) w.state).state
+    -- an owner or a unique_ptr, by whatever builds it
+    builds_does : {plain : Bool} (t : Ty) → slice_get a.program.types.types u.ty.0 ≡ Some t → is_owner t ≡ true → (w : Gives Remaining) → BuildsIn a v.visible types texts fs f setting plain t s w → Born (w.given (home a u) w.state).state
     builds_does t is o w made =
         subst (λ (r : Remaining). Born (r (home a u) w.state).state) (sym made.lives)
-        (built_does a types texts fs f setting v in_loop last u s h at built (gives made.found w.state) (gift_of a v.visible types texts fs f setting made.making) made.part made.form t
+        (built_does a types texts fs f setting v in_loop last u s h at built made.over (gives made.found w.state) (gift_of a v.visible types texts fs f setting made.making) made.hands t made.comes
         (made.act u.place (object_named (length w.state.locals)))
-        (λ b. owner_lives a types texts fs f setting.front u w.state b t is o)
-        (λ b. owner_declared a types texts fs f setting.front u w.state b t is o)
+        (λ b. object_lives a types texts fs f setting.front u w.state b t is (moved_kind a v.visible types texts fs f setting t o))
+        (λ b. object_placed a types texts fs f setting.front u w.state b t is (moved_kind a v.visible types texts fs f setting t o) (moved_plain a v.visible types texts fs f setting t o))
         (λ stands.
-        made.acts u.place (object_named (length w.state.locals)) (emit u.place (Live (length w.state.locals) made.form) (with_new (variable_local a u) w.state)) stands
-        (λ n c. same_variable types f w.state (with_new (variable_local a u) w.state) n (front_append w.state.variables (length w.state.locals ∷ [])) (omega (arith, h.visible n c, h.count, ap length made.part.grown.variables)))
-        (one_new a v.visible types texts fs f setting s (length w.state.locals) made.part.grown.count)))
+        made.acts u.place (object_named (length w.state.locals)) (emit (made.comes.at u.place) (made.comes.step (length w.state.locals)) (with_new (variable_local a u) w.state)) stands
+        (λ n c. same_variable types f w.state (with_new (variable_local a u) w.state) n (front_append w.state.variables (length w.state.locals ∷ [])) (omega (arith, h.visible n c, h.count, ap length made.hands.grown.variables)))
+        (one_new a v.visible types texts fs f setting s (length w.state.locals) h.stands.opened made.hands.grown.count)))
 
     -- ---- an object
 
@@ -324,7 +334,7 @@ module _ (a : Around) (types : Types) (texts : ℕ) (fs : List Function) (f : Fu
       reference_does target constant is worth bound =
           aimed_does e behind target constant bound.held is (value_target a.program.types (type_at a.program.types target) worth) bound.here bound.kept (whole_is.names target bound.held bound.place worth s h.stands)
 
-      one_does : not (owns_elements (type_of a u.ty) || (is_walker (type_of a u.ty) || is_unique (type_of a u.ty))) ≡ true → is_given a.program.types (type_of a u.ty) e ≡ true → Born (GivenOne (type_of a u.ty))
+      one_does : takes_value (type_of a u.ty) ≡ true → is_given a.program.types (type_of a u.ty) e ≡ true → Born (GivenOne (type_of a u.ty))
       one_does plain given = go (variable_type a.program.types u.ty built)
         where
           as_given : (t : Ty) → slice_get a.program.types.types u.ty.0 ≡ Some t → is_given a.program.types t e ≡ true
@@ -339,9 +349,12 @@ module _ (a : Around) (types : Types) (texts : ℕ) (fs : List Function) (f : Fu
           go (a_view is) = as_type ty.View is (view_does is (as_given ty.View is))
           go (a_walker t is w) =
               let seen = walker_is a.program.types t w in
-              absurd (false≢true (sym (ap (λ (x : Ty). not (owns_elements x || (is_walker x || is_unique x))) (type_is t is) ∙ ap (λ (b : Bool). not (b || (is_walker t || is_unique t))) seen.owner ∙ ap (λ (b : Bool). not (b || is_unique t)) seen.walker) ∙ plain))
-          go (an_owner t is o) = absurd (false≢true (sym (ap (λ (x : Ty). not (owns_elements x || (is_walker x || is_unique x))) (type_is t is) ∙ ap (λ (b : Bool). not (b || (is_walker t || is_unique t))) (owner_is a.program.types t o)) ∙ plain))
-          go (a_unique target is w) = absurd (false≢true (sym (ap (λ (x : Ty). not (owns_elements x || (is_walker x || is_unique x))) (type_is (ty.Unique target) is)) ∙ plain))
+              absurd (false≢true (sym (ap takes_value (type_is t is) ∙ ap (λ (b : Bool). not (b || (is_walker t || (is_unique t || is_struct t)))) seen.owner ∙ ap (λ (b : Bool). not (b || (is_unique t || is_struct t))) seen.walker) ∙ plain))
+          go (an_owner t is o) = absurd (false≢true (sym (ap takes_value (type_is t is) ∙ ap (λ (b : Bool). not (b || (is_walker t || (is_unique t || is_struct t)))) (owner_is a.program.types t o)) ∙ plain))
+          go (a_unique target is w) = absurd (false≢true (sym (ap takes_value (type_is (ty.Unique target) is)) ∙ plain))
+          go (a_struct number is) = absurd (false≢true (sym (ap takes_value (type_is (ty.Struct number) is)) ∙ plain))
+          go (a_struct_alias target constant number is structure) =
+              absurd (kind_no_struct a.program.types e whole_is.kind.kind (struct_alone a.program.types target constant number e structure (as_given (ty.Reference target constant) is) (λ held. whole_is.kind.place target held)))
           go (an_alias target constant is o) =
               as_type (ty.Reference target constant) is
               (alias_does e behind target constant is o (whole_aliased a v.visible types texts fs f setting (whole_form e) target constant o (as_given (ty.Reference target constant) is) whole_is))
@@ -397,7 +410,7 @@ module _ (a : Around) (types : Types) (texts : ℕ) (fs : List Function) (f : Fu
           let w = (uses a (whole_form e)).object s in
           let one : from.ty ≡ t = given_owner a.program.types t from.ty e o from.owner from.is given in
           subst Born (sym (by_owner t o ∙ ap (λ (c : Category). (object_by c (uses a (whole_form e)).at (uses a (whole_form e)).object s >> λ rest s. rest (home a u) s).state) from.value))
-          (builds_does t is o w (subst (λ (x : Ty). Builds a v.visible types texts fs f setting x s w) one (from.builds s h.stands)))
+          (builds_does t is (owner_moves a.program.types t o) w (subst (λ (x : Ty). Builds a v.visible types texts fs f setting x s w) one (from.builds s h.stands)))
 
       module _ (from : IsOwner a v.visible types texts fs f setting (whole_form e)) where
         -- a view of the whole
@@ -461,7 +474,7 @@ module _ (a : Around) (types : Types) (texts : ℕ) (fs : List Function) (f : Fu
             subst Born (sym (by_moved t o
             ∙ ap (λ (c : Category). (object_by c (uses a (whole_form e)).at (uses a (whole_form e)).object s >> λ rest s. rest (home a u) s).state) from.value
             ∙ ap (λ (g : Form). ((uses a (typed e.place e.ty e.category g)).object s >> λ rest s. rest (home a u) s).state) same))
-            (built_does a types texts fs f setting v in_loop last u s h at built (gives tt s) (nothing types texts fs f)
+            (lived_does a types texts fs f setting v in_loop last u s h at built (gives tt s) (nothing types texts fs f)
             (leaf_part types texts fs f tt s (nothing types texts fs f) (λ b. tt) (λ b k alive. tt)) Plain from.ty
             (moved_out_of e.place x u.place (object_named n))
             (λ b. object_lives a types texts fs f setting.front u s b from.ty found (moved_kind a v.visible types texts fs f setting from.ty from.owner))
@@ -474,22 +487,29 @@ module _ (a : Around) (types : Types) (texts : ℕ) (fs : List Function) (f : Fu
 
       -- built behind what was found first
       filled_unique : {A : Type 0} (target : TyId) → slice_get a.program.types.types u.ty.0 ≡ Some (ty.Unique target) → (w : Gives A) (Q : Gift types texts fs f A) → Makes types texts fs f None s w Q → (place : Place) (what : Made) (used : List ℕ)
-          → (Q.typed w.given → IsMadeFor types texts fs f setting.registers target what used) → ((n : ℕ) (k : List Known) → Q.ready w.given n k → AreHeld used n k)
+          → (Q.typed w.given → IsMadeFor types texts fs f target what used) → ((n : ℕ) (k : List Known) → Q.ready w.given n k → AreHeld used n k)
           → Born (made_at place what u.place (object_named (length w.state.locals)) (emit u.place (Live (length w.state.locals) Plain) (with_new (variable_local a u) w.state)))
       filled_unique target is w Q found place what used fits ready =
-          built_does a types texts fs f setting v in_loop last u s h at built w Q found Plain (ty.Unique target)
+          lived_does a types texts fs f setting v in_loop last u s h at built w Q found Plain (ty.Unique target)
           (made_at place what u.place (object_named (length w.state.locals)))
           (λ b. object_lives a types texts fs f setting.front u w.state b (ty.Unique target) is refl)
           (λ b. object_placed a types texts fs f setting.front u w.state b (ty.Unique target) is refl refl)
           (λ stands.
-          makes_part types texts fs f setting.registers (both types texts fs f Q (a_place types texts fs f (ty.Unique target) false)) (w.given, object_named (length w.state.locals)) target what used (length w.state.locals) place
+          makes_part types texts fs f (both types texts fs f Q (a_place types texts fs f (ty.Unique target) false)) (w.given, object_named (length w.state.locals)) target what used (length w.state.locals) place
           (emit u.place (Live (length w.state.locals) Plain) (with_new (variable_local a u) w.state)) (λ q. (q.1, fits q.0)) (λ n k q. (q.1, ready n k q.0)))
+
+      -- one that is made anew, moved or given, where the variable has come to life
+      fresh_does : (target : TyId) → slice_get a.program.types.types u.ty.0 ≡ Some (ty.Unique target) → is_element a.program.types (type_at a.program.types target) ≡ true → is_given a.program.types (ty.Unique target) e ≡ true → IsFresh a v.visible types texts fs f setting (whole_form e)
+          → Born (GivenThis (ty.Unique target))
+      fresh_does target is worth given from =
+          subst Born (sym (by_moved (ty.Unique target) refl ∙ ap (λ (c : Category). (object_by c (uses a (whole_form e)).at (uses a (whole_form e)).object s >> λ rest s. rest (home a u) s).state) from.value))
+          (builds_does (ty.Unique target) is refl ((uses a (whole_form e)).object s) (from.builds target worth given s h.stands))
 
       null_does : (target : TyId) → slice_get a.program.types.types u.ty.0 ≡ Some (ty.Unique target) → is_element a.program.types (type_at a.program.types target) ≡ true → e.form ≡ null → e.category ≡ category.Value → Born (GivenThis (ty.Unique target))
       null_does target is worth same held =
           subst Born (sym (ap (λ (c : Category). (object_by c (uses a (whole_form e)).at (uses a (whole_form e)).object s >> λ rest s. rest (home a u) s).state) held
           ∙ ap (λ (g : Form). ((uses a (typed e.place e.ty e.category g)).object s >> λ rest s. rest (home a u) s).state) same))
-          (filled_unique target is (gives tt s) (nothing types texts fs f) (leaf_part types texts fs f tt s (nothing types texts fs f) (λ b. tt) (λ b k alive. tt)) u.place owning.Null [] (λ q. null_fits types texts fs f setting.registers target) (λ n k q. tt))
+          (filled_unique target is (gives tt s) (nothing types texts fs f) (leaf_part types texts fs f tt s (nothing types texts fs f) (λ b. tt) (λ b k alive. tt)) u.place owning.Null [] (λ q. null_fits types texts fs f target) (λ n k q. tt))
 
       unique_made_does : (target : TyId) → slice_get a.program.types.types u.ty.0 ≡ Some (ty.Unique target) → is_element a.program.types (type_at a.program.types target) ≡ true → (id : TyId) (argument : Form) (closing : Place) → e.form ≡ make_unique id argument closing → e.category ≡ category.Value
           → IsOwnedBy a v.visible types texts fs f setting target id argument closing → Born (GivenThis (ty.Unique target))
@@ -498,7 +518,7 @@ module _ (a : Around) (types : Types) (texts : ℕ) (fs : List Function) (f : Fu
           let made = owned.makes s h.stands in
           subst Born (sym (ap (λ (c : Category). (object_by c (uses a (whole_form e)).at (uses a (whole_form e)).object s >> λ rest s. rest (home a u) s).state) held
           ∙ ap (λ (g : Form). ((uses a (typed e.place e.ty e.category g)).object s >> λ rest s. rest (home a u) s).state) same))
-          (filled_unique target is w (a_made types texts fs f setting.registers target) made e.place w.given (made_uses_of w.given) (λ q. q) (λ n k q. q))
+          (filled_unique target is w (a_made types texts fs f target) made e.place w.given (made_uses_of w.given) (λ q. q) (λ n k q. q))
 
     owned_does : (e : Typed) → (he : Whole e) → (behind : Place) → is_served_owned texts (type_of a u.ty) e ≡ true → is_given a.program.types (type_of a u.ty) e ≡ true → Born (GivenThis e he behind (type_of a u.ty))
     owned_does e he behind b given = elim (or_cases (takes_owner (type_of a u.ty) && is_served_owning texts e) _ b) [
@@ -510,13 +530,22 @@ module _ (a : Around) (types : Types) (texts : ℕ) (fs : List Function) (f : Fu
         | inl fills ↦
             let one = and_parts (owns_elements (type_of a u.ty)) (fills_owner texts e.form) fills in
             owner_filled_does one.0 e.form refl one.1 he (variable_type a.program.types u.ty built)
-        | inr others ↦ elim (or_cases (is_walker (type_of a u.ty) && is_served_walker texts (whole_form e)) (is_unique (type_of a u.ty) && fills_unique texts e.form) others) [
+        | inr others ↦ elim (or_cases (is_walker (type_of a u.ty) && is_served_walker texts (whole_form e)) _ others) [
           | inl walks ↦
               let one = and_parts (is_walker (type_of a u.ty)) (is_served_walker texts (whole_form e)) walks in
               given_walker_does one.0 (walker_expression a v.visible types texts fs f setting (whole_form e) one.1 he) (variable_type a.program.types u.ty built)
-          | inr fills ↦
-              let one = and_parts (is_unique (type_of a u.ty)) (fills_unique texts e.form) fills in
-              given_unique_does one.0 e.form refl one.1 he (variable_type a.program.types u.ty built)
+          | inr others ↦ elim (or_cases (is_unique (type_of a u.ty) && (fills_unique texts e.form || is_served_fresh texts (whole_form e))) (takes_struct (type_of a u.ty) && is_served_struct texts (whole_form e)) others) [
+            | inl fills ↦
+                let one = and_parts (is_unique (type_of a u.ty)) (fills_unique texts e.form || is_served_fresh texts (whole_form e)) fills in
+                given_unique_does one.0 (variable_type a.program.types u.ty built)
+                (λ target is w. elim (or_cases (fills_unique texts e.form) (is_served_fresh texts (whole_form e)) one.1) [
+                  | inl filled ↦ filled_unique_does e.form refl filled he target is w
+                  | inr fresh ↦ fresh_does e he behind target is w (as_given (ty.Unique target) is) (fresh_expression a v.visible types texts fs f setting (whole_form e) fresh he)
+                ])
+            | inr structure ↦
+                let one = and_parts (takes_struct (type_of a u.ty)) (is_served_struct texts (whole_form e)) structure in
+                given_struct_does one.0 (struct_expression a v.visible types texts fs f setting (whole_form e) one.1 he) (variable_type a.program.types u.ty built)
+          ]
         ]
       ]
     ]
@@ -540,6 +569,9 @@ module _ (a : Around) (types : Types) (texts : ℕ) (fs : List Function) (f : Fu
             (alias_does e behind target constant is o (owning_aliased a v.visible types texts fs f setting (whole_form e) target constant o (as_given (ty.Reference target constant) is) from))
         given_owner_does p from (a_view is) = as_type ty.View is (string_view_does e he behind (owning_owner a v.visible types texts fs f setting (whole_form e) from) is (as_given ty.View is))
         given_owner_does p from (a_unique target is w) = refused (ty.Unique target) is refl p
+        given_owner_does p from (a_struct number is) = refused (ty.Struct number) is refl p
+        given_owner_does p from (a_struct_alias target constant number is structure) =
+            absurd (struct_reference_refused a v.visible types texts fs f setting (whole_form e) target constant number structure (as_given (ty.Reference target constant) is) from)
         given_owner_does p from (a_walker (ty.Iterator item constant) is w) = refused (ty.Iterator item constant) is refl p
         given_owner_does p from (a_walker (ty.Span item constant) is w) = as_type (ty.Span item constant) is (span_does e he behind (owning_owner a v.visible types texts fs f setting (whole_form e) from) item constant w is (as_given (ty.Span item constant) is))
         given_owner_does p from (a_walker _ is w) = absurd (false≢true w)
@@ -556,6 +588,8 @@ module _ (a : Around) (types : Types) (texts : ℕ) (fs : List Function) (f : Fu
         given_walker_does p from (an_alias target constant is o) = no_walker (ty.Reference target constant) is refl p
         given_walker_does p from (a_view is) = no_walker ty.View is refl p
         given_walker_does p from (a_unique target is w) = no_walker (ty.Unique target) is refl p
+        given_walker_does p from (a_struct number is) = no_walker (ty.Struct number) is refl p
+        given_walker_does p from (a_struct_alias target constant number is structure) = no_walker (ty.Reference target constant) is refl p
         given_walker_does p from (an_owner ty.Text is o) = no_walker ty.Text is refl p
         given_walker_does p from (an_owner (ty.Vector item) is o) = no_walker (ty.Vector item) is refl p
         given_walker_does p from (an_owner _ is o) = absurd (false≢true o)
@@ -570,6 +604,8 @@ module _ (a : Around) (types : Types) (texts : ℕ) (fs : List Function) (f : Fu
         owner_filled_does p (text n) same few made (a_reference target constant is w) = no_literal (ty.Reference target constant) is refl p
         owner_filled_does p (text n) same few made (an_alias target constant is o) = no_literal (ty.Reference target constant) is refl p
         owner_filled_does p (text n) same few made (a_unique target is w) = no_literal (ty.Unique target) is refl p
+        owner_filled_does p (text n) same few made (a_struct number is) = no_literal (ty.Struct number) is refl p
+        owner_filled_does p (text n) same few made (a_struct_alias target constant number is structure) = no_literal (ty.Reference target constant) is refl p
         owner_filled_does p (text n) same few made (a_view is) = no_literal ty.View is refl p
         owner_filled_does p (text n) same few made (a_walker t is w) = no_literal t is (walker_is a.program.types t w).owner p
         owner_filled_does p (text n) same few made (an_owner t is o) =
@@ -585,24 +621,66 @@ module _ (a : Around) (types : Types) (texts : ℕ) (fs : List Function) (f : Fu
         no_unique : (t : Ty) → slice_get a.program.types.types u.ty.0 ≡ Some t → is_unique t ≡ false → is_unique (type_of a u.ty) ≡ true → Born (GivenThis e he behind (type_of a u.ty))
         no_unique t is none p = absurd (false≢true (sym (ap is_unique (type_is t is) ∙ none) ∙ p))
 
-        given_unique_does : is_unique (type_of a u.ty) ≡ true → (form : Form) → e.form ≡ form → fills_unique texts form ≡ true → Whole e → IsVariableType a.program.types u.ty → Born (GivenThis e he behind (type_of a u.ty))
-        given_unique_does p form same fills made (a_value t is w) = no_unique t is (value_simple t w).unique p
-        given_unique_does p form same fills made (a_raw target constant is w) = no_unique (ty.Raw target constant) is refl p
-        given_unique_does p form same fills made (a_reference target constant is w) = no_unique (ty.Reference target constant) is refl p
-        given_unique_does p form same fills made (an_alias target constant is o) = no_unique (ty.Reference target constant) is refl p
-        given_unique_does p form same fills made (a_view is) = no_unique ty.View is refl p
-        given_unique_does p form same fills made (a_walker t is w) = no_unique t is (walker_no_unique a.program.types t w) p
-        given_unique_does p form same fills made (an_owner t is o) = no_unique t is (owner_no_unique a.program.types t o) p
-        given_unique_does p form same fills made (a_unique target is w) = as_type (ty.Unique target) is (by form same fills (subst (IsMadeOf a.program a.function.locals v.visible e) same made))
+        given_unique_does : is_unique (type_of a u.ty) ≡ true → IsVariableType a.program.types u.ty
+            → ((target : TyId) → slice_get a.program.types.types u.ty.0 ≡ Some (ty.Unique target) → is_element a.program.types (type_at a.program.types target) ≡ true → Born (GivenThis e he behind (ty.Unique target))) → Born (GivenThis e he behind (type_of a u.ty))
+        given_unique_does p (a_value t is w) does = no_unique t is (value_simple t w).unique p
+        given_unique_does p (a_raw target constant is w) does = no_unique (ty.Raw target constant) is refl p
+        given_unique_does p (a_reference target constant is w) does = no_unique (ty.Reference target constant) is refl p
+        given_unique_does p (an_alias target constant is o) does = no_unique (ty.Reference target constant) is refl p
+        given_unique_does p (a_view is) does = no_unique ty.View is refl p
+        given_unique_does p (a_walker t is w) does = no_unique t is (walker_no_unique a.program.types t w) p
+        given_unique_does p (an_owner t is o) does = no_unique t is (owner_no_unique a.program.types t o) p
+        given_unique_does p (a_struct number is) does = no_unique (ty.Struct number) is refl p
+        given_unique_does p (a_struct_alias target constant number is structure) does = no_unique (ty.Reference target constant) is refl p
+        given_unique_does p (a_unique target is w) does = as_type (ty.Unique target) is (does target is w)
+
+        filled_unique_does : (form : Form) → e.form ≡ form → fills_unique texts form ≡ true → Whole e → (target : TyId) → slice_get a.program.types.types u.ty.0 ≡ Some (ty.Unique target) → is_element a.program.types (type_at a.program.types target) ≡ true
+            → Born (GivenThis e he behind (ty.Unique target))
+        filled_unique_does form same fills made target is w = by form same fills (subst (IsMadeOf a.program a.function.locals v.visible e) same made)
           where
+            owning_does : (target : TyId) → slice_get a.program.types.types u.ty.0 ≡ Some (ty.Unique target) → is_element a.program.types (type_at a.program.types target) ≡ true → (id : TyId) (argument : Form) (closing : Place) → e.form ≡ make_unique id argument closing
+                → e.category ≡ category.Value → IsContentOf a v.visible types texts fs f setting target id argument closing → Born (GivenThis e he behind (ty.Unique target))
+            owning_does target is w id argument closing same held (is_found owned) = unique_made_does e he behind target is w id argument closing same held owned
+            owning_does target is w id argument closing same held (is_over t owner holds makes) =
+                made_declared a types texts fs f setting v in_loop last u s h at built target is t owner holds e id argument closing same held (makes s h.stands) behind
+
             by : (form : Form) → e.form ≡ form → fills_unique texts form ≡ true → IsMadeOf a.program a.function.locals v.visible e form → Born (GivenThis e he behind (ty.Unique target))
             by null same fills told = null_does e he behind target is w same told.1
             by (make_unique id argument closing) same fills told =
-                unique_made_does e he behind target is w id argument closing same (ap (λ (y : Typed). y.category) told.0)
-                (made_as a v.visible types texts fs f setting target w id argument closing e fills (as_given (ty.Unique target) is) told (whole_if_any a v.visible types texts fs f setting argument fills told.3))
+                owning_does target is w id argument closing same (ap (λ (y : Typed). y.category) told.0) (content_as a v.visible types texts fs f setting target w id argument closing e (as_given (ty.Unique target) is) told (giving_if_any a v.visible types texts fs f setting argument fills told.3))
             by (move x) same fills told =
                 moved_does e he behind x told.0 (moved_from_variable a v.visible types texts fs f setting x e told.1) same (ty.Unique target) is refl (as_given (ty.Unique target) is)
             by _ same fills told = absurd (false≢true fills)
+
+        no_struct : (t : Ty) → slice_get a.program.types.types u.ty.0 ≡ Some t → takes_struct t ≡ false → takes_struct (type_of a u.ty) ≡ true → Born (GivenThis e he behind (type_of a u.ty))
+        no_struct t is none p = absurd (false≢true (sym (ap takes_struct (type_is t is) ∙ none) ∙ p))
+
+        -- which a reference is to, if any
+        aliased : IsStruct a v.visible types texts fs f setting (whole_form e) → (target : TyId) (constant : Bool) → slice_get a.program.types.types u.ty.0 ≡ Some (ty.Reference target constant) → is_target a.program.types (type_at a.program.types target) ≡ true
+            → IsStructAlias a v.visible types texts fs f setting (whole_form e) target constant
+        aliased from target constant is wide = struct_aliased a v.visible types texts fs f setting (whole_form e) from target constant wide (as_given (ty.Reference target constant) is)
+
+        given_struct_does : takes_struct (type_of a u.ty) ≡ true → IsStruct a v.visible types texts fs f setting (whole_form e) → IsVariableType a.program.types u.ty → Born (GivenThis e he behind (type_of a u.ty))
+        given_struct_does p from (a_value t is w) = no_struct t is (by_values (λ t. takes_struct t ≡ false) refl refl refl refl refl t w) p
+        given_struct_does p from (a_raw target constant is w) = no_struct (ty.Raw target constant) is refl p
+        given_struct_does p from (a_reference target constant is w) = absurd (false≢true (sym (ap is_value (aliased from target constant is (value_target a.program.types (type_at a.program.types target) w)).structure) ∙ w))
+        given_struct_does p from (an_alias target constant is o) =
+            absurd (false≢true (sym (ap (is_owner_of_values a.program.types) (aliased from target constant is (owner_target a.program.types (type_at a.program.types target) o)).structure) ∙ o))
+        given_struct_does p from (a_struct_alias target constant number is structure) =
+            let wide = struct_target a.program.types (type_at a.program.types target) number structure in
+            let to = aliased from target constant is wide in
+            as_type (ty.Reference target constant) is (aimed_does e behind target constant to.held is wide to.here to.kept (to.names s h.stands))
+        given_struct_does p from (a_view is) = no_struct ty.View is refl p
+        given_struct_does p from (a_walker (ty.Iterator item constant) is w) = no_struct (ty.Iterator item constant) is refl p
+        given_struct_does p from (a_walker (ty.Span item constant) is w) = no_struct (ty.Span item constant) is refl p
+        given_struct_does p from (a_walker _ is w) = absurd (false≢true w)
+        given_struct_does p from (an_owner ty.Text is o) = no_struct ty.Text is refl p
+        given_struct_does p from (an_owner (ty.Vector item) is o) = no_struct (ty.Vector item) is refl p
+        given_struct_does p from (an_owner _ is o) = absurd (false≢true o)
+        given_struct_does p from (a_unique target is w) = no_struct (ty.Unique target) is refl p
+        given_struct_does p from (a_struct number is) =
+            as_type (ty.Struct number) is
+            (struct_copied a types texts fs f setting v in_loop last u s h at built number is e from (given_struct a.program.types number from.number e from.is (as_given (ty.Struct number) is)))
 
     -- ---- built variable
 
@@ -641,6 +719,7 @@ module _ (a : Around) (types : Types) (texts : ℕ) (fs : List Function) (f : Fu
             (live_does (λ b. location_lives a types texts fs f setting.front u s b (ty.Iterator target constant) refl refl refl is))
         go (a_walker (ty.Span target constant) is w) = as_type (ty.Span target constant) is (empty_does (ty.Span target constant) refl refl is)
         go (a_walker _ is w) = absurd (false≢true w)
+        go (a_struct number is) = as_type (ty.Struct number) is (live_does (λ b. object_lives a types texts fs f setting.front u s b (ty.Struct number) is refl))
         go (a_unique target is w) = as_type (ty.Unique target) is (live_does (λ b. object_lives a types texts fs f setting.front u s b (ty.Unique target) is refl))
         go (an_owner t is o) =
             as_type t is
@@ -648,6 +727,7 @@ module _ (a : Around) (types : Types) (texts : ℕ) (fs : List Function) (f : Fu
             (live_does (λ b. owner_lives a types texts fs f setting.front u s b t is o)))
         go (a_reference target constant is w) = absurd (none_some (sym (subst (λ (t : Ty). default_fault t ≡ None) (type_is (ty.Reference target constant) is) none)))
         go (an_alias target constant is o) = absurd (none_some (sym (subst (λ (t : Ty). default_fault t ≡ None) (type_is (ty.Reference target constant) is) none)))
+        go (a_struct_alias target constant number is structure) = absurd (none_some (sym (subst (λ (t : Ty). default_fault t ≡ None) (type_is (ty.Reference target constant) is) none)))
 
     -- ---- a list of elements
 
@@ -677,19 +757,27 @@ module _ (a : Around) (types : Types) (texts : ℕ) (fs : List Function) (f : Fu
               (subst (λ (r : Remaining). Born (Kept (gives r s))) (sym kept.lives) (bound_owner_does a types texts fs f setting v in_loop last u s h at built target true is o list.opening w kept))
           go _ here worth all = absurd (false≢true worth)
 
-    listed_does : (list : ListForm) (behind : Place) → (takes_list (type_of a u.ty) && are_served_elements texts (forms list.elements)) ≡ true → IsInitialised a.program a.function.locals a.function.result v.visible (Some u) (Some (several list)) → Born (given_initial a u (Some (several list)) behind s)
-    listed_does list behind b i =
-        let one = and_parts (takes_list (type_of a u.ty)) (are_served_elements texts (forms list.elements)) b in
-        go (givings a v.visible types texts fs f setting (forms list.elements) one.1 i.1) one.0 (variable_type a.program.types u.ty built)
+    listed_does : (list : ListForm) (behind : Place) → (takes_list a.program.types (type_of a u.ty) && are_served_listed texts (type_of a u.ty) (forms list.elements)) ≡ true → IsInitialised a.program a.function.locals a.function.result v.visible (Some u) (Some (several list)) → Born (given_initial a u (Some (several list)) behind s)
+    listed_does list behind b i = go one.0 (variable_type a.program.types u.ty built)
       where
+        one : (takes_list a.program.types (type_of a u.ty) ≡ true) × (are_served_listed texts (type_of a u.ty) (forms list.elements) ≡ true)
+        one = and_parts (takes_list a.program.types (type_of a u.ty)) (are_served_listed texts (type_of a u.ty) (forms list.elements)) b
+
         as_type : (t : Ty) → slice_get a.program.types.types u.ty.0 ≡ Some t → Born (ListGiven list behind (forms list.elements) t) → Born (ListGiven list behind (forms list.elements) (type_of a u.ty))
         as_type t is born = subst (λ (x : Ty). Born (ListGiven list behind (forms list.elements) x)) (sym (type_is t is)) born
 
         as_listed : (t : Ty) → slice_get a.program.types.types u.ty.0 ≡ Some t → is_listed a.program.types t (forms list.elements) ≡ true
         as_listed t is = subst (λ (x : Ty). is_listed a.program.types x (forms list.elements) ≡ true) (type_is t is) i.0
 
-        no_list : (t : Ty) → slice_get a.program.types.types u.ty.0 ≡ Some t → takes_list t ≡ false → takes_list (type_of a u.ty) ≡ true → Born (ListGiven list behind (forms list.elements) (type_of a u.ty))
-        no_list t is none p = absurd (false≢true (sym (ap takes_list (type_is t is) ∙ none) ∙ p))
+        -- elements, or the members of a struct
+        served : (t : Ty) → slice_get a.program.types.types u.ty.0 ≡ Some t → are_served_listed texts t (forms list.elements) ≡ true
+        served t is = subst (λ (x : Ty). are_served_listed texts x (forms list.elements) ≡ true) (type_is t is) one.1
+
+        given : are_served_elements texts (forms list.elements) ≡ true → AreGiving a v.visible types texts fs f setting (forms list.elements)
+        given b = givings a v.visible types texts fs f setting (forms list.elements) b i.1
+
+        no_list : (t : Ty) → slice_get a.program.types.types u.ty.0 ≡ Some t → takes_list a.program.types t ≡ false → takes_list a.program.types (type_of a u.ty) ≡ true → Born (ListGiven list behind (forms list.elements) (type_of a u.ty))
+        no_list t is none p = absurd (false≢true (sym (ap (takes_list a.program.types) (type_is t is) ∙ none) ∙ p))
 
         -- what is no vector is built by none
         value_listed : (target : TyId) (constant : Bool) → is_value (type_at a.program.types target) ≡ true → is_listed a.program.types (ty.Reference target constant) (forms list.elements) ≡ true → ⊥
@@ -697,28 +785,32 @@ module _ (a : Around) (types : Types) (texts : ℕ) (fs : List Function) (f : Fu
         value_listed target true w listed_is =
             false≢true (sym (by_values (λ x. makes_object a.program.types x (forms list.elements) ≡ false) refl refl refl refl refl (type_at a.program.types target) w) ∙ listed_is)
 
-        go : AreGiving a v.visible types texts fs f setting (forms list.elements) → takes_list (type_of a u.ty) ≡ true → IsVariableType a.program.types u.ty → Born (ListGiven list behind (forms list.elements) (type_of a u.ty))
-        go given p (a_value t is w) = no_list t is (by_values (λ t. takes_list t ≡ false) refl refl refl refl refl t w) p
-        go given p (a_raw target constant is w) = no_list (ty.Raw target constant) is refl p
-        go given p (a_reference target constant is w) = absurd (value_listed target constant w (as_listed (ty.Reference target constant) is))
-        go given p (an_alias target constant is o) = as_type (ty.Reference target constant) is (alias_listed list behind target constant is o given (as_listed (ty.Reference target constant) is))
-        go given p (a_unique target is w) = no_list (ty.Unique target) is refl p
-        go given p (a_view is) = no_list ty.View is refl p
-        go given p (a_walker (ty.Iterator item constant) is w) = no_list (ty.Iterator item constant) is refl p
-        go given p (a_walker (ty.Span item constant) is w) = no_list (ty.Span item constant) is refl p
-        go given p (a_walker _ is w) = absurd (false≢true w)
-        go given p (an_owner ty.Text is o) = no_list ty.Text is refl p
-        go given p (an_owner (ty.Vector item) is o) =
+        go : takes_list a.program.types (type_of a u.ty) ≡ true → IsVariableType a.program.types u.ty → Born (ListGiven list behind (forms list.elements) (type_of a u.ty))
+        go p (a_value t is w) = no_list t is (by_values (λ t. takes_list a.program.types t ≡ false) refl refl refl refl refl t w) p
+        go p (a_raw target constant is w) = no_list (ty.Raw target constant) is refl p
+        go p (a_reference target constant is w) = absurd (value_listed target constant w (as_listed (ty.Reference target constant) is))
+        go p (an_alias target constant is o) = as_type (ty.Reference target constant) is (alias_listed list behind target constant is o (given (served (ty.Reference target constant) is)) (as_listed (ty.Reference target constant) is))
+        go p (a_struct_alias target constant number is structure) = no_list (ty.Reference target constant) is (ap is_vector structure) p
+        go p (a_unique target is w) = no_list (ty.Unique target) is refl p
+        go p (a_struct number is) =
+            as_type (ty.Struct number) is
+            (struct_listed a types texts fs f setting v in_loop last u s h at built number is list.opening (forms list.elements) list.delimiters (listings a v.visible types texts fs f setting (forms list.elements) (served (ty.Struct number) is) i.1) (as_listed (ty.Struct number) is))
+        go p (a_view is) = no_list ty.View is refl p
+        go p (a_walker (ty.Iterator item constant) is w) = no_list (ty.Iterator item constant) is refl p
+        go p (a_walker (ty.Span item constant) is w) = no_list (ty.Span item constant) is refl p
+        go p (a_walker _ is w) = absurd (false≢true w)
+        go p (an_owner ty.Text is o) = no_list ty.Text is refl p
+        go p (an_owner (ty.Vector item) is o) =
             as_type (ty.Vector item) is
-            (builds_does (ty.Vector item) is o (gives (list_object a (ty.Vector item) list.opening (all_uses a (forms list.elements)) list.delimiters) s)
-            (list_builds a v.visible types texts fs f setting item o list.opening (forms list.elements) list.delimiters s given (as_listed (ty.Vector item) is)))
-        go given p (an_owner _ is o) = absurd (false≢true o)
+            (builds_does (ty.Vector item) is refl (gives (list_object a (ty.Vector item) list.opening (all_uses a (forms list.elements)) list.delimiters) s)
+            (list_builds a v.visible types texts fs f setting item o list.opening (forms list.elements) list.delimiters s (given (served (ty.Vector item) is)) (as_listed (ty.Vector item) is)))
+        go p (an_owner _ is o) = absurd (false≢true o)
 
-    initial_does : (initial : Option InitialForm) (behind : Place) → is_served_initial texts (type_of a u.ty) initial ≡ true → IsInitialised a.program a.function.locals a.function.result v.visible (Some u) initial → Born (given_initial a u initial behind s)
+    initial_does : (initial : Option InitialForm) (behind : Place) → is_served_initial texts a.program.types (type_of a u.ty) initial ≡ true → IsInitialised a.program a.function.locals a.function.result v.visible (Some u) initial → Born (given_initial a u initial behind s)
     initial_does None behind b i = default_does i
     initial_does (Some (one e)) behind b i =
-        elim (or_cases (not (owns_elements (type_of a u.ty) || (is_walker (type_of a u.ty) || is_unique (type_of a u.ty))) && is_served_expression texts e) (is_served_owned texts (type_of a u.ty) e) b) [
-          | inl value ↦ let parts = and_parts (not (owns_elements (type_of a u.ty) || (is_walker (type_of a u.ty) || is_unique (type_of a u.ty)))) (is_served_expression texts e) value in one_does e parts.1 i.1 behind parts.0 i.0
+        elim (or_cases (takes_value (type_of a u.ty) && is_served_expression texts e) (is_served_owned texts (type_of a u.ty) e) b) [
+          | inl value ↦ let parts = and_parts (takes_value (type_of a u.ty)) (is_served_expression texts e) value in one_does e parts.1 i.1 behind parts.0 i.0
           | inr owned ↦ owned_does e i.1 behind owned i.0
         ]
     initial_does (Some (several list)) behind b i = listed_does list behind b i

@@ -2,7 +2,7 @@
 use Rattle.std.proofs.Common.{◌≡◌, ◌<◌, ◌⊎◌, inl, inr, ℕ, Bool, true, List, [], ◌∷◌, ◌++◌, Contains, length, slice_get, slice_set, take, Option, Some, None, refl, sym, ap, ◌∙◌, subst, unwrap_or, arith, length-append, append_assoc}
 use Rattle.std.proofs.lemmas.Bool.{or_left, or_right}
 use Rattle.std.proofs.lemmas.List.Elements.{Contains-append_left, Contains-push, Contains-push_cases}
-use Rattle.std.proofs.lemmas.Option.{same_Some, slice_get_within}
+use Rattle.std.proofs.lemmas.Option.{same_Some, slice_get_within, none-some}
 use Rattle.life_served.specs.Served.{is_served_variable, is_target}
 use Rattle.life_types.specs.TypeTests.{is_pointer}
 use Rattle.life_types.specs.Types.{Types, class, class_at}
@@ -43,7 +43,7 @@ use Rattle.life_elab_laws.proofs.Parts.{Makes, Part}
 use Rattle.life_elab_laws.proofs.Shaped.{named_lasts, target_there}
 use Rattle.life_elab_laws.proofs.Shaping.{IsFine, fine_append}
 use Rattle.life_elab_laws.proofs.Types.{value_kind}
-use Rattle.life_elab_laws.proofs.VariablePlaces.{a_raw, a_reference, a_unique, a_value, a_view, a_walker, an_alias, an_owner, IsVariableAt, IsVariableType, owner_kind, variable_type, walker_is}
+use Rattle.life_elab_laws.proofs.VariablePlaces.{a_raw, a_reference, a_struct, a_unique, a_value, a_view, a_walker, an_alias, an_owner, IsVariableAt, IsVariableType, owner_kind, variable_type, walker_is, a_struct_alias}
 use Rattle.life_elab_laws.proofs.WrittenLocals.{IsLocalOf, locals_added, own_added}
 use Rattle.life_elab_laws.proofs.PendingTemporaries.{none_pending}
 use Rattle.life_elab_laws.proofs.EndedTemporaries.{ending, ends_alive, ends_apart, ends_below, ends_pending, ends_temporary}
@@ -53,9 +53,10 @@ use Rattle.life_elab_laws.proofs.TemporaryEnds.{TemporariesEnd}
 use Rattle.life_elab_laws.proofs.Under.{ActingUnder, DoesUnder, MayBeKnown, does_plain, leaves_under}
 use Rattle.life_proper.specs.ReadyKnown.{can_leave, set_known}
 use Rattle.life_types.specs.declared.place.Place.{Place}
-use Rattle.life_elab_laws.proofs.Targets.{owner_target, value_target}
+use Rattle.life_elab_laws.proofs.Targets.{owner_target, value_target, struct_target}
 use Rattle.life_typed.specs.BaseTypes.{type_at}
 use Rattle.life_elab_laws.proofs.Handing.{Handing, RunsHanding, handed_apart, handing_none}
+use Rattle.life_elab_laws.proofs.OwnLocals.{first_own}
 
 take_before : (xs ys : List ℕ) → take (length xs) (xs ++ ys) ≡ xs
 take_before [] ys = refl
@@ -110,11 +111,13 @@ module _ (types : Types) (f : Function) (a : Around) (front : IsFront a.program.
         go (a_value t is e) = object t is (value_kind t e)
         go (an_owner t is o) = object t is (owner_kind a.program.types t o)
         go (a_unique target is w) = object (ty.Unique target) is refl
+        go (a_struct number is) = object (ty.Struct number) is refl
         go (a_walker t is w) = pointer t (type_there types f (length s.locals) l t there (typed t is) (walker_is a.program.types t w).reference) (walker_is a.program.types t w).pointer
         go (a_raw target constant is e) = pointer (ty.Raw target constant) (type_there types f (length s.locals) l (ty.Raw target constant) there (typed (ty.Raw target constant) is) refl) refl
         go (a_view is) = pointer ty.View (type_there types f (length s.locals) l ty.View there (typed ty.View is) refl) refl
         go (a_reference target constant is e) = refers target constant is (value_target a.program.types (type_at a.program.types target) e)
         go (an_alias target constant is o) = refers target constant is (owner_target a.program.types (type_at a.program.types target) o)
+        go (a_struct_alias target constant number is structure) = refers target constant is (struct_target a.program.types (type_at a.program.types target) number structure)
 
     -- ---- the state
 
@@ -169,13 +172,15 @@ module _ (types : Types) (f : Function) (a : Around) (front : IsFront a.program.
         same : u ≡ w
         same = same_Some u w (sym at ∙ ap (slice_get a.function.locals) e ∙ there)
 
-    lives : (y : ℕ) → Among y s.living ⊎ Among y (length s.locals ∷ []) → IsLiving (with_new l s) y
+    lives : (y : ℕ) → Among y s.living ⊎ Among y (length s.locals ∷ []) → IsLiving (first_own a) (with_new l s) y
     lives y (inl m) = let is = h.living y m in record {
+      beyond = λ z there none. is.beyond is.local is.there (ap (λ (r : Local). r.name) (same_Some is.local z (sym (front_append s.locals (l ∷ []) y is.local is.there) ∙ there)) ∙ none);
       local = is.local;
       there = front_append s.locals (l ∷ []) y is.local is.there;
       lasts = is.lasts;
     }
     lives y (inr (inl e)) = record {
+      beyond = λ z there none. absurd (none-some u.name (sym none ∙ ap (λ (r : Local). r.name) (same_Some z l (sym there ∙ subst (λ (q : ℕ). slice_get (with_new l s).locals q ≡ Some l) e new_at)) ∙ of.named));
       local = l;
       there = subst (λ (z : ℕ). slice_get (with_new l s).locals z ≡ Some l) e new_at;
       lasts = named_lasts l u.name of.named;
@@ -194,7 +199,7 @@ module _ (types : Types) (f : Function) (a : Around) (front : IsFront a.program.
       stands = record {
         table = h.stands.table;
         opened = opened;
-        pends = none_pending (with_new l s).locals s.types.types (with_new l s).living s.pending h.pending;
+        pends = none_pending _ (with_new l s).locals s.types.types (with_new l s).living s.pending (omega (arith, h.stands.pends.past, length-append s.locals (l ∷ []))) h.pending;
         seen = λ x w c there. elim (Contains-push_cases v.visible v.declared x c) [ inl old ↦ moved x w (h.visible x old) (h.stands.seen x w old there) | inr e ↦ fresh x w e there ];
         apart = apart;
       };
@@ -258,7 +263,7 @@ module _ (f : Function) (l : Local) (s : State) where
 
 module _ (types : Types) (texts : ℕ) (fs : List Function) (f : Function) (a : Around) (front : IsFront a.program.types.types types.types) where
   -- .. behind what gave y
-  module _ {A B : Type 0} (v : Visible) (in_loop : Bool) (can : TemporariesEnd types texts fs f) (last : Place) (u : TypedLocal) (P : Gift types texts fs f B) (y : B) (s : State) (w : Gives A) (Q : Gift types texts fs f A) (code : List Tree)
+  module _ {A B : Type 0} (v : Visible) (in_loop : Bool) (can : TemporariesEnd types texts fs f (first_own a)) (last : Place) (u : TypedLocal) (P : Gift types texts fs f B) (y : B) (s : State) (w : Gives A) (Q : Gift types texts fs f A) (code : List Tree)
       (h : Follows types f a v s) (at : slice_get a.function.locals v.declared ≡ Some u) (built : is_served_variable a.program.types u.ty ≡ true)
       (over : List ℕ) (made : Handing types texts fs f P y over s w Q) (told : Begins types f (with_new (variable_local a u) w.state) → P.typed y)
       (fine : Begins types f (with_new (variable_local a u) w.state) → Q.typed w.given → IsFine types texts fs f code)
@@ -290,7 +295,7 @@ module _ (types : Types) (texts : ℕ) (fs : List Function) (f : Function) (a : 
     x = length w.state.locals
 
     abbrev ends : List ℕ
-    ends = ending types texts fs f s w.state made.grown h.stands.pends last
+    ends = ending types texts fs f s w.state made.grown _ h.stands.pends last
 
     e : IsEnded types texts fs f ends last done
     e = ended types texts fs f ends last done
@@ -312,24 +317,24 @@ module _ (types : Types) (texts : ℕ) (fs : List Function) (f : Function) (a : 
       part = made.runs before (told b)
 
       ends_fine_here : IsFine types texts fs f e.code
-      ends_fine_here = e.fine (all_among (ends_here types texts fs f) ends (λ y m. can y (ends_temporary types texts fs f s w.state made.grown h.stands.pends last before y m)))
+      ends_fine_here = e.fine (all_among (ends_here types texts fs f) ends (λ y m. can y (ends_temporary types texts fs f s w.state made.grown _ h.stands.pends last before y m)))
 
       all_fine : IsFine types texts fs f whole
       all_fine = fine_append types texts fs f made.code (code ++ e.code) part.fine (fine_append types texts fs f code e.code (fine b part.typed) ends_fine_here)
 
       -- the variable is none of them
       beside : Among x ends → ⊥
-      beside m = let lt = ends_below types texts fs f s w.state made.grown h.stands.pends last x m in omega (arith, lt)
+      beside m = let lt = ends_below types texts fs f s w.state made.grown _ h.stands.pends last x m in omega (arith, lt)
 
       went : (k : List Known) → Knows f s.living k → More k → Leaves f in_loop (w.state.living ++ x ∷ []) (take s.outside s.living) (flow types f (trees whole) (Some k))
       went k knows more =
           let g = part.goes k (knows_alive types f a v s h k knows) more in
-          let mid : Knows f w.state.living (set_blank ends g.after) = alive_knows types f there (set_blank ends g.after) later.pending (ends_alive types texts fs f s w.state made.grown h.stands.pends last g.after g.alive) in
+          let mid : Knows f w.state.living (set_blank ends g.after) = alive_knows types f there (set_blank ends g.after) later.pending (ends_alive types texts fs f s w.state made.grown _ h.stands.pends last g.after g.alive) in
           let blank : known_at g.after x ≡ known.Blank = sym (blank_beside ends g.after x beside) ∙ blank_new types f a front v u (variable_local a u) (its_local a u) there later at built b (set_blank ends g.after) mid in
           let lt : x < length g.after = omega (arith, g.alive.sized, new_below types f a front v u (variable_local a u) (its_local a u) there later at built b) in
           let j : List Known = slice_set g.after x known.Ready in
           let ready : can_leave j ends ≡ true =
-          ends_there ends j (ends_apart types texts fs f s w.state made.grown h.stands.pends last) (λ y m. ready_set g.after x y lt (g.alive.pending y (ends_pending types texts fs f s w.state made.grown h.stands.pends last y m))) in
+          ends_there ends j (ends_apart types texts fs f s w.state made.grown _ h.stands.pends last) (λ y m. ready_set g.after x y lt (g.alive.pending y (ends_pending types texts fs f s w.state made.grown _ h.stands.pends last y m))) in
           subst (Leaves f in_loop (w.state.living ++ x ∷ []) (take s.outside s.living))
           (sym (falls_append types f made.code (code ++ e.code) k (set_known known.Ready over g.after) (set_blank ends j) g.falls
           (falls_append types f code e.code (set_known known.Ready over g.after) j (set_blank ends j) (falls b part g.after g.alive.sized g.gives g.blank blank) (e.falls j ready))))
@@ -342,7 +347,7 @@ module _ (types : Types) (texts : ℕ) (fs : List Function) (f : Function) (a : 
       known_apart : (k : List Known) → Knows f s.living k → More k → Apart f s finished (trees whole)
       known_apart k knows more under =
           let g = part.goes k (knows_alive types f a v s h k knows) more in
-          let mid : Knows f w.state.living (set_blank ends g.after) = alive_knows types f there (set_blank ends g.after) later.pending (ends_alive types texts fs f s w.state made.grown h.stands.pends last g.after g.alive) in
+          let mid : Knows f w.state.living (set_blank ends g.after) = alive_knows types f there (set_blank ends g.after) later.pending (ends_alive types texts fs f s w.state made.grown _ h.stands.pends last g.after g.alive) in
           let blank : known_at g.after x ≡ known.Blank = sym (blank_beside ends g.after x beside) ∙ blank_new types f a front v u (variable_local a u) (its_local a u) there later at built b (set_blank ends g.after) mid in
           handed_apart types texts fs f over given s w.state (with_new (variable_local a u) w.state) finished made.code code e.code under named (g.apart under) (apart b part.typed g.after g.alive g.gives blank)
           (e.apart (with_new (variable_local a u) w.state) finished (omega arith) (λ y o. elim o [ inl m ↦ inl (inl m) | inr m ↦ inl (inr (among_take (length s.pending) w.state.pending y m)) ]))
@@ -377,7 +382,7 @@ module _ (types : Types) (texts : ℕ) (fs : List Function) (f : Function) (a : 
     handed_under = subst (DoesUnder types texts fs f More a (with_next v) in_loop s) (sym finished_is) finished_does
 
   -- .. where nothing is given over before
-  pub declared_under : {A B : Type 0} (v : Visible) (in_loop : Bool) (can : TemporariesEnd types texts fs f) (last : Place) (u : TypedLocal) (P : Gift types texts fs f B) (y : B) (s : State) (w : Gives A) (Q : Gift types texts fs f A) (code : List Tree)
+  pub declared_under : {A B : Type 0} (v : Visible) (in_loop : Bool) (can : TemporariesEnd types texts fs f (first_own a)) (last : Place) (u : TypedLocal) (P : Gift types texts fs f B) (y : B) (s : State) (w : Gives A) (Q : Gift types texts fs f A) (code : List Tree)
       (h : Follows types f a v s) (at : slice_get a.function.locals v.declared ≡ Some u) (built : is_served_variable a.program.types u.ty ≡ true)
       → Part types texts fs f P y None s w Q → (Begins types f (with_new (variable_local a u) w.state) → P.typed y)
       → (Begins types f (with_new (variable_local a u) w.state) → Q.typed w.given → IsFine types texts fs f code)
@@ -391,7 +396,7 @@ module _ (types : Types) (texts : ℕ) (fs : List Function) (f : Function) (a : 
       handed_under v in_loop can last u P y s w Q code h at built [] (handing_none types texts fs f P y s w Q made) told fine (λ b r k size q none blank. falls b k size q blank) (given_of (trees code)) (λ z m. inl m) apart some
 
   -- .. behind nothing
-  pub handed_declared : {A : Type 0} (v : Visible) (in_loop : Bool) (can : TemporariesEnd types texts fs f) (last : Place) (u : TypedLocal) (s : State) (w : Gives A) (Q : Gift types texts fs f A) (code : List Tree)
+  pub handed_declared : {A : Type 0} (v : Visible) (in_loop : Bool) (can : TemporariesEnd types texts fs f (first_own a)) (last : Place) (u : TypedLocal) (s : State) (w : Gives A) (Q : Gift types texts fs f A) (code : List Tree)
       (h : Follows types f a v s) (at : slice_get a.function.locals v.declared ≡ Some u) (built : is_served_variable a.program.types u.ty ≡ true)
       (over : List ℕ) (made : Handing types texts fs f (nothing types texts fs f) tt over s w Q)
       → (Begins types f (with_new (variable_local a u) w.state) → Q.typed w.given → IsFine types texts fs f code)
@@ -406,7 +411,7 @@ module _ (types : Types) (texts : ℕ) (fs : List Function) (f : Function) (a : 
       does_plain types texts fs f a (with_next v) in_loop s (end_pending (length s.pending) last (with_code (w.state.code ++ code) (with_new (variable_local a u) w.state)))
       (handed_under v in_loop can last u (nothing types texts fs f) tt s w Q code h at built over made (λ b. tt) fine falls given named apart (λ b living k knows. (k, knows, tt)))
 
-  pub declared_does : {A : Type 0} (v : Visible) (in_loop : Bool) (can : TemporariesEnd types texts fs f) (last : Place) (u : TypedLocal) (s : State) (w : Gives A) (Q : Gift types texts fs f A) (code : List Tree)
+  pub declared_does : {A : Type 0} (v : Visible) (in_loop : Bool) (can : TemporariesEnd types texts fs f (first_own a)) (last : Place) (u : TypedLocal) (s : State) (w : Gives A) (Q : Gift types texts fs f A) (code : List Tree)
       (h : Follows types f a v s) (at : slice_get a.function.locals v.declared ≡ Some u) (built : is_served_variable a.program.types u.ty ≡ true)
       → Makes types texts fs f None s w Q
       → (Begins types f (with_new (variable_local a u) w.state) → Q.typed w.given → IsFine types texts fs f code)

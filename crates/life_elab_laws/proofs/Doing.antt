@@ -28,6 +28,7 @@ use Rattle.life_elab_laws.proofs.Ending.{set_blank}
 use Rattle.life_elab_laws.proofs.TemporaryEnds.{TemporariesEnd}
 use Rattle.life_types.specs.declared.place.Place.{Place}
 use Rattle.life_writer.specs.Variables.{end_pending}
+use Rattle.life_elab_laws.proofs.OwnLocals.{first_own}
 
 module _ (types : Types) (texts : ℕ) (fs : List Function) (f : Function) where
   pub record Acting (in_loop : Bool) (s s' : State) (code : List Tree) : Type 0 where
@@ -101,26 +102,26 @@ module _ (types : Types) (texts : ℕ) (fs : List Function) (f : Function) where
 
   -- ---- what a full expression writes, as a statement: behind it its temporaries end
 
-  module _ {A : Type 0} (a : Around) (v : Visible) (in_loop : Bool) (into : Option ℕ) (s : State) (w : Gives A) (Q : Gift types texts fs f A) (h : Follows types f a v s) (can : TemporariesEnd types texts fs f) (place : Place)
+  module _ {A : Type 0} (a : Around) (v : Visible) (in_loop : Bool) (into : Option ℕ) (s : State) (w : Gives A) (Q : Gift types texts fs f A) (h : Follows types f a v s) (can : TemporariesEnd types texts fs f (first_own a)) (place : Place)
       (made : Makes types texts fs f into s w Q) where
     -- where they have ended
     abbrev pub full_state : State
-    full_state = behind types texts fs f s w.state made.grown h.stands.pends place
+    full_state = behind types texts fs f s w.state made.grown _ h.stands.pends place
 
     abbrev ends : List Tree
-    ends = (ending_is types texts fs f s w.state made.grown h.stands.pends place).code
+    ends = (ending_is types texts fs f s w.state made.grown _ h.stands.pends place).code
 
     abbrev pub full_code : List Tree
     full_code = made.code ++ ends
 
     abbrev pub ended_then : List Known → List Known
-    ended_then k = set_blank (ending types texts fs f s w.state made.grown h.stands.pends place) k
+    ended_then k = set_blank (ending types texts fs f s w.state made.grown _ h.stands.pends place) k
 
     full_level : full_state.pending ≡ s.pending
-    full_level = ends_level types texts fs f s w.state made.grown h.stands.pends place
+    full_level = ends_level types texts fs f s w.state made.grown _ h.stands.pends place
 
     full_grows : Grows s full_state
-    full_grows = behind_grows types texts fs f s w.state made.grown h.stands.pends place
+    full_grows = behind_grows types texts fs f s w.state made.grown _ h.stands.pends place
 
     pub full_adds : Adds types f s full_state
     full_adds = grows_adds types f s full_state full_level full_grows
@@ -130,20 +131,20 @@ module _ (types : Types) (texts : ℕ) (fs : List Function) (f : Function) where
 
     -- the same variables live
     pub full_knows : (k : List Known) → (g : Goes types texts fs f into s w Q made.code k) → Knows f w.state.living (ended_then g.after)
-    full_knows k g = alive_knows types f full_state (ended_then g.after) (full_level ∙ h.pending) (ends_alive types texts fs f s w.state made.grown h.stands.pends place g.after g.alive)
+    full_knows k g = alive_knows types f full_state (ended_then g.after) (full_level ∙ h.pending) (ends_alive types texts fs f s w.state made.grown _ h.stands.pends place g.after g.alive)
 
     pub full_fine : Begins types f w.state → IsFine types texts fs f full_code
-    full_fine b = fine_append types texts fs f made.code ends (made.runs b tt).fine (ends_fine types texts fs f s w.state made.grown h.stands.pends place b can)
+    full_fine b = fine_append types texts fs f made.code ends (made.runs b tt).fine (ends_fine types texts fs f s w.state made.grown _ h.stands.pends place b can)
 
     pub full_falls : (k : List Known) → (g : Goes types texts fs f into s w Q made.code k) → Falls types f full_code k (ended_then g.after)
-    full_falls k g = falls_append types f made.code ends k g.after (ended_then g.after) g.falls (ends_fall types texts fs f s w.state made.grown h.stands.pends place g.after g.alive)
+    full_falls k g = falls_append types f made.code ends k g.after (ended_then g.after) g.falls (ends_fall types texts fs f s w.state made.grown _ h.stands.pends place g.after g.alive)
 
     pub full_apart : Begins types f w.state → Apart f s full_state (trees full_code)
     full_apart b =
         let before = begins_before types f s w.state made.grown b in
         let g = (made.runs b tt).goes (some_known types f a v s h before) (knows_alive types f a v s h (some_known types f a v s h before) (some_knows types f a v s h before)) tt in
         codes_apart f s w.state full_state made.code ends g.apart
-        ((ending_is types texts fs f s w.state made.grown h.stands.pends place).apart w.state full_state (omega arith) (λ x o. elim o [ inl m ↦ inl (inl m) | inr m ↦ inl (inr (among_take (length s.pending) w.state.pending x m)) ]))
+        ((ending_is types texts fs f s w.state made.grown _ h.stands.pends place).apart w.state full_state (omega arith) (λ x o. elim o [ inl m ↦ inl (inl m) | inr m ↦ inl (inr (among_take (length s.pending) w.state.pending x m)) ]))
 
     pub full_written : full_state.code ≡ s.code ++ full_code
     full_written = ap (λ (c : List Tree). c ++ ends) made.written ∙ append_assoc s.code made.code ends
@@ -174,4 +175,4 @@ module _ (types : Types) (texts : ℕ) (fs : List Function) (f : Function) where
     }
 
     pub does_full : Does a v in_loop s (end_pending (length s.pending) place w.state)
-    does_full = subst (Does a v in_loop s) (sym (behind_is types texts fs f s w.state made.grown h.stands.pends place)) full_does
+    does_full = subst (Does a v in_loop s) (sym (behind_is types texts fs f s w.state made.grown _ h.stands.pends place)) full_does

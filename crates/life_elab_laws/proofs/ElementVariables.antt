@@ -68,13 +68,14 @@ use Rattle.life_elab_laws.proofs.RangeBases.{behind_hidden}
 use Rattle.life_elab_laws.proofs.Saving.{saved_falls, saved_fine}
 use Rattle.life_elab_laws.proofs.Setting.{Setting}
 use Rattle.life_elab_laws.proofs.Shaping.{IsFine, fine_acts, fine_append}
-use Rattle.life_elab_laws.proofs.Targets.{owner_target, target_no_void, value_target}
+use Rattle.life_elab_laws.proofs.Targets.{owner_target, target_no_void, value_target, struct_target}
 use Rattle.life_elab_laws.proofs.TemporaryEnds.{TemporariesEnd, temporary_ends}
 use Rattle.life_elab_laws.proofs.TypedKinds.{place_same}
 use Rattle.life_elab_laws.proofs.Under.{DoesUnder, does_more}
 use Rattle.life_elab_laws.proofs.Values.{by_values}
-use Rattle.life_elab_laws.proofs.VariablePlaces.{IsVariableType, a_raw, a_reference, a_value, a_view, a_walker, an_alias, an_owner, variable_type, a_unique}
+use Rattle.life_elab_laws.proofs.VariablePlaces.{IsVariableType, a_raw, a_reference, a_value, a_view, a_walker, an_alias, an_owner, variable_type, a_struct, a_unique, a_struct_alias}
 use Rattle.life_elab_laws.proofs.WalkerSteps.{span_given}
+use Rattle.life_elab_laws.proofs.OwnLocals.{first_own}
 
 -- where nothing is pending, nothing ends
 none_ends : (n : ℕ) (place : Place) (r : State) → r.pending ≡ [] → end_pending n place r ≡ r
@@ -109,8 +110,8 @@ module _ (a : Around) (types : Types) (texts : ℕ) (fs : List Function) (f : Fu
   abbrev New : State → Type 0
   New s' = Begins types f (with_new (variable_local a u) s')
 
-  can : TemporariesEnd types texts fs f
-  can = temporary_ends types texts fs f setting.registers
+  can : TemporariesEnd types texts fs f (first_own a)
+  can = temporary_ends types texts fs f (first_own a) setting.own
 
   type_is : (w : Ty) → slice_get a.program.types.types u.ty.0 ≡ Some w → type_of a u.ty ≡ w
   type_is w is = ap (λ (o : Option Ty). unwrap_or o ty.Void) is
@@ -413,6 +414,7 @@ module _ (a : Around) (types : Types) (texts : ℕ) (fs : List Function) (f : Fu
       go (a_value z is w) = value_declared z w (plain z w (as_taken z is)) is
       go (a_reference target held is w) = refers target held is (value_target a.program.types (type_at a.program.types target) w)
       go (an_alias target held is o) = refers target held is (owner_target a.program.types (type_at a.program.types target) o)
+      go (a_struct_alias target held number is structure) = refers target held is (struct_target a.program.types (type_at a.program.types target) number structure)
       go (a_raw target held is w) = refused (ty.Raw target held) is refl
       go (a_view is) = view_declared is (given_string a.program.types t as_given (owner_element a.program.types t worth (as_taken ty.View is)) refl (given_as ty.View is))
       go (a_walker (ty.Span item held) is w) =
@@ -421,6 +423,7 @@ module _ (a : Around) (types : Types) (texts : ℕ) (fs : List Function) (f : Fu
       go (a_walker (ty.Iterator item held) is w) = refused (ty.Iterator item held) is refl
       go (a_walker _ is w) = absurd (false≢true w)
       go (a_unique target is w) = refused (ty.Unique target) is refl
+      go (a_struct number is) = refused (ty.Struct number) is refl
       go (an_owner z is o) =
           copied_declared z is o
           (given_owner a.program.types z t as_given o (owned z o (as_taken z is)) refl (given_as z is))

@@ -30,7 +30,7 @@ pub inner_element : (types : Types) (t : Ty) → is_inner_owner types t ≡ true
 inner_element types t o = or_right (is_value t) (is_inner_owner types t) o
 
 -- a path may have a step more than it has
-within_more : (types : Types) (n : ℕ) (t : Ty) → is_owner_within n types t ≡ true → is_owner_within (suc n) types t ≡ true
+pub within_more : (types : Types) (n : ℕ) (t : Ty) → is_owner_within n types t ≡ true → is_owner_within (suc n) types t ≡ true
 within_more types zero t o = absurd (false≢true o)
 within_more types (suc n) ty.Text o = refl
 within_more types (suc n) (ty.Vector element) o = elim (or_cases (is_value (type_at types element)) (is_owner_within n types (type_at types element)) o) [

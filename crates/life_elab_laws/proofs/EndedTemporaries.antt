@@ -22,7 +22,7 @@ use Rattle.life_elab_laws.proofs.Shaping.{IsFine}
 use Rattle.life_elab_laws.proofs.TemporaryEnds.{TemporariesEnd}
 use Rattle.life_elab_laws.proofs.Shaped.{is_passing}
 
-module _ (types : Types) (texts : ℕ) (fs : List Function) (f : Function) (s w : State) (grown : Grows s w) (before : ArePending s) (place : Place) where
+module _ (types : Types) (texts : ℕ) (fs : List Function) (f : Function) (s w : State) (grown : Grows s w) (low : ℕ) (before : ArePending low s) (place : Place) where
   abbrev n : ℕ
   n = length s.pending
 
@@ -30,8 +30,8 @@ module _ (types : Types) (texts : ℕ) (fs : List Function) (f : Function) (s w 
   abbrev pub ending : List ℕ
   ending = reverse (drop n w.pending)
 
-  pends : ArePending w
-  pends = grown.pends before
+  pends : ArePending low w
+  pends = grown.pends _ before
 
   pub ends_level : take n w.pending ≡ s.pending
   ends_level = front_taken s.pending w.pending grown.pending
@@ -59,7 +59,7 @@ module _ (types : Types) (texts : ℕ) (fs : List Function) (f : Function) (s w 
     living = grown.living;
     pending = subst (IsFront s.pending) (sym ends_level) (front_itself s.pending);
     fresh = λ y m lt. subst (Among y) ends_level m;
-    pends = λ p. pending_later s behind grown.locals grown.types grown.living ends_level p;
+    pends = λ low p. pending_later low s behind grown.locals grown.types grown.living ends_level p;
     outside = grown.outside;
   }
 
@@ -102,16 +102,16 @@ module _ (types : Types) (texts : ℕ) (fs : List Function) (f : Function) (s w 
   pub ends_below : (y : ℕ) → Among y ending → y < length w.locals
   ends_below y m = let is = pends.each y (ends_pending y m) in slice_get_within w.locals y is.local is.there
 
-  pub ends_temporary : Begins types f w → (y : ℕ) → Among y ending → IsTemporary f.locals types.types y
-  ends_temporary b y m = temporary_later w.locals f.locals w.types.types types.types y b.locals b.table (pends.each y (ends_pending y m))
+  pub ends_temporary : Begins types f w → (y : ℕ) → Among y ending → IsTemporary low f.locals types.types y
+  ends_temporary b y m = temporary_later _ w.locals f.locals w.types.types types.types y b.locals b.table (pends.each y (ends_pending y m))
 
   -- what is no temporary stays as it is
-  pub ends_spare : Begins types f w → (k : List Known) (y : ℕ) → (IsTemporary f.locals types.types y → ⊥) → known_at (set_blank ending k) y ≡ known_at k y
-  ends_spare b k y none = blank_beside ending k y (λ m. none (ends_temporary b y m))
+  pub ends_spare : Begins types f w → (k : List Known) (y : ℕ) → ((n : ℕ) → IsTemporary n f.locals types.types y → ⊥) → known_at (set_blank ending k) y ≡ known_at k y
+  ends_spare b k y none = blank_beside ending k y (λ m. none low (ends_temporary b y m))
 
   -- ---- the instruction
 
-  pub ends_fine : Begins types f w → TemporariesEnd types texts fs f → IsFine types texts fs f ending_is.code
+  pub ends_fine : Begins types f w → TemporariesEnd types texts fs f low → IsFine types texts fs f ending_is.code
   ends_fine b can = ending_is.fine (all_among (ends_here types texts fs f) ending (λ y m. can y (ends_temporary b y m)))
 
   pub ends_fall : (k : List Known) → Alive f w k → Falls types f ending_is.code k (set_blank ending k)

@@ -51,6 +51,7 @@ use Rattle.life_elab_laws.proofs.TemporaryEnds.{TemporariesEnd, temporary_ends}
 use Rattle.life_core.specs.declared.instr.Form.TheVariants.{Plain}
 use Rattle.life_writer.specs.OwnerForms.{made_null, set_to}
 use Rattle.life_elab_laws.proofs.HandedArguments.{Hands as AllHanded}
+use Rattle.life_elab_laws.proofs.OwnLocals.{first_own}
 
 module _ (a : Around) (visible : List ℕ) (types : Types) (texts : ℕ) (fs : List Function) (f : Function) (setting : Setting a types fs f) where
   abbrev pub Standing : State → Type 0
@@ -74,8 +75,8 @@ module _ (a : Around) (visible : List ℕ) (types : Types) (texts : ℕ) (fs : L
   abbrev pub Decided : Option Place → State → Gives Tree → Type 0
   Decided ends s w = Tests types texts fs f ends s w
 
-  pub can : TemporariesEnd types texts fs f
-  can = temporary_ends types texts fs f setting.registers
+  pub can : TemporariesEnd types texts fs f (first_own a)
+  can = temporary_ends types texts fs f (first_own a) setting.own
 
   -- ---- what is asked
 
@@ -87,15 +88,16 @@ module _ (a : Around) (visible : List ℕ) (types : Types) (texts : ℕ) (fs : L
     pub hands : (s : State) → Standing s → Hands of s (giving.arguments a (all_uses a c.arguments) c.delimiters (around.parameter_types a c.function) s)
 
   -- of a literal, which builds a string
-  pub record IsLiteral (object : State → Gives Remaining) : Type 0 where
+  pub record IsLiteral (object : State → Gives Remaining) (named : Option ℕ) : Type 0 where
+    pub nameless : named ≡ None
     pub place : Place
     pub number : ℕ
     pub few : nat_lt number texts ≡ true
     pub is : object ≡ (λ s. located place ty.View (aimed (Text number)) s >> λ view s. gives (lived Plain (set_to view)) s)
 
   -- of nullptr, which builds a unique_ptr that owns nothing
-  abbrev pub IsNothing : (State → Gives Remaining) → Type 0
-  IsNothing object = object ≡ (λ s. gives (lived Plain made_null) s)
+  abbrev pub IsNothing : (State → Gives Remaining) → Option ℕ → Type 0
+  IsNothing object named = (object ≡ (λ s. gives (lived Plain made_null) s)) × (named ≡ None)
 
   -- of what an expression is made by, wherever it stands
   pub record IsForm (form : Form) (e : Typed) : Type 0 where
@@ -116,9 +118,9 @@ module _ (a : Around) (visible : List ℕ) (types : Types) (texts : ℕ) (fs : L
     -- what is a call is one of a function that is there
     pub calls : (c : Called) → form_call form ≡ Some c → IsCall c e.ty e.category
     -- .. and what has the type of a literal is one
-    pub as_literal : e.ty ≡ TextLiteral → (place : Place) → IsLiteral ((form_uses a form place e.ty e.category).object)
+    pub as_literal : e.ty ≡ TextLiteral → (place : Place) → IsLiteral ((form_uses a form place e.ty e.category).object) ((form_uses a form place e.ty e.category).named)
     -- .. or nullptr
-    pub as_null : e.ty ≡ NullPointer → (place : Place) → IsNothing ((form_uses a form place e.ty e.category).object)
+    pub as_null : e.ty ≡ NullPointer → (place : Place) → IsNothing ((form_uses a form place e.ty e.category).object) ((form_uses a form place e.ty e.category).named)
 
   -- of a whole expression
   pub record IsWhole (form : Form) : Type 0 where
@@ -132,8 +134,8 @@ module _ (a : Around) (visible : List ℕ) (types : Types) (texts : ℕ) (fs : L
     pub conditions : is_condition (typed_in form).ty ≡ true → (b : Behind) (s : State) → Standing s → Decided b.ends s (condition (uses a form) b s)
     pub decides : (b : Behind) (w : State → Gives Tree) → (uses a form).decision b ≡ Some w → (s : State) → Standing s → Decided b.ends s (w s)
     pub calls : (c : Called) → expression_call form ≡ Some c → IsCall c (typed_in form).ty (typed_in form).category
-    pub as_literal : (typed_in form).ty ≡ TextLiteral → IsLiteral ((uses a form).object)
-    pub as_null : (typed_in form).ty ≡ NullPointer → IsNothing ((uses a form).object)
+    pub as_literal : (typed_in form).ty ≡ TextLiteral → IsLiteral ((uses a form).object) ((uses a form).named)
+    pub as_null : (typed_in form).ty ≡ NullPointer → IsNothing ((uses a form).object) ((uses a form).named)
 
   -- ---- a whole expression, of what it is made by
 
@@ -226,7 +228,7 @@ module _ (a : Around) (visible : List ℕ) (types : Types) (texts : ℕ) (fs : L
     points = λ p s stands. is.points p place s stands;
     pointers = λ x at loc s stands. pointer_part u.pointing t x place s at loc (fits x at loc) stands (is.points (ap is_pointed at ∙ loc) place s stands);
     conditions = λ h b s stands.
-        condition_part types texts fs f (u.decision b) (own_type t) place b.ends (nullable u) (read_or_made u b.token None) s (own_no_unique a.program.types e is.kind.kind) stands.pends can
+        condition_part types texts fs f (u.decision b) (own_type t) place b.ends (nullable u) (read_or_made u b.token None) s (own_no_unique a.program.types e is.kind.kind) _ stands.pends can
         (λ w at. is.decides place b w at s stands)
         (λ none raw. let loc = raw_location (own_type t) raw in let at = location_is t loc in
         subst (λ (w : Gives Location). Makes types texts fs f None (with_code [] s) w (a_pointer types texts fs f (own_type t))) (sym (nullable_raw u (own_type t) (with_code [] s) refl raw))
@@ -323,7 +325,7 @@ module _ (a : Around) (visible : List ℕ) (types : Types) (texts : ℕ) (fs : L
 
   -- a pointer that is no place
   pub pointer_form : (form : Form) (e : Typed) → IsKind a.program.types e → e.category ≡ category.Value → (is_number e.ty ≡ true → ⊥) → form_call form ≡ None → ((place : Place) (b : Behind) → (form_uses a form place e.ty e.category).decision b ≡ None)
-      → (e.ty ≡ TextLiteral → (place : Place) → IsLiteral ((form_uses a form place e.ty e.category).object)) → (e.ty ≡ NullPointer → (place : Place) → IsNothing ((form_uses a form place e.ty e.category).object))
+      → (e.ty ≡ TextLiteral → (place : Place) → IsLiteral ((form_uses a form place e.ty e.category).object) ((form_uses a form place e.ty e.category).named)) → (e.ty ≡ NullPointer → (place : Place) → IsNothing ((form_uses a form place e.ty e.category).object) ((form_uses a form place e.ty e.category).named))
       → (is_pointed e.ty ≡ true → (place : Place) (s : State) → Standing s → Points e.ty s ((form_uses a form place e.ty e.category).pointing s)) → IsForm form e
   pointer_form form e kind c never none plain told empty points = record {
     kind = kind;

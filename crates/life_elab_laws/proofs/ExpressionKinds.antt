@@ -24,8 +24,8 @@ use Rattle.life_well_typed.specs.Expressions.{IsAddress, IsVariable}
 use Rattle.life_well_typed.specs.Given.{is_number}
 use Rattle.life_elab_laws.proofs.Fronts.{passed_at}
 use Rattle.life_elab_laws.proofs.ServedTypes.{served_type_is}
-use Rattle.life_elab_laws.proofs.TypedKinds.{HasKind, IsKind, a_null, a_number, a_pointer, a_text, a_view, err_ok, kind_of_variable, no_value, ok_same, owner_refused, promoted_value, value_place}
-use Rattle.life_elab_laws.proofs.Targets.{IsTarget, target_is, to_owner, to_value}
+use Rattle.life_elab_laws.proofs.TypedKinds.{HasKind, IsKind, a_null, a_number, a_pointer, a_text, a_view, err_ok, kind_of_variable, no_value, ok_same, owner_refused, promoted_value, struct_refused, value_place}
+use Rattle.life_elab_laws.proofs.Targets.{IsTarget, target_is, to_owner, to_struct, to_value}
 use Rattle.life_elab_laws.proofs.Values.{by_values}
 
 -- ---- what is built
@@ -92,6 +92,7 @@ dereferenced_as types inner e k n h = go k.kind
         worth : IsTarget types (type_at types target) → is_value (type_at types target) ≡ true
         worth (to_value v) = v
         worth (to_owner o) = absurd (owner_refused types (type_at types target) o (subst (λ (x : ExprType). is_plain_type x ≡ true) (ap (λ (x : Typed). x.ty) here) n))
+        worth (to_struct number s) = absurd (struct_refused (type_at types target) number s (subst (λ (x : ExprType). is_plain_type x ≡ true) (ap (λ (x : Typed). x.ty) here) n))
 
 pub record IsNegated (inner e : Typed) : Type 0 where
   pub ty : Ty

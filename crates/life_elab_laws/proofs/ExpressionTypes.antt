@@ -1,5 +1,5 @@
 -- The types of expressions that are built.
-use Rattle.std.proofs.Common.{◌≡◌, Bool, true, false, not, refl, sym, ap, ◌∙◌, subst, true≢false, Ok}
+use Rattle.std.proofs.Common.{◌≡◌, ℕ, Bool, true, false, not, refl, sym, ap, ◌∙◌, subst, true≢false, Ok}
 use Rattle.std.proofs.lemmas.Bool.{false≢true}
 use Rattle.life_types.specs.TypeTests.{is_iterator, is_raw, is_text, is_unique, is_value}
 use Rattle.life_types.specs.Types.{Types}
@@ -21,10 +21,10 @@ use Rattle.life_writer.specs.Around.{own_type}
 use Rattle.life_elab_laws.proofs.Locations.{is_location, is_seen}
 use Rattle.life_elab_laws.proofs.RowTypes.{no_text, promoted_is, sees}
 use Rattle.life_elab_laws.proofs.TypedKinds.{HasKind, IsKind, a_null, a_number, a_pointer, a_text, a_view, err_ok, no_value, ok_same, value_simple}
-use Rattle.life_elab_laws.proofs.ResultTypes.{IsResultType, gives_walker, gives_nothing, gives_raw, gives_reference, gives_value, gives_view, gives_alias}
+use Rattle.life_elab_laws.proofs.ResultTypes.{IsResultType, gives_walker, gives_nothing, gives_raw, gives_reference, gives_value, gives_view, gives_alias, gives_struct, gives_owner, gives_unique}
 use Rattle.life_elab_laws.proofs.Values.{by_values}
 use Rattle.life_elab_laws.proofs.WrittenLocals.{fits_register, value_fits}
-use Rattle.life_served.specs.Served.{is_owner_of_values, is_target, is_walker_of_values}
+use Rattle.life_served.specs.Served.{is_owner_of_values, is_target, is_walker_of_values, is_element}
 
 -- ---- types of expressions
 
@@ -77,15 +77,18 @@ negated_promoted types inner e k h = go k.kind
 
 -- ---- what a call gives
 
--- nothing, a value, a raw pointer, a view, or the place that a reference refers to
+-- nothing, a value, a raw pointer, a view, an owner, a unique_ptr, or the place that a reference refers to
 pub data IsAnswered (types : Types) (result : Ty) (t : ExprType) (k : Category) : Type 0 where
   answers_nothing : result ≡ ty.Void → t ≡ Of ty.Void → k ≡ category.Value → IsAnswered types result t k
   answers_value : is_value result ≡ true → t ≡ Of result → k ≡ category.Value → IsAnswered types result t k
   answers_raw : (target : TyId) (constant : Bool) → result ≡ ty.Raw target constant → is_target types (type_at types target) ≡ true → t ≡ Of (ty.Raw target constant) → k ≡ category.Value → IsAnswered types result t k
   answers_view : result ≡ ty.View → t ≡ Of ty.View → k ≡ category.Value → IsAnswered types result t k
   answers_walker : is_walker_of_values types result ≡ true → t ≡ Of result → k ≡ category.Value → IsAnswered types result t k
+  answers_made : is_owner_of_values types result ≡ true → t ≡ Of result → k ≡ category.Value → IsAnswered types result t k
+  answers_unique : (target : TyId) → result ≡ ty.Unique target → is_element types (type_at types target) ≡ true → t ≡ Of (ty.Unique target) → k ≡ category.Value → IsAnswered types result t k
   answers_place : (target : TyId) (constant : Bool) → result ≡ ty.Reference target constant → is_value (type_at types target) ≡ true → t ≡ Of (type_at types target) → k ≡ category.Place target constant → IsAnswered types result t k
   answers_owner : (target : TyId) (constant : Bool) → result ≡ ty.Reference target constant → is_owner_of_values types (type_at types target) ≡ true → t ≡ Of (type_at types target) → k ≡ category.Place target constant → IsAnswered types result t k
+  answers_struct : (target : TyId) (constant : Bool) (number : ℕ) → result ≡ ty.Reference target constant → type_at types target ≡ ty.Struct number → t ≡ Of (ty.Struct number) → k ≡ category.Place target constant → IsAnswered types result t k
 
 pub answered_as : (types : Types) (e : Typed) (t : Ty) → IsResultType types t → e ≡ answer_of t types e.place e.form → IsAnswered types t e.ty e.category
 answered_as types e t kind is = go kind
@@ -107,6 +110,15 @@ answered_as types e t kind is = go kind
         walks (ty.Iterator target constant) w = refl
         walks (ty.Span target constant) w = refl
         walks _ w = absurd (false≢true w)
+    go (gives_owner o) = let here = is ∙ owns t o in answers_made o (ap (λ (x : Typed). x.ty) here) (ap (λ (x : Typed). x.category) here)
+      where
+        owns : (t : Ty) → is_owner_of_values types t ≡ true → answer_of t types e.place e.form ≡ value_typed e.place t e.form
+        owns ty.Text o = refl
+        owns (ty.Vector item) o = refl
+        owns _ o = absurd (false≢true o)
+    go (gives_unique target unique w) =
+        let here = as_type (ty.Unique target) unique in
+        answers_unique target unique w (ap (λ (x : Typed). x.ty) here) (ap (λ (x : Typed). x.category) here)
     go (gives_view view) = let here = as_type ty.View view in answers_view view (ap (λ (x : Typed). x.ty) here) (ap (λ (x : Typed). x.category) here)
     go (gives_reference target constant refers w) =
         let here = as_type (ty.Reference target constant) refers in
@@ -114,6 +126,9 @@ answered_as types e t kind is = go kind
     go (gives_alias target constant refers o) =
         let here = as_type (ty.Reference target constant) refers in
         answers_owner target constant refers o (ap (λ (x : Typed). x.ty) here) (ap (λ (x : Typed). x.category) here)
+    go (gives_struct target constant number refers s) =
+        let here = as_type (ty.Reference target constant) refers in
+        answers_struct target constant number refers s (ap (λ (x : Typed). x.ty) here ∙ ap Of s) (ap (λ (x : Typed). x.category) here)
 
 -- what is given back that is no place has the type of the result
 pub answer_own : (types : Types) (result : Ty) (t : ExprType) (k : Category) → IsAnswered types result t k → not (is_place k) ≡ true → result ≡ own_type t
@@ -121,9 +136,12 @@ answer_own types result t k (answers_nothing void own held) plain = void ∙ sym
 answer_own types result t k (answers_value w own held) plain = sym (ap own_type own)
 answer_own types result t k (answers_raw target constant raw w own held) plain = raw ∙ sym (ap own_type own)
 answer_own types result t k (answers_walker w own held) plain = sym (ap own_type own)
+answer_own types result t k (answers_made o own held) plain = sym (ap own_type own)
+answer_own types result t k (answers_unique target unique w own held) plain = unique ∙ sym (ap own_type own)
 answer_own types result t k (answers_view view own held) plain = view ∙ sym (ap own_type own)
 answer_own types result t k (answers_place target constant refers w own held) plain = absurd (false≢true (sym (ap (λ (c : Category). not (is_place c)) held) ∙ plain))
 answer_own types result t k (answers_owner target constant refers o own held) plain = absurd (false≢true (sym (ap (λ (c : Category). not (is_place c)) held) ∙ plain))
+answer_own types result t k (answers_struct target constant number refers s own held) plain = absurd (false≢true (sym (ap (λ (c : Category). not (is_place c)) held) ∙ plain))
 
 -- what may be null and isn't a unique_ptr is a raw pointer
 pub nullable_raw : (u : Ty) → is_nullable u ≡ true → is_unique u ≡ false → is_raw u ≡ true

@@ -1,8 +1,8 @@
 -- What is written for a well typed expression, by one recursion: each form says by one way how it is written, and has all laws by that.
-use Rattle.std.proofs.Common.{◌≡◌, inl, inr, ℕ, zero, suc, true, List, [], ◌∷◌, slice_get, Option, Some, None, refl, sym, ap, ◌∙◌, subst, ◌&&◌, ◌||◌, Ok}
+use Rattle.std.proofs.Common.{◌≡◌, inl, inr, ℕ, zero, suc, Bool, true, false, List, [], ◌∷◌, slice_get, Option, Some, None, refl, sym, ap, ◌∙◌, subst, ◌&&◌, ◌||◌, Ok}
 use Rattle.std.proofs.lemmas.Bool.{and_parts, false≢true, or_cases}
 use Rattle.std.specs.Prelude.{pos}
-use Rattle.life_served.specs.Served.{are_served_arguments, are_served_elements, form_type, is_asking, is_edge, is_end, is_equality, is_erase, is_get, is_owner_of_values, is_owner_type, is_plain_type, is_served_either, is_served_form, is_served_object, is_served_owner, is_served_unique, is_served_walker, is_subspan, is_testing, is_walker_of_values, is_walker_type, owns_elements, is_number_type, is_served_fresh, is_served_made, is_unique_type}
+use Rattle.life_served.specs.Served.{are_served_arguments, are_served_elements, form_type, is_asking, is_edge, is_end, is_equality, is_erase, is_get, is_owner_of_values, is_owner_type, is_plain_type, is_served_either, is_served_form, is_served_object, is_served_owner, is_served_struct, is_served_unique, is_served_walker, is_struct_type, is_subspan, is_testing, is_walker_of_values, is_walker_type, owns_elements, is_number_type, is_served_content, is_served_fresh, is_unique_type}
 use Rattle.life_types.specs.Types.{Types}
 use Rattle.life_types.specs.declared.place.Place.{Place}
 use Rattle.life_types.specs.declared.ty.Ty.TheVariants as ty
@@ -18,7 +18,7 @@ use Rattle.life_type_expr.specs.Operands.{number_type}
 use Rattle.life_core.specs.Function.{Function}
 use Rattle.life_core.specs.Tree.{Tree}
 use Rattle.life_proper.specs.OperandTypes as operands
-use Rattle.life_well_typed.specs.Expressions.{AreExpressions, IsExpression, IsMadeOf, are_given, parameter_types, typed_in, IsExpressionIfAny}
+use Rattle.life_well_typed.specs.Expressions.{AreExpressions, IsExpression, IsMadeOf, are_given, parameter_types, typed_in, IsExpressionIfAny, HasResult}
 use Rattle.life_well_typed.specs.Given.{is_given}
 use Rattle.life_writer.specs.Around.{Around, own_type}
 use Rattle.life_writer.specs.ExpressionForms.{all_uses, uses, form_uses}
@@ -27,8 +27,9 @@ use Rattle.life_writer.specs.Uses.{Uses}
 use Rattle.life_writer.specs.Using.{value}
 use Rattle.life_writer.specs.Values as values
 use Rattle.life_writer.specs.Writing.{Gives, State}
-use Rattle.life_elab_laws.proofs.UniqueMaking.{IsWholeIfAny}
+use Rattle.life_elab_laws.proofs.OwnedContents.{IsGivingIfAny}
 use Rattle.life_elab_laws.proofs.HandedUniques.{fresh_first}
+use Rattle.life_elab_laws.proofs.CalledUniques.{called_fresh}
 use Rattle.life_elab_laws.proofs.FreshUniques.{IsFresh, IsFreshAt, made_fresh, moved_fresh}
 use Rattle.life_elab_laws.proofs.Conditions.{Tests}
 use Rattle.life_elab_laws.proofs.ExpressionForms.{IsForm, IsWhole, literal, paren_form, value_form, whole_of}
@@ -43,7 +44,7 @@ use Rattle.life_elab_laws.proofs.TypedKinds.{combined_as, ok_same, IsCombined}
 use Rattle.life_elab_laws.proofs.VariablePlaces.{Stands}
 use Rattle.life_elab_laws.proofs.OperatorForms.{binary_form}
 use Rattle.life_elab_laws.proofs.PointerForms.{address_form, call_form, dereference_form, null_form, text_form, variable_form}
-use Rattle.life_elab_laws.proofs.ReferredOwners.{call_object, dereferenced_object, owner_address_form, call_walker}
+use Rattle.life_elab_laws.proofs.ReferredOwners.{call_object, dereferenced_object, owner_address_form, call_walker, call_made}
 use Rattle.life_elab_laws.proofs.ElementForms.{edge_reached, either_served, operand_typed, owner_index_reached, owner_method_form, view_index_reached}
 use Rattle.life_elab_laws.proofs.ViewForms.{AreWhole, method_form}
 use Rattle.life_elab_laws.proofs.ComparedForms.{IsEither, compared_form}
@@ -62,12 +63,16 @@ use Rattle.life_elab_laws.proofs.RowTypes.{row_fits_between}
 use Rattle.life_typed.specs.declared.typed_expr.BinaryOperator.{BinaryOperator}
 use Rattle.life_types.specs.declared.ty.Ty.{Ty}
 use Rattle.life_elab_laws.proofs.HandedOwners.{owner_first, walker_first}
+use Rattle.life_elab_laws.proofs.HandedStructs.{struct_first}
+use Rattle.life_elab_laws.proofs.ReferredStructs.{call_struct, dereferenced_struct, struct_address_form}
 use Rattle.life_elab_laws.proofs.PushedElements.{AreGiving, IsGiving}
 use Rattle.life_elab_laws.proofs.MovedForms.{moved_made}
 use Rattle.life_elab_laws.proofs.MovedOwners.{moved_from_variable}
+use Rattle.life_elab_laws.proofs.StructForms.{IsStruct, IsStructAt, member_form, member_object, member_struct, struct_same, variable_struct}
 use Rattle.life_elab_laws.proofs.UniqueForms.{IsUnique, unique_dereferenced, unique_expression, unique_get_form}
 use Rattle.life_elab_laws.proofs.UniqueTests.{by_unique, by_value, deciding_form, deciding_negation, IsDeciding}
 use Rattle.life_type_expr.specs.Members.{indexed_at}
+use Rattle.life_typed.specs.Conversions.{is_place}
 
 module _ (a : Around) (visible : List ℕ) (types : Types) (texts : ℕ) (fs : List Function) (f : Function) (setting : Setting a types fs f) where
   abbrev Standing : State → Type 0
@@ -187,6 +192,16 @@ module _ (a : Around) (visible : List ℕ) (types : Types) (texts : ℕ) (fs : L
         | inr others ↦ reached_object a visible types texts fs f setting (dereference inner) e place (behind_reached inner e others h walker) n
       ]
 
+  -- an owner that a call refers to, or gives itself
+  called_owner : (g : ℕ) (given : Form) (delimiters : DelimitersForm) (e : Typed) (place : Place) → is_owner_type e.ty ≡ true → HasResult a.program.types (slice_get a.program.functions g) e
+      → ((of : FunctionForm) → slice_get a.program.functions g ≡ Some of → (s : State) → Standing s → Hands types texts fs f (parameter_types (Some of)) s (giving.arguments a (all_uses a given) delimiters (parameter_types (Some of)) s))
+      → IsOwningAt a visible types texts fs f setting e ((form_uses a (call g given delimiters) place e.ty e.category).at) ((form_uses a (call g given delimiters) place e.ty e.category).object)
+  called_owner g given delimiters e place n h hands = go (is_place e.category) refl
+    where
+      go : (b : Bool) → is_place e.category ≡ b → IsOwningAt a visible types texts fs f setting e ((form_uses a (call g given delimiters) place e.ty e.category).at) ((form_uses a (call g given delimiters) place e.ty e.category).object)
+      go true there = stands_there (call_object a visible types texts fs f setting g given delimiters e place n there h hands)
+      go false there = is_made (call_made a visible types texts fs f setting g given delimiters e place n there h hands)
+
   -- ---- any expression
 
   mutual
@@ -211,6 +226,7 @@ module _ (a : Around) (visible : List ℕ) (types : Types) (texts : ℕ) (fs : L
           | inl value ↦ let is = whole_expression inner value h.1 in dereference_form a visible types texts fs f setting inner e (dereferenced_as a.program.types (typed_in inner) e is.kind q h.0) is
           | inr others ↦ reached_form a visible types texts fs f setting (dereference inner) e (behind_reached inner e others h (λ w. walker_expression inner w h.1)) q refl (λ place b. refl)
         ]
+    expression (member base which) e q b h = member_form a visible types texts fs f setting base which e (struct_expression base b h.1) h.0 q
     expression (negate inner) e q b h =
         let is = whole_expression inner b h.1 in
         let g = negated_as a.program.types (typed_in inner) e is.kind h.0 in
@@ -221,9 +237,12 @@ module _ (a : Around) (visible : List ℕ) (types : Types) (texts : ℕ) (fs : L
         (λ place behind r s. refl)
     expression (not inner) e q b h = deciding_negation a visible types texts fs f setting inner e h.0 (deciding_of inner b (λ v. whole_expression inner v h.1) h.1)
     expression (address_of inner) e q b h =
-        elim (either_served inner (is_served_object texts inner) (is_served_form texts inner) b) [
-          | inl value ↦ let is = whole_expression inner value h.1 in address_form a visible types texts fs f setting inner e (addressed_as a.program.types (typed_in inner) e is.kind h.0) is
-          | inr owner ↦ owner_address_form a visible types texts fs f setting inner e (object_expression inner owner.1 owner.0 h.1) h.0
+        elim (or_cases (is_served_either inner (is_served_object texts inner) (is_served_form texts inner)) (is_served_struct texts inner) b) [
+          | inl either ↦ elim (either_served inner (is_served_object texts inner) (is_served_form texts inner) either) [
+            | inl value ↦ let is = whole_expression inner value h.1 in address_form a visible types texts fs f setting inner e (addressed_as a.program.types (typed_in inner) e is.kind h.0) is
+            | inr owner ↦ owner_address_form a visible types texts fs f setting inner e (object_expression inner owner.1 owner.0 h.1) h.0
+          ]
+          | inr structure ↦ struct_address_form a visible types texts fs f setting inner e (struct_expression inner structure h.1) h.0
         ]
     expression (binary o left right) e q b h =
         let c = combined_as o e.place (typed_in left) (typed_in right) e h.0 in
@@ -252,7 +271,6 @@ module _ (a : Around) (visible : List ℕ) (types : Types) (texts : ℕ) (fs : L
     expression (move x) e q b h = absurd (false≢true b)
     expression (make_unique id argument closing) e q b h = absurd (false≢true b)
     expression (text_of inner closing) e q b h = absurd (false≢true b)
-    expression (member base which) e q b h = absurd (false≢true b)
     expression (index base position closing) e q b h =
         let parts = and_parts (is_served_either base (is_served_owner texts base) (is_served_form texts base) || is_served_walker texts base) (is_served_form texts position) b in
         let is = indexed_of base position closing e parts.0 h.0 (λ v. whole_expression base v h.1) (λ o n. owner_expression base o n h.1) (λ w. walker_expression base w h.1) (whole_expression position parts.1 h.2) in
@@ -300,9 +318,10 @@ module _ (a : Around) (visible : List ℕ) (types : Types) (texts : ℕ) (fs : L
         let is = moved_from_variable a visible types texts fs f setting x e h.1 in
         is_made (moved_made a visible types texts fs f setting x e h.0 is place (is.held (subst (λ (y : ExprType). is_owner_type y ≡ true) is.is n)))
     owner_made (call g given delimiters) e b n h place =
-        stands_there (call_object a visible types texts fs f setting g given delimiters e place n h.0
-        (λ of at s stands. handed delimiters given b h.2 (parameter_types (Some of)) (subst (λ (o : Option FunctionForm). are_given a.program.types (parameter_types o) given ≡ true) at h.1) (setting.taken g of at) s stands))
+        called_owner g given delimiters e place n h.0
+        (λ of at s stands. handed delimiters given b h.2 (parameter_types (Some of)) (subst (λ (o : Option FunctionForm). are_given a.program.types (parameter_types o) given ≡ true) at h.1) (setting.taken g of at) s stands)
     owner_made (dereference inner) e b n h place = stands_there (behind_of inner e place b n h (λ v. whole_expression inner v h.1) (λ w. walker_expression inner w h.1))
+    owner_made (member base which) e b n h place = stands_there (member_object a visible types texts fs f setting base which e (struct_expression base b h.1) h.0 n)
     owner_made (index base position closing) e b n h place =
         let parts = and_parts (is_served_either base (is_served_owner texts base) (is_served_form texts base) || is_served_walker texts base) (is_served_form texts position) b in
         let is = indexed_of base position closing e parts.0 h.0 (λ v. whole_expression base v h.1) (λ o n. owner_expression base o n h.1) (λ w. walker_expression base w h.1) (whole_expression position parts.1 h.2) in
@@ -315,29 +334,51 @@ module _ (a : Around) (visible : List ℕ) (types : Types) (texts : ℕ) (fs : L
 
     -- .. that stands at a place
     pub object_expression : (form : Form) → is_served_object texts form ≡ true → is_owner_type (typed_in form).ty ≡ true → IsExpression a.program a.function.locals visible form → IsObject a visible types texts fs f setting form
-    object_expression (typed place t c form) b n h = object_made form (record { place = place; ty = t; category = c; form = form }) b n h place
+    object_expression (typed place t c form) b n h =
+        let parts = and_parts (is_place c) (is_served_object texts form) b in object_made form (record { place = place; ty = t; category = c; form = form }) parts.1 n parts.0 h place
     object_expression _ b n h = absurd h
 
-    object_made : (form : Form) (e : Typed) → is_served_object texts form ≡ true → is_owner_type e.ty ≡ true → IsMadeOf a.program a.function.locals visible e form → (place : Place)
+    object_made : (form : Form) (e : Typed) → is_served_object texts form ≡ true → is_owner_type e.ty ≡ true → is_place e.category ≡ true → IsMadeOf a.program a.function.locals visible e form → (place : Place)
         → IsObjectAt a visible types texts fs f setting e ((form_uses a form place e.ty e.category).at)
-    object_made (local x) e b n h place = variable_object a visible types texts fs f setting x e n h.0 h.1
-    object_made (paren inner closing) e b n h place =
+    object_made (local x) e b n p h place = variable_object a visible types texts fs f setting x e n h.0 h.1
+    object_made (paren inner closing) e b n p h place =
         let same = ok_same h.0 in
         let t : (typed_in inner).ty ≡ e.ty = ap (λ (y : Typed). y.ty) same in
         object_same a visible types texts fs f setting (typed_in inner) e ((uses a inner).at) t (ap (λ (y : Typed). y.category) same) (object_expression inner b (ap is_owner_type t ∙ n) h.1)
-    object_made (call g given delimiters) e b n h place =
-        call_object a visible types texts fs f setting g given delimiters e place n h.0
+    object_made (call g given delimiters) e b n p h place =
+        call_object a visible types texts fs f setting g given delimiters e place n p h.0
         (λ of at s stands. handed delimiters given b h.2 (parameter_types (Some of)) (subst (λ (o : Option FunctionForm). are_given a.program.types (parameter_types o) given ≡ true) at h.1) (setting.taken g of at) s stands)
-    object_made (dereference inner) e b n h place = behind_of inner e place b n h (λ v. whole_expression inner v h.1) (λ w. walker_expression inner w h.1)
-    object_made (index base position closing) e b n h place =
+    object_made (dereference inner) e b n p h place = behind_of inner e place b n h (λ v. whole_expression inner v h.1) (λ w. walker_expression inner w h.1)
+    object_made (member base which) e b n p h place = member_object a visible types texts fs f setting base which e (struct_expression base b h.1) h.0 n
+    object_made (index base position closing) e b n p h place =
         let parts = and_parts (is_served_either base (is_served_owner texts base) (is_served_form texts base) || is_served_walker texts base) (is_served_form texts position) b in
         let is = indexed_of base position closing e parts.0 h.0 (λ v. whole_expression base v h.1) (λ o n. owner_expression base o n h.1) (λ w. walker_expression base w h.1) (whole_expression position parts.1 h.2) in
         reached_object a visible types texts fs f setting (index base position closing) e place is n
-    object_made (method base which given delimiters) e b n h place =
+    object_made (method base which given delimiters) e b n p h place =
         let is = edge_of base which given delimiters e b h.0 (λ o n. owner_expression base o n h.1) in
         reached_object a visible types texts fs f setting (method base which given delimiters) e place is n
-    object_made (typed place t c form) e b n h at = absurd h
-    object_made _ e b n h place = absurd (false≢true b)
+    object_made (typed place t c form) e b n p h at = absurd h
+    object_made _ e b n p h place = absurd (false≢true b)
+
+    -- a struct at a place
+    pub struct_expression : (form : Form) → is_served_struct texts form ≡ true → IsExpression a.program a.function.locals visible form → IsStruct a visible types texts fs f setting form
+    struct_expression (typed place t c form) b h =
+        let parts = and_parts (is_struct_type t) (is_served_struct texts form) b in struct_made form (record { place = place; ty = t; category = c; form = form }) parts.0 parts.1 h place
+    struct_expression _ b h = absurd h
+
+    struct_made : (form : Form) (e : Typed) → is_struct_type e.ty ≡ true → is_served_struct texts form ≡ true → IsMadeOf a.program a.function.locals visible e form → (place : Place)
+        → IsStructAt a visible types texts fs f setting e ((form_uses a form place e.ty e.category).at)
+    struct_made (local x) e n b h place = variable_struct a visible types texts fs f setting x e n h.0 h.1
+    struct_made (member base which) e n b h place = member_struct a visible types texts fs f setting base which e (struct_expression base b h.1) h.0 n
+    struct_made (paren inner closing) e n b h place =
+        let same = ok_same h.0 in
+        struct_same a visible types texts fs f setting (typed_in inner) e ((uses a inner).at) (ap (λ (y : Typed). y.ty) same) (ap (λ (y : Typed). y.category) same) (struct_expression inner b h.1)
+    struct_made (call g given delimiters) e n b h place =
+        call_struct a visible types texts fs f setting g given delimiters e place n h.0
+        (λ of at s stands. handed delimiters given b h.2 (parameter_types (Some of)) (subst (λ (o : Option FunctionForm). are_given a.program.types (parameter_types o) given ≡ true) at h.1) (setting.taken g of at) s stands)
+    struct_made (dereference inner) e n b h place = dereferenced_struct a visible types texts fs f setting inner e place (whole_expression inner b h.1) n h.0
+    struct_made (typed at t c form) e n b h place = absurd h
+    struct_made _ e n b h place = absurd (false≢true b)
 
     -- an iterator or a span
     pub walker_expression : (form : Form) → is_served_walker texts form ≡ true → IsExpression a.program a.function.locals visible form → IsWalker a visible types texts fs f setting form
@@ -383,8 +424,8 @@ module _ (a : Around) (visible : List ℕ) (types : Types) (texts : ℕ) (fs : L
     walker_given (e ⨟ es) b h = walker_expression e b h.0
     walker_given _ b h = absurd h
 
-    -- a unique_ptr that is made, or moved out of a variable
-    fresh_expression : (form : Form) → is_served_fresh texts form ≡ true → IsExpression a.program a.function.locals visible form → IsFresh a visible types texts fs f setting form
+    -- a unique_ptr that is made, moved out of a variable, or given by a call
+    pub fresh_expression : (form : Form) → is_served_fresh texts form ≡ true → IsExpression a.program a.function.locals visible form → IsFresh a visible types texts fs f setting form
     fresh_expression (typed place t c form) b h =
         let parts = and_parts (is_unique_type t) (is_served_fresh texts form) b in fresh_made form (record { place = place; ty = t; category = c; form = form }) parts.0 parts.1 h place
     fresh_expression _ b h = absurd h
@@ -395,6 +436,9 @@ module _ (a : Around) (visible : List ℕ) (types : Types) (texts : ℕ) (fs : L
     fresh_made (make_unique id (typed at t c form) closing) e n b h place =
         made_fresh a visible types texts fs f setting id (typed at t c form) closing e place b (whole_expression (typed at t c form) (and_parts (is_number_type t) (is_plain_type t && is_served_form texts form) b).1 h.3) h
     fresh_made (move x) e n b h place = moved_fresh a visible types texts fs f setting x e place n h.0 (moved_from_variable a visible types texts fs f setting x e h.1)
+    fresh_made (call g given delimiters) e n b h place =
+        called_fresh a visible types texts fs f setting g given delimiters e place n h.0
+        (λ of at s stands. handed delimiters given b h.2 (parameter_types (Some of)) (subst (λ (o : Option FunctionForm). are_given a.program.types (parameter_types o) given ≡ true) at h.1) (setting.taken g of at) s stands)
     fresh_made (typed at t c form) e n b h place = absurd h
     fresh_made _ e n b h place = absurd (false≢true b)
 
@@ -412,35 +456,36 @@ module _ (a : Around) (visible : List ℕ) (types : Types) (texts : ℕ) (fs : L
     handed d nothing b h (id ∷ ids) g v s stands = absurd (false≢true g)
     handed d (e ⨟ es) b h [] g v s stands = absurd (false≢true g)
     handed d (e ⨟ es) b h (id ∷ ids) g v s stands =
-        let parts = and_parts (is_served_either e (is_served_owner texts e) (is_served_form texts e) || (is_served_walker texts e || is_served_fresh texts e)) (are_served_arguments texts es) b in
+        let parts = and_parts (is_served_either e (is_served_owner texts e) (is_served_form texts e) || (is_served_walker texts e || (is_served_fresh texts e || is_served_struct texts e))) (are_served_arguments texts es) b in
         let given = and_parts (is_given a.program.types (type_at a.program.types id) (typed_in e)) (are_given a.program.types ids es) g in
         let rest : (s : State) → Standing s → Hands types texts fs f ids s (giving.arguments a (all_uses a es) (behind_others d) ids s) = λ s stands. handed (behind_others d) es parts.1 h.1 ids given.1 (λ n. v (suc n)) s stands in
-        elim (or_cases (is_served_either e (is_served_owner texts e) (is_served_form texts e)) (is_served_walker texts e || is_served_fresh texts e) parts.0) [
+        elim (or_cases (is_served_either e (is_served_owner texts e) (is_served_form texts e)) (is_served_walker texts e || (is_served_fresh texts e || is_served_struct texts e)) parts.0) [
           | inl either ↦ elim (either_served e (is_served_owner texts e) (is_served_form texts e) either) [
             | inl value ↦ first_handed a visible types texts fs f setting e es d id ids (whole_expression e value h.0) rest (v zero id refl) given.0 s stands
             | inr owner ↦ owner_first a visible types texts fs f setting e es d id ids (owner_expression e owner.1 owner.0 h.0) rest (v zero id refl) given.0 s stands
           ]
-          | inr others ↦ elim (or_cases (is_served_walker texts e) (is_served_fresh texts e) others) [
+          | inr others ↦ elim (or_cases (is_served_walker texts e) (is_served_fresh texts e || is_served_struct texts e) others) [
             | inl walker ↦ walker_first a visible types texts fs f setting e es d id ids (walker_expression e walker h.0) rest (v zero id refl) given.0 s stands
-            | inr fresh ↦ fresh_first a visible types texts fs f setting e es d id ids (fresh_expression e fresh h.0) rest (v zero id refl) given.0 s stands
+            | inr others ↦ elim (or_cases (is_served_fresh texts e) (is_served_struct texts e) others) [
+              | inl fresh ↦ fresh_first a visible types texts fs f setting e es d id ids (fresh_expression e fresh h.0) rest (v zero id refl) given.0 s stands
+              | inr structure ↦ struct_first a visible types texts fs f setting e es d id ids (struct_expression e structure h.0) rest (v zero id refl) given.0 s stands
+            ]
           ]
         ]
     handed d _ b h ids g v s stands = absurd h
 
-  -- ---- what a unique_ptr is made to own
-
-  pub whole_if_any : (form : Form) → is_served_made texts form ≡ true → IsExpressionIfAny a.program a.function.locals visible form → IsWholeIfAny a visible types texts fs f setting form
-  whole_if_any (typed place t c form) b h = whole_expression (typed place t c form) (and_parts (is_number_type t) (is_plain_type t && is_served_form texts form) b).1 h
-  whole_if_any nothing b h = tt
-  whole_if_any _ b h = absurd (false≢true b)
-
-  -- ---- what a vector is given
+  -- ---- what a vector is given, and what a unique_ptr is made to own
 
   giving_expression : (form : Form) → is_served_either form (is_served_owner texts form) (is_served_form texts form) ≡ true → IsExpression a.program a.function.locals visible form → IsGiving a visible types texts fs f setting form
   giving_expression form b h = elim (either_served form (is_served_owner texts form) (is_served_form texts form) b) [
     | inl value ↦ inl (whole_expression form value h)
     | inr owner ↦ inr (owner_expression form owner.1 owner.0 h)
   ]
+
+  pub giving_if_any : (form : Form) → is_served_content texts form ≡ true → IsExpressionIfAny a.program a.function.locals visible form → IsGivingIfAny a visible types texts fs f setting form
+  giving_if_any (typed place t c form) b h = giving_expression (typed place t c form) b h
+  giving_if_any nothing b h = tt
+  giving_if_any _ b h = absurd h
 
   pub givings : (form : Form) → are_served_elements texts form ≡ true → AreExpressions a.program a.function.locals visible form → AreGiving a visible types texts fs f setting form
   givings nothing b h = tt

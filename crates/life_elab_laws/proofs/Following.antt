@@ -1,13 +1,13 @@
 -- What has been written of a function and what is visible, between statements.
 use Rattle.std.proofs.Common.{◌≡◌, ◌<◌, ◌≤◌, ◌||◌, ℕ, zero, suc, Bool, true, false, List, [], ◌∷◌, Contains, length, slice_get, take, Option, Some, None, refl, sym, ap, ◌∙◌, subst, unwrap_or, arith}
-use Rattle.std.proofs.lemmas.Option.{none-some, slice_get_within}
+use Rattle.std.proofs.lemmas.Option.{none-some, slice_get_within, same_Some}
 use Rattle.life_types.specs.TypeTests.{is_pointer, is_void}
-use Rattle.life_types.specs.Types.{Types}
+use Rattle.life_types.specs.Types.{Types, class}
 use Rattle.life_typed.specs.BaseTypes.{type_at}
 use Rattle.life_typed.specs.declared.typed_program.TypedLocal.{TypedLocal}
 use Rattle.life_core.specs.Function.{Function}
 use Rattle.life_core.specs.declared.program.Local.{Local}
-use Rattle.life_core.specs.declared.program.LocalKind.TheVariants.{Register}
+use Rattle.life_core.specs.declared.program.LocalKind.TheVariants.{Register, Object}
 use Rattle.life_proper.specs.Placed.{object_at}
 use Rattle.life_proper.specs.Placed as placed
 use Rattle.life_proper.specs.declared.known.Known.{Known}
@@ -23,27 +23,39 @@ use Rattle.life_elab_laws.proofs.Making.{Alive}
 use Rattle.life_elab_laws.proofs.Shaped.{is_passing}
 use Rattle.life_elab_laws.proofs.VariablePlaces.{IsVariableAt, Stands}
 use Rattle.life_elab_laws.proofs.PendingTemporaries.{none_pending}
+use Rattle.life_elab_laws.proofs.OwnLocals.{first_own}
+use Rattle.life_core.specs.declared.program.LocalKind.{LocalKind}
+use Rattle.life_elab.specs.ProgramForms.{result_kind}
 
 -- the local of what lives: of a variable, or of a temporary that lives as long as one
-pub record IsLivingBare (s : State) (y : ℕ) : Type 0 where
+pub record IsLivingBare (low : ℕ) (s : State) (y : ℕ) : Type 0 where
+  -- without a name it is one of the function's own, which begin there
+  pub beyond : (l : Local) → slice_get s.locals y ≡ Some l → l.name ≡ None → low ≤ y
   pub local : Local
   pub there : slice_get s.locals y ≡ Some local
   pub lasts : is_passing local ≡ false
 
-abbrev pub IsLiving : State → ℕ → Type 0
-IsLiving s y = IsLivingBare (bare s) y
+abbrev pub IsLiving : ℕ → State → ℕ → Type 0
+IsLiving low s y = IsLivingBare low (bare s) y
 
--- the register of the result is there, of its type
-pub record IsResultRegister (a : Around) (s : State) : Type 0 where
+-- the local of the result is there, of its type
+pub record IsResultLocal (sort : LocalKind) (a : Around) (s : State) : Type 0 where
   pub local : Local
   pub there : slice_get s.locals (result_local a) ≡ Some local
   pub nameless : local.name ≡ None
-  pub kind : local.kind ≡ Register
+  pub kind : local.kind ≡ sort
   pub typed : slice_get s.types.types local.ty.0 ≡ Some (type_at a.program.types a.function.result)
+
+-- .. which is a register, or an object
+abbrev pub IsResultRegister : Around → State → Type 0
+IsResultRegister a s = IsResultLocal Register a s
+
+abbrev pub IsResultObject : Around → State → Type 0
+IsResultObject a s = IsResultLocal Object a s
 
 -- .. where the function gives something back
 abbrev pub HasRegister : Around → State → Type 0
-HasRegister a s = is_void (type_at a.program.types a.function.result) ≡ false → IsResultRegister a s
+HasRegister a s = is_void (type_at a.program.types a.function.result) ≡ false → IsResultLocal (result_kind (class (Some (type_at a.program.types a.function.result)))) a s
 
 pub register_later : (a : Around) (s s' : State) → IsFront s.locals s'.locals → IsFront s.types.types s'.types.types → HasRegister a s → HasRegister a s'
 register_later a s s' locals table h some = let is = h some in record {
@@ -79,7 +91,7 @@ module _ (types : Types) (f : Function) where
     pub stands : Stands a v.visible s
     pub ascend : Ascend 0 s.living
     pub outside : s.outside ≤ length s.living
-    pub living : (y : ℕ) → Among y s.living → IsLiving s y
+    pub living : (y : ℕ) → Among y s.living → IsLiving (first_own a) s y
     pub sorts : Begins types f s → (y : ℕ) → Among y s.living → may_end types f y ≡ true
     -- no temporary does
     pub pending : s.pending ≡ []
@@ -194,7 +206,7 @@ module _ (types : Types) (f : Function) where
     stands = record {
       table = front_then a.program.types.types s.types.types s'.types.types h.stands.table table;
       opened = λ y c. let is = later y (contains_among s.living y (subst (λ (ys : List ℕ). Contains ys y) living c)) in slice_get_within s'.locals y is.local is.there;
-      pends = none_pending s'.locals s'.types.types s'.living s'.pending (pending ∙ h.pending);
+      pends = none_pending _ s'.locals s'.types.types s'.living s'.pending (omega (arith, h.stands.pends.past, front_length s.locals s'.locals locals)) (pending ∙ h.pending);
       seen = λ x u c at. moved x u c (h.stands.seen x u c at);
       apart = λ x y u w c at d there other e. h.stands.apart x y u w c at d there other (sym (stays x c) ∙ e ∙ stays y d);
     };
@@ -205,8 +217,13 @@ module _ (types : Types) (f : Function) where
     pending = pending ∙ h.pending;
   }
     where
-      later : (y : ℕ) → Among y s.living → IsLiving s' y
-      later y m = let is = h.living y m in record { local = is.local; there = locals y is.local is.there; lasts = is.lasts }
+      later : (y : ℕ) → Among y s.living → IsLiving (first_own a) s' y
+      later y m = let is = h.living y m in record {
+        beyond = λ l at none. is.beyond is.local is.there (ap (λ (z : Local). z.name) (same_Some is.local l (sym (locals y is.local is.there) ∙ at)) ∙ none);
+        local = is.local;
+        there = locals y is.local is.there;
+        lasts = is.lasts;
+      }
 
       stays : (x : ℕ) → Contains v.visible x → variable s' x ≡ variable s x
       stays x c = same_variable s s' x variables (omega (arith, h.visible x c, h.count))

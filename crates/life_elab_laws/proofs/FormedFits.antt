@@ -1,6 +1,7 @@
 -- What the rules of initialisation let a pointer be given it takes, and so does a reference: of one target, and const stays const.
-use Rattle.std.proofs.Common.{◌≡◌, Bool, true, false, ◌&&◌, not, cond, Err, refl, ap, ◌∙◌, subst, rules, ◌||◌, sym}
+use Rattle.std.proofs.Common.{◌≡◌, ℕ, Bool, true, false, ◌&&◌, not, cond, Err, refl, ap, ◌∙◌, subst, rules, ◌||◌, sym, nat_eq, if◌then◌else◌, arith}
 use Rattle.std.proofs.lemmas.Bool.{and_from, false≢true}
+use Rattle.std.proofs.lemmas.Bool.Decides.{nat_tests}
 use Rattle.life_served.specs.Served.{is_owner_of_values, is_walker_of_values, is_element, is_target}
 use Rattle.life_types.specs.Pointees.{ty_of}
 use Rattle.life_types.specs.Types.{Types}
@@ -8,7 +9,7 @@ use Rattle.life_types.specs.contracts.ty.TyIdPartialEq.TheImpl.{ghosts as id}
 use Rattle.life_types.specs.declared.ty.Ty.TheVariants as ty
 use Rattle.life_types.specs.declared.ty.TyId.{TyId}
 use Rattle.life_typed.specs.BaseTypes.{type_at}
-use Rattle.life_typed.specs.Conversions.{fits, fitting, initialised, is_const_place, is_place_of, pointer_from, refused, unless, same_target}
+use Rattle.life_typed.specs.Conversions.{copied, fits, fitting, initialised, is_const_place, is_place_of, pointer_from, refused, unless, same_target}
 use Rattle.life_typed.specs.TypedForm.{Typed}
 use Rattle.life_typed.specs.declared.misfit.Misfit.TheVariants.{General, Constant}
 use Rattle.life_typed.specs.declared.typed_expr.Category.{Category}
@@ -143,6 +144,17 @@ given_owner types t u e o own is given = go t u o own (subst (λ (x : ExprType).
     go (ty.Vector item) ty.Text o own h = absurd (false≢true h)
     go (ty.Vector item) _ o own h = absurd (false≢true own)
     go _ u o own h = absurd (false≢true o)
+
+-- .. and so does a struct
+pub given_struct : (types : Types) (number found : ℕ) (e : Typed) → e.ty ≡ Of (ty.Struct found) → is_given types (ty.Struct number) e ≡ true → found ≡ number
+given_struct types number found e is given = go (nat_eq found number) refl (subst (λ (x : ExprType). fits_at_all (fits types (ty.Struct number) x e.category) ≡ true) is given)
+  where
+    one : (m n : ℕ) → nat_eq m n ≡ true → m ≡ n
+    one m n h = grind (arith, nat_tests)
+
+    go : (b : Bool) → nat_eq found number ≡ b → fits_at_all (if b then copied types e.category else Err General) ≡ true → found ≡ number
+    go true same h = one found number same
+    go false same h = absurd (false≢true h)
 
 -- .. and one that a view is given is a string
 pub given_string : (types : Types) (u : Ty) (e : Typed) → is_owner_of_values types u ≡ true → e.ty ≡ Of u → is_given types ty.View e ≡ true → u ≡ ty.Text

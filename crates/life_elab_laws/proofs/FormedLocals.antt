@@ -1,18 +1,18 @@
 -- The locals of a core function that is translated are well formed, and so is what stands beside its body: its name, its result and its promise.
-use Rattle.std.proofs.Common.{◌≡◌, ◌<◌, ◌+◌, ◌≤◌, ◌⊎◌, inl, inr, ℕ, zero, suc, Bool, true, false, ◌&&◌, ◌||◌, not, List, [], ◌∷◌, length, nat_eq, nat_le, nat_lt, slice_get, Option, Some, is_some, refl, sym, ap, ◌∙◌, subst, unwrap_or, arith}
+use Rattle.std.proofs.Common.{◌≡◌, ◌<◌, ◌+◌, ◌≤◌, ◌⊎◌, inl, inr, ℕ, zero, suc, Bool, true, false, ◌&&◌, ◌||◌, not, List, [], ◌∷◌, length, nat_eq, nat_le, nat_lt, slice_get, Option, Some, None, is_some, refl, sym, ap, ◌∙◌, subst, unwrap_or, arith}
 use Rattle.std.specs.List.{list_all}
 use Rattle.std.proofs.lemmas.Bool.{and_from, and_parts, false≢true, le-leb, or_cases}
 use Rattle.std.proofs.lemmas.Bool.Decides.{nat_tests}
 use Rattle.std.proofs.lemmas.Option.{same_Some}
 use Rattle.life_types.specs.Pointees.{or_void, ty_of}
-use Rattle.life_types.specs.Trees.{is_plain, tree_at, tree_of, tree_within}
+use Rattle.life_types.specs.Trees.{AllBelow, TypeTree, is_plain, members_at, struct_of, tree_at, tree_of, tree_within}
 use Rattle.life_types.specs.TypeTests.{is_value, is_void}
 use Rattle.life_types.specs.Types.{Types, class}
 use Rattle.life_types.specs.declared.ty.NameId.{NameId}
 use Rattle.life_types.specs.declared.ty.Ty.{Ty}
 use Rattle.life_types.specs.declared.ty.Ty.TheVariants as ty
 use Rattle.life_types.specs.declared.ty.TyId.{TyId}
-use Rattle.life_served.specs.Served.{is_element, is_owner_of_values, is_owner_within, is_pointing, is_target, is_unique_of_element, is_walker_of_values}
+use Rattle.life_served.specs.Served.{have_each, is_element, is_member_within, is_owner_of_values, is_owner_within, is_pointing, is_struct, is_target, is_unique_of_element, is_walker_of_values}
 use Rattle.life_typed.specs.BaseTypes.{type_at}
 use Rattle.life_typed.specs.Programs.{FunctionForm, ProgramForm, PromiseForm, default, listed}
 use Rattle.life_typed.specs.declared.typed_program.ParameterPromise.{ParameterPromise}
@@ -21,15 +21,17 @@ use Rattle.life_core.specs.Function.{Function}
 use Rattle.life_core.specs.declared.program.Local.{Local}
 use Rattle.life_core.specs.declared.program.LocalKind.{LocalKind}
 use Rattle.life_core.specs.declared.program.LocalKind.TheVariants.{Object, Register}
+use Rattle.life_core.specs.Kinds.{is_register}
+use Rattle.life_proper.specs.OperandTypes.{is_composed}
 use Rattle.life_pset.specs.Shapes.{shape, shape_if, unslotted}
-use Rattle.life_proper.specs.WellFormedPrograms.{are_well_formed_locals, fits_kind, is_name, is_name_if, is_named_as, is_result_local, is_result_of, is_well_formed_local, may_stand, names_parameters}
+use Rattle.life_proper.specs.WellFormedPrograms.{are_well_formed_locals, fits_kind, is_member, is_name, is_name_if, is_named_as, is_result_local, is_result_of, is_well_formed_local, may_stand, names_parameters}
 use Rattle.life_well_typed.specs.Functions.{lists_parameters}
 use Rattle.life_well_typed.specs.Names.{is_function_named, is_local_named}
-use Rattle.life_writer.specs.Registers.{nameless}
+use Rattle.life_writer.specs.Temporaries.{nameless_of}
 use Rattle.life_writer.specs.Around.{Around}
 use Rattle.life_writer.specs.Variables.{kind}
 use Rattle.life_elab.specs.Functions.{function_from, parameter_local, promise_of}
-use Rattle.life_elab.specs.ProgramForms.{first_state, written}
+use Rattle.life_elab.specs.ProgramForms.{first_state, result_kind, written}
 use Rattle.life_elab.specs.Programs.{around}
 use Rattle.life_elab_laws.proofs.Beginning.{given, given_count, parameter_locals, parameters_front, result_first, result_grows}
 use Rattle.life_elab_laws.proofs.Callees.{IsFunctionOf, type_found}
@@ -39,9 +41,11 @@ use Rattle.life_elab_laws.proofs.OperandsThere.{type_either}
 use Rattle.life_elab_laws.proofs.ServedTypes.{IsServedType, variable_found}
 use Rattle.life_elab_laws.proofs.ResultTypes.{result_is}
 use Rattle.life_elab_laws.proofs.Values.{by_values}
-use Rattle.life_elab_laws.proofs.WrittenLocals.{AreWrittenLocals, fits_later, fits_local, fits_register, FitsNameless, FitsTemporary, hidden_later, hidden_local, hidden_pointer, IsIntermediate, IsOwn, local_later, owner_local, register_local, unique_local}
+use Rattle.life_elab_laws.proofs.WrittenLocals.{AreWrittenLocals, fits_later, fits_local, fits_register, FitsNameless, FitsTemporary, hidden_later, hidden_local, hidden_pointer, IsIntermediate, IsOwn, local_later, owner_local, register_local, struct_local, unique_local}
 use Rattle.life_elab_laws.proofs.Shaped.{owner_later, unique_later}
-use Rattle.life_elab_laws.proofs.Targets.{IsTarget, target_is, target_referred, to_owner, to_value}
+use Rattle.life_elab_laws.proofs.OrderedTypes.{all_below}
+use Rattle.life_elab_laws.proofs.StructTypes.{HasStructs}
+use Rattle.life_elab_laws.proofs.Targets.{IsTarget, target_is, target_referred, to_owner, to_struct, to_value}
 use Rattle.life_elab_laws.proofs.Elements.{IsElement, has_value, has_owner, element_is}
 
 -- ---- what a register or a variable holds
@@ -88,24 +92,119 @@ module _ (types : Types) where
       go (has_value v) = value_tree n id v
       go (has_owner o) = within_tree 7 n id o
 
-  -- pointers are to such an owner too
-  target_tree : (n : ℕ) (id : TyId) → IsTarget types (type_at types id) → (is_plain (tree_within n types id) && may_stand (tree_within n types id)) ≡ true
-  target_tree n id (to_value v) = value_tree n id v
-  target_tree n id (to_owner o) = within_tree 8 n id o
+  -- a struct stands, since its members stand before it
+  abbrev MemberStands : (m n : ℕ) → Type 0
+  MemberStands m n = (id : TyId) → id.0 < n → is_member_within m types (type_at types id) ≡ true → (is_member (tree_within n types id) && may_stand (tree_within n types id)) ≡ true
 
-  fits_stands : (id : TyId) (t : Ty) → slice_get types.types id.0 ≡ Some t → fits_local types t ≡ true → may_stand (tree_at types id) ≡ true
-  unfolding tree_at
-  fits_stands id t at h = ap (λ (o : Option Ty). may_stand (tree_of types (tree_within id.0 types) o)) at ∙ go t h
+  value_member : (n : ℕ) (id : TyId) → id.0 < n → is_value (type_at types id) ≡ true → (is_member (tree_within n types id) && may_stand (tree_within n types id)) ≡ true
+  value_member zero id below v = absurd (omega (arith, below))
+  value_member (suc n) id below v = go (slice_get types.types id.0) v
     where
-      go : (t : Ty) → fits_local types t ≡ true → may_stand (tree_of types (tree_within id.0 types) (Some t)) ≡ true
-      go (ty.Raw target constant) h = target_tree id.0 target (target_is types (type_at types target) h)
-      go (ty.Reference target constant) h = target_tree id.0 target (target_is types (type_at types target) h)
-      go (ty.Vector element) h = element_tree id.0 element h
-      go (ty.Unique target) h = element_tree id.0 target h
-      go (ty.Iterator target constant) h = element_tree id.0 target h
-      go (ty.Span target constant) h = element_tree id.0 target h
-      go (ty.Struct number) h = absurd (false≢true h)
-      go _ h = refl
+      go : (o : Option Ty) → is_value (unwrap_or o ty.Void) ≡ true → (is_member (tree_of types (tree_within n types) o) && may_stand (tree_of types (tree_within n types) o)) ≡ true
+      go (Some ty.Bool) v = refl
+      go (Some ty.Char) v = refl
+      go (Some ty.Int) v = refl
+      go (Some ty.Long) v = refl
+      go (Some ty.Size) v = refl
+      go _ v = absurd (false≢true v)
+
+  struct_member : (part : TyId → TypeTree) (ids : List TyId) → is_member (struct_of part ids) ≡ true
+  struct_member part [] = refl
+  struct_member part (id ∷ ids) = refl
+
+  members_stand : (m n : ℕ) → MemberStands m n → (ids : List TyId) → AllBelow n ids → have_each (is_member_within m types) types ids ≡ true → may_stand (struct_of (tree_within n types) ids) ≡ true
+  members_stand m n inside [] below b = refl
+  members_stand m n inside (id ∷ ids) below b =
+      let parts = and_parts (is_member_within m types (type_at types id)) (have_each (is_member_within m types) types ids) b in
+      let first = and_parts (is_member (tree_within n types id)) (may_stand (tree_within n types id)) (inside id below.0 parts.0) in
+      and_from (is_member (tree_within n types id)) _ first.0 (and_from (may_stand (tree_within n types id)) (may_stand (struct_of (tree_within n types) ids)) first.1 (members_stand m n inside ids below.1 parts.1))
+
+  -- those of a struct in the table come before it
+  struct_below : HasStructs types → (n number : ℕ) → slice_get types.types n ≡ Some (ty.Struct number) → AllBelow n (members_at types number)
+  struct_below structs n number at = let has = structs.ordered.parts n (ty.Struct number) at in subst (AllBelow n) (sym (ap (λ (o : Option (List TyId)). unwrap_or o []) has.there)) has.below
+
+  member_stands : HasStructs types → (m n : ℕ) → MemberStands m n → (id : TyId) → id.0 < suc n → (o : Option Ty) → slice_get types.types id.0 ≡ o → is_member_within (suc m) types (unwrap_or o ty.Void) ≡ true
+      → (is_member (tree_of types (tree_within n types) o) && may_stand (tree_of types (tree_within n types) o)) ≡ true
+  member_stands structs m n inside id below (Some (ty.Struct number)) at b =
+      and_from (is_member (struct_of (tree_within n types) (members_at types number))) (may_stand (struct_of (tree_within n types) (members_at types number))) (struct_member (tree_within n types) (members_at types number))
+      (members_stand m n inside (members_at types number) (all_below id.0 n (omega (arith, below)) (members_at types number) (struct_below structs id.0 number at)) b)
+  member_stands structs m n inside id below (Some ty.Text) at b = refl
+  member_stands structs m n inside id below (Some (ty.Vector item)) at b =
+      let tree = tree_of types (tree_within n types) (Some (ty.Vector item)) in (and_parts (is_plain tree) (may_stand tree) (owner_stands m n (within_tree m n) (Some (ty.Vector item)) b)).1
+  member_stands structs m n inside id below (Some ty.Bool) at b = refl
+  member_stands structs m n inside id below (Some ty.Char) at b = refl
+  member_stands structs m n inside id below (Some ty.Int) at b = refl
+  member_stands structs m n inside id below (Some ty.Long) at b = refl
+  member_stands structs m n inside id below (Some ty.Size) at b = refl
+  member_stands structs m n inside id below _ at b = absurd (false≢true b)
+
+  member_tree : HasStructs types → (m n : ℕ) → MemberStands m n
+  member_tree structs zero n id below b = value_member n id below b
+  member_tree structs (suc m) zero id below b = absurd (omega (arith, below))
+  member_tree structs (suc m) (suc n) id below b = member_stands structs m n (member_tree structs m n) id below (slice_get types.types id.0) refl b
+
+  -- .. and has no pointer in it
+  abbrev MemberPlain : (m n : ℕ) → Type 0
+  MemberPlain m n = (id : TyId) → is_member_within m types (type_at types id) ≡ true → is_plain (tree_within n types id) ≡ true
+
+  members_plain : (m n : ℕ) → MemberPlain m n → (ids : List TyId) → have_each (is_member_within m types) types ids ≡ true → is_plain (struct_of (tree_within n types) ids) ≡ true
+  members_plain m n inside [] b = refl
+  members_plain m n inside (id ∷ ids) b =
+      let parts = and_parts (is_member_within m types (type_at types id)) (have_each (is_member_within m types) types ids) b in
+      and_from (is_plain (tree_within n types id)) (is_plain (struct_of (tree_within n types) ids)) (inside id parts.0) (members_plain m n inside ids parts.1)
+
+  held_plain : (m n : ℕ) → MemberPlain m n → (o : Option Ty) → is_member_within (suc m) types (unwrap_or o ty.Void) ≡ true → is_plain (tree_of types (tree_within n types) o) ≡ true
+  held_plain m n inside (Some (ty.Struct number)) b = members_plain m n inside (members_at types number) b
+  held_plain m n inside (Some ty.Text) b = refl
+  held_plain m n inside (Some (ty.Vector item)) b =
+      let tree = tree_of types (tree_within n types) (Some (ty.Vector item)) in (and_parts (is_plain tree) (may_stand tree) (owner_stands m n (within_tree m n) (Some (ty.Vector item)) b)).0
+  held_plain m n inside (Some ty.Bool) b = refl
+  held_plain m n inside (Some ty.Char) b = refl
+  held_plain m n inside (Some ty.Int) b = refl
+  held_plain m n inside (Some ty.Long) b = refl
+  held_plain m n inside (Some ty.Size) b = refl
+  held_plain m n inside _ b = absurd (false≢true b)
+
+  member_plain : (m n : ℕ) → MemberPlain m n
+  member_plain zero n id b = (and_parts (is_plain (tree_within n types id)) (may_stand (tree_within n types id)) (value_tree n id b)).0
+  member_plain (suc m) zero id b = refl
+  member_plain (suc m) (suc n) id b = held_plain m n (member_plain m n) (slice_get types.types id.0) b
+
+  struct_tree : HasStructs types → (n : ℕ) (id : TyId) (number : ℕ) → id.0 < n → type_at types id ≡ ty.Struct number → (is_plain (tree_within n types id) && may_stand (tree_within n types id)) ≡ true
+  struct_tree structs zero id number before s = refl
+  struct_tree structs (suc n) id number before s = go (slice_get types.types id.0) refl s
+    where
+      no_struct : ty.Void ≡ ty.Struct number → ⊥
+      no_struct e = cc
+
+      go : (o : Option Ty) → slice_get types.types id.0 ≡ o → unwrap_or o ty.Void ≡ ty.Struct number → (is_plain (tree_of types (tree_within n types) o) && may_stand (tree_of types (tree_within n types) o)) ≡ true
+      go None at e = absurd (no_struct e)
+      go (Some t) at e =
+          let ids = members_at types number in
+          let below = all_below id.0 n (omega (arith, before)) ids (struct_below structs id.0 number (at ∙ ap Some e)) in
+          ap (λ (u : Ty). is_plain (tree_of types (tree_within n types) (Some u)) && may_stand (tree_of types (tree_within n types) (Some u))) e
+          ∙ and_from (is_plain (struct_of (tree_within n types) ids)) (may_stand (struct_of (tree_within n types) ids))
+          (members_plain 2 n (member_plain 2 n) ids (structs.members number)) (members_stand 2 n (member_tree structs 2 n) ids below (structs.members number))
+
+  -- pointers are to such an owner or struct too
+  target_tree : HasStructs types → (n : ℕ) (id : TyId) → id.0 < n → IsTarget types (type_at types id) → (is_plain (tree_within n types id) && may_stand (tree_within n types id)) ≡ true
+  target_tree structs n id before (to_value v) = value_tree n id v
+  target_tree structs n id before (to_owner o) = within_tree 8 n id o
+  target_tree structs n id before (to_struct number s) = struct_tree structs n id number before s
+
+  fits_stands : HasStructs types → (id : TyId) (t : Ty) → slice_get types.types id.0 ≡ Some t → fits_local types t ≡ true → may_stand (tree_at types id) ≡ true
+  unfolding tree_at
+  fits_stands structs id t at h = ap (λ (o : Option Ty). may_stand (tree_of types (tree_within id.0 types) o)) at ∙ go t at h
+    where
+      go : (t : Ty) → slice_get types.types id.0 ≡ Some t → fits_local types t ≡ true → may_stand (tree_of types (tree_within id.0 types) (Some t)) ≡ true
+      go (ty.Raw target constant) at h = target_tree structs id.0 target (structs.ordered.parts id.0 (ty.Raw target constant) at) (target_is types (type_at types target) h)
+      go (ty.Reference target constant) at h = target_tree structs id.0 target (structs.ordered.parts id.0 (ty.Reference target constant) at) (target_is types (type_at types target) h)
+      go (ty.Vector element) at h = element_tree id.0 element h
+      go (ty.Unique target) at h = element_tree id.0 target h
+      go (ty.Iterator target constant) at h = element_tree id.0 target h
+      go (ty.Span target constant) at h = element_tree id.0 target h
+      go (ty.Struct number) at h = members_stand 2 id.0 (member_tree structs 2 id.0) (members_at types number) (struct_below structs id.0 number at) (structs.members number)
+      go _ at h = refl
 
   -- it stands as it is, also where a parameter has it
   fits_itself : (parameter : Bool) (id : TyId) (t : Ty) → slice_get types.types id.0 ≡ Some t → fits_local types t ≡ true → shape_if types parameter id ≡ id
@@ -130,7 +229,8 @@ module _ (types : Types) where
 
   pub variable_fits : (t : Ty) → IsServedType types t → fits_local types t ≡ true
   variable_fits t (inr (inl o)) = owner_local types t o
-  variable_fits t (inr (inr (inr u))) = unique_local types t u
+  variable_fits t (inr (inr (inr (inl u)))) = unique_local types t u
+  variable_fits t (inr (inr (inr (inr structure)))) = struct_local types t structure
   variable_fits t (inr (inr (inl w))) = go t w
     where
       go : (t : Ty) → is_walker_of_values types t ≡ true → fits_local types t ≡ true
@@ -144,12 +244,18 @@ module _ (types : Types) where
       go ty.Text b = absurd (false≢true b)
       go (ty.Vector element) b = absurd (false≢true b)
       go (ty.Unique target) b = absurd (false≢true b)
+      go (ty.Struct number) b = absurd (false≢true b)
       go (ty.Iterator target constant) b = absurd (false≢true b)
       go (ty.Span target constant) b = absurd (false≢true b)
       go _ b = b
 
   variable_kept : (t : Ty) → IsServedType types t → fits_kind (kind (class (Some t))) t ≡ true
-  variable_kept t (inr (inr (inr u))) = go t u
+  variable_kept t (inr (inr (inr (inr structure)))) = go t structure
+    where
+      go : (t : Ty) → is_struct t ≡ true → fits_kind (kind (class (Some t))) t ≡ true
+      go (ty.Struct number) structure = refl
+      go _ structure = absurd (false≢true structure)
+  variable_kept t (inr (inr (inr (inl u)))) = go t u
     where
       go : (t : Ty) → is_unique_of_element types t ≡ true → fits_kind (kind (class (Some t))) t ≡ true
       go (ty.Unique target) u = refl
@@ -180,7 +286,12 @@ module _ (types : Types) where
       go _ b = absurd (false≢true b)
 
   variable_named : (t : Ty) (name : NameId) → IsServedType types t → is_named_as (kind (class (Some t))) t (Some name) ≡ true
-  variable_named t name (inr (inr (inr u))) = go t u
+  variable_named t name (inr (inr (inr (inr structure)))) = go t structure
+    where
+      go : (t : Ty) → is_struct t ≡ true → is_named_as (kind (class (Some t))) t (Some name) ≡ true
+      go (ty.Struct number) structure = refl
+      go _ structure = absurd (false≢true structure)
+  variable_named t name (inr (inr (inr (inl u)))) = go t u
     where
       go : (t : Ty) → is_unique_of_element types t ≡ true → is_named_as (kind (class (Some t))) t (Some name) ≡ true
       go (ty.Unique target) u = refl
@@ -212,13 +323,13 @@ module _ (types : Types) where
 
   -- ---- a local, and all of them
 
-  local_formed : (names n x : ℕ) (l : Local) (t : Ty) → slice_get types.types l.ty.0 ≡ Some t → fits_local types t ≡ true
+  local_formed : HasStructs types → (names n x : ℕ) (l : Local) (t : Ty) → slice_get types.types l.ty.0 ≡ Some t → fits_local types t ≡ true
       → fits_kind l.kind t ≡ true → is_named_as l.kind t l.name ≡ true → is_name_if names l.name ≡ true → (not (nat_lt x n) || is_some l.name) ≡ true → is_well_formed_local types names n x l ≡ true
-  local_formed names n x l t at h kept as_named name has =
+  local_formed structs names n x l t at h kept as_named name has =
       let same : shape types n x l ≡ l.ty = fits_itself (nat_lt x n) l.ty t at h in
       let typed : ty_of types (shape types n x l) ≡ t = ap (ty_of types) same ∙ ap or_void at in
       and_from (not (is_void (ty_of types l.ty))) _ (ap (λ (o : Option Ty). not (is_void (or_void o))) at ∙ fits_no_void t h)
-      (and_from (may_stand (tree_at types (shape types n x l))) _ (ap (λ (id : TyId). may_stand (tree_at types id)) same ∙ fits_stands l.ty t at h)
+      (and_from (may_stand (tree_at types (shape types n x l))) _ (ap (λ (id : TyId). may_stand (tree_at types id)) same ∙ fits_stands structs l.ty t at h)
       (and_from (fits_kind l.kind (ty_of types (shape types n x l))) _ (ap (fits_kind l.kind) typed ∙ kept)
       (and_from (is_named_as l.kind (ty_of types (shape types n x l)) l.name) _ (ap (λ (u : Ty). is_named_as l.kind u l.name) typed ∙ as_named)
       (and_from (is_name_if names l.name) (not (nat_lt x n) || is_some l.name) name has))))
@@ -267,10 +378,18 @@ result_some : (types : Types) (id : TyId) (o : Option Local) (t : Ty) → is_res
 result_some types id o ty.Void h = refl
 result_some types id o _ h = h
 
+-- .. in a register, or it is an owner or a struct
+result_kept : (t : Ty) → (is_register (result_kind (class (Some t))) || is_composed t) ≡ true
+result_kept ty.Text = refl
+result_kept (ty.Vector element) = refl
+result_kept (ty.Unique target) = refl
+result_kept (ty.Struct number) = refl
+result_kept _ = refl
+
 -- as it is written, in a finished table that begins with the one behind it
 module _ (p : ProgramForm) (of : FunctionForm) (T types : Types) (names : ℕ) (made : IsFunctionOf p of) (table : IsFront p.types.types T.types) (front : IsFront p.types.types types.types)
     (grown : IsFront (first_state (around p of) T).locals (written (around p of) T).locals) (later : IsFront (written (around p of) T).types.types types.types)
-    (own : AreWrittenLocals p.types (around p of) (written (around p of) T)) (named : is_function_named names of ≡ true) where
+    (own : AreWrittenLocals p.types (around p of) (written (around p of) T)) (named : is_function_named names of ≡ true) (structs : HasStructs types) where
   abbrev core : Function
   core = function_from of (written (around p of) T)
 
@@ -288,7 +407,7 @@ module _ (p : ProgramForm) (of : FunctionForm) (T types : Types) (names : ℕ) (
   intermediate_formed x l at is = go is.fits
     where
       nameless_formed : fits_local types is.ty ≡ true → fits_kind l.kind is.ty ≡ true → is_well_formed_local types names core.parameters x l ≡ true
-      nameless_formed fits kept = local_formed types names core.parameters x l is.ty (later l.ty.0 is.ty is.typed) fits kept (ap (is_named_as l.kind is.ty) is.nameless) (ap (is_name_if names) is.nameless) (has_name x l at)
+      nameless_formed fits kept = local_formed types structs names core.parameters x l is.ty (later l.ty.0 is.ty is.typed) fits kept (ap (is_named_as l.kind is.ty) is.nameless) (ap (is_name_if names) is.nameless) (has_name x l at)
 
       owner_kept : (t : Ty) → is_owner_of_values types t ≡ true → fits_kind Object t ≡ true
       owner_kept ty.Text o = refl
@@ -318,7 +437,7 @@ module _ (p : ProgramForm) (of : FunctionForm) (T types : Types) (names : ℕ) (
       let found = variable_found p.types is.variable.ty (variable_built p.types of.locals is.number is.variable made.built.variables is.there) in
       let kept : l.kind ≡ kind (class (Some found.0)) = is.of.kind ∙ ap (λ (o : Option Ty). kind (class o)) found.1 in
       let known = (and_parts (nat_lt of.name.0 names) (list_all (is_local_named names) of.locals) named).1 in
-      local_formed types names core.parameters x l found.0 (ap (λ (id : TyId). slice_get types.types id.0) is.of.typed ∙ front is.variable.ty.0 found.0 found.1)
+      local_formed types structs names core.parameters x l found.0 (ap (λ (id : TyId). slice_get types.types id.0) is.of.typed ∙ front is.variable.ty.0 found.0 found.1)
       (local_later p.types types front found.0 (variable_fits p.types found.0 found.2))
       (ap (λ (k : LocalKind). fits_kind k found.0) kept ∙ variable_kept p.types found.0 found.2)
       (ap (λ (k : LocalKind). is_named_as k found.0 l.name) kept ∙ ap (is_named_as (kind (class (Some found.0))) found.0) is.of.named ∙ variable_named p.types found.0 is.variable.name found.2)
@@ -337,9 +456,12 @@ module _ (p : ProgramForm) (of : FunctionForm) (T types : Types) (names : ℕ) (
   result_type : slice_get types.types core.result.0 ≡ Some made.ty
   result_type = front of.result.0 made.ty made.result
 
-  result_there : is_void made.ty ≡ false → slice_get core.locals core.parameters ≡ Some (nameless of.place of.result)
+  abbrev returned : Ty
+  returned = type_at p.types of.result
+
+  result_there : is_void made.ty ≡ false → slice_get core.locals core.parameters ≡ Some (nameless_of (result_kind (class (Some returned))) of.place of.result)
   result_there some =
-      grown core.parameters (nameless of.place of.result)
+      grown core.parameters (nameless_of (result_kind (class (Some returned))) of.place of.result)
       (result_first (around p of) T made.typed.parameters table made.built.result (ap is_void (type_found p.types of.result made.ty made.result) ∙ some))
 
   result_formed : is_result_of types core.result (slice_get types.types core.result.0) (slice_get core.locals core.parameters) ≡ true
@@ -349,7 +471,9 @@ module _ (p : ProgramForm) (of : FunctionForm) (T types : Types) (names : ℕ) (
       go true v = result_void types core.result (slice_get core.locals core.parameters) made.ty v
       go false some =
           result_some types core.result (slice_get core.locals core.parameters) made.ty
-          (ap (is_result_local types core.result) (result_there some) ∙ and_from (nat_eq of.result.0 of.result.0) true (itself of.result.0) refl)
+          (ap (is_result_local types core.result) (result_there some)
+          ∙ and_from (nat_eq of.result.0 of.result.0) (is_register (result_kind (class (Some returned))) || is_composed (ty_of types core.result)) (itself of.result.0)
+          (ap (λ (t : Ty). is_register (result_kind (class (Some returned))) || is_composed t) (ap or_void result_type ∙ sym (type_found p.types of.result made.ty made.result)) ∙ result_kept returned))
 
   -- ---- the whole
 

@@ -30,7 +30,7 @@ use Rattle.life_elab_laws.proofs.Locations.{is_location}
 use Rattle.life_elab_laws.proofs.TypedKinds.{place_same, owner_named, walker_named}
 use Rattle.life_elab_laws.proofs.Types.{value_kind}
 use Rattle.life_elab_laws.proofs.Values.{by_values}
-use Rattle.life_elab_laws.proofs.VariablePlaces.{a_raw, a_reference, a_unique, a_value, a_view, a_walker, an_alias, an_owner, IsVariableAt, IsVariableType, kind_is, owner_kind, place_is, variable_type, walker_is}
+use Rattle.life_elab_laws.proofs.VariablePlaces.{a_raw, a_reference, a_struct, a_unique, a_value, a_view, a_walker, an_alias, an_owner, IsVariableAt, IsVariableType, kind_is, owner_kind, place_is, variable_type, walker_is, a_struct_alias}
 use Rattle.life_proper.specs.OperandTypes.{keeps_const}
 use Rattle.life_proper.specs.Placed as placed
 use Rattle.life_elab_laws.proofs.Gifts.{IsAt, IsPlaceOf}
@@ -191,9 +191,16 @@ module _ (types : Types) (texts : ℕ) (fs : List Function) (f : Function) where
         go (an_alias target c found o) =
             let here = ap (type_at a.program.types) (place_same target id c constant (own target c (named (ty.Reference target c) found))) in
             absurd (owner_no_value a.program.types (type_at a.program.types target) o (ap is_value here ∙ value))
+        go (a_struct_alias target c number found structure) =
+            let here = ap (type_at a.program.types) (place_same target id c constant (own target c (named (ty.Reference target c) found))) in
+            absurd (false≢true (sym (ap is_value structure) ∙ ap is_value here ∙ value))
         go (a_unique target found w) =
             let one : v.ty ≡ id = place_same v.ty id v.constant constant (own v.ty v.constant (named (ty.Unique target) found)) in
             let here : type_at a.program.types id ≡ ty.Unique target = ap (type_at a.program.types) (sym one) ∙ ap (λ (o : Option Ty). unwrap_or o ty.Void) found in
+            absurd (false≢true (sym (ap is_value here) ∙ value))
+        go (a_struct number found) =
+            let one : v.ty ≡ id = place_same v.ty id v.constant constant (own v.ty v.constant (named (ty.Struct number) found)) in
+            let here : type_at a.program.types id ≡ ty.Struct number = ap (type_at a.program.types) (sym one) ∙ ap (λ (o : Option Ty). unwrap_or o ty.Void) found in
             absurd (false≢true (sym (ap is_value here) ∙ value))
         go (a_view found) =
             let one : v.ty ≡ id = place_same v.ty id v.constant constant (own v.ty v.constant (named ty.View found)) in

@@ -14,7 +14,7 @@ use Rattle.life_typed.specs.TypedForm.{Form, Typed, make_unique}
 use Rattle.life_typed.specs.declared.typed_expr.Category.{Category}
 use Rattle.life_typed.specs.declared.typed_expr.Category.TheVariants as category
 use Rattle.life_typed.specs.declared.typed_expr.ExprType.{ExprType}
-use Rattle.life_typed.specs.declared.typed_expr.ExprType.TheVariants.{Of, TextLiteral}
+use Rattle.life_typed.specs.declared.typed_expr.ExprType.TheVariants.{NullPointer, Of, TextLiteral}
 use Rattle.life_type_expr.specs.Lists.{fits_at_all}
 use Rattle.life_core.specs.Function.{Function}
 use Rattle.life_core.specs.Operands.{Operand, object_named}
@@ -34,7 +34,7 @@ use Rattle.life_writer.specs.Using.{location_in}
 use Rattle.life_writer.specs.Writing.{Gives, State, gives}
 use Rattle.life_elab_laws.proofs.ExpressionForms.{IsWhole, Standing}
 use Rattle.life_elab_laws.proofs.Gifts.{a_place, both, nothing as no_gift}
-use Rattle.life_elab_laws.proofs.MadeForms.{Builds, IsNew, of_target}
+use Rattle.life_elab_laws.proofs.MadeForms.{Builds, IsNew, lived_builds, of_target}
 use Rattle.life_elab_laws.proofs.MovedForms.{moved_builds}
 use Rattle.life_elab_laws.proofs.MovedOwners.{IsMovedFrom, given_moved}
 use Rattle.life_elab_laws.proofs.Parts.{Makes, Part, leaf_part}
@@ -56,53 +56,53 @@ module _ (a : Around) (visible : List ℕ) (types : Types) (texts : ℕ) (fs : L
 
   -- .. where it has come to life
   owned_part : (target : TyId) (place : Place) (what : Made) (to : Operand) (s s' : State) → IsNew a visible types texts fs f setting s to
-      → Part types texts fs f (both types texts fs f (a_made types texts fs f setting.registers target) (a_place types texts fs f (ty.Unique target) false)) (what, to) None s' (gives tt (made_at place what place to s')) (no_gift types texts fs f)
+      → Part types texts fs f (both types texts fs f (a_made types texts fs f target) (a_place types texts fs f (ty.Unique target) false)) (what, to) None s' (gives tt (made_at place what place to s')) (no_gift types texts fs f)
   owned_part target place what to s s' new =
-      let P = both types texts fs f (a_made types texts fs f setting.registers target) (a_place types texts fs f (ty.Unique target) false) in
+      let P = both types texts fs f (a_made types texts fs f target) (a_place types texts fs f (ty.Unique target) false) in
       subst (λ (o : Operand). Part types texts fs f P (what, o) None s' (gives tt (made_at place what place o s')) (no_gift types texts fs f)) (sym new.is)
-      (makes_part types texts fs f setting.registers P (what, object_named new.number) target what (made_uses_of what) new.number place s' (λ q. (q.1, q.0)) (λ n k q. (q.1, q.0)))
+      (makes_part types texts fs f P (what, object_named new.number) target what (made_uses_of what) new.number place s' (λ q. (q.1, q.0)) (λ n k q. (q.1, q.0)))
 
-  owned_builds : (target : TyId) (at : Place → Place) (w : Gives Made) (s : State) → Makes types texts fs f None s w (a_made types texts fs f setting.registers target)
+  owned_builds : (target : TyId) (at : Place → Place) (w : Gives Made) (s : State) → Makes types texts fs f None s w (a_made types texts fs f target)
       → BuildsTo target s (gives (lived Plain (λ place to s. made_at (at place) w.given place to s)) w.state)
-  owned_builds target at w s found = record {
-    making = of_target target;
-    found = w.given;
-    part = found;
-    form = Plain;
-    act = λ place to s. made_at (at place) w.given place to s;
-    lives = refl;
-    acts = λ place to s' there still new. owned_part target (at place) w.given to s s' new;
-    alone = λ e. record {
-      free = λ place to s pending. refl;
-      code = λ place to s. Acts (at place) (Make (location_in to) w.given) ∷ [];
-      written = λ place to s. refl;
-      looks = λ place to s still y m. m;
-    };
-  }
+  owned_builds target at w s found =
+      lived_builds a visible types texts fs f setting true (ty.Unique target) s w.state (of_target target) w.given Plain (λ place to s. made_at (at place) w.given place to s) found refl
+      (λ place to s' there still new. owned_part target (at place) w.given to s s' new)
+      (λ e. record {
+        free = λ place to s pending. refl;
+        kept = λ place to s living. refl;
+        code = λ place to s. Acts (at place) (Make (location_in to) w.given) ∷ [];
+        written = λ place to s. refl;
+        looks = λ place to s still y m. m;
+      })
 
   -- ---- nullptr, which has a value
 
-  pub null_builds : (form : Form) → IsWhole a visible types texts fs f setting form → (target : TyId) → is_given a.program.types (ty.Unique target) (typed_in form) ≡ true → (behind : Place) (s : State) → Stood s
-      → BuildsTo target s (giving.given (uses a form) (ty.Unique target) behind s)
-  null_builds form is target given behind s stands = go is.kind.kind
+  -- no other value is given to one
+  pub given_null : (e : Typed) → HasKind a.program.types e → (target : TyId) → is_given a.program.types (ty.Unique target) e ≡ true → (e.ty ≡ NullPointer) × (e.category ≡ category.Value)
+  given_null e kind target given = go kind
     where
-      as_told : (x : ExprType) → (typed_in form).ty ≡ x → fits_at_all (fits a.program.types (ty.Unique target) x (typed_in form).category) ≡ true
-      as_told x at = subst (λ (x : ExprType). fits_at_all (fits a.program.types (ty.Unique target) x (typed_in form).category) ≡ true) at given
+      as_told : (x : ExprType) → e.ty ≡ x → fits_at_all (fits a.program.types (ty.Unique target) x e.category) ≡ true
+      as_told x at = subst (λ (x : ExprType). fits_at_all (fits a.program.types (ty.Unique target) x e.category) ≡ true) at given
 
-      no_number : (u : Ty) → is_value u ≡ true → fits_at_all (fits a.program.types (ty.Unique target) (Of u) (typed_in form).category) ≡ true → ⊥
-      no_number = by_values (λ u. fits_at_all (fits a.program.types (ty.Unique target) (Of u) (typed_in form).category) ≡ true → ⊥) (λ h. false≢true h) (λ h. false≢true h) (λ h. false≢true h) (λ h. false≢true h) (λ h. false≢true h)
+      no_number : (u : Ty) → is_value u ≡ true → fits_at_all (fits a.program.types (ty.Unique target) (Of u) e.category) ≡ true → ⊥
+      no_number = by_values (λ u. fits_at_all (fits a.program.types (ty.Unique target) (Of u) e.category) ≡ true → ⊥) (λ h. false≢true h) (λ h. false≢true h) (λ h. false≢true h) (λ h. false≢true h) (λ h. false≢true h)
 
-      go : HasKind a.program.types (typed_in form) → BuildsTo target s (giving.object_by (uses a form).category (uses a form).at (uses a form).object s)
-      go (a_null at v) =
-          subst (λ (c : Category). BuildsTo target s (giving.object_by c (uses a form).at (uses a form).object s)) (sym v ∙ held_typed a visible types texts fs f setting form)
-          (subst (λ (x : State → Gives Remaining). BuildsTo target s (x s)) (sym (is.as_null at))
-          (owned_builds target (λ place. place) (gives made.Null s) s
-          (leaf_part types texts fs f made.Null s (a_made types texts fs f setting.registers target) (λ b. null_fits types texts fs f setting.registers target) (λ b k alive. tt))))
+      go : HasKind a.program.types e → (e.ty ≡ NullPointer) × (e.category ≡ category.Value)
+      go (a_null at v) = (at, v)
       go (a_number u at v) = absurd (no_number u v (as_told (Of u) at))
       go (a_pointer item constant at v) = absurd (false≢true (as_told (Of (ty.Raw item constant)) at))
       go (a_view at) = absurd (false≢true (as_told (Of ty.View) at))
       go (a_text at v) = absurd (false≢true (as_told TextLiteral at))
       go (no_value at v) = absurd (false≢true (as_told (Of ty.Void) at))
+
+  pub null_builds : (form : Form) → IsWhole a visible types texts fs f setting form → (target : TyId) → is_given a.program.types (ty.Unique target) (typed_in form) ≡ true → (behind : Place) (s : State) → Stood s
+      → BuildsTo target s (giving.given (uses a form) (ty.Unique target) behind s)
+  null_builds form is target given behind s stands =
+      let null = given_null (typed_in form) is.kind.kind target given in
+      subst (λ (c : Category). BuildsTo target s (giving.object_by c (uses a form).at (uses a form).object s)) (sym null.1 ∙ held_typed a visible types texts fs f setting form)
+      (subst (λ (x : State → Gives Remaining). BuildsTo target s (x s)) (sym (is.as_null null.0).0)
+      (owned_builds target (λ place. place) (gives made.Null s) s
+      (leaf_part types texts fs f made.Null s (a_made types texts fs f target) (λ b. null_fits types texts fs f target) (λ b k alive. tt))))
 
   -- ---- an expression that makes one, or moves one out of a variable
 

@@ -9,7 +9,6 @@ use Rattle.life_types.specs.declared.place.Place.{Place}
 use Rattle.life_types.specs.declared.ty.Ty.{Ty}
 use Rattle.life_core.specs.Function.{Function}
 use Rattle.life_core.specs.Operands.{Operand, Name, Through, object_named}
-use Rattle.life_core.specs.Step.{Live}
 use Rattle.life_core.specs.Tree.{Acts, Tree, trees}
 use Rattle.life_core.specs.declared.program.Local.{Local}
 use Rattle.life_proper.specs.Knowing.{known_at}
@@ -36,7 +35,7 @@ use Rattle.life_elab_laws.proofs.Growing.{Begins, Grows, begins_before, grows_th
 use Rattle.life_elab_laws.proofs.Handing.{GoesHanding, HandingAlone}
 use Rattle.life_elab_laws.proofs.UnseenLocals.{set_itself, set_twice}
 use Rattle.life_elab_laws.proofs.Knowledge.{at_set, beside_set, set_length}
-use Rattle.life_elab_laws.proofs.MadeForms.{Builds, Found, Making, Steady, act_part, born, born_part, built, built_part, gift_of, looked_found, of_copy, of_elements, of_moved, of_target, of_texts, of_view, steady_same}
+use Rattle.life_elab_laws.proofs.MadeForms.{Builds, Found, Making, Steady, act_part, born, born_further, born_part, built, built_part, gift_of, looked_found, of_call, of_copy, of_elements, of_moved, of_target, of_texts, of_view, steady_same}
 use Rattle.life_elab_laws.proofs.Making.{Alive, IsPlace, keeps_then}
 use Rattle.life_elab_laws.proofs.MoveSteps.{built_moves, moved_same, moved_there}
 use Rattle.life_elab_laws.proofs.Parts.{Goes, Makes, Part, Runs}
@@ -45,6 +44,7 @@ use Rattle.life_elab_laws.proofs.PlainActs.{IsPlainAct, seen_names}
 use Rattle.life_elab_laws.proofs.Setting.{Setting}
 use Rattle.life_elab_laws.proofs.TemporaryEnds.{temporary_ends}
 use Rattle.life_elab_laws.proofs.Shaping.{lasts_at}
+use Rattle.life_elab_laws.proofs.OwnLocals.{first_own}
 
 -- ---- what is found before lies below
 
@@ -71,16 +71,53 @@ module _ (a : Around) (visible : List ℕ) (types : Types) (texts : ℕ) (fs : L
   found_below (of_copy t constant) x n k h y m = absurd m
   found_below of_view x n k h y m = absurd m
   found_below of_elements x n k h y m = absurd m
+  found_below (of_call ids) x n k h y m = absurd m
   found_below (of_moved x t) z n k h y m = named_below (object_named z) n k h y m
   found_below (of_target target) x n k h y m = absurd m
+
+-- what an act looks at is there
+module _ (a : Around) (visible : List ℕ) (types : Types) (texts : ℕ) (fs : List Function) (f : Function) (setting : Setting a types fs f) where
+  named_ready : (o : Operand) (n : ℕ) (k : List Known) → IsPlace o n k → (y : ℕ) → Among y (looked_place o) → known_at k y ≡ known.Ready
+  named_ready (Name l) n k h y (inl e) = subst (λ (z : ℕ). known_at k z ≡ known.Ready) (sym (sym e ∙ head l.local h.local h.uses)) h.held
+    where
+      first : List ℕ → ℕ
+      first [] = 0
+      first (z ∷ zs) = z
+
+      head : (x z : ℕ) → x ∷ [] ≡ z ∷ [] → x ≡ z
+      head x z e = ap first e
+  named_ready (Name l) n k h y (inr none) = absurd none
+  named_ready (Through p members) n k h y m = absurd m
+
+  seen_named : (x : Seen) (n : ℕ) (k : List Known) → IsFoundAt types texts fs f x n k → (y : ℕ) → Among y (seen_names x) → known_at k y ≡ known.Ready
+  seen_named (InString place o) n k h y m = named_ready o n k h y m
+  seen_named (InView l) n k h y m = absurd m
+  seen_named (InRegister r) n k h y m = absurd m
+
+  pub found_named : (m : Making) (x : Found m) (n : ℕ) (k : List Known) → (gift_of a visible types texts fs f setting m).ready x n k → (y : ℕ) → Among y (looked_found m x) → known_at k y ≡ known.Ready
+  found_named of_texts x n k h y m = elim (among_either (seen_names x.0) (seen_names x.1) y m) [ inl one ↦ seen_named x.0 n k h.0 y one | inr other ↦ seen_named x.1 n k h.1 y other ]
+  found_named (of_copy t constant) x n k h y m = absurd m
+  found_named of_view x n k h y m = absurd m
+  found_named of_elements x n k h y m = absurd m
+  found_named (of_call ids) x n k h y m = absurd m
+  found_named (of_moved x t) z n k h y m = named_ready (object_named z) n k h y m
+  found_named (of_target target) x n k h y m = absurd m
+
+-- a temporary of a type that owns may be given over
+pub temporary_given : (types : Types) (texts : ℕ) (fs : List Function) (f : Function) (t : Ty) (x : ℕ) → object_at types f x ≡ true → placed.type_at types f x ≡ t → is_owner t ≡ true → can_end types texts fs f x ≡ true → is_given types f t x ≡ true
+temporary_given types texts fs f t x object typed moves ends =
+    let free = and_parts (not (result_at types f x)) (not (slot_at types f x)) (and_parts (object_at types f x || is_pointer (placed.type_at types f x)) _ ends).1 in
+    and_from (object_at types f x) _ object
+    (and_from (not (result_at types f x)) _ free.0 (and_from (not (slot_at types f x)) (same t (placed.type_at types f x)) free.1 (ap (same t) typed ∙ moved_same t moves)))
 
 ascend_front : (low : ℕ) (xs ys : List ℕ) → Ascend low (xs ++ ys) → Ascend low xs
 ascend_front low [] ys h = tt
 ascend_front low (x ∷ xs) ys h = (h.0, ascend_front (suc x) xs ys h.1)
 
 -- without the last of them
-pending_front : (locals : List Local) (table : List Ty) (living xs ys : List ℕ) → ArePendingIn locals table living (xs ++ ys) → ArePendingIn locals table living xs
-pending_front locals table living xs ys h = record {
+pending_front : (low : ℕ) (locals : List Local) (table : List Ty) (living xs ys : List ℕ) → ArePendingIn low locals table living (xs ++ ys) → ArePendingIn low locals table living xs
+pending_front low locals table living xs ys h = record {
+  past = h.past;
   ascend = ascend_front 0 xs ys h.ascend;
   each = λ y m. h.each y (among_left xs ys y m);
   beside = λ y m. h.beside y (among_left xs ys y m);
@@ -131,24 +168,34 @@ module _ (a : Around) (visible : List ℕ) (types : Types) (texts : ℕ) (fs : L
     whole : Makes types texts fs f None s (gives ((is.found, object_named x), tt) there) (both types texts fs f (both types texts fs f (gift_of a visible types texts fs f setting is.making) (a_place types texts fs f t false)) G)
     whole = built_part a visible types texts fs f setting t place s w owner is stands
 
-    born_there : Makes types texts fs f None w.state (born a visible types texts fs f setting t place s w owner is stands) (a_place types texts fs f t false)
+    -- what was found, and where it comes to life
+    abbrev B : Gift types texts fs f (Found is.making × Operand)
+    B = both types texts fs f (gift_of a visible types texts fs f setting is.making) (a_place types texts fs f t false)
+
+    born_there : Makes types texts fs f None s (gives (is.found, object_named x) (born a visible types texts fs f setting t place s w owner is stands).state) B
     born_there = born_part a visible types texts fs f setting t place s w owner is stands
+
+    born_later : Grows w.state (born a visible types texts fs f setting t place s w owner is stands).state
+    born_later = born_further a visible types texts fs f setting t place s w owner is stands
 
     acts_there : Part types texts fs f (both types texts fs f (gift_of a visible types texts fs f setting is.making) (a_place types texts fs f t false)) (is.found, object_named x) None (born a visible types texts fs f setting t place s w owner is stands).state (gives tt there) G
     acts_there = act_part a visible types texts fs f setting t place s w owner is stands
 
     further : Grows w.state there
-    further = grows_then w.state (born a visible types texts fs f setting t place s w owner is stands).state there born_there.grown acts_there.grown
+    further = grows_then w.state (born a visible types texts fs f setting t place s w owner is stands).state there born_later acts_there.grown
 
-    pends : ArePendingIn there.locals there.types.types there.living (w.state.pending ++ x ∷ [])
-    pends = subst (ArePendingIn there.locals there.types.types there.living) pending_is (whole.grown.pends stands.pends)
+    pends_in : (low : ℕ) → ArePendingIn low s.locals s.types.types s.living s.pending → ArePendingIn low there.locals there.types.types there.living (w.state.pending ++ x ∷ [])
+    pends_in low p = subst (ArePendingIn low there.locals there.types.types there.living) pending_is (whole.grown.pends low p)
 
-    temporary : IsTemporary there.locals there.types.types x
+    pends : ArePendingIn (first_own a) there.locals there.types.types there.living (w.state.pending ++ x ∷ [])
+    pends = pends_in (first_own a) stands.pends
+
+    temporary : IsTemporary (first_own a) there.locals there.types.types x
     temporary = pends.each x (among_right w.state.pending (x ∷ []) x (inl refl))
 
     -- the others are older
     older : (y : ℕ) → Among y w.state.pending → y < x
-    older y m = let was = (is.part.grown.pends stands.pends).each y m in slice_get_within w.state.locals y was.local was.there
+    older y m = let was = (is.hands.grown.pends _ stands.pends).each y m in slice_get_within w.state.locals y was.local was.there
 
     no_variable : Contains there.living x → ⊥
     no_variable c = pends.beside x (among_right w.state.pending (x ∷ []) x (inl refl)) c
@@ -159,16 +206,21 @@ module _ (a : Around) (visible : List ℕ) (types : Types) (texts : ℕ) (fs : L
         append_cancel_left (born a visible types texts fs f setting t place s w owner is stands).state.code acts_there.code (plain.code place (object_named x) (born a visible types texts fs f setting t place s w owner is stands).state)
         (sym acts_there.written ∙ plain.written place (object_named x) (born a visible types texts fs f setting t place s w owner is stands).state)
 
-    born_code : born_there.code ≡ Acts place (Live x is.form) ∷ []
-    born_code = append_cancel_left w.state.code born_there.code (Acts place (Live x is.form) ∷ []) (sym born_there.written)
+    abbrev comes : List Tree
+    comes = Acts (is.comes.at place) (is.comes.step x) ∷ []
+
+    born_code : born_there.code ≡ is.hands.code ++ comes
+    born_code =
+        append_cancel_left s.code born_there.code (is.hands.code ++ comes)
+        (sym born_there.written ∙ ap (λ (c : List Tree). c ++ comes) is.hands.written ∙ append_assoc s.code is.hands.code comes)
 
     -- all that is written, in parts
-    whole_code : whole.code ≡ (is.part.code ++ born_there.code) ++ acts_there.code
+    whole_code : whole.code ≡ (is.hands.code ++ comes) ++ acts_there.code
     whole_code =
-        append_cancel_left s.code whole.code ((is.part.code ++ born_there.code) ++ acts_there.code)
+        append_cancel_left s.code whole.code ((is.hands.code ++ comes) ++ acts_there.code)
         (sym whole.written ∙ acts_there.written
-        ∙ ap (λ (c : List Tree). c ++ acts_there.code) (born_there.written ∙ ap (λ (c : List Tree). c ++ born_there.code) is.part.written ∙ append_assoc s.code is.part.code born_there.code)
-        ∙ append_assoc s.code (is.part.code ++ born_there.code) acts_there.code)
+        ∙ ap (λ (c : List Tree). c ++ acts_there.code) (born_there.written ∙ ap (λ (c : List Tree). s.code ++ c) born_code)
+        ∙ append_assoc s.code (is.hands.code ++ comes) acts_there.code)
 
     -- ---- in the finished function
 
@@ -177,18 +229,13 @@ module _ (a : Around) (visible : List ℕ) (types : Types) (texts : ℕ) (fs : L
       r = whole.runs b tt
 
       object : object_at types f x ≡ true
-      object = (moved_there types texts fs f setting.registers t x moves r.typed.0.1).object
+      object = (moved_there types texts fs f t x moves r.typed.0.1).object
 
       ends : can_end types texts fs f x ≡ true
-      ends = (and_parts (can_end types texts fs f x) (lasts_at f x) (temporary_ends types texts fs f setting.registers x (temporary_later there.locals f.locals there.types.types types.types x b.locals b.table temporary))).0
+      ends = (and_parts (can_end types texts fs f x) (lasts_at f x) (temporary_ends types texts fs f (first_own a) setting.own x (temporary_later _ there.locals f.locals there.types.types types.types x b.locals b.table temporary))).0
 
       given : is_given types f t x ≡ true
-      given =
-          let free = and_parts (not (result_at types f x)) (not (slot_at types f x)) (and_parts (object_at types f x || is_pointer (placed.type_at types f x)) _ ends).1 in
-          and_from (object_at types f x) _ object
-          (and_from (not (result_at types f x)) _ free.0
-          (and_from (not (slot_at types f x)) (same t (placed.type_at types f x)) free.1
-          (ap (same t) (moved_there types texts fs f setting.registers t x moves r.typed.0.1).typed ∙ moved_same t moves)))
+      given = temporary_given types texts fs f t x object (moved_there types texts fs f t x moves r.typed.0.1).typed moves ends
 
       -- ---- on a way
 
@@ -196,8 +243,8 @@ module _ (a : Around) (visible : List ℕ) (types : Types) (texts : ℕ) (fs : L
         g : Goes types texts fs f None s (gives ((is.found, object_named x), tt) there) (both types texts fs f (both types texts fs f (gift_of a visible types texts fs f setting is.making) (a_place types texts fs f t false)) G) whole.code k
         g = r.goes k alive tt
 
-        found_there : Goes types texts fs f None s (gives is.found w.state) (gift_of a visible types texts fs f setting is.making) is.part.code k
-        found_there = (is.part.runs (begins_before types f w.state there further b) tt).goes k alive tt
+        found_there : GoesHanding types texts fs f is.over s (gives is.found w.state) (gift_of a visible types texts fs f setting is.making) is.hands.code k
+        found_there = (is.hands.runs (begins_before types f w.state there further b) tt).goes k alive tt
 
         held : known_at g.after x ≡ known.Ready
         held = g.alive.pending x (subst (Among x) (sym pending_is) (among_right w.state.pending (x ∷ []) x (inl refl)))
@@ -235,17 +282,17 @@ module _ (a : Around) (visible : List ℕ) (types : Types) (texts : ℕ) (fs : L
 
         -- nothing looked at it
         unseen : IsBelow s → Among x (looked_of (trees whole.code)) → ⊥
-        unseen below m = elim (among_either (looked_of (trees (is.part.code ++ born_there.code))) (looked_of (trees acts_there.code)) x (subst (Among x) (parts_of looked_spot (is.part.code ++ born_there.code) acts_there.code) (subst (λ (c : List Tree). Among x (looked_of (trees c))) whole_code m))) [
-          | inl before ↦ elim (among_either (looked_of (trees is.part.code)) (looked_of (trees born_there.code)) x (subst (Among x) (parts_of looked_spot is.part.code born_there.code) before)) [
+        unseen below m = elim (among_either (looked_of (trees (is.hands.code ++ comes))) (looked_of (trees acts_there.code)) x (subst (Among x) (parts_of looked_spot (is.hands.code ++ comes) acts_there.code) (subst (λ (c : List Tree). Among x (looked_of (trees c))) whole_code m))) [
+          | inl before ↦ elim (among_either (looked_of (trees is.hands.code)) (looked_of (trees comes)) x (subst (Among x) (parts_of looked_spot is.hands.code comes) before)) [
             | inl found ↦ elim ((found_there.apart below).looks x object found) [
-              | inl o ↦ let old = below x o in omega (arith, old, is.part.grown.count)
+              | inl o ↦ let old = below x o in omega (arith, old, is.hands.grown.count)
               | inr new ↦ omega (arith, new.1)
             ]
-            | inr lives ↦ subst (λ (c : List Tree). Among x (looked_of (trees c))) born_code lives
+            | inr lives ↦ subst (Among x) (is.comes.looks place x found_there.after found_there.gives) lives
           ]
           | inr acted ↦
               let far = found_below a visible types texts fs f setting is.making is.found (length w.state.locals) found_there.after found_there.gives x
-              (plain.looks place (object_named x) (born a visible types texts fs f setting t place s w owner is stands).state (steady_same a visible types texts fs f setting w.state (born a visible types texts fs f setting t place s w owner is stands).state born_there.grown.variables) x (subst (λ (c : List Tree). Among x (looked_of (trees c))) act_code acted)) in
+              (plain.looks place (object_named x) (born a visible types texts fs f setting t place s w owner is stands).state (steady_same a visible types texts fs f setting w.state (born a visible types texts fs f setting t place s w owner is stands).state born_later.variables) x (subst (λ (c : List Tree). Among x (looked_of (trees c))) act_code acted)) in
               omega (arith, far)
         ]
 
@@ -257,7 +304,7 @@ module _ (a : Around) (visible : List ℕ) (types : Types) (texts : ℕ) (fs : L
           gives = λ y is_object m. elim (among_either (given_of (trees whole.code)) (x ∷ []) y m) [
             | inl old ↦ let h = one.gives y is_object old in (h.0, h.1, λ o. h.2 (stood y o))
             | inr new ↦ elim new [
-              | inl e ↦ subst (λ (v : ℕ). (length s.locals ≤ v) × (v < length there.locals) × (Open gone v → ⊥)) e (is.part.grown.count, slice_get_within there.locals x temporary.local temporary.there, stands_no_more)
+              | inl e ↦ subst (λ (v : ℕ). (length s.locals ≤ v) × (v < length there.locals) × (Open gone v → ⊥)) e (is.hands.grown.count, slice_get_within there.locals x temporary.local temporary.there, stands_no_more)
               | inr none ↦ absurd none
             ]
           ];
@@ -275,7 +322,7 @@ module _ (a : Around) (visible : List ℕ) (types : Types) (texts : ℕ) (fs : L
           blank = λ y m. elim m [ inl e ↦ subst (λ (v : ℕ). known_at final v ≡ known.Blank) e (at_set g.after x known.Blank lt) | inr none ↦ absurd none ];
           keeps =
               keeps_then f (length s.locals) (length s.locals) None k g.after final (omega arith) g.keeps
-              (keeps_set f (length s.locals) None x known.Blank g.after (λ y small none e. omega (arith, e, small, is.part.grown.count)));
+              (keeps_set f (length s.locals) None x known.Blank g.after (λ y small none e. omega (arith, e, small, is.hands.grown.count)));
           gives = (slice_get_within there.locals x temporary.local temporary.there, at_set g.after x known.Blank lt);
           alive = alive_behind;
           apart = apart;
@@ -290,13 +337,13 @@ module _ (a : Around) (visible : List ℕ) (types : Types) (texts : ℕ) (fs : L
         count = whole.grown.count;
         variables = whole.grown.variables;
         living = whole.grown.living;
-        pending = is.part.grown.pending;
-        fresh = is.part.grown.fresh;
-        pends = λ p. pending_front there.locals there.types.types there.living w.state.pending (x ∷ []) pends;
+        pending = is.hands.grown.pending;
+        fresh = is.hands.grown.fresh;
+        pends = λ low p. pending_front low there.locals there.types.types there.living w.state.pending (x ∷ []) (pends_in low p);
         outside = whole.grown.outside;
       };
       registers = whole.registers;
-      ascend = (is.part.grown.count, tt);
+      ascend = (is.hands.grown.count, tt);
       below = λ y m. elim m [ inl e ↦ subst (λ (v : ℕ). v < length there.locals) e (slice_get_within there.locals x temporary.local temporary.there) | inr none ↦ absurd none ];
       code = whole.code;
       written = whole.written;

@@ -1,7 +1,7 @@
 -- What a return gives back: a value, a pointer or a view that is given something, or a reference that is aimed at a place, which may be a temporary's.
-use Rattle.std.proofs.Common.{◌≡◌, ℕ, Bool, true, false, cond, List, slice_get, Option, Some, None, inl, inr, refl, sym, ap, ◌∙◌, subst}
-use Rattle.std.proofs.lemmas.Bool.{false≢true, or_cases}
-use Rattle.life_served.specs.Served.{is_served_expression, is_owner_of_values, is_served_owner, is_served_returned, is_target, is_served_any, is_served_walker, is_walker_of_values}
+use Rattle.std.proofs.Common.{◌≡◌, ℕ, Bool, true, false, cond, List, slice_get, Option, Some, None, inl, inr, refl, sym, ap, ◌∙◌, subst, ◌||◌, ◌⊎◌}
+use Rattle.std.proofs.lemmas.Bool.{false≢true, or_cases, and_parts}
+use Rattle.life_served.specs.Served.{is_served_expression, is_owner_of_values, is_served_owner, is_served_returned, is_target, is_served_any, is_served_walker, is_walker_of_values, is_served_struct, is_owner_type, owns_elements, is_element, is_served_fresh, is_served_unique, is_unique_of_element, is_unique_type}
 use Rattle.life_types.specs.TypeTests.{is_unique, is_value, is_void}
 use Rattle.life_types.specs.Types.{Types, class}
 use Rattle.life_types.specs.declared.place.Place.{Place}
@@ -39,11 +39,11 @@ use Rattle.life_elab_laws.proofs.Aiming.{pointed_fills, pointed_fine}
 use Rattle.life_elab_laws.proofs.Doing.{DoesLevel}
 use Rattle.life_elab_laws.proofs.Emitting.{IsWanted, kept_targeted}
 use Rattle.life_elab_laws.proofs.ExpressionForms.{IsWhole}
-use Rattle.life_elab_laws.proofs.Expressions.{whole_expression, owner_expression, walker_expression}
+use Rattle.life_elab_laws.proofs.Expressions.{whole_expression, owner_expression, walker_expression, struct_expression, fresh_expression, named_unique}
 use Rattle.life_elab_laws.proofs.ExpressionTypes.{seen_kind}
 use Rattle.life_elab_laws.proofs.Filling.{aimed_filling, filling_fills}
-use Rattle.life_elab_laws.proofs.Following.{Follows, HasRegister, IsResultRegister}
-use Rattle.life_elab_laws.proofs.FormedFits.{IsBound, at_place, by_temporary, given_bound, given_raw, given_seen, given_string, given_vector, given_walker, walker_itself}
+use Rattle.life_elab_laws.proofs.Following.{Follows, HasRegister, IsResultRegister, IsResultLocal, IsResultObject}
+use Rattle.life_elab_laws.proofs.FormedFits.{IsBound, at_place, by_temporary, given_bound, given_raw, given_seen, given_string, given_vector, given_walker, walker_itself, given_owner}
 use Rattle.life_elab_laws.proofs.FormedVariables.{keeps_all, location_no_reference, reference_there, owner_no_location, owner_no_value}
 use Rattle.life_elab_laws.proofs.Gifts.{Gift, IsAt, a_number, a_place, a_pointing, held_stays, nothing, takes_from}
 use Rattle.life_elab_laws.proofs.GivenKinds.{given_number, given_pointer, given_view}
@@ -55,27 +55,66 @@ use Rattle.life_elab_laws.proofs.NewVariables.{bound_given}
 use Rattle.life_elab_laws.proofs.OperandsThere.{register_there, type_there}
 use Rattle.life_elab_laws.proofs.Parts.{Makes, Part, then_part}
 use Rattle.life_elab_laws.proofs.PointerForms.{points_whole}
-use Rattle.life_elab_laws.proofs.ResultTypes.{IsResultType, gives_alias, gives_walker, gives_nothing, gives_raw, gives_reference, gives_value, gives_view, result_is}
+use Rattle.life_elab_laws.proofs.ResultTypes.{IsResultType, gives_alias, gives_walker, gives_nothing, gives_raw, gives_reference, gives_value, gives_view, result_is, gives_struct, gives_owner, gives_unique}
 use Rattle.life_elab_laws.proofs.Returning.{back_given, result_returned, return_does}
 use Rattle.life_elab_laws.proofs.Setting.{Setting}
-use Rattle.life_elab_laws.proofs.TypedKinds.{value_simple}
+use Rattle.life_elab_laws.proofs.TypedKinds.{place_same, value_place, value_simple, HasKind, a_null, a_number as is_number_kind, a_pointer as is_pointer_kind, a_text, a_view as is_view_kind, no_value}
 use Rattle.life_elab_laws.proofs.ValueTemporaries.{value_temporary}
 use Rattle.life_elab_laws.proofs.Values.{by_values}
-use Rattle.life_elab_laws.proofs.AliasForms.{IsAliased, owning_aliased, value_reference_refused, whole_aliased, to_built, to_place, walker_reference_refused}
+use Rattle.life_elab_laws.proofs.AliasForms.{IsAliased, owning_aliased, value_reference_refused, whole_aliased, to_built, to_place, walker_reference_refused, struct_reference_refused, no_owner_given, null_refused, owning_builds, value_builds}
 use Rattle.life_elab_laws.proofs.ObjectForms.{IsOwner}
-use Rattle.life_elab_laws.proofs.MadeForms.{IsOwning, owning_owner, temporary_made}
-use Rattle.life_typed.specs.declared.typed_expr.ExprType.TheVariants.{Of}
+use Rattle.life_elab_laws.proofs.MadeForms.{IsOwning, owning_owner, temporary_made, Builds}
+use Rattle.life_typed.specs.declared.typed_expr.ExprType.TheVariants.{Of, NullPointer}
 use Rattle.life_elab_laws.proofs.ElementForms.{either_served}
-use Rattle.life_elab_laws.proofs.Targets.{owner_target, value_target}
+use Rattle.life_elab_laws.proofs.Targets.{owner_target, value_target, struct_target}
 use Rattle.life_elab_laws.proofs.SeenForms.{string_points}
 use Rattle.life_elab_laws.proofs.Shaped.{target_there}
 use Rattle.life_elab_laws.proofs.WalkerForms.{IsWalker, vector_points, walker_points}
 use Rattle.life_type_expr.specs.Lists.{fits_at_all}
 use Rattle.life_elab_laws.proofs.HandedForms.{no_walker_given}
-use Rattle.life_elab_laws.proofs.HandedOwners.{owner_no_iterator, walker_no_raw, walker_no_text}
+use Rattle.life_elab_laws.proofs.HandedOwners.{owner_no_iterator, owner_no_unique_given, unique_no_walker_given, walker_no_raw, walker_no_text}
 use Rattle.life_elab_laws.proofs.RowTypes.{sees}
 use Rattle.life_elab_laws.proofs.VariablePlaces.{walker_is}
 use Rattle.life_typed.specs.declared.typed_expr.ExprType.{ExprType}
+use Rattle.life_elab_laws.proofs.StructReferences.{kind_no_struct, struct_alone, struct_aliased, IsStructAlias}
+use Rattle.life_elab_laws.proofs.StructForms.{IsStruct}
+use Rattle.life_elab_laws.proofs.HandedStructs.{struct_no_walker}
+use Rattle.life_elab_laws.proofs.ReturnedOwners.{owner_given_back}
+use Rattle.life_elab_laws.proofs.ReturnedUniques.{fresh_back, no_named_given, null_back, unique_back}
+use Rattle.life_elab_laws.proofs.FreshUniques.{IsFresh}
+use Rattle.life_elab_laws.proofs.HandedUniques.{walker_no_unique_given}
+use Rattle.life_elab_laws.proofs.ServedTypes.{IsBuilt}
+use Rattle.life_elab_laws.proofs.UniqueForms.{IsUnique}
+use Rattle.life_typed.specs.declared.typed_expr.Category.TheVariants as category
+use Rattle.life_elab_laws.proofs.NamedResults.{is_object, named_builds, named_owner}
+use Rattle.life_elab.specs.ProgramForms.{result_kind}
+use Rattle.life_core.specs.declared.program.LocalKind.{LocalKind}
+use Rattle.life_core.specs.declared.program.LocalKind.TheVariants.{Object, Register}
+use Rattle.life_writer.specs.Assigning.{moved}
+use Rattle.life_writer.specs.Uses.{Remaining, Uses, lived}
+use Rattle.life_writer.specs.Variables.{variable}
+use Rattle.std.proofs.lemmas.Option.{none-some}
+use Rattle.life_core.specs.declared.instr.Form.TheVariants.{Plain}
+use Rattle.life_elab.specs.StatementForms as statements
+
+owner_plain : (types : Types) (t : Ty) → is_owner_of_values types t ≡ true → is_unique t ≡ false
+owner_plain types ty.Text o = refl
+owner_plain types (ty.Vector item) o = refl
+owner_plain types _ o = absurd (false≢true o)
+
+-- what is so of strings and vectors is so of owners
+as_owner : (types : Types) (t : Ty) → is_owner_of_values types t ≡ true → (C : Ty → Type 0) → C ty.Text → ((item : TyId) → C (ty.Vector item)) → C t
+as_owner types ty.Text o C one other = one
+as_owner types (ty.Vector item) o C one other = other item
+as_owner types _ o C one other = absurd (false≢true o)
+
+no_register : Object ≡ Register → ⊥
+no_register e = cc
+
+-- what is a unique_ptr to an element
+unique_is : (types : Types) (t : Ty) → is_unique_of_element types t ≡ true → (target : TyId) × (t ≡ ty.Unique target) × (is_element types (type_at types target) ≡ true)
+unique_is types (ty.Unique target) u = (target, refl, u)
+unique_is types _ u = absurd (false≢true u)
 
 module _ (a : Around) (types : Types) (texts : ℕ) (fs : List Function) (f : Function) (setting : Setting a types fs f) (v : Visible) (in_loop : Bool) where
   abbrev t : Ty
@@ -88,7 +127,7 @@ module _ (a : Around) (types : Types) (texts : ℕ) (fs : List Function) (f : Fu
     abbrev Back : State → Type 0
     Back s' = DoesLevel types texts fs f a v in_loop s s'
 
-    module _ (register : IsResultRegister a s) (e : Typed) (keyword token : Place) (r : IsReturned a.program a.function.locals a.function.result v.visible (Some e)) where
+    module _ (register : IsResultRegister a s) (unowned : IsBuilt a.program.types t → ⊥) (e : Typed) (keyword token : Place) (r : IsReturned a.program a.function.locals a.function.result v.visible (Some e)) where
       abbrev Whole : Type 0
       Whole = IsWhole a v.visible types texts fs f setting (whole_form e)
 
@@ -259,16 +298,23 @@ module _ (a : Around) (types : Types) (texts : ℕ) (fs : List Function) (f : Fu
 
       -- ---- by what is given back
 
+      no_unique_result : (target : TyId) → t ≡ ty.Unique target → is_element a.program.types (type_at a.program.types target) ≡ true → ⊥
+      no_unique_result target unique w = unowned (inr (subst (λ (q : Ty). is_unique_of_element a.program.types q ≡ true) (sym unique) w))
+
       whole_returned : Whole → IsResultType a.program.types t → Back GivenBack
       whole_returned whole_is (gives_nothing void) = absurd (false≢true (sym r.0 ∙ ap is_void void))
       whole_returned whole_is (gives_value w) = value_returned whole_is w
       whole_returned whole_is (gives_raw target constant raw w) = raw_returned whole_is target constant raw w
+      whole_returned whole_is (gives_owner o) = absurd (unowned (inl o))
+      whole_returned whole_is (gives_unique target unique w) = absurd (no_unique_result target unique w)
       whole_returned whole_is (gives_view view) = view_returned whole_is view
       whole_returned whole_is (gives_walker w) = absurd (no_walker_given a.program.types e whole_is.kind.kind t w (given_as t refl (walker_no_unique t w)))
       whole_returned whole_is (gives_reference target constant refers_to w) = reference_returned target constant refers_to (value_target a.program.types (type_at a.program.types target) w) whole_is w
       whole_returned whole_is (gives_alias target constant refers_to o) =
           alias_returned target constant refers_to (owner_target a.program.types (type_at a.program.types target) o) o
           (whole_aliased a v.visible types texts fs f setting (whole_form e) target constant o (given_as (ty.Reference target constant) refers_to refl) whole_is)
+      whole_returned whole_is (gives_struct target constant number refers_to structure) =
+          absurd (kind_no_struct a.program.types e whole_is.kind.kind (struct_alone a.program.types target constant number e structure (given_as (ty.Reference target constant) refers_to refl) (λ held. whole_is.kind.place target held)))
 
       owner_returned : IsOwning a v.visible types texts fs f setting (whole_form e) → IsResultType a.program.types t → Back GivenBack
       owner_returned from kind = go kind
@@ -282,8 +328,12 @@ module _ (a : Around) (types : Types) (texts : ℕ) (fs : List Function) (f : Fu
               absurd (owner_no_value a.program.types o.ty o.owner (subst (λ (x : ExprType). is_number x ≡ true) o.is (given_number a.program.types t e w (given_as t refl (value_simple t w).unique))))
           go (gives_raw target constant raw w) =
               absurd (owner_no_location a.program.types o.ty o.owner (subst (λ (x : ExprType). is_pointed x ≡ true) o.is (given_pointer a.program.types (ty.Raw target constant) e refl (given_as (ty.Raw target constant) raw refl))))
+          go (gives_owner owned) = absurd (unowned (inl owned))
+          go (gives_unique target unique w) = absurd (no_unique_result target unique w)
           go (gives_view view) = string_returned o view
           go (gives_walker w) = span_returned o t refl w
+          go (gives_struct target constant number refers_to structure) =
+              absurd (struct_reference_refused a v.visible types texts fs f setting (whole_form e) target constant number structure (given_as (ty.Reference target constant) refers_to refl) from)
           go (gives_reference target constant refers_to w) = absurd (value_reference_refused a v.visible types texts fs f setting (whole_form e) target constant w (given_as (ty.Reference target constant) refers_to refl) from)
           go (gives_alias target constant refers_to owned) =
               alias_returned target constant refers_to (owner_target a.program.types (type_at a.program.types target) owned) owned
@@ -303,27 +353,271 @@ module _ (a : Around) (types : Types) (texts : ℕ) (fs : List Function) (f : Fu
           go (gives_raw target constant raw w) =
               absurd (walker_no_raw a.program.types types from.ty from.walker target constant (subst (λ (x : ExprType). takes_from types (ty.Raw target constant) x ≡ true) from.is
               (given_raw a.program.types types setting.front target constant w e (given_as (ty.Raw target constant) raw refl))))
+          go (gives_owner owned) = absurd (unowned (inl owned))
+          go (gives_unique target unique w) = absurd (no_unique_result target unique w)
           go (gives_view view) = absurd (walker_no_text a.program.types from.ty from.walker (subst (λ (x : ExprType). sees x ≡ true) from.is (given_view a.program.types e (given_as ty.View view refl))))
           go (gives_walker w) =
               let loc = (walker_is a.program.types t w).location in
               pointer_returned t refl loc (Of from.ty) (walker_points a v.visible types texts fs f setting (whole_form e) from s h.stands)
               (given_walker a.program.types types setting.front t from.ty e w from.walker from.is (given_as t refl (walker_no_unique t w))) (walks_as t w keyword token s)
           go (gives_reference target constant refers_to w) = absurd (walker_reference_refused a v.visible types texts fs f setting (whole_form e) target constant (value_target a.program.types (type_at a.program.types target) w) (given_as (ty.Reference target constant) refers_to refl) from)
+          go (gives_struct target constant number refers_to structure) =
+              absurd (walker_reference_refused a v.visible types texts fs f setting (whole_form e) target constant (struct_target a.program.types (type_at a.program.types target) number structure) (given_as (ty.Reference target constant) refers_to refl) from)
           go (gives_alias target constant refers_to o) = absurd (walker_reference_refused a v.visible types texts fs f setting (whole_form e) target constant (owner_target a.program.types (type_at a.program.types target) o) (given_as (ty.Reference target constant) refers_to refl) from)
 
+      -- a reference to a struct
+      struct_returned : (from : IsStruct a v.visible types texts fs f setting (whole_form e)) → IsResultType a.program.types t → Back GivenBack
+      struct_returned from kind = go kind
+        where
+          as_struct : (u : Ty) → t ≡ u → is_unique u ≡ false → fits_at_all (fits a.program.types u (Of (ty.Struct from.number)) e.category) ≡ true
+          as_struct u same plain = subst (λ (x : ExprType). fits_at_all (fits a.program.types u x e.category) ≡ true) from.is (given_as u same plain)
+
+          aliased : (target : TyId) (constant : Bool) → t ≡ ty.Reference target constant → is_target a.program.types (type_at a.program.types target) ≡ true → IsStructAlias a v.visible types texts fs f setting (whole_form e) target constant
+          aliased target constant refers_to wide = struct_aliased a v.visible types texts fs f setting (whole_form e) from target constant wide (given_as (ty.Reference target constant) refers_to refl)
+
+          go : IsResultType a.program.types t → Back GivenBack
+          go (gives_nothing void) = absurd (false≢true (sym r.0 ∙ ap is_void void))
+          go (gives_value w) = absurd (false≢true (subst (λ (x : ExprType). is_number x ≡ true) from.is (given_number a.program.types t e w (given_as t refl (value_simple t w).unique))))
+          go (gives_raw target constant raw w) =
+              absurd (false≢true (subst (λ (x : ExprType). is_pointed x ≡ true) from.is (given_pointer a.program.types (ty.Raw target constant) e refl (given_as (ty.Raw target constant) raw refl))))
+          go (gives_view view) = absurd (false≢true (subst (λ (x : ExprType). sees x ≡ true) from.is (given_view a.program.types e (given_as ty.View view refl))))
+          go (gives_walker w) = absurd (struct_no_walker a.program.types t w from.number e.category (as_struct t refl (walker_no_unique t w)))
+          go (gives_owner owned) = absurd (unowned (inl owned))
+          go (gives_unique target unique w) = absurd (no_unique_result target unique w)
+          go (gives_reference target constant refers_to w) =
+              absurd (false≢true (sym (ap is_value (aliased target constant refers_to (value_target a.program.types (type_at a.program.types target) w)).structure) ∙ w))
+          go (gives_alias target constant refers_to o) =
+              absurd (false≢true (sym (ap (is_owner_of_values a.program.types) (aliased target constant refers_to (owner_target a.program.types (type_at a.program.types target) o)).structure) ∙ o))
+          go (gives_struct target constant number refers_to structure) =
+              let wide = struct_target a.program.types (type_at a.program.types target) number structure in
+              let to = aliased target constant refers_to wide in
+              aimed_back target constant refers_to wide to.held to.kept ((uses a (whole_form e)).at s) (to.names s h.stands) (by_place target constant refers_to wide to.here)
+
+      -- a unique_ptr is given to no such result
+      unique_refused : (owned : TyId) → e.ty ≡ Of (ty.Unique owned) → ((target : TyId) (held : Bool) → e.category ≡ category.Place target held → is_target a.program.types (type_at a.program.types target) ≡ true → ⊥) → IsResultType a.program.types t → ⊥
+      unique_refused owned is no_place kind = go kind
+        where
+          bound : (target : TyId) (constant : Bool) → is_target a.program.types (type_at a.program.types target) ≡ true → (is_given a.program.types (type_at a.program.types target) e ≡ true → ⊥) → IsBound a.program.types target constant e → ⊥
+          bound target constant w none (at_place there) = no_place target there.held there.place w
+          bound target constant w none (by_temporary other initial) = none initial
+
+          told : (q : Ty) → is_given a.program.types q e ≡ true → fits_at_all (fits a.program.types q (Of (ty.Unique owned)) e.category) ≡ true
+          told q given = subst (λ (x : ExprType). fits_at_all (fits a.program.types q x e.category) ≡ true) is given
+
+          go : IsResultType a.program.types t → ⊥
+          go (gives_nothing void) = false≢true (sym r.0 ∙ ap is_void void)
+          go (gives_value w) = false≢true (subst (λ (x : ExprType). is_number x ≡ true) is (given_number a.program.types t e w (given_as t refl (value_simple t w).unique)))
+          go (gives_raw target constant raw w) = false≢true (subst (λ (x : ExprType). is_pointed x ≡ true) is (given_pointer a.program.types (ty.Raw target constant) e refl (given_as (ty.Raw target constant) raw refl)))
+          go (gives_owner o) = unowned (inl o)
+          go (gives_unique target unique w) = no_unique_result target unique w
+          go (gives_view view) = false≢true (subst (λ (x : ExprType). sees x ≡ true) is (given_view a.program.types e (given_as ty.View view refl)))
+          go (gives_walker w) = walker_no_unique_given a.program.types t w owned e.category (told t (given_as t refl (walker_no_unique t w)))
+          go (gives_reference target constant refers_to w) =
+              let wide = value_target a.program.types (type_at a.program.types target) w in
+              bound target constant wide (λ initial. false≢true (subst (λ (x : ExprType). is_number x ≡ true) is (given_number a.program.types (type_at a.program.types target) e w initial)))
+              (given_bound a.program.types target constant e wide (given_as (ty.Reference target constant) refers_to refl))
+          go (gives_alias target constant refers_to o) =
+              let wide = owner_target a.program.types (type_at a.program.types target) o in
+              bound target constant wide (λ initial. no_owner_given a.program.types (type_at a.program.types target) o (ty.Unique owned) refl e.category (told (type_at a.program.types target) initial))
+              (given_bound a.program.types target constant e wide (given_as (ty.Reference target constant) refers_to refl))
+          go (gives_struct target constant number refers_to structure) =
+              let wide = struct_target a.program.types (type_at a.program.types target) number structure in
+              bound target constant wide (λ initial. false≢true (subst (λ (q : Ty). fits_at_all (fits a.program.types q (Of (ty.Unique owned)) e.category) ≡ true) structure (told (type_at a.program.types target) initial)))
+              (given_bound a.program.types target constant e wide (given_as (ty.Reference target constant) refers_to refl))
+
+    -- ---- an owner, which is built where the result lies
+
+    module _ (object : IsResultObject a s) (owner : is_owner_of_values a.program.types t ≡ true) (e : Typed) (keyword token : Place) (r : IsReturned a.program a.function.locals a.function.result v.visible (Some e)) where
+      abbrev u : Uses
+      u = uses a (whole_form e)
+
+      abbrev Given : State
+      Given = left 0 keyword (Returns keyword) (result_given a (Some e) keyword token s)
+
+      its_given : is_given a.program.types t e ≡ true
+      its_given = back_given t a.function.result (named_local a.function.locals (named_in e.form)) (is_given a.program.types t e) (owner_plain a.program.types t owner) r.1
+
+      -- .. or moved there
+      abbrev by_name : Option ℕ → State
+      by_name o = (statements.moved_out classes.Owner o (giving.given u t token) s >> λ rest s. rest (result a keyword) s).state
+
+      by_owner : given_back a e keyword token s ≡ by_name (statements.object_named u.named s)
+      by_owner = as_owner a.program.types t owner (λ q. result_by a (class (Some q)) u q keyword token s ≡ (statements.moved_out classes.Owner (statements.object_named u.named s) (giving.given u q token) s >> λ rest s. rest (result a keyword) s).state) refl (λ item. refl)
+
+      built_back : (w : Gives Remaining) → Builds a v.visible types texts fs f setting t s w → (w.given (result a keyword) w.state).state ≡ by_name (statements.object_named u.named s) → Back Given
+      built_back w is same = owner_given_back a types texts fs f setting v in_loop s h object (inl owner) r.0 keyword token w is (given_back a e keyword token s) (by_owner ∙ sym same)
+
+      -- where nothing is named
+      plain_back : Builds a v.visible types texts fs f setting t s (giving.given u t token s) → statements.object_named u.named s ≡ None → Back Given
+      plain_back is none = built_back (giving.given u t token s) is (ap by_name (sym none))
+
+      whole_back : IsWhole a v.visible types texts fs f setting (whole_form e) → statements.object_named u.named s ≡ None → Back Given
+      whole_back is none = plain_back (value_builds a v.visible types texts fs f setting (whole_form e) is t owner its_given token s h.stands) none
+
+      owner_back : (b : is_served_owner texts (whole_form e) ≡ true) (n : is_owner_type e.ty ≡ true) → Back Given
+      owner_back b n = go (statements.object_named u.named s) refl
+        where
+          from : IsOwning a v.visible types texts fs f setting (whole_form e)
+          from = owner_expression a v.visible types texts fs f setting (whole_form e) b n r.2
+
+          named : (o : Option ℕ) → u.named ≡ o → (y : ℕ) → statements.object_named o s ≡ Some y → Back Given
+          named None at y same = absurd (none-some y same)
+          named (Some x) at y same =
+              let is = named_owner a v.visible types texts fs f setting (whole_form e) b n r.2 x at in
+              let told = is_object a v.visible types texts fs f setting x e u.at is s h.stands (statements.object_named (Some x) s) y refl same in
+              let alike = given_owner a.program.types t is.object.ty e owner is.object.owner is.object.is its_given in
+              built_back (gives (lived Plain (moved (variable s x))) s)
+              (subst (λ (q : Ty). Builds a v.visible types texts fs f setting q s (gives (lived Plain (moved (variable s x))) s)) alike (named_builds a v.visible types texts fs f setting x e u.at is s h.stands told.0))
+              (ap by_name (ap Some told.1 ∙ sym (ap (λ (o : Option ℕ). statements.object_named o s) at ∙ same)))
+
+          go : (o : Option ℕ) → statements.object_named u.named s ≡ o → Back Given
+          go None none = plain_back (owning_builds a v.visible types texts fs f setting (whole_form e) from t owner its_given token s h.stands) none
+          go (Some y) same = named u.named refl y same
+
     -- ---- any return
+
+    -- the local of the result is an object where that is an owner or a unique_ptr, and else a register
+    result_sort : (t : Ty) → IsResultType a.program.types t → is_void t ≡ false → (IsBuilt a.program.types t × (result_kind (class (Some t)) ≡ Object)) ⊎ (result_kind (class (Some t)) ≡ Register)
+    result_sort t (gives_nothing void) some = absurd (false≢true (sym some ∙ ap is_void void))
+    result_sort t (gives_value v) some = inr (by_values (λ q. result_kind (class (Some q)) ≡ Register) refl refl refl refl refl t v)
+    result_sort t (gives_raw target constant raw w) some = inr (ap (λ (q : Ty). result_kind (class (Some q))) raw)
+    result_sort t (gives_view view) some = inr (ap (λ (q : Ty). result_kind (class (Some q))) view)
+    result_sort (ty.Iterator target constant) (gives_walker w) some = inr refl
+    result_sort (ty.Span target constant) (gives_walker w) some = inr refl
+    result_sort _ (gives_walker w) some = absurd (false≢true w)
+    result_sort ty.Text (gives_owner o) some = inl (inl o, refl)
+    result_sort (ty.Vector item) (gives_owner o) some = inl (inl o, refl)
+    result_sort _ (gives_owner o) some = absurd (false≢true o)
+    result_sort t (gives_unique target unique w) some = inl (inr (subst (λ (q : Ty). is_unique_of_element a.program.types q ≡ true) (sym unique) w), ap (λ (q : Ty). result_kind (class (Some q))) unique)
+    result_sort t (gives_reference target constant refers w) some = inr (ap (λ (q : Ty). result_kind (class (Some q))) refers)
+    result_sort t (gives_alias target constant refers o) some = inr (ap (λ (q : Ty). result_kind (class (Some q))) refers)
+    result_sort t (gives_struct target constant number refers structure) some = inr (ap (λ (q : Ty). result_kind (class (Some q))) refers)
+
+    -- a register holds none
+    no_owner : (t : Ty) → result_kind (class (Some t)) ≡ Register → IsBuilt a.program.types t → ⊥
+    no_owner ty.Text is b = no_register is
+    no_owner (ty.Vector item) is b = no_register is
+    no_owner (ty.Unique target) is b = no_register is
+    no_owner _ is (inl o) = false≢true o
+    no_owner _ is (inr u) = false≢true u
+
+    -- what a literal is given by has no name, and no other value is given to an owner
+    no_name : (e : Typed) → is_owner_of_values a.program.types t ≡ true → is_given a.program.types t e ≡ true → IsWhole a v.visible types texts fs f setting (whole_form e) → statements.object_named (uses a (whole_form e)).named s ≡ None
+    no_name e o given is = go is.kind.kind
+      where
+        as_told : (x : ExprType) → e.ty ≡ x → fits_at_all (fits a.program.types t x e.category) ≡ true
+        as_told x at = subst (λ (x : ExprType). fits_at_all (fits a.program.types t x e.category) ≡ true) at given
+
+        go : HasKind a.program.types e → statements.object_named (uses a (whole_form e)).named s ≡ None
+        go (a_text at v) = ap (λ (o : Option ℕ). statements.object_named o s) (is.as_literal at).nameless
+        go (is_number_kind q at w) = absurd (no_owner_given a.program.types t o q (by_values (λ q. owns_elements q ≡ false) refl refl refl refl refl q w) e.category (as_told (Of q) at))
+        go (is_pointer_kind target constant at w) = absurd (no_owner_given a.program.types t o (ty.Raw target constant) refl e.category (as_told (Of (ty.Raw target constant)) at))
+        go (is_view_kind at) = absurd (no_owner_given a.program.types t o ty.View refl e.category (as_told (Of ty.View) at))
+        go (no_value at w) = absurd (no_owner_given a.program.types t o ty.Void refl e.category (as_told (Of ty.Void) at))
+        go (a_null at w) = absurd (null_refused a.program.types t o e.category (as_told NullPointer at))
 
     pub returned_does : HasRegister a s → (keyword : Place) (given : Option Typed) (token : Place) → is_served_returned texts given ≡ true → IsReturned a.program a.function.locals a.function.result v.visible given
         → Back (left 0 keyword (Returns keyword) (result_given a given keyword token s))
     returned_does register keyword None token b r = return_does a types texts fs f setting v in_loop s h (λ gives. false≢true (sym gives.0 ∙ r)) keyword
-    returned_does register keyword (Some e) token b r =
-        elim (or_cases (is_served_any texts e) (is_served_walker texts (whole_form e)) b) [
-          | inl any ↦ elim (either_served (whole_form e) (is_served_owner texts (whole_form e)) (is_served_expression texts e) any) [
-            | inl value ↦ whole_returned (register r.0) e keyword token r (whole_expression a v.visible types texts fs f setting (whole_form e) value r.2) kind
-            | inr owner ↦ owner_returned (register r.0) e keyword token r (owner_expression a v.visible types texts fs f setting (whole_form e) owner.1 owner.0 r.2) kind
-          ]
-          | inr walker ↦ walker_returned (register r.0) e keyword token r (walker_expression a v.visible types texts fs f setting (whole_form e) walker r.2) kind
-        ]
+    returned_does register keyword (Some e) token b r = sorted (result_sort t kind r.0)
       where
         kind : IsResultType a.program.types t
         kind = result_is a.program.types t setting.result
+
+        -- a unique_ptr, which is made, moved or given, or is named
+        uniques : Bool
+        uniques = is_served_fresh texts (whole_form e) || is_served_unique (whole_form e)
+
+        fresh : is_served_fresh texts (whole_form e) ≡ true → IsFresh a v.visible types texts fs f setting (whole_form e)
+        fresh b = fresh_expression a v.visible types texts fs f setting (whole_form e) b r.2
+
+        named : is_served_unique (whole_form e) ≡ true → IsUnique a v.visible types texts fs f setting (whole_form e)
+        named b = named_unique a v.visible types texts fs f setting (whole_form e) b r.2
+
+        in_register : (IsBuilt a.program.types t → ⊥) → IsResultRegister a s → Back (left 0 keyword (Returns keyword) (result_given a (Some e) keyword token s))
+        in_register plain there =
+            elim (or_cases (is_served_any texts e) (is_served_walker texts (whole_form e) || (is_served_struct texts (whole_form e) || uniques)) b) [
+              | inl any ↦ elim (either_served (whole_form e) (is_served_owner texts (whole_form e)) (is_served_expression texts e) any) [
+                | inl value ↦ whole_returned there plain e keyword token r (whole_expression a v.visible types texts fs f setting (whole_form e) value r.2) kind
+                | inr owner ↦ owner_returned there plain e keyword token r (owner_expression a v.visible types texts fs f setting (whole_form e) owner.1 owner.0 r.2) kind
+              ]
+              | inr others ↦ elim (or_cases (is_served_walker texts (whole_form e)) (is_served_struct texts (whole_form e) || uniques) others) [
+                | inl walker ↦ walker_returned there plain e keyword token r (walker_expression a v.visible types texts fs f setting (whole_form e) walker r.2) kind
+                | inr others ↦ elim (or_cases (is_served_struct texts (whole_form e)) uniques others) [
+                  | inl structure ↦ struct_returned there plain e keyword token r (struct_expression a v.visible types texts fs f setting (whole_form e) structure r.2) kind
+                  | inr unique ↦ elim (or_cases (is_served_fresh texts (whole_form e)) (is_served_unique (whole_form e)) unique) [
+                    | inl made ↦ let is = fresh made in absurd (unique_refused there plain e keyword token r is.owned is.is (λ target held at w. value_place (sym is.value ∙ at)) kind)
+                    | inr name ↦
+                        let is = named name in
+                        absurd (unique_refused there plain e keyword token r is.target is.is
+                        (λ target held at w. false≢true (sym (ap (is_target a.program.types) (sym (ap (type_at a.program.types) (place_same is.id target is.constant held (sym is.place ∙ at))) ∙ is.owns)) ∙ w)) kind)
+                  ]
+                ]
+              ]
+            ]
+
+        -- .. to an owner nothing but one is given, or a literal
+        as_owner_object : is_owner_of_values a.program.types t ≡ true → IsResultObject a s → Back (left 0 keyword (Returns keyword) (result_given a (Some e) keyword token s))
+        as_owner_object o there =
+            elim (or_cases (is_served_any texts e) (is_served_walker texts (whole_form e) || (is_served_struct texts (whole_form e) || uniques)) b) [
+              | inl any ↦ elim (either_served (whole_form e) (is_served_owner texts (whole_form e)) (is_served_expression texts e) any) [
+                | inl value ↦
+                    let is = whole_expression a v.visible types texts fs f setting (whole_form e) value r.2 in
+                    whole_back there o e keyword token r is (no_name e o (its_given there o e keyword token r) is)
+                | inr owner ↦ owner_back there o e keyword token r owner.1 owner.0
+              ]
+              | inr others ↦ elim (or_cases (is_served_walker texts (whole_form e)) (is_served_struct texts (whole_form e) || uniques) others) [
+                | inl walker ↦
+                    let is = walker_expression a v.visible types texts fs f setting (whole_form e) walker r.2 in
+                    refused o there is.ty is.is (walker_is a.program.types is.ty is.walker).owner
+                | inr others ↦ elim (or_cases (is_served_struct texts (whole_form e)) uniques others) [
+                  | inl structure ↦ let is = struct_expression a v.visible types texts fs f setting (whole_form e) structure r.2 in refused o there (ty.Struct is.number) is.is refl
+                  | inr unique ↦ elim (or_cases (is_served_fresh texts (whole_form e)) (is_served_unique (whole_form e)) unique) [
+                    | inl made ↦ let is = fresh made in refused o there (ty.Unique is.owned) is.is refl
+                    | inr name ↦ let is = named name in refused o there (ty.Unique is.target) is.is refl
+                  ]
+                ]
+              ]
+            ]
+          where
+            refused : is_owner_of_values a.program.types t ≡ true → IsResultObject a s → (q : Ty) → e.ty ≡ Of q → owns_elements q ≡ false → Back (left 0 keyword (Returns keyword) (result_given a (Some e) keyword token s))
+            refused o there q is none =
+                absurd (no_owner_given a.program.types t o q none e.category (subst (λ (x : ExprType). fits_at_all (fits a.program.types t x e.category) ≡ true) is (its_given there o e keyword token r)))
+
+        -- .. and to a unique_ptr another one, or null
+        as_unique_object : is_unique_of_element a.program.types t ≡ true → IsResultObject a s → Back (left 0 keyword (Returns keyword) (result_given a (Some e) keyword token s))
+        as_unique_object one there = unique_back a types texts fs f setting v in_loop s h there x.0 x.1 x.2 e keyword token r by_form
+          where
+            x : (target : TyId) × (t ≡ ty.Unique target) × (is_element a.program.types (type_at a.program.types target) ≡ true)
+            x = unique_is a.program.types t one
+
+            by_form : is_given a.program.types (ty.Unique x.0) e ≡ true → Back (left 0 keyword (Returns keyword) (result_given a (Some e) keyword token s))
+            by_form given =
+                elim (or_cases (is_served_any texts e) (is_served_walker texts (whole_form e) || (is_served_struct texts (whole_form e) || uniques)) b) [
+                  | inl any ↦ elim (either_served (whole_form e) (is_served_owner texts (whole_form e)) (is_served_expression texts e) any) [
+                    | inl value ↦ null_back a types texts fs f setting v in_loop s h there x.0 x.1 x.2 e keyword token r (whole_expression a v.visible types texts fs f setting (whole_form e) value r.2) given
+                    | inr owner ↦
+                        let is = owning_owner a v.visible types texts fs f setting (whole_form e) (owner_expression a v.visible types texts fs f setting (whole_form e) owner.1 owner.0 r.2) in
+                        absurd (owner_no_unique_given a.program.types is.ty is.owner x.0 e.category (subst (λ (k : ExprType). fits_at_all (fits a.program.types (ty.Unique x.0) k e.category) ≡ true) is.is given))
+                  ]
+                  | inr others ↦ elim (or_cases (is_served_walker texts (whole_form e)) (is_served_struct texts (whole_form e) || uniques) others) [
+                    | inl walker ↦
+                        let is = walker_expression a v.visible types texts fs f setting (whole_form e) walker r.2 in
+                        absurd (unique_no_walker_given a.program.types is.ty is.walker x.0 e.category (subst (λ (k : ExprType). fits_at_all (fits a.program.types (ty.Unique x.0) k e.category) ≡ true) is.is given))
+                    | inr others ↦ elim (or_cases (is_served_struct texts (whole_form e)) uniques others) [
+                      | inl structure ↦ let is = struct_expression a v.visible types texts fs f setting (whole_form e) structure r.2 in absurd (false≢true (subst (λ (k : ExprType). fits_at_all (fits a.program.types (ty.Unique x.0) k e.category) ≡ true) is.is given))
+                      | inr unique ↦ elim (or_cases (is_served_fresh texts (whole_form e)) (is_served_unique (whole_form e)) unique) [
+                        | inl made ↦ fresh_back a types texts fs f setting v in_loop s h there x.0 x.1 x.2 e keyword token r (fresh made) (and_parts (is_unique_type e.ty) (is_served_fresh texts e.form) made).1 given
+                        | inr name ↦ absurd (no_named_given a types texts fs f setting v in_loop s h there x.0 x.1 x.2 e keyword token r (named name) given)
+                      ]
+                    ]
+                  ]
+                ]
+
+        as_object : IsBuilt a.program.types t → IsResultObject a s → Back (left 0 keyword (Returns keyword) (result_given a (Some e) keyword token s))
+        as_object (inl o) there = as_owner_object o there
+        as_object (inr one) there = as_unique_object one there
+
+        sorted : (IsBuilt a.program.types t × (result_kind (class (Some t)) ≡ Object)) ⊎ (result_kind (class (Some t)) ≡ Register) → Back (left 0 keyword (Returns keyword) (result_given a (Some e) keyword token s))
+        sorted (inl is) = as_object is.0 (subst (λ (k : LocalKind). IsResultLocal k a s) is.1 (register r.0))
+        sorted (inr is) = in_register (no_owner t is) (subst (λ (k : LocalKind). IsResultLocal k a s) is (register r.0))

@@ -25,7 +25,7 @@ pub record GrowsBare (s s' : State) : Type 0 where
   pub living : s'.living ≡ s.living
   pub pending : IsFront s.pending s'.pending
   pub fresh : (y : ℕ) → Among y s'.pending → y < length s.locals → Among y s.pending
-  pub pends : ArePending s → ArePending s'
+  pub pends : (low : ℕ) → ArePending low s → ArePending low s'
   pub outside : s'.outside ≡ s.outside
 
 abbrev pub Grows : State → State → Type 0
@@ -40,7 +40,7 @@ grows_none s = record {
   living = refl;
   pending = front_itself s.pending;
   fresh = λ y m lt. m;
-  pends = λ p. p;
+  pends = λ low p. p;
   outside = refl;
 }
 
@@ -53,7 +53,7 @@ grows_then s t u g h = record {
   living = h.living ∙ g.living;
   pending = front_then s.pending t.pending u.pending g.pending h.pending;
   fresh = λ y m lt. g.fresh y (h.fresh y m (omega (arith, lt, g.count))) lt;
-  pends = λ p. h.pends (g.pends p);
+  pends = λ low p. h.pends low (g.pends low p);
   outside = h.outside ∙ g.outside;
 }
 
@@ -88,7 +88,7 @@ register_grows place t s = record {
   living = refl;
   pending = front_itself s.pending;
   fresh = λ y m lt. m;
-  pends = λ p. pending_later s (new_register place t s).state (front_append s.locals (added place t s ∷ [])) (types_before s.types.types t) refl refl p;
+  pends = λ low p. pending_later low s (new_register place t s).state (front_append s.locals (added place t s ∷ [])) (types_before s.types.types t) refl refl p;
   outside = refl;
 }
 

@@ -47,7 +47,7 @@ use Rattle.life_elab_laws.proofs.GivenKinds.{given_number, given_pointer, given_
 use Rattle.life_elab_laws.proofs.Growing.{Begins, added}
 use Rattle.life_elab_laws.proofs.GivenOwners.{given_handing}
 use Rattle.life_elab_laws.proofs.HandedArguments.{Hands as AllHanded, number_handed, owner_handed, pointer_handed}
-use Rattle.life_elab_laws.proofs.HandedTypes.{IsHandedType, a_raw, a_reference, a_unique, a_value, a_view, a_walker, an_alias, an_owner, built_composed}
+use Rattle.life_elab_laws.proofs.HandedTypes.{IsHandedType, a_raw, a_reference, a_unique, a_value, a_view, a_walker, an_alias, an_owner, built_composed, a_struct_alias}
 use Rattle.life_elab_laws.proofs.Instructions.{emit_part, null_located_part}
 use Rattle.life_elab_laws.proofs.Locations.{IsPointed, at_location, by_literal, by_null, is_pointed, pointed_type}
 use Rattle.life_elab_laws.proofs.NewVariables.{bound_given}
@@ -67,6 +67,7 @@ use Rattle.life_type_expr.specs.Lists.{fits_at_all}
 use Rattle.life_elab_laws.proofs.TypedKinds.{HasKind, a_null, a_number as is_number_kind, a_pointer as is_pointer_kind, a_text, a_view as is_view_kind, no_value}
 use Rattle.life_elab_laws.proofs.AliasForms.{IsAliased, whole_aliased, to_built, to_place, value_builds}
 use Rattle.life_elab_laws.proofs.MadeForms.{Builds, temporary_made}
+use Rattle.life_elab_laws.proofs.StructReferences.{kind_no_struct, struct_alone}
 
 -- what a table has has the type that is there
 found_type : (types : Types) (id : TyId) (t : Ty) → slice_get types.types id.0 ≡ Some t → type_at types id ≡ t
@@ -198,6 +199,17 @@ module _ (a : Around) (visible : List ℕ) (types : Types) (texts : ℕ) (fs : L
       (and_from (same (ty_of types target) (ty_of types target)) (keeps_const constant constant) (one_target a.program.types types setting.front target worth) (keeps_itself constant)) all
       (rest v.state (stands_later a visible s v.state all.grown stands))
 
+  -- a reference to what stands at a place
+  pub placed_first : (e es : Form) (d : DelimitersForm) (id : TyId) (ids : List TyId) (target : TyId) (constant held : Bool) → is_place_of (typed_in e).category target ≡ true → slice_get a.program.types.types id.0 ≡ Some (ty.Reference target constant)
+      → is_target a.program.types (type_at a.program.types target) ≡ true → keeps_const constant held ≡ true → ((s : State) → Stood s → Hands ids s (others_of es d ids s))
+      → (s : State) → Stood s → Makes types texts fs f None s ((uses a e).at s) (a_place types texts fs f (type_at a.program.types target) held)
+      → Hands (id ∷ ids) s (giving.arguments a (all_uses a (e ⨟ es)) d (id ∷ ids) s)
+  placed_first e es d id ids target constant held here at wide kept rest s stands first =
+      subst (λ (x : Ty). Hands (id ∷ ids) s (giving.argument a (uses a e) x (behind_first d) s >> λ x s. mapped (λ xs. x ∷ xs) (others_of es d ids s))) (sym (found_type a.program.types id (ty.Reference target constant) at))
+      (subst (λ (c : Bool). Hands (id ∷ ids) s (bound_by (uses a e) target constant (behind_first d) s c >> λ x s. mapped (λ xs. x ∷ xs) (others_of es d ids s)))
+      (sym (ap (λ (c : Category). is_place_of c target) (sym (held_typed a visible types texts fs f setting e)) ∙ here))
+      (aimed_first (uses a e) es d id ids target constant held (uses a e).at at wide kept rest s stands first))
+
   -- a reference to an owner
   pub alias_first : (e es : Form) (d : DelimitersForm) (id : TyId) (ids : List TyId) (target : TyId) (constant : Bool) → IsAliased a visible types texts fs f setting (uses a e) target constant → ((s : State) → Stood s → Hands ids s (others_of es d ids s))
       → slice_get a.program.types.types id.0 ≡ Some (ty.Reference target constant) → is_owner_of_values a.program.types (type_at a.program.types target) ≡ true → (s : State) → Stood s
@@ -279,6 +291,8 @@ module _ (a : Around) (visible : List ℕ) (types : Types) (texts : ℕ) (fs : L
           (pointer_handed types texts fs f id t ids (others_of es d ids) s (later t at) found.0 (pointer (uses a e) t) (plain t at refl) found.1 found.2
           (behind_first_part (pointer (uses a e) t s) (a_pointer types texts fs f found.0) found.2))
       go (an_alias target constant at o) = alias_first e es d id ids target constant (whole_aliased a visible types texts fs f setting e target constant o (given_as (ty.Reference target constant) at) is) rest at o s stands
+      go (a_struct_alias target constant number at structure) =
+          absurd (kind_no_struct a.program.types (typed_in e) is.kind.kind (struct_alone a.program.types target constant number (typed_in e) structure (given_as (ty.Reference target constant) at) (λ held. is.kind.place target held)))
       go (a_walker t at w) = absurd (no_walker_given a.program.types (typed_in e) is.kind.kind t w (given_as t at))
       go (an_owner t at o) = owner_before e es d id ids t at (inl o) (λ s stands. value_builds a visible types texts fs f setting e is t o (given_as t at) (behind_first d) s stands) rest s stands
       go (a_unique target at w) =

@@ -34,7 +34,7 @@ use Rattle.life_elab_laws.proofs.Gifts.{a_pointer, a_pointing, takes_from}
 use Rattle.life_elab_laws.proofs.GivenKinds.{given_number, given_pointer, given_view}
 use Rattle.life_elab_laws.proofs.HandedForms.{alias_first, owner_before}
 use Rattle.life_elab_laws.proofs.HandedArguments.{Hands as AllHanded, pointer_handed}
-use Rattle.life_elab_laws.proofs.HandedTypes.{IsHandedType, an_alias, an_owner, a_raw, a_reference, a_unique, a_value, a_view, a_walker}
+use Rattle.life_elab_laws.proofs.HandedTypes.{IsHandedType, an_alias, an_owner, a_raw, a_reference, a_unique, a_value, a_view, a_walker, a_struct_alias}
 use Rattle.life_elab_laws.proofs.Locations.{is_location, is_pointed}
 use Rattle.life_elab_laws.proofs.MadeForms.{IsOwning, owning_owner}
 use Rattle.life_elab_laws.proofs.ObjectForms.{IsOwner}
@@ -47,8 +47,8 @@ use Rattle.life_elab_laws.proofs.VariablePlaces.{stands_later, walker_is}
 use Rattle.life_elab_laws.proofs.WalkerForms.{IsWalker, vector_points, walker_pointer}
 use Rattle.life_elab_laws.proofs.WalkerSteps.{keeps_itself}
 use Rattle.life_elab_laws.proofs.WrittenLocals.{fits_register}
-use Rattle.life_elab_laws.proofs.AliasForms.{no_owner_given, owning_aliased, owning_builds, value_reference_refused, walker_reference_refused}
-use Rattle.life_elab_laws.proofs.Targets.{owner_target, value_target}
+use Rattle.life_elab_laws.proofs.AliasForms.{no_owner_given, owning_aliased, owning_builds, value_reference_refused, walker_reference_refused, struct_reference_refused}
+use Rattle.life_elab_laws.proofs.Targets.{owner_target, value_target, struct_target}
 use Rattle.life_elab_laws.proofs.Elements.{one_element}
 
 -- ---- what is handed to no such parameter
@@ -59,15 +59,15 @@ owner_no_iterator types (ty.Vector item) e o target constant h = false≢true h
 owner_no_iterator types _ e o target constant h = false≢true o
 
 -- a unique_ptr
-owner_no_unique_given : (types : Types) (t : Ty) → is_owner_of_values types t ≡ true → (target : TyId) (c : Category) → fits_at_all (fits types (ty.Unique target) (Of t) c) ≡ true → ⊥
+pub owner_no_unique_given : (types : Types) (t : Ty) → is_owner_of_values types t ≡ true → (target : TyId) (c : Category) → fits_at_all (fits types (ty.Unique target) (Of t) c) ≡ true → ⊥
 owner_no_unique_given types ty.Text o target c h = false≢true h
 owner_no_unique_given types (ty.Vector item) o target c h = false≢true h
 owner_no_unique_given types _ o target c h = false≢true o
 
-walker_no_unique_given : (types : Types) (t : Ty) → is_walker_of_values types t ≡ true → (target : TyId) (c : Category) → fits_at_all (fits types (ty.Unique target) (Of t) c) ≡ true → ⊥
-walker_no_unique_given types (ty.Iterator item held) w target c h = false≢true h
-walker_no_unique_given types (ty.Span item held) w target c h = false≢true h
-walker_no_unique_given types _ w target c h = false≢true w
+pub unique_no_walker_given : (types : Types) (t : Ty) → is_walker_of_values types t ≡ true → (target : TyId) (c : Category) → fits_at_all (fits types (ty.Unique target) (Of t) c) ≡ true → ⊥
+unique_no_walker_given types (ty.Iterator item held) w target c h = false≢true h
+unique_no_walker_given types (ty.Span item held) w target c h = false≢true h
+unique_no_walker_given types _ w target c h = false≢true w
 
 pub walker_no_raw : (types more : Types) (t : Ty) → is_walker_of_values types t ≡ true → (target : TyId) (constant : Bool) → takes_from more (ty.Raw target constant) (Of t) ≡ true → ⊥
 walker_no_raw types more (ty.Iterator item held) w target constant h = false≢true h
@@ -148,6 +148,7 @@ module _ (a : Around) (visible : List ℕ) (types : Types) (texts : ℕ) (fs : L
       go (an_owner t at owned) = owner_before a visible types texts fs f setting e es d id ids t at (inl owned) (λ s stands. owning_builds a visible types texts fs f setting e from t owned (given_as t at) (behind_first d) s stands) rest s stands
       go (an_alias target constant at owned) = alias_first a visible types texts fs f setting e es d id ids target constant (owning_aliased a visible types texts fs f setting e target constant owned (given_as (ty.Reference target constant) at) from) rest at owned s stands
       go (a_reference target constant at worth) = absurd (value_reference_refused a visible types texts fs f setting e target constant worth (given_as (ty.Reference target constant) at) from)
+      go (a_struct_alias target constant number at structure) = absurd (struct_reference_refused a visible types texts fs f setting e target constant number structure (given_as (ty.Reference target constant) at) from)
 
   -- ---- by an iterator or a span
 
@@ -177,9 +178,11 @@ module _ (a : Around) (visible : List ℕ) (types : Types) (texts : ℕ) (fs : L
       go (a_walker (ty.Span item constant) at w) = walks (ty.Span item constant) at w refl refl
       go (a_walker _ at w) = absurd (false≢true w)
       go (a_unique target at w) =
-          absurd (walker_no_unique_given a.program.types from.ty from.walker target (typed_in e).category (subst (λ (x : ExprType). fits_at_all (fits a.program.types (ty.Unique target) x (typed_in e).category) ≡ true) from.is (given_as (ty.Unique target) at)))
+          absurd (unique_no_walker_given a.program.types from.ty from.walker target (typed_in e).category (subst (λ (x : ExprType). fits_at_all (fits a.program.types (ty.Unique target) x (typed_in e).category) ≡ true) from.is (given_as (ty.Unique target) at)))
       go (an_owner t at owned) =
           absurd (no_owner_given a.program.types t owned from.ty (walker_is a.program.types from.ty from.walker).owner (typed_in e).category
           (subst (λ (x : ExprType). fits_at_all (fits a.program.types t x (typed_in e).category) ≡ true) from.is (given_as t at)))
       go (an_alias target constant at owned) = absurd (walker_reference_refused a visible types texts fs f setting e target constant (owner_target a.program.types (type_at a.program.types target) owned) (given_as (ty.Reference target constant) at) from)
       go (a_reference target constant at worth) = absurd (walker_reference_refused a visible types texts fs f setting e target constant (value_target a.program.types (type_at a.program.types target) worth) (given_as (ty.Reference target constant) at) from)
+      go (a_struct_alias target constant number at structure) =
+          absurd (walker_reference_refused a visible types texts fs f setting e target constant (struct_target a.program.types (type_at a.program.types target) number structure) (given_as (ty.Reference target constant) at) from)

@@ -1,5 +1,5 @@
--- The types of parameters that are served: values, pointers, views, iterators and spans that an argument is or makes, and owners and unique_ptrs that are given over.
-use Rattle.std.proofs.Common.{◌≡◌, inl, inr, Bool, true, false, ◌&&◌, Option, Some, None, slice_get, unwrap_or, refl, ◌||◌, ap, sym, ◌∙◌}
+-- The types of parameters that are served: values, pointers and references, views, iterators and spans that an argument is or makes, and owners and unique_ptrs that are given over.
+use Rattle.std.proofs.Common.{◌≡◌, inl, inr, ℕ, Bool, true, false, ◌&&◌, Option, Some, None, slice_get, unwrap_or, refl, ◌||◌, ap, sym, ◌∙◌}
 use Rattle.std.proofs.lemmas.Bool.{and_parts, false≢true, or_cases}
 use Rattle.life_types.specs.TypeTests.{is_value}
 use Rattle.life_types.specs.Types.{Types}
@@ -12,7 +12,7 @@ use Rattle.life_proper.specs.OperandTypes.{is_composed}
 use Rattle.life_elab_laws.proofs.ServedTypes.{IsBuilt}
 use Rattle.life_elab_laws.proofs.Fronts.{IsFront}
 use Rattle.life_elab_laws.proofs.Shaped.{value_later, walker_later, owner_later, target_later, element_later}
-use Rattle.life_elab_laws.proofs.Targets.{IsTarget, owner_target, target_is, target_type, to_owner, to_value}
+use Rattle.life_elab_laws.proofs.Targets.{IsTarget, owner_target, struct_target, target_is, target_type, to_owner, to_struct, to_value}
 use Rattle.life_elab_laws.proofs.OperandsThere.{type_either}
 
 pub data IsHandedType (types : Types) (id : TyId) : Type 0 where
@@ -20,6 +20,7 @@ pub data IsHandedType (types : Types) (id : TyId) : Type 0 where
   a_raw : (target : TyId) (constant : Bool) → slice_get types.types id.0 ≡ Some (ty.Raw target constant) → is_target types (type_at types target) ≡ true → IsHandedType types id
   a_reference : (target : TyId) (constant : Bool) → slice_get types.types id.0 ≡ Some (ty.Reference target constant) → is_value (type_at types target) ≡ true → IsHandedType types id
   an_alias : (target : TyId) (constant : Bool) → slice_get types.types id.0 ≡ Some (ty.Reference target constant) → is_owner_of_values types (type_at types target) ≡ true → IsHandedType types id
+  a_struct_alias : (target : TyId) (constant : Bool) (number : ℕ) → slice_get types.types id.0 ≡ Some (ty.Reference target constant) → type_at types target ≡ ty.Struct number → IsHandedType types id
   a_view : slice_get types.types id.0 ≡ Some ty.View → IsHandedType types id
   a_walker : (t : Ty) → slice_get types.types id.0 ≡ Some t → is_walker_of_values types t ≡ true → IsHandedType types id
   an_owner : (t : Ty) → slice_get types.types id.0 ≡ Some t → is_owner_of_values types t ≡ true → IsHandedType types id
@@ -48,6 +49,7 @@ handed_type types owners id h = elim (or_cases (is_value (type_at types id)) (is
         refers : IsTarget types (type_at types target) → IsHandedType types id
         refers (to_value v) = a_reference target constant at v
         refers (to_owner o) = an_alias target constant at o
+        refers (to_struct number s) = a_struct_alias target constant number at s
     pointer (Some ty.View) at p = a_view at
     pointer (Some _) at p = absurd (false≢true p)
 
@@ -97,6 +99,9 @@ handed_later few more front id (a_reference target constant at v) = a_reference 
 handed_later few more front id (an_alias target constant at o) =
     let here = target_type few more front target (owner_target few (type_at few target) o) in
     an_alias target constant (front id.0 (ty.Reference target constant) at) (ap (is_owner_of_values more) (sym (type_either more target) ∙ here) ∙ owner_later few more front (type_at few target) o)
+handed_later few more front id (a_struct_alias target constant number at s) =
+    let here = target_type few more front target (struct_target few (type_at few target) number s) in
+    a_struct_alias target constant number (front id.0 (ty.Reference target constant) at) (sym (type_either more target) ∙ here ∙ s)
 handed_later few more front id (a_view at) = a_view (front id.0 ty.View at)
 handed_later few more front id (a_walker t at w) = a_walker t (front id.0 t at) (walker_later few more front t w)
 handed_later few more front id (an_owner t at o) = an_owner t (front id.0 t at) (owner_later few more front t o)

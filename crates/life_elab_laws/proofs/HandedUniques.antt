@@ -6,7 +6,7 @@ use Rattle.life_types.specs.TypeTests.{is_value}
 use Rattle.life_types.specs.declared.ty.Ty.{Ty}
 use Rattle.life_types.specs.declared.ty.Ty.TheVariants as ty
 use Rattle.life_types.specs.declared.ty.TyId.{TyId}
-use Rattle.life_served.specs.Served.{is_owner_of_values, is_walker_of_values}
+use Rattle.life_served.specs.Served.{is_owner_of_values, is_walker_of_values, is_struct_type}
 use Rattle.life_typed.specs.BaseTypes.{type_at}
 use Rattle.life_typed.specs.Conversions.{fits}
 use Rattle.life_typed.specs.Delimiters.{DelimitersForm, behind_first, behind_others}
@@ -31,14 +31,15 @@ use Rattle.life_elab_laws.proofs.FreshUniques.{IsFresh, fresh_builds}
 use Rattle.life_elab_laws.proofs.GivenKinds.{given_number, given_pointer, given_view}
 use Rattle.life_elab_laws.proofs.HandedArguments.{Hands as AllHanded}
 use Rattle.life_elab_laws.proofs.HandedForms.{owner_before}
-use Rattle.life_elab_laws.proofs.HandedTypes.{IsHandedType, a_raw, a_reference, a_unique, a_value, a_view, a_walker, an_alias, an_owner}
+use Rattle.life_elab_laws.proofs.HandedTypes.{IsHandedType, a_raw, a_reference, a_unique, a_value, a_view, a_walker, an_alias, an_owner, a_struct_alias}
 use Rattle.life_elab_laws.proofs.Locations.{is_pointed}
 use Rattle.life_elab_laws.proofs.Setting.{Setting}
 use Rattle.life_elab_laws.proofs.Targets.{owner_target, value_target}
 use Rattle.life_elab_laws.proofs.TypedKinds.{value_place}
+use Rattle.life_elab_laws.proofs.StructReferences.{struct_alone}
 
 -- no iterator and no span is given one
-walker_no_unique_given : (types : Types) (t : Ty) → is_walker_of_values types t ≡ true → (owned : TyId) (c : Category) → fits_at_all (fits types t (Of (ty.Unique owned)) c) ≡ true → ⊥
+pub walker_no_unique_given : (types : Types) (t : Ty) → is_walker_of_values types t ≡ true → (owned : TyId) (c : Category) → fits_at_all (fits types t (Of (ty.Unique owned)) c) ≡ true → ⊥
 walker_no_unique_given types (ty.Iterator item constant) w owned c h = false≢true h
 walker_no_unique_given types (ty.Span item constant) w owned c h = false≢true h
 walker_no_unique_given types _ w owned c h = false≢true w
@@ -88,6 +89,9 @@ module _ (a : Around) (visible : List ℕ) (types : Types) (texts : ℕ) (fs : L
       go (a_reference target constant at v) =
           absurd (no_place target constant (given_bound a.program.types target constant (typed_in e) (value_target a.program.types (type_at a.program.types target) v) (given_as (ty.Reference target constant) at))
           (no_number (type_at a.program.types target) v))
+      go (a_struct_alias target constant number at structure) =
+          absurd (false≢true (subst (λ (x : ExprType). is_struct_type x ≡ true) from.is
+          (struct_alone a.program.types target constant number (typed_in e) structure (given_as (ty.Reference target constant) at) (λ held place. absurd (value_place (sym from.value ∙ place))))))
       go (a_unique target at w) =
           owner_before a visible types texts fs f setting e es d id ids (ty.Unique target) at (inr w)
           (λ s stands. fresh_builds a visible types texts fs f setting e from target w (given_as (ty.Unique target) at) (behind_first d) s stands) rest s stands

@@ -66,7 +66,7 @@ hidden_grows place t s = record {
   living = refl;
   pending = front_itself s.pending;
   fresh = λ y m lt. m;
-  pends = λ p. pending_later s (with_hidden place t s).state (front_append s.locals (hidden_local place t s ∷ [])) (types_before s.types.types t) refl refl p;
+  pends = λ low p. pending_later low s (with_hidden place t s).state (front_append s.locals (hidden_local place t s ∷ [])) (types_before s.types.types t) refl refl p;
   outside = refl;
 }
 

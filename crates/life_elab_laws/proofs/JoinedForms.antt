@@ -21,7 +21,7 @@ use Rattle.life_elab_laws.proofs.AppendForms.{Finds, IsFoundAt, IsFoundOf, a_fou
 use Rattle.life_elab_laws.proofs.ChangeSteps.{Takes, changes_part}
 use Rattle.life_elab_laws.proofs.ExpressionForms.{Placed, Pointed, Standing}
 use Rattle.life_elab_laws.proofs.Gifts.{Gift, IsPlaceOf, a_place, a_pointer, both, nothing as no_gift}
-use Rattle.life_elab_laws.proofs.MadeForms.{Builds, of_copy, of_texts, of_view}
+use Rattle.life_elab_laws.proofs.MadeForms.{Builds, lived_builds, of_copy, of_texts, of_view}
 use Rattle.life_elab_laws.proofs.Making.{IsOpen, IsPlace}
 use Rattle.life_elab_laws.proofs.OwnerSteps.{copies_part}
 use Rattle.life_elab_laws.proofs.PlainActs.{copied_at_plain, joined_plain, set_plain, standing_plain}
@@ -76,72 +76,46 @@ module _ (a : Around) (visible : List ℕ) (types : Types) (texts : ℕ) (fs : L
       let y = seen (uses a right) x.state in
       let P = a_found types texts fs f in
       let one = first s stands in
-      record {
-        making = of_texts;
-        found = (x.given, y.given);
-        part = and_part types texts fs f (no_gift types texts fs f) tt s x y P P stands.opened one (second x.state (stands_later a visible s x.state one.grown stands));
-        form = Plain;
-        act = concatenated place x.given y.given;
-        lives = refl;
-        acts = λ at to t there still new.
-            let D = both types texts fs f (both types texts fs f P P) (a_place types texts fs f ty.Text false) in
-            let z : (Seen × Seen) × Operand = ((x.given, y.given), to) in
-            let set : State = changed_by Set place x.given to t in
-            let here = gives_part types texts fs f D z None z t D (λ b h. h) (λ b k alive h. h) in
-            let begun = changed_part types texts fs f D z Set place x.given to t (sets types texts fs f) there.opened (λ h. (h.0.0, h.1)) (λ n k h. (h.0.0, h.1)) in
-            let all = keep_part types texts fs f D z t (gives z t) (gives tt set) D (no_gift types texts fs f) there.opened here begun in
-            let E = both types texts fs f D (no_gift types texts fs f) in
-            then_part types texts fs f D z None t (gives (z, tt) set) _ E (no_gift types texts fs f) there.opened all
-            (changed_part types texts fs f E (z, tt) Append place y.given to set (gains types texts fs f) (stands_later a visible t set begun.grown there).opened (λ h. (h.0.0.1, h.0.1)) (λ n k h. (h.0.0.1, h.0.1)));
-        alone = λ e. joined_plain _ place x.given y.given;
-      }
+      lived_builds a visible types texts fs f setting true ty.Text s y.state of_texts (x.given, y.given) Plain (concatenated place x.given y.given)
+      (and_part types texts fs f (no_gift types texts fs f) tt s x y P P stands.opened one (second x.state (stands_later a visible s x.state one.grown stands))) refl
+      (λ at to t there still new.
+      let D = both types texts fs f (both types texts fs f P P) (a_place types texts fs f ty.Text false) in
+      let z : (Seen × Seen) × Operand = ((x.given, y.given), to) in
+      let set : State = changed_by Set place x.given to t in
+      let here = gives_part types texts fs f D z None z t D (λ b h. h) (λ b k alive h. h) in
+      let begun = changed_part types texts fs f D z Set place x.given to t (sets types texts fs f) there.opened (λ h. (h.0.0, h.1)) (λ n k h. (h.0.0, h.1)) in
+      let all = keep_part types texts fs f D z t (gives z t) (gives tt set) D (no_gift types texts fs f) there.opened here begun in
+      let E = both types texts fs f D (no_gift types texts fs f) in
+      then_part types texts fs f D z None t (gives (z, tt) set) _ E (no_gift types texts fs f) there.opened all
+      (changed_part types texts fs f E (z, tt) Append place y.given to set (gains types texts fs f) (stands_later a visible t set begun.grown there).opened (λ h. (h.0.0.1, h.0.1)) (λ n k h. (h.0.0.1, h.0.1))))
+      (λ e. joined_plain _ place x.given y.given)
 
   -- ---- a copy of a string
 
   pub copy_builds : (at : Place) (constant : Bool) (s : State) (w : Gives Operand) → Placed a visible types texts fs f setting ty.Text constant s w → Made s (mapped (λ from. lived Plain (copied_at at from)) w)
-  copy_builds at constant s w placed = record {
-    making = of_copy ty.Text constant;
-    found = w.given;
-    part = placed;
-    form = Plain;
-    act = copied_at at w.given;
-    lives = refl;
-    acts = λ place to t there still new.
-        copies_part types texts fs f (both types texts fs f (a_place types texts fs f ty.Text constant) (a_place types texts fs f ty.Text false)) (w.given, to) a.program.types ty.Text constant to w.given at t refl
-        (λ h. (h.1, h.0)) (λ n k h. (h.1, h.0));
-    alone = λ e. copied_at_plain _ at w.given;
-  }
+  copy_builds at constant s w placed =
+      lived_builds a visible types texts fs f setting true ty.Text s w.state (of_copy ty.Text constant) w.given Plain (copied_at at w.given) placed refl
+      (λ place to t there still new.
+      copies_part types texts fs f (both types texts fs f (a_place types texts fs f ty.Text constant) (a_place types texts fs f ty.Text false)) (w.given, to) a.program.types ty.Text constant to w.given at t refl
+      (λ h. (h.1, h.0)) (λ n k h. (h.1, h.0)))
+      (λ e. copied_at_plain _ at w.given)
 
   -- ---- a string of a literal
 
   pub literal_builds : (s : State) (w : Gives Location) → Pointed a visible types texts fs f setting ty.View s w → Made s (w >> λ view s. gives (lived Plain (set_to view)) s)
   literal_builds s w pointed =
       let P = a_pointer types texts fs f ty.View in
-      record {
-        making = of_view;
-        found = w.given;
-        part = pointed;
-        form = Plain;
-        act = set_to w.given;
-        lives = refl;
-        acts = λ place to t there still new.
-            changed_part types texts fs f (both types texts fs f P (a_place types texts fs f ty.Text false)) (w.given, to) Set place (InView w.given) to t (sets types texts fs f) there.opened (λ h. (h.0, h.1)) (λ n k h. (h.0, h.1));
-        alone = λ e. set_plain _ w.given;
-      }
+      lived_builds a visible types texts fs f setting true ty.Text s w.state of_view w.given Plain (set_to w.given) pointed refl
+      (λ place to t there still new.
+      changed_part types texts fs f (both types texts fs f P (a_place types texts fs f ty.Text false)) (w.given, to) Set place (InView w.given) to t (sets types texts fs f) there.opened (λ h. (h.0, h.1)) (λ n k h. (h.0, h.1)))
+      (λ e. set_plain _ w.given)
 
   -- ---- a string of what a view sees
 
   pub view_builds : (at : Place) (s : State) (w : Gives Location) → Pointed a visible types texts fs f setting ty.View s w → Made s (w >> λ view s. gives (lived Plain (standing at (set_to view))) s)
   view_builds at s w pointed =
       let P = a_pointer types texts fs f ty.View in
-      record {
-        making = of_view;
-        found = w.given;
-        part = pointed;
-        form = Plain;
-        act = standing at (set_to w.given);
-        lives = refl;
-        acts = λ place to t there still new.
-            changed_part types texts fs f (both types texts fs f P (a_place types texts fs f ty.Text false)) (w.given, to) Set at (InView w.given) to t (sets types texts fs f) there.opened (λ h. (h.0, h.1)) (λ n k h. (h.0, h.1));
-        alone = λ e. standing_plain _ at w.given;
-      }
+      lived_builds a visible types texts fs f setting true ty.Text s w.state of_view w.given Plain (standing at (set_to w.given)) pointed refl
+      (λ place to t there still new.
+      changed_part types texts fs f (both types texts fs f P (a_place types texts fs f ty.Text false)) (w.given, to) Set at (InView w.given) to t (sets types texts fs f) there.opened (λ h. (h.0, h.1)) (λ n k h. (h.0, h.1)))
+      (λ e. standing_plain _ at w.given)

@@ -29,6 +29,7 @@ use Rattle.life_elab_laws.proofs.OrderedTypes.{order_none}
 use Rattle.life_elab_laws.proofs.Setting.{Setting}
 use Rattle.life_elab_laws.proofs.Shaping.{IsFine, IsStated, stated_alone, stated_append}
 use Rattle.life_elab_laws.proofs.Under.{ActingUnder, DoesUnder, May, does_plain, does_under, nothing_more}
+use Rattle.life_elab_laws.proofs.OwnLocals.{first_own}
 
 module _ (types : Types) (texts : ℕ) (fs : List Function) (f : Function) where
   -- all past so many
@@ -40,7 +41,7 @@ module _ (types : Types) (texts : ℕ) (fs : List Function) (f : Function) where
         one : (y : ℕ) → Among y s.living → ends_here types texts fs f y ≡ true
         one y m =
             let is = h.living y m in
-            variable_ends types texts fs f setting.shaped setting.nameless setting.registers y is.local (b.locals y is.local is.there) is.lasts (h.sorts b y m)
+            variable_ends types texts fs f setting.shaped setting.nameless (first_own a) setting.own y is.local (b.locals y is.local is.there) is.lasts (is.beyond is.local is.there) (h.sorts b y m)
 
   -- ---- the end of a block
 

@@ -23,7 +23,7 @@ use Rattle.life_elab_laws.proofs.ServedTypes.{IsBuilt}
 use Rattle.life_elab_laws.proofs.FormedVariables.{type_later}
 use Rattle.life_elab_laws.proofs.Gifts.{AreHandedFor, AreNumbersFor, all_handed, arguments}
 use Rattle.life_elab_laws.proofs.HandedArguments.{Hands}
-use Rattle.life_elab_laws.proofs.HandedTypes.{IsHandedType, a_raw, a_reference, a_unique, a_value, a_view, a_walker, an_alias, an_owner, built_composed}
+use Rattle.life_elab_laws.proofs.HandedTypes.{IsHandedType, a_raw, a_reference, a_unique, a_value, a_view, a_walker, an_alias, an_owner, built_composed, a_struct_alias}
 use Rattle.life_elab_laws.proofs.Handing.{none_handed}
 use Rattle.life_elab_laws.proofs.Parts.{Makes}
 use Rattle.life_elab_laws.proofs.Setting.{Setting}
@@ -69,6 +69,7 @@ module _ (a : Around) (types : Types) (texts : ℕ) (fs : List Function) (f : Fu
       go (a_raw target constant here w) = found (ty.Raw target constant) here refl
       go (a_reference target constant here w) = found (ty.Reference target constant) here refl
       go (an_alias target constant here o) = found (ty.Reference target constant) here refl
+      go (a_struct_alias target constant number here structure) = found (ty.Reference target constant) here refl
       go (a_view here) = found ty.View here refl
       go (a_walker t here w) = found t here (walks t w)
         where

@@ -26,7 +26,7 @@ use Rattle.life_writer.specs.Writing.{Gives, State, ◌>>◌, emit, gives}
 use Rattle.life_elab_laws.proofs.ExpressionForms.{Standing}
 use Rattle.life_elab_laws.proofs.Gifts.{Gift, IsPlaceOf, a_place, both, nothing as no_gift}
 use Rattle.life_elab_laws.proofs.Instructions.{constant_part}
-use Rattle.life_elab_laws.proofs.MadeForms.{BuildsIn, of_elements}
+use Rattle.life_elab_laws.proofs.MadeForms.{BuildsIn, lived_builds, of_elements}
 use Rattle.life_elab_laws.proofs.Making.{IsOpen, IsPlace}
 use Rattle.life_elab_laws.proofs.Parts.{Part, gives_part, keep_part, leaf_part, then_part, under_part}
 use Rattle.life_elab_laws.proofs.Setting.{Setting}
@@ -87,26 +87,15 @@ module _ (a : Around) (visible : List ℕ) (types : Types) (texts : ℕ) (fs : L
 
   pub list_builds : (opening : Place) (es : Form) (d : DelimitersForm) (s : State) → AreGiving a visible types texts fs f setting es → are_elements a.program.types item es ≡ true
       → BuildsIn a visible types texts fs f setting false vector s (gives (list_object a vector opening (all_uses a es) d) s)
-  list_builds opening nothing d s givings all = record {
-    making = of_elements;
-    found = tt;
-    part = leaf_part types texts fs f tt s (no_gift types texts fs f) (λ b. tt) (λ b k alive. tt);
-    form = Zero;
-    act = λ place to r. r;
-    lives = refl;
-    acts = λ place to r stands still new.
-        gives_part types texts fs f (both types texts fs f (no_gift types texts fs f) (a_place types texts fs f vector false)) (tt, to) None tt r (no_gift types texts fs f) (λ b h. tt) (λ b k alive h. tt);
-    alone = λ e. absurd (false≢true e);
-  }
-  list_builds opening (e ⨟ es) d s givings all = record {
-    making = of_elements;
-    found = tt;
-    part = leaf_part types texts fs f tt s (no_gift types texts fs f) (λ b. tt) (λ b k alive. tt);
-    form = Plain;
-    act = filled_in a vector opening (all_uses a (e ⨟ es)) d;
-    lives = refl;
-    acts = λ place to r stands still new.
-        filled_part (both types texts fs f (no_gift types texts fs f) (a_place types texts fs f vector false)) (tt, to) to (λ h. h.1) (λ n k h. h.1) opening (e ⨟ es) d r givings all stands;
-    alone = λ e. absurd (false≢true e);
-  }
+  list_builds opening nothing d s givings all =
+      lived_builds a visible types texts fs f setting false vector s s of_elements tt Zero (λ place to r. r) (leaf_part types texts fs f tt s (no_gift types texts fs f) (λ b. tt) (λ b k alive. tt)) refl
+      (λ place to r stands still new.
+      gives_part types texts fs f (both types texts fs f (no_gift types texts fs f) (a_place types texts fs f vector false)) (tt, to) None tt r (no_gift types texts fs f) (λ b h. tt) (λ b k alive h. tt))
+      (λ e. absurd (false≢true e))
+  list_builds opening (e ⨟ es) d s givings all =
+      lived_builds a visible types texts fs f setting false vector s s of_elements tt Plain (filled_in a vector opening (all_uses a (e ⨟ es)) d)
+      (leaf_part types texts fs f tt s (no_gift types texts fs f) (λ b. tt) (λ b k alive. tt)) refl
+      (λ place to r stands still new.
+      filled_part (both types texts fs f (no_gift types texts fs f) (a_place types texts fs f vector false)) (tt, to) to (λ h. h.1) (λ n k h. h.1) opening (e ⨟ es) d r givings all stands)
+      (λ e. absurd (false≢true e))
   list_builds opening _ d s givings all = absurd givings

@@ -1,55 +1,69 @@
 -- Owners that are made: what is found first, and the act that makes one of it, where a variable or a temporary has come to life.
-use Rattle.std.proofs.Common.{◌≡◌, ◌<◌, ◌≤◌, inl, inr, ℕ, Bool, true, false, List, [], ◌∷◌, ◌++◌, Contains, length, slice_get, None, sym, ap, ◌∙◌, subst, arith, unwrap_or, refl}
+use Rattle.std.proofs.Common.{◌≡◌, ◌≤◌, inr, ℕ, Bool, true, false, List, [], ◌∷◌, ◌++◌, Contains, length, slice_get, None, refl, sym, ap, ◌∙◌, subst, arith, unwrap_or, not, inl, flat_map, slice_set}
 use Rattle.life_served.specs.Served.{is_owner_of_values}
 use Rattle.life_types.specs.Trees.{HasPartsBelow}
 use Rattle.life_types.specs.Types.{Types}
 use Rattle.life_types.specs.declared.place.Place.{Place}
 use Rattle.life_types.specs.declared.ty.Ty.{Ty}
 use Rattle.life_types.specs.declared.ty.Ty.TheVariants as ty
+use Rattle.life_types.specs.declared.ty.TyId.{TyId}
 use Rattle.life_typed.specs.TypedForm.{Form, Typed}
 use Rattle.life_typed.specs.declared.typed_expr.Category.{Category}
 use Rattle.life_typed.specs.declared.typed_expr.Category.TheVariants as category
 use Rattle.life_typed.specs.declared.typed_expr.ExprType.TheVariants.{Of}
 use Rattle.life_type_expr.specs.Operands.{is_constant}
 use Rattle.life_core.specs.Function.{Function}
-use Rattle.life_core.specs.Operands.{Location, Operand, object_named}
+use Rattle.life_core.specs.Operands.{Argument, Location, Operand, object_named, GivenOver, PointerOf, Value}
 use Rattle.life_core.specs.declared.instr.Form.{Form as LiveForm}
 use Rattle.life_well_typed.specs.Expressions.{typed_in}
 use Rattle.life_writer.specs.Around.{Around, own_type}
-use Rattle.life_writer.specs.Characters.{Seen}
+use Rattle.life_writer.specs.Characters.{Seen, InRegister, InString, InView}
 use Rattle.life_writer.specs.ExpressionForms.{uses}
 use Rattle.life_writer.specs.Temporaries.{temporary}
 use Rattle.life_writer.specs.Uses.{Act, Remaining, Uses, lived, own}
 use Rattle.life_writer.specs.Using.{operand, operand_by, temporary_of}
-use Rattle.life_writer.specs.Writing.{Gives, State, gives, mapped}
-use Rattle.life_types.specs.declared.ty.TyId.{TyId}
+use Rattle.life_writer.specs.Writing.{Gives, State, ◌>>◌, emit, gives, mapped}
 use Rattle.life_core.specs.declared.instr.Made.{Made}
-use Rattle.life_elab_laws.proofs.UniqueSteps.{a_made}
+use Rattle.life_elab_laws.proofs.UniqueSteps.{a_made, made_uses_of}
 use Rattle.life_elab_laws.proofs.ServedTypes.{IsBuilt}
-use Rattle.life_elab_laws.proofs.AppendForms.{a_found}
+use Rattle.life_elab_laws.proofs.AppendForms.{a_found, IsFoundAt}
+use Rattle.life_elab_laws.proofs.Coming.{Comes, came, came_part, lived_comes}
 use Rattle.life_elab_laws.proofs.ExpressionForms.{Placed, Standing}
 use Rattle.life_elab_laws.proofs.Fronts.{front_length}
-use Rattle.life_elab_laws.proofs.Making.{IsPlace}
 use Rattle.life_proper.specs.WellFormed.{is_itself}
 use Rattle.life_writer.specs.Variables.{variable}
-use Rattle.life_elab_laws.proofs.Gifts.{Gift, IsPlaceOf, a_place, a_pointer, both, nothing as no_gift, place_stays}
+use Rattle.life_elab_laws.proofs.Gifts.{Gift, a_place, a_pointer, all_handed, both, nothing as no_gift, AreHandedFor}
+use Rattle.life_elab_laws.proofs.Growing.{Grows}
+use Rattle.life_elab_laws.proofs.Handing.{HandingAlone, handing_none}
 use Rattle.life_elab_laws.proofs.ObjectForms.{IsObjectAt, IsOwner, object_owner, object_same, other_number}
-use Rattle.life_elab_laws.proofs.Parts.{Makes, Part, and_part, keep_part, seen_part}
+use Rattle.life_elab_laws.proofs.Parts.{Makes, Part, keep_part, seen_part}
 use Rattle.life_elab_laws.proofs.PlainActs.{IsPlainAct, seen_names}
 use Rattle.life_elab_laws.proofs.PointerForms.{held_typed, own_typed}
 use Rattle.life_elab_laws.proofs.Setting.{Setting}
 use Rattle.life_elab_laws.proofs.Shaped.{built_later}
-use Rattle.life_elab_laws.proofs.TemporaryBirths.{lived_part, lived_there}
+use Rattle.life_elab_laws.proofs.TemporaryBirths.{born_grows}
 use Rattle.life_elab_laws.proofs.VariablePlaces.{stands_later}
 use Rattle.life_elab_laws.proofs.WrittenLocals.{built_below}
+use Rattle.life_elab_laws.proofs.MoveSteps.{a_source}
+use Rattle.life_elab_laws.proofs.TemporaryEnds.{beyond_result}
+use Rattle.life_elab_laws.proofs.OwnLocals.{first_own}
+use Rattle.life_proper.specs.Placed.{result_at}
+use Rattle.life_proper.specs.GivenOver.{given_argument}
+use Rattle.life_proper.specs.Knowing.{known_at}
+use Rattle.life_proper.specs.declared.known.Known.{Known}
+use Rattle.life_proper.specs.declared.known.Known.TheVariants as known
+use Rattle.life_elab_laws.proofs.Among.{Among}
+use Rattle.life_elab_laws.proofs.Knowledge.{beside_set}
+use Rattle.life_elab_laws.proofs.Making.{AreHeld, IsHeld, IsOpen, IsPlace, IsPointer}
 
 -- of what an owner is made: of two texts, of another one of its type at a place, which is const or not, of what a view sees, of elements, which are found one after the other, or of what the
--- variable with a number owns; or a unique_ptr to a type, of what it is made to own
+-- variable with a number owns; or a call gives it, which takes parameters of these types; or a unique_ptr to a type, of what it is made to own
 pub data Making : Type 0 where
   of_texts : Making
   of_copy : (t : Ty) (constant : Bool) → Making
   of_view : Making
   of_elements : Making
+  of_call : List TyId → Making
   of_moved : (x : ℕ) (t : Ty) → Making
   of_target : (target : TyId) → Making
 
@@ -59,6 +73,7 @@ Found of_texts = Seen × Seen
 Found (of_copy t constant) = Operand
 Found of_view = Location
 Found of_elements = Unit {0}
+Found (of_call ids) = List Argument
 Found (of_moved x t) = ℕ
 Found (of_target target) = Made
 
@@ -68,6 +83,7 @@ looked_found of_texts x = seen_names x.0 ++ seen_names x.1
 looked_found (of_copy t constant) x = []
 looked_found of_view x = []
 looked_found of_elements x = []
+looked_found (of_call ids) x = []
 looked_found (of_moved x t) y = y ∷ []
 looked_found (of_target target) what = []
 
@@ -80,22 +96,62 @@ module _ (a : Around) (visible : List ℕ) (types : Types) (texts : ℕ) (fs : L
 
   -- ---- what makes an owner of a type, where that has come to life
 
-  -- an owner that is moved from: it is a variable
-  abbrev pub a_source : Ty → Gift types texts fs f ℕ
-  a_source t = record {
-    typed = λ y. IsPlaceOf types texts fs f t false (object_named y);
-    ready = λ y n k. IsPlace (object_named y) n k;
-    stays = λ y n m k j h p keeps. place_stays types texts fs f (object_named y) n m k j h p keeps;
-  }
-
   -- what is found before
   abbrev pub gift_of : (m : Making) → Gift types texts fs f (Found m)
   gift_of of_texts = both types texts fs f (a_found types texts fs f) (a_found types texts fs f)
   gift_of (of_copy t constant) = a_place types texts fs f t constant
   gift_of of_view = a_pointer types texts fs f ty.View
   gift_of of_elements = no_gift types texts fs f
-  gift_of (of_moved x t) = a_source t
-  gift_of (of_target target) = a_made types texts fs f setting.registers target
+  gift_of (of_call ids) = all_handed types texts fs f ids
+  gift_of (of_moved x t) = a_source types texts fs f t
+  gift_of (of_target target) = a_made types texts fs f target
+
+  -- .. which is given over, where a call takes it
+  abbrev pub given_found : (m : Making) → Found m → List ℕ
+  given_found (of_call ids) xs = flat_map given_argument xs
+  given_found _ x = []
+
+  -- what is there is another local than one that isn't
+  ready_stays : (x y : ℕ) (k : List Known) → known_at k x ≡ known.Blank → known_at k y ≡ known.Ready → known_at (slice_set k x known.Ready) y ≡ known.Ready
+  ready_stays x y k blank there = beside_set k x y known.Ready (λ e. clash (sym blank ∙ ap (known_at k) e ∙ there)) ∙ there
+    where
+      clash : ◌≡◌ {A = Known} known.Blank known.Ready → ⊥
+      clash e = cc
+
+  held_stays : (x r n : ℕ) (k : List Known) → known_at k x ≡ known.Blank → IsHeld r n k → IsHeld r n (slice_set k x known.Ready)
+  held_stays x r n k blank h = (h.0, ready_stays x r k blank h.1)
+
+  all_held_stay : (x : ℕ) (rs : List ℕ) (n : ℕ) (k : List Known) → known_at k x ≡ known.Blank → AreHeld rs n k → AreHeld rs n (slice_set k x known.Ready)
+  all_held_stay x [] n k blank h = tt
+  all_held_stay x (r ∷ rs) n k blank h = (held_stays x r n k blank h.0, all_held_stay x rs n k blank h.1)
+
+  place_ready : (x : ℕ) (o : Operand) (n : ℕ) (k : List Known) → known_at k x ≡ known.Blank → IsPlace o n k → IsPlace o n (slice_set k x known.Ready)
+  place_ready x o n k blank h = record { local = h.local; uses = h.uses; below = h.below; held = ready_stays x h.local k blank h.held }
+
+  pointer_ready : (x : ℕ) (l : Location) (n : ℕ) (k : List Known) → known_at k x ≡ known.Blank → IsPointer l n k → IsPointer l n (slice_set k x known.Ready)
+  pointer_ready x l n k blank h = record { local = h.local; is = h.is; below = h.below; held = ready_stays x h.local k blank h.held }
+
+  seen_ready : (x : ℕ) (y : Seen) (n : ℕ) (k : List Known) → known_at k x ≡ known.Blank → IsFoundAt types texts fs f y n k → IsFoundAt types texts fs f y n (slice_set k x known.Ready)
+  seen_ready x (InString place o) n k blank h = place_ready x o n k blank h
+  seen_ready x (InView l) n k blank h = pointer_ready x l n k blank h
+  seen_ready x (InRegister r) n k blank h = held_stays x r n k blank h
+
+  pub handed_ready : (x : ℕ) (ids : List TyId) (xs : List Argument) (n : ℕ) (k : List Known) → known_at k x ≡ known.Blank → (Among x (flat_map given_argument xs) → ⊥) → AreHandedFor ids xs n k → AreHandedFor ids xs n (slice_set k x known.Ready)
+  handed_ready x [] [] n k blank aside h = tt
+  handed_ready x (id ∷ ids) (Value r ∷ xs) n k blank aside h = (held_stays x r n k blank h.0, handed_ready x ids xs n k blank aside h.1)
+  handed_ready x (id ∷ ids) (PointerOf l ∷ xs) n k blank aside h = (pointer_ready x l n k blank h.0, handed_ready x ids xs n k blank aside h.1)
+  handed_ready x (id ∷ ids) (GivenOver y ∷ xs) n k blank aside h =
+      ((h.0.0, beside_set k x y known.Ready (λ e. aside (inl (sym e))) ∙ h.0.1), handed_ready x ids xs n k blank (λ m. aside (inr m)) h.1)
+  handed_ready x _ _ n k blank aside h = absurd h
+
+  pub found_stays : (x : ℕ) (m : Making) (y : Found m) (n : ℕ) (k : List Known) → known_at k x ≡ known.Blank → (Among x (given_found m y) → ⊥) → (gift_of m).ready y n k → (gift_of m).ready y n (slice_set k x known.Ready)
+  found_stays x of_texts y n k blank aside h = (seen_ready x y.0 n k blank h.0, seen_ready x y.1 n k blank h.1)
+  found_stays x (of_copy t constant) y n k blank aside h = place_ready x y n k blank h
+  found_stays x of_view y n k blank aside h = pointer_ready x y n k blank h
+  found_stays x of_elements y n k blank aside h = tt
+  found_stays x (of_call ids) y n k blank aside h = handed_ready x ids y n k blank aside h
+  found_stays x (of_moved z t) y n k blank aside h = place_ready x (object_named y) n k blank h
+  found_stays x (of_target target) y n k blank aside h = all_held_stay x (made_uses_of y) n k blank h
 
   -- behind which each variable is the local that it was
   abbrev pub Steady : State → State → Type 0
@@ -104,29 +160,50 @@ module _ (a : Around) (visible : List ℕ) (types : Types) (texts : ℕ) (fs : L
   pub steady_same : (s s' : State) → s'.variables ≡ s.variables → Steady s s'
   steady_same s s' e n c = ap (λ (vs : List ℕ). unwrap_or (slice_get vs n) 0) e
 
-  -- what comes to life is a local, and none of those that were there
+  -- what comes to life is a local, and none of the variables
   pub record IsNew (s : State) (to : Operand) : Type 0 where
     pub number : ℕ
     pub is : to ≡ object_named number
-    pub beyond : length s.locals ≤ number
+    pub apart : (y : ℕ) → Contains s.living y → number ≡ y → ⊥
 
-  pub one_new : (s : State) (n : ℕ) → length s.locals ≤ n → IsNew s (object_named n)
-  one_new s n h = record { number = n; is = refl; beyond = h }
+  pub one_new : (s : State) (n : ℕ) → IsOpen s → length s.locals ≤ n → IsNew s (object_named n)
+  one_new s n opened h = record { number = n; is = refl; apart = λ y c e. let lt = opened y c in omega (arith, e, h, lt) }
 
-  pub new_apart : (s : State) (to : Operand) → IsNew s to → (y : ℕ) → y < length s.locals → is_itself types texts fs f y to ≡ false
-  new_apart s to h y lt = ap (is_itself types texts fs f y) h.is ∙ other_number h.number y (λ e. omega (arith, e, h.beyond, lt))
+  pub new_apart : (s : State) (to : Operand) → IsNew s to → (y : ℕ) → Contains s.living y → is_itself types texts fs f y to ≡ false
+  new_apart s to h y c = ap (is_itself types texts fs f y) h.is ∙ other_number h.number y (h.apart y c)
 
   -- plain is what no list builds
   pub record BuildsIn (plain : Bool) (t : Ty) (s : State) (w : Gives Remaining) : Type 0 where
     pub making : Making
     pub found : Found making
-    pub part : Makes types texts fs f None s (gives found w.state) (gift_of making)
-    pub form : LiveForm
+    -- owners that are found are given over by what brings it to life
+    pub over : List ℕ
+    pub hands : HandingAlone types texts fs f over s (gives found w.state) (gift_of making)
+    pub comes : Comes types texts fs f over s (gives found w.state) (gift_of making) hands t
     pub act : Act
-    pub lives : w.given ≡ lived form act
+    pub lives : w.given ≡ (λ d r. d.begins r >> λ x r. gives x (act d.place (object_named x) (emit (comes.at d.place) (comes.step x) r)))
     pub acts : (place : Place) (to : Operand) (s' : State) → Stood s' → Steady w.state s' → IsNew s to
         → Part types texts fs f (both types texts fs f (gift_of making) (a_place types texts fs f t false)) (found, to) None s' (gives tt (act place to s')) (no_gift types texts fs f)
     pub alone : plain ≡ true → IsPlainAct act (looked_found making found) (Steady w.state)
+    -- what is found stays ready where another local comes to life
+    pub stays : (x n : ℕ) (k : List Known) → known_at k x ≡ known.Blank → (Among x over → ⊥) → (gift_of making).ready found n k → (gift_of making).ready found n (slice_set k x known.Ready)
+
+  -- .. what comes to life by itself, and is filled then
+  pub lived_builds : (plain : Bool) (t : Ty) (s r : State) (making : Making) (found : Found making) (form : LiveForm) (act : Act) → Makes types texts fs f None s (gives found r) (gift_of making) → given_found making found ≡ []
+      → ((place : Place) (to : Operand) (s' : State) → Stood s' → Steady r s' → IsNew s to → Part types texts fs f (both types texts fs f (gift_of making) (a_place types texts fs f t false)) (found, to) None s' (gives tt (act place to s')) (no_gift types texts fs f))
+      → (plain ≡ true → IsPlainAct act (looked_found making found) (Steady r)) → BuildsIn plain t s (gives (lived form act) r)
+  lived_builds plain t s r making found form act part none acts alone = record {
+    making = making;
+    found = found;
+    over = [];
+    hands = handing_none types texts fs f (no_gift types texts fs f) tt s (gives found r) (gift_of making) part;
+    comes = lived_comes types texts fs f s (gives found r) (gift_of making) part form t;
+    act = act;
+    lives = refl;
+    acts = acts;
+    alone = alone;
+    stays = λ x n k blank aside ready. found_stays x making found n k blank (λ m. subst (Among x) none m) ready;
+  }
 
   abbrev pub Builds : Ty → State → Gives Remaining → Type 0
   Builds t s w = BuildsIn true t s w
@@ -134,7 +211,7 @@ module _ (a : Around) (visible : List ℕ) (types : Types) (texts : ℕ) (fs : L
   -- .. as a temporary
   module _ {plain : Bool} (t : Ty) (place : Place) (s : State) (w : Gives Remaining) (owner : IsBuilt a.program.types t) (is : BuildsIn plain t s w) (stands : Stood s) where
     pub later : Stood w.state
-    later = stands_later a visible s w.state is.part.grown stands
+    later = stands_later a visible s w.state is.hands.grown stands
 
     pub v : IsBuilt types t
     v = built_later a.program.types types setting.front t owner
@@ -144,25 +221,28 @@ module _ (a : Around) (visible : List ℕ) (types : Types) (texts : ℕ) (fs : L
 
     -- it comes to life, and is pending
     abbrev pub born : Gives Operand
-    born = lived_there types texts fs f place is.form t w.state (inr v) later.opened later.pends within
+    born = came types texts fs f is.over s (gives is.found w.state) (gift_of is.making) is.hands t is.comes place (inr v) later.opened _ later.pends within
 
-    pub born_part : Makes types texts fs f None w.state born (a_place types texts fs f t false)
-    born_part = lived_part types texts fs f place is.form t w.state (inr v) later.opened later.pends within
+    pub born_further : Grows w.state born.state
+    born_further = born_grows types texts fs f place is.comes.step t w.state (inr v) later.opened _ later.pends within
+
+    -- .. behind what was found
+    pub born_part : Makes types texts fs f None s (gives (is.found, born.given) born.state) (both types texts fs f (gift_of is.making) (a_place types texts fs f t false))
+    born_part = came_part types texts fs f is.over s (gives is.found w.state) (gift_of is.making) is.hands t is.comes place (inr v) later.opened _ later.pends within
 
     -- .. and is built
     abbrev pub built : State
     built = is.act place born.given born.state
 
     pub act_part : Part types texts fs f (both types texts fs f (gift_of is.making) (a_place types texts fs f t false)) (is.found, born.given) None born.state (gives tt built) (no_gift types texts fs f)
-    act_part = is.acts place born.given born.state (stands_later a visible w.state born.state born_part.grown later) (steady_same w.state born.state born_part.grown.variables) (one_new s (length w.state.locals) is.part.grown.count)
+    act_part = is.acts place born.given born.state (stands_later a visible w.state born.state born_further later) (steady_same w.state born.state born_further.variables) (one_new s (length w.state.locals) stands.opened is.hands.grown.count)
 
     pub built_part : Makes types texts fs f None s (gives ((is.found, born.given), tt) built) (both types texts fs f (both types texts fs f (gift_of is.making) (a_place types texts fs f t false)) (no_gift types texts fs f))
     built_part =
         let G = no_gift types texts fs f in
         let Q = a_place types texts fs f t false in
         let B = both types texts fs f (gift_of is.making) Q in
-        keep_part types texts fs f G tt s (gives (is.found, born.given) born.state) (gives tt built) B G stands.opened
-        (and_part types texts fs f G tt s (gives is.found w.state) born (gift_of is.making) Q stands.opened is.part born_part) act_part
+        keep_part types texts fs f G tt s (gives (is.found, born.given) born.state) (gives tt built) B G stands.opened born_part act_part
 
     pub temporary_made : PlacedAs t false s (mapped object_named (w.given (temporary place t) w.state))
     temporary_made =
@@ -176,8 +256,14 @@ module _ (a : Around) (visible : List ℕ) (types : Types) (texts : ℕ) (fs : L
     pub temporary_dead : (let r = w.given (temporary place t) w.state in Contains r.state.living r.given) → ⊥
     temporary_dead c =
         let told = subst (λ (r : Remaining). let g = r (temporary place t) w.state in Contains g.state.living g.given) is.lives c in
-        let far = later.opened (length w.state.locals) (subst (λ (xs : List ℕ). Contains xs (length w.state.locals)) (act_part.grown.living ∙ born_part.grown.living) told) in
+        let far = later.opened (length w.state.locals) (subst (λ (xs : List ℕ). Contains xs (length w.state.locals)) (act_part.grown.living ∙ born_further.living) told) in
         omega (arith, far)
+
+    -- .. nor the result
+    pub temporary_spare : not (result_at types f (w.given (temporary place t) w.state).given) ≡ true
+    temporary_spare =
+        subst (λ (r : Remaining). not (result_at types f (r (temporary place t) w.state).given) ≡ true) (sym is.lives)
+        (beyond_result types texts fs f (first_own a) (length w.state.locals) setting.own later.pends.past)
 
   -- ---- an expression that makes one
 

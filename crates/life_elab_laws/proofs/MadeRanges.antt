@@ -62,7 +62,7 @@ typed_grows t s = record {
   living = refl;
   pending = front_itself s.pending;
   fresh = λ y m lt. m;
-  pends = λ p. pending_later s (typed_with t s) (front_itself s.locals) (types_before s.types.types t) refl refl p;
+  pends = λ low p. pending_later low s (typed_with t s) (front_itself s.locals) (types_before s.types.types t) refl refl p;
   outside = refl;
 }
 

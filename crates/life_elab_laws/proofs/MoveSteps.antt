@@ -1,21 +1,15 @@
 -- An owner is moved from an object to a place.
-use Rattle.std.proofs.Common.{◌≡◌, ◌&&◌, ℕ, Bool, true, false, not, if◌then◌else◌, nat_eq, List, [], ◌∷◌, Option, Some, None, slice_get, refl, sym, ap, ◌∙◌, subst, arith, inl, inr}
+use Rattle.std.proofs.Common.{◌≡◌, ℕ, Bool, true, false, not, if◌then◌else◌, List, [], ◌∷◌, None, refl, sym, ap, ◌∙◌, subst, inl, inr}
 use Rattle.std.proofs.lemmas.Bool.{and_from, false≢true}
-use Rattle.std.proofs.lemmas.Bool.Decides.{nat_tests}
 use Rattle.life_served.specs.Served.{is_owner_of_values, is_unique_of_element}
-use Rattle.life_types.specs.Pointees.{ty_of}
-use Rattle.life_types.specs.TypeTests.{is_void}
 use Rattle.life_types.specs.Types.{Types}
 use Rattle.life_types.specs.declared.place.Place.{Place}
 use Rattle.life_types.specs.declared.ty.Ty.{Ty}
 use Rattle.life_types.specs.declared.ty.Ty.TheVariants as ty
 use Rattle.life_core.specs.Function.{Function}
-use Rattle.life_core.specs.Kinds.{has_kind, is_object}
 use Rattle.life_core.specs.Operands.{Operand, object_named}
 use Rattle.life_core.specs.Step.{Move}
 use Rattle.life_core.specs.Touched.{place_uses}
-use Rattle.life_core.specs.declared.program.Local.{Local}
-use Rattle.life_core.specs.declared.program.LocalKind.TheVariants.{Register}
 use Rattle.life_proper.specs.OperandTypes.{is_owner, same}
 use Rattle.life_proper.specs.Placed.{is_const_place, object_at, result_at, type_of}
 use Rattle.life_proper.specs.Placed as placed
@@ -25,7 +19,7 @@ use Rattle.life_proper.specs.declared.known.Known.TheVariants as known
 use Rattle.life_proper.proofs.ReadyTests.{both_known, uses_ready}
 use Rattle.life_writer.specs.Writing.{State, emit, gives}
 use Rattle.life_elab_laws.proofs.ServedTypes.{IsBuilt}
-use Rattle.life_elab_laws.proofs.Gifts.{Gift, IsPlaceOf, nothing}
+use Rattle.life_elab_laws.proofs.Gifts.{Gift, IsPlaceOf, nothing, place_stays}
 use Rattle.life_elab_laws.proofs.Held.{place_there}
 use Rattle.life_elab_laws.proofs.Instructions.{acted_part}
 use Rattle.life_elab_laws.proofs.Making.{IsPlace, keeps_all}
@@ -53,8 +47,7 @@ moved_same (ty.Vector item) o = same_type (ty.Vector item)
 moved_same (ty.Unique target) o = same_type (ty.Unique target)
 moved_same _ o = absurd (false≢true o)
 
-module _ (types : Types) (texts : ℕ) (fs : List Function) (f : Function)
-    (registers : (l : Local) → slice_get f.locals f.parameters ≡ Some l → is_void (ty_of types f.result) ≡ false → l.kind ≡ Register) where
+module _ (types : Types) (texts : ℕ) (fs : List Function) (f : Function) where
   -- an owner that is named is an object
   pub record IsOwnerThere (t : Ty) (y : ℕ) : Type 0 where
     pub object : object_at types f y ≡ true
@@ -70,38 +63,30 @@ module _ (types : Types) (texts : ℕ) (fs : List Function) (f : Function)
   pub owner_there : (table : Types) (t : Ty) (y : ℕ) → is_owner_of_values table t ≡ true → IsPlaceOf types texts fs f t false (object_named y) → IsOwnerThere t y
   owner_there table t y o is = moved_there t y (owner_moves table t o) is
 
-  -- .. and not the result, which is a register
-  no_result : (y : ℕ) → object_at types f y ≡ true → not (result_at types f y) ≡ true
-  no_result y object = go (is_void (ty_of types f.result)) (nat_eq y f.parameters) refl refl
-    where
-      one : (a b : ℕ) → nat_eq a b ≡ true → a ≡ b
-      one a b h = grind (arith, nat_tests)
+  -- one that may be moved: it isn't the result
+  abbrev pub a_source : Ty → Gift types texts fs f ℕ
+  a_source t = record {
+    typed = λ y. IsPlaceOf types texts fs f t false (object_named y) × (not (result_at types f y) ≡ true);
+    ready = λ y n k. IsPlace (object_named y) n k;
+    stays = λ y n m k j h p keeps. place_stays types texts fs f (object_named y) n m k j h p keeps;
+  }
 
-      clash : is_void (ty_of types f.result) ≡ false → (o : Option Local) → slice_get f.locals f.parameters ≡ o → has_kind is_object o ≡ true → ⊥
-      clash void None at h = false≢true h
-      clash void (Some l) at h = false≢true (sym (ap is_object (registers l at void)) ∙ h)
-
-      go : (v e : Bool) → is_void (ty_of types f.result) ≡ v → nat_eq y f.parameters ≡ e → not (not v && e) ≡ true
-      go true e vs es = refl
-      go false false vs es = refl
-      go false true vs es = absurd (clash vs (slice_get f.locals f.parameters) refl (subst (λ (n : ℕ). object_at types f n ≡ true) (one y f.parameters es) object))
-
-  move_fine : (t : Ty) (to : Operand) (y : ℕ) → is_owner t ≡ true → IsPlaceOf types texts fs f t false to → IsPlaceOf types texts fs f t false (object_named y) → is_itself types texts fs f y to ≡ false
+  move_fine : (t : Ty) (to : Operand) (y : ℕ) → is_owner t ≡ true → IsPlaceOf types texts fs f t false to → IsPlaceOf types texts fs f t false (object_named y) × (not (result_at types f y) ≡ true) → is_itself types texts fs f y to ≡ false
       → IsFineStep types texts fs f (Move to y)
   move_fine t to y o place from apart =
-      let is = moved_there t y o from in
+      let is = moved_there t y o from.0 in
       record {
         given = refl;
         formed =
             and_from (is_owner (type_of types f to)) _ (ap is_owner place.typed ∙ o)
             (and_from (object_at types f y) _ is.object
             (and_from (same (type_of types f to) (placed.type_at types f y)) _ (ap (λ (u : Ty). same u (placed.type_at types f y)) place.typed ∙ ap (same t) is.typed ∙ moved_same t o)
-            (and_from (not (result_at types f y)) _ (no_result y is.object)
+            (and_from (not (result_at types f y)) _ from.1
             (and_from (not (is_itself types texts fs f y to)) (not (is_const_place types f to)) (ap not apart) place.held))));
       }
 
   pub moves_part : {A : Type 0} (P : Gift types texts fs f A) (x : A) (t : Ty) (to : Operand) (y : ℕ) (place : Place) (s : State) → is_owner t ≡ true
-      → (P.typed x → IsPlaceOf types texts fs f t false to × IsPlaceOf types texts fs f t false (object_named y)) → ((n : ℕ) (k : List Known) → P.ready x n k → IsPlace to n k × IsPlace (object_named y) n k) → is_itself types texts fs f y to ≡ false
+      → (P.typed x → IsPlaceOf types texts fs f t false to × (a_source t).typed y) → ((n : ℕ) (k : List Known) → P.ready x n k → IsPlace to n k × IsPlace (object_named y) n k) → is_itself types texts fs f y to ≡ false
       → Part types texts fs f P x None s (gives tt (emit place (Move to y) s)) (nothing types texts fs f)
   moves_part P x t to y place s o typed ready apart =
       acted_part types texts fs f P x place (Move to y) s

@@ -43,7 +43,7 @@ use Rattle.life_elab_laws.proofs.FormedVariables.{object_formed}
 use Rattle.life_elab_laws.proofs.FreeObjects.{object_part}
 use Rattle.life_elab_laws.proofs.Gifts.{a_place, both, nothing as no_gift}
 use Rattle.life_elab_laws.proofs.Making.{IsPlace}
-use Rattle.life_elab_laws.proofs.MoveSteps.{moves_part, owner_moves}
+use Rattle.life_elab_laws.proofs.MoveSteps.{moves_part, owner_moves, a_source}
 use Rattle.life_elab_laws.proofs.ObjectForms.{IsObject, other_number}
 use Rattle.life_elab_laws.proofs.Parts.{Makes, Part, and_part, gives_part, leaf_part, then_part}
 use Rattle.life_elab_laws.proofs.PointerForms.{placed_operand}
@@ -51,7 +51,7 @@ use Rattle.life_elab_laws.proofs.Setting.{Setting}
 use Rattle.life_elab_laws.proofs.TypedKinds.{err_ok, none_some, ok_same}
 use Rattle.life_elab_laws.proofs.Values.{by_values}
 use Rattle.life_elab_laws.proofs.FormedFits.{same_id, tested_as}
-use Rattle.life_elab_laws.proofs.VariablePlaces.{a_raw, a_reference, a_unique, a_value, a_view, a_walker, an_alias, an_owner, IsVariableAt, IsVariableType, kind_is, place_is, stands_later, variable_there, variable_type}
+use Rattle.life_elab_laws.proofs.VariablePlaces.{a_raw, a_reference, a_struct, a_unique, a_value, a_view, a_walker, an_alias, an_owner, IsVariableAt, IsVariableType, kind_is, place_is, stands_later, variable_there, variable_type, a_struct_alias}
 use Rattle.life_proper.specs.OperandTypes.{is_owner}
 use Rattle.life_type_expr.specs.Lists.{fits_at_all}
 use Rattle.life_typed.specs.Conversions.{fits, is_place, unless}
@@ -59,6 +59,7 @@ use Rattle.life_typed.specs.declared.misfit.Misfit.TheVariants.{Copy, General}
 use Rattle.life_types.specs.contracts.ty.TyIdPartialEq.TheImpl.{ghosts as id}
 use Rattle.life_types.specs.TypeTests.{is_reference}
 use Rattle.life_well_typed.specs.Given.{is_given}
+use Rattle.life_elab_laws.proofs.TemporaryEnds.{named_result}
 
 module _ (a : Around) (visible : List ℕ) (types : Types) (texts : ℕ) (fs : List Function) (f : Function) (setting : Setting a types fs f) where
   abbrev Stood : State → Type 0
@@ -127,8 +128,10 @@ module _ (a : Around) (visible : List ℕ) (types : Types) (texts : ℕ) (fs : L
           kind (a_raw target constant at w) = absurd (refused l.constant kinds.Unsupported (moves (ty.Raw target constant) at))
           kind (a_reference target constant at w) = absurd (refused constant kinds.Unsupported (moves (ty.Reference target constant) at))
           kind (an_alias target constant at o) = absurd (refused constant kinds.Unsupported (moves (ty.Reference target constant) at))
+          kind (a_struct_alias target constant number at structure) = absurd (refused constant kinds.Unsupported (moves (ty.Reference target constant) at))
           kind (a_view at) = absurd (refused l.constant kinds.Unsupported (moves ty.View at))
           kind (a_walker t at w) = absurd (no_walker t w (moves t at))
+          kind (a_struct number at) = absurd (refused l.constant kinds.Unsupported (moves (ty.Struct number) at))
           kind (a_unique target at w) = made (ty.Unique target) at refl (λ n. absurd (false≢true n)) (taken l.constant (moves (ty.Unique target) at))
           kind (an_owner t at o) = made t at (owner_moves a.program.types t o) (λ n. o) (an_owner_taken t o (moves t at))
 
@@ -170,10 +173,13 @@ module _ (a : Around) (visible : List ℕ) (types : Types) (texts : ℕ) (fs : L
 
   -- the variable is an object
   module _ (x : ℕ) (e : Typed) (is : IsMovedFrom x e) (c : Contains visible x) where
-    pub source_part : (s : State) → Stood s → Makes types texts fs f None s (gives (object_named (variable s x)) s) (a_place types texts fs f is.ty false)
+    pub source_part : (s : State) → Stood s → Makes types texts fs f None s (gives (variable s x) s) (a_source types texts fs f is.ty)
     source_part s stands =
-        leaf_part types texts fs f (object_named (variable s x)) s (a_place types texts fs f is.ty false)
-        (λ b. object_formed types texts fs f a setting.front s b x is.source v is.ty false is.at (moved_kind is.ty is.owner) (moved_plain is.ty is.owner))
+        leaf_part types texts fs f (variable s x) s (a_source types texts fs f is.ty)
+        (λ b. (
+          object_formed types texts fs f a setting.front s b x is.source v is.ty false is.at (moved_kind is.ty is.owner) (moved_plain is.ty is.owner),
+          named_result types texts fs f setting.nameless (variable s x) v.local (b.locals (variable s x) v.local v.there) (λ none. none_some (sym none ∙ v.named)),
+        ))
         (λ b k alive. subst (λ (o : Operand). IsPlace o (length s.locals) k) here (variable_there a s x is.source v f k alive))
       where
         v : IsVariableAt a s x is.source
@@ -188,11 +194,12 @@ module _ (a : Around) (visible : List ℕ) (types : Types) (texts : ℕ) (fs : L
     moved_out_part place to at s stands apart =
         let Q = a_place types texts fs f is.ty false in
         let D = both types texts fs f (no_gift types texts fs f) Q in
-        let from = object_named (variable s x) in
+        let from = variable s x in
+        let S = a_source types texts fs f is.ty in
         let here = gives_part types texts fs f D (tt, to) None (tt, to) s D (λ b h. h) (λ b k alive h. h) in
-        then_part types texts fs f D (tt, to) None s (gives ((tt, to), from) s) _ (both types texts fs f D Q) (no_gift types texts fs f) stands.opened
-        (and_part types texts fs f D (tt, to) s (gives (tt, to) s) (gives from s) D Q stands.opened here (source_part s stands))
-        (moves_part types texts fs f setting.registers (both types texts fs f D Q) ((tt, to), from) is.ty to (variable s x) place s is.owner (λ h. (h.0.1, h.1)) (λ n k q. (q.0.1, q.1)) apart)
+        then_part types texts fs f D (tt, to) None s (gives ((tt, to), from) s) _ (both types texts fs f D S) (no_gift types texts fs f) stands.opened
+        (and_part types texts fs f D (tt, to) s (gives (tt, to) s) (gives from s) D S stands.opened here (source_part s stands))
+        (moves_part types texts fs f (both types texts fs f D S) ((tt, to), from) is.ty to (variable s x) place s is.owner (λ h. (h.0.1, h.1)) (λ n k q. (q.0.1, q.1)) apart)
 
   -- ---- what is assigned to
 
@@ -244,8 +251,9 @@ module _ (a : Around) (visible : List ℕ) (types : Types) (texts : ℕ) (fs : L
       let P = a_place types texts fs f to.ty false in
       let first = object_part a visible types texts fs f setting (whole_form target) to free s stands in
       let later = stands_later a visible s o.state first.grown stands in
-      let from = object_named (variable o.state x) in
-      let second = subst (λ (u : Ty). Makes types texts fs f None o.state (gives from o.state) (a_place types texts fs f u false)) alike (source_part x moved is c o.state later) in
+      let from = variable o.state x in
+      let S = a_source types texts fs f to.ty in
+      let second = subst (λ (u : Ty). Makes types texts fs f None o.state (gives from o.state) (a_source types texts fs f u)) alike (source_part x moved is c o.state later) in
       let stays : variable o.state x ≡ variable s x = ap (λ (vs : List ℕ). unwrap_or (slice_get vs x) 0) first.grown.variables in
       let placed = placed_operand a visible types texts fs f setting (whole_form target) to.id to.constant s to.place in
       let others =
@@ -257,6 +265,6 @@ module _ (a : Around) (visible : List ℕ) (types : Types) (texts : ℕ) (fs : L
       ∙ ap (λ (w : Ty). acted (owner_by u.category u w s) t equals) (ap own_type to.is)
       ∙ ap (λ (k : Category). acted (owner_by k u to.ty s) t equals) value
       ∙ ap (λ (r : Option (State → Gives Act)). acted (replaced_by r (temporary_of u to.ty) s) t equals) replaces))
-      (then_part types texts fs f (no_gift types texts fs f) tt None s (gives (o.given, from) o.state) _ (both types texts fs f P P) (no_gift types texts fs f) stands.opened
-      (and_part types texts fs f (no_gift types texts fs f) tt s o (gives from o.state) P P stands.opened first second)
-      (moves_part types texts fs f setting.registers (both types texts fs f P P) (o.given, from) to.ty o.given (variable o.state x) place o.state (owner_moves a.program.types to.ty to.owner) (λ h. h) (λ n k q. q) others))
+      (then_part types texts fs f (no_gift types texts fs f) tt None s (gives (o.given, from) o.state) _ (both types texts fs f P S) (no_gift types texts fs f) stands.opened
+      (and_part types texts fs f (no_gift types texts fs f) tt s o (gives from o.state) P S stands.opened first second)
+      (moves_part types texts fs f (both types texts fs f P S) (o.given, from) to.ty o.given (variable o.state x) place o.state (owner_moves a.program.types to.ty to.owner) (λ h. h) (λ n k q. q) others))

@@ -5,20 +5,23 @@ use Rattle.life_served.specs.Served.{is_owner_type, is_served_either, is_served_
 use Rattle.life_types.specs.Types.{Types}
 use Rattle.life_types.specs.declared.place.Place.{Place}
 use Rattle.life_typed.specs.declared.typed_expr.Category.{Category}
-use Rattle.life_typed.specs.TypedForm.{Form, Typed, call, dereference, index, local, method, paren, typed}
+use Rattle.life_typed.specs.TypedForm.{Form, Typed, call, dereference, index, local, member, method, paren, typed}
 use Rattle.life_type_stmt.specs.Simples.{named_in}
 use Rattle.life_core.specs.Function.{Function}
 use Rattle.life_proper.specs.WellFormed.{is_itself}
 use Rattle.life_well_typed.specs.Expressions.{IsExpression, IsMadeOf, typed_in}
 use Rattle.life_writer.specs.Around.{Around}
 use Rattle.life_writer.specs.ExpressionForms.{form_uses, uses}
+use Rattle.life_writer.specs.Using.{operand}
 use Rattle.life_writer.specs.Variables.{variable}
 use Rattle.life_elab_laws.proofs.Expressions.{behind_reached, edge_of, indexed_of, owner_expression, walker_expression, whole_expression}
 use Rattle.life_elab_laws.proofs.MovedOwners.{IsNamedAt, variable_named}
 use Rattle.life_elab_laws.proofs.ObjectForms.{IsReached}
-use Rattle.life_elab_laws.proofs.ReferredOwners.{dereferenced_apart}
+use Rattle.life_elab_laws.proofs.BehindPointers.{behind_apart, behind_pointer}
 use Rattle.life_elab_laws.proofs.Setting.{Setting}
 use Rattle.life_elab_laws.proofs.TypedKinds.{ok_same}
+use Rattle.life_elab_laws.proofs.StructSteps.{member_apart}
+use Rattle.life_typed.specs.Conversions.{is_place}
 
 module _ (a : Around) (visible : List ℕ) (types : Types) (texts : ℕ) (fs : List Function) (f : Function) (setting : Setting a types fs f) where
   -- what is reached behind a pointer has no name
@@ -29,7 +32,7 @@ module _ (a : Around) (visible : List ℕ) (types : Types) (texts : ℕ) (fs : L
 
   mutual
     pub named_target : (form : Form) → is_served_object texts form ≡ true → is_owner_type (typed_in form).ty ≡ true → IsExpression a.program a.function.locals visible form → IsNamedAt a visible types texts fs f setting (named_in form) ((uses a form).at)
-    named_target (typed place t c form) b n h = named_made form (record { place = place; ty = t; category = c; form = form }) b n h place
+    named_target (typed place t c form) b n h = named_made form (record { place = place; ty = t; category = c; form = form }) (and_parts (is_place c) (is_served_object texts form) b).1 n h place
     named_target _ b n h = absurd h
 
     named_made : (form : Form) (e : Typed) → is_served_object texts form ≡ true → is_owner_type e.ty ≡ true → IsMadeOf a.program a.function.locals visible e form → (place : Place) → IsNamedAt a visible types texts fs f setting (named_in form) ((form_uses a form place e.ty e.category).at)
@@ -38,7 +41,7 @@ module _ (a : Around) (visible : List ℕ) (types : Types) (texts : ℕ) (fs : L
     named_made (call g given delimiters) e b n h place = record { apart = λ x v c found free s stands. refl }
     named_made (dereference inner) e b n h place =
         elim (or_cases (is_served_form texts inner) (is_served_walker texts inner || is_served_unique inner) b) [
-          | inl v ↦ let is = whole_expression a visible types texts fs f setting inner v h.1 in record { apart = λ x l c found free s stands. dereferenced_apart a visible types texts fs f setting inner e place is n h.0 s (variable s x) }
+          | inl v ↦ let is = whole_expression a visible types texts fs f setting inner v h.1 in record { apart = λ x l c found free s stands. behind_apart a visible types texts fs f setting inner e place is (behind_pointer a.program.types (typed_in inner) e is.kind.kind h.0) s (variable s x) }
           | inr others ↦ reached_apart (dereference inner) e place (behind_reached a visible types texts fs f setting inner e others h (λ w. walker_expression a visible types texts fs f setting inner w h.1))
         ]
     named_made (index base position closing) e b n h place =
@@ -47,6 +50,7 @@ module _ (a : Around) (visible : List ℕ) (types : Types) (texts : ℕ) (fs : L
         (indexed_of a visible types texts fs f setting base position closing e parts.0 h.0 (λ v. whole_expression a visible types texts fs f setting base v h.1) (λ o n. owner_expression a visible types texts fs f setting base o n h.1) (λ w. walker_expression a visible types texts fs f setting base w h.1) (whole_expression a visible types texts fs f setting position parts.1 h.2))
     named_made (method base which given delimiters) e b n h place =
         reached_apart (method base which given delimiters) e place (edge_of a visible types texts fs f setting base which given delimiters e b h.0 (λ o n. owner_expression a visible types texts fs f setting base o n h.1))
+    named_made (member base which) e b n h place = record { apart = λ x l c found free s stands. member_apart types texts fs f which (variable s x) (operand (uses a base) s).given }
     named_made (typed at t c form) e b n h place = absurd h
     named_made _ e b n h place = absurd (false≢true b)
 

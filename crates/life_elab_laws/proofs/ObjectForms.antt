@@ -47,7 +47,7 @@ use Rattle.life_elab_laws.proofs.PointerForms.{own_typed, placed_operand, pointe
 use Rattle.life_elab_laws.proofs.Setting.{Setting}
 use Rattle.life_elab_laws.proofs.TypedKinds.{a_number as is_number_kind, owner_named, place_same, value_place, walker_named}
 use Rattle.life_elab_laws.proofs.Values.{by_values}
-use Rattle.life_elab_laws.proofs.VariablePlaces.{a_raw, a_reference, a_unique, a_value, a_view, a_walker, an_alias, an_owner, IsVariableType, kind_is, owner_kind, place_is, stands_later, variable_there, variable_type, walker_is}
+use Rattle.life_elab_laws.proofs.VariablePlaces.{a_raw, a_reference, a_struct, a_unique, a_value, a_view, a_walker, an_alias, an_owner, IsVariableType, kind_is, owner_kind, place_is, stands_later, variable_there, variable_type, walker_is, a_struct_alias}
 use Rattle.life_well_typed.specs.Given.{is_number}
 use Rattle.life_elab_laws.proofs.Targets.{owner_target, target_no_void}
 use Rattle.life_elab_laws.proofs.Elements.{element_held, element_target, element_there, owner_element, plain_element}
@@ -188,6 +188,8 @@ module _ (a : Around) (visible : List ℕ) (types : Types) (texts : ℕ) (fs : L
                     ap (is_itself types texts fs f y) (place_is a s x l v Register (kind_is a s x l v (ty.Reference target constant) at));
               }
           kind (a_unique target at w) = other (ty.Unique target) (ap (λ (y : Typed). y.ty) (named (ty.Unique target) at) ∙ ap Of (typed (ty.Unique target) at)) refl
+          kind (a_struct number at) = other (ty.Struct number) (ap (λ (y : Typed). y.ty) (named (ty.Struct number) at) ∙ ap Of (typed (ty.Struct number) at)) refl
+          kind (a_struct_alias target constant number at structure) = other (ty.Struct number) (ap (λ (y : Typed). y.ty) (named (ty.Reference target constant) at) ∙ ap Of structure) refl
           kind (a_walker t at w) = other t (ap (λ (y : Typed). y.ty) (walker_named a.program.types e l.ty l.constant (local x) t w (named t at)) ∙ ap Of (typed t at)) (walker_is a.program.types t w).owner
           kind (an_owner t at o) = record {
             ty = t;

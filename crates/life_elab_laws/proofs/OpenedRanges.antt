@@ -38,6 +38,7 @@ use Rattle.life_elab_laws.proofs.Targets.{target_same}
 use Rattle.life_elab_laws.proofs.TemporaryEnds.{TemporariesEnd, temporary_ends}
 use Rattle.life_elab_laws.proofs.Under.{both_there}
 use Rattle.life_elab_laws.proofs.WrittenLocals.{fits_hidden}
+use Rattle.life_elab_laws.proofs.OwnLocals.{first_own}
 
 module _ (a : Around) (types : Types) (texts : ℕ) (fs : List Function) (f : Function) (setting : Setting a types fs f) (v : Visible) where
   -- both iterators are there, and among the locals
@@ -121,8 +122,8 @@ module _ (a : Around) (types : Types) (texts : ℕ) (fs : List Function) (f : Fu
 
   -- ---- of a range that ends all its temporaries
 
-  can : TemporariesEnd types texts fs f
-  can = temporary_ends types texts fs f setting.registers
+  can : TemporariesEnd types texts fs f (first_own a)
+  can = temporary_ends types texts fs f (first_own a) setting.own
 
   module _ (form : Form) (id : TyId) (constant : Bool) (is : IsRange a v.visible types texts fs f setting form id constant) (colon closing : Place) (s : State) (h : Follows types f a v s) where
     abbrev w : Gives Base
@@ -130,12 +131,12 @@ module _ (a : Around) (types : Types) (texts : ℕ) (fs : List Function) (f : Fu
 
     base_there : Makes types texts fs f None s (hid form id constant is.elements is.worth colon closing s) (Q form id constant is.elements is.worth colon closing s)
     base_there =
-        ended_part types texts fs f (Q form id constant is.elements is.worth colon closing s) s w closing h.stands.pends can
+        ended_part types texts fs f (Q form id constant is.elements is.worth colon closing s) s w closing _ h.stands.pends can
         (λ n k j p ready spares. base_spared types texts fs f (type_at a.program.types id) constant w.given n k j p ready spares) (is.hides colon s h.stands)
 
     pub placed_opened : AreOpened id constant s (opened colon closing (uses a form) s)
     placed_opened =
         range_opened form id constant is.elements is.worth colon closing s h
         (opens_part types texts fs f (Q form id constant is.elements is.worth colon closing s) a v s (hid form id constant is.elements is.worth colon closing s) h
-        (ends_level types texts fs f s w.state (is.hides colon s h.stands).grown h.stands.pends closing) base_there)
+        (ends_level types texts fs f s w.state (is.hides colon s h.stands).grown _ h.stands.pends closing) base_there)
         (λ b. (base_there.runs b tt).typed)

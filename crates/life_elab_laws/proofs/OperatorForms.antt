@@ -46,6 +46,7 @@ use Rattle.life_elab_laws.proofs.TypedKinds.{IsCombined, none_some, some_same}
 use Rattle.life_elab_laws.proofs.VariablePlaces.{Stands, stands_later}
 use Rattle.life_elab_laws.proofs.PointerForms.{seen_view, tested_pointer, view_whole}
 use Rattle.life_elab_laws.proofs.TemporaryEnds.{temporary_ends}
+use Rattle.life_elab_laws.proofs.OwnLocals.{first_own}
 
 module _ (a : Around) (visible : List ℕ) (types : Types) (texts : ℕ) (fs : List Function) (f : Function) (setting : Setting a types fs f) where
   abbrev Standing : State → Type 0
@@ -77,7 +78,7 @@ module _ (a : Around) (visible : List ℕ) (types : Types) (texts : ℕ) (fs : L
     pointer_on Right s stands is = let raw = raw_on Right is in tested_pointer a visible types texts fs f setting right is.own s is.is raw (r.pointers is.own is.is (raw_location is.own raw) s stands)
 
     not_null_on : (side : Side) (place : Place) (ends : Option Place) (s : State) → Standing s → IsTested (on side (typed_in left).ty (typed_in right).ty) t → Decided ends s (not_null place ends (on side (nullable (uses a left)) (nullable (uses a right))) s)
-    not_null_on side place ends s stands is = not_null_part types texts fs f place ends is.own (on side (nullable (uses a left)) (nullable (uses a right))) s (raw_on side is) stands.pends (temporary_ends types texts fs f setting.registers) (pointer_on side (with_code [] s) stands is)
+    not_null_on side place ends s stands is = not_null_part types texts fs f place ends is.own (on side (nullable (uses a left)) (nullable (uses a right))) s (raw_on side is) _ stands.pends (temporary_ends types texts fs f (first_own a) setting.own) (pointer_on side (with_code [] s) stands is)
 
     -- neither is a string or an iterator
     no_texts : AreTexts (typed_in left).ty (typed_in right).ty t → ⊥

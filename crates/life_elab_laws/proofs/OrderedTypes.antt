@@ -23,7 +23,7 @@ order_then a b c first second = record { structs = second.structs ∙ first.stru
 
 -- ---- one more type
 
-all_below : (m n : ℕ) → m ≤ n → (ids : List TyId) → AllBelow m ids → AllBelow n ids
+pub all_below : (m n : ℕ) → m ≤ n → (ids : List TyId) → AllBelow m ids → AllBelow n ids
 all_below m n le [] h = tt
 all_below m n le (id ∷ ids) h = (omega (arith, le, h.0), all_below m n le ids h.1)
 

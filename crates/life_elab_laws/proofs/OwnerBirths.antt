@@ -37,6 +37,7 @@ use Rattle.life_elab_laws.proofs.Parts.{Makes}
 use Rattle.life_elab_laws.proofs.Setting.{Setting}
 use Rattle.life_elab_laws.proofs.Shaping.{IsFineStep, fine_acts, fine_append, is_no_object, step_keeps}
 use Rattle.life_elab_laws.proofs.TemporaryEnds.{temporary_ends}
+use Rattle.life_elab_laws.proofs.OwnLocals.{first_own}
 
 -- what is there stays so where the next local comes to life
 held_beside : (xs : List ℕ) (n : ℕ) (k : List Known) → AreHeld xs n k → AreHeld xs n (slice_set k n known.Ready)
@@ -77,7 +78,7 @@ module _ (a : Around) (types : Types) (texts : ℕ) (fs : List Function) (f : Fu
     lives_then can fine =
         subst (λ (c : List Tree). Does types texts fs f a (with_next v) in_loop s (end_pending (length s.pending) last (with_code c (with_new (variable_local a u) w.state))))
         (sym (append_assoc w.state.code lives acts))
-        (declared_does types texts fs f a setting.front v in_loop (temporary_ends types texts fs f setting.registers) last u s w Q (lives ++ acts) h at built made
+        (declared_does types texts fs f a setting.front v in_loop (temporary_ends types texts fs f (first_own a) setting.own) last u s w Q (lives ++ acts) h at built made
         (λ b q. fine_append types texts fs f lives acts (fine_acts types texts fs f u.place (Live x Plain) (live_fine (can b))) (fine_acts types texts fs f place (step x) (fine b q)))
         (λ b k size q blank.
         lives_falls types f u.place place step used x (touches x) k (omega (arith, size, new_below types f a setting.front v u (variable_local a u) (its_local a u) (settled types f s w.state) (follows_settled types f a v s w.state made.grown h) at built b))

@@ -34,39 +34,39 @@ use Rattle.life_elab_laws.proofs.BornLocals.{codes_bear}
 module _ (types : Types) (texts : ℕ) (fs : List Function) (f : Function) where
   -- ---- a part behind which its temporaries end
 
-  module _ {A : Type 0} (Q : Gift types texts fs f A) (s : State) (w : Gives A) (place : Place) (before : ArePending s) (can : TemporariesEnd types texts fs f)
+  module _ {A : Type 0} (Q : Gift types texts fs f A) (s : State) (w : Gives A) (place : Place) (low : ℕ) (before : ArePending low s) (can : TemporariesEnd types texts fs f low)
       (spared : (n : ℕ) (k j : List Known) → Q.typed w.given → Q.ready w.given n k → Spares types texts fs f k j → Q.ready w.given n j) (made : Makes types texts fs f None s w Q) where
     abbrev after : State
-    after = behind types texts fs f s w.state made.grown before place
+    after = behind types texts fs f s w.state made.grown low before place
 
     ended_behind : Makes types texts fs f None s (gives w.given after) Q
     ended_behind = record {
-      grown = behind_grows types texts fs f s w.state made.grown before place;
+      grown = behind_grows types texts fs f s w.state made.grown low before place;
       registers = made.registers;
-      code = made.code ++ (ending_is types texts fs f s w.state made.grown before place).code;
-      written = ap (λ (c : List Tree). c ++ (ending_is types texts fs f s w.state made.grown before place).code) made.written ∙ append_assoc s.code made.code (ending_is types texts fs f s w.state made.grown before place).code;
+      code = made.code ++ (ending_is types texts fs f s w.state made.grown low before place).code;
+      written = ap (λ (c : List Tree). c ++ (ending_is types texts fs f s w.state made.grown low before place).code) made.written ∙ append_assoc s.code made.code (ending_is types texts fs f s w.state made.grown low before place).code;
       runs = λ b p. let r = made.runs b p in record {
-        fine = fine_append types texts fs f made.code (ending_is types texts fs f s w.state made.grown before place).code r.fine (ends_fine types texts fs f s w.state made.grown before place b can);
+        fine = fine_append types texts fs f made.code (ending_is types texts fs f s w.state made.grown low before place).code r.fine (ends_fine types texts fs f s w.state made.grown low before place b can);
         typed = r.typed;
         goes = λ k alive q.
             let g = r.goes k alive q in
-            let j : List Known = set_blank (ending types texts fs f s w.state made.grown before place) g.after in
+            let j : List Known = set_blank (ending types texts fs f s w.state made.grown low before place) g.after in
             record {
               after = j;
-              falls = falls_append types f made.code (ending_is types texts fs f s w.state made.grown before place).code k g.after j g.falls (ends_fall types texts fs f s w.state made.grown before place g.after g.alive);
-              keeps = keeps_then f (length s.locals) (length s.locals) None k g.after j (omega arith) g.keeps (ends_keep types texts fs f s w.state made.grown before place g.after);
-              gives = spared (length w.state.locals) g.after j r.typed g.gives (ends_spare types texts fs f s w.state made.grown before place b g.after);
-              alive = ends_alive types texts fs f s w.state made.grown before place g.after g.alive;
+              falls = falls_append types f made.code (ending_is types texts fs f s w.state made.grown low before place).code k g.after j g.falls (ends_fall types texts fs f s w.state made.grown low before place g.after g.alive);
+              keeps = keeps_then f (length s.locals) (length s.locals) None k g.after j (omega arith) g.keeps (ends_keep types texts fs f s w.state made.grown low before place g.after);
+              gives = spared (length w.state.locals) g.after j r.typed g.gives (ends_spare types texts fs f s w.state made.grown low before place b g.after);
+              alive = ends_alive types texts fs f s w.state made.grown low before place g.after g.alive;
               apart =
-                  codes_apart f s w.state after made.code (ending_is types texts fs f s w.state made.grown before place).code g.apart
-                  ((ending_is types texts fs f s w.state made.grown before place).apart w.state after (omega arith) (λ x o. elim o [ inl m ↦ inl (inl m) | inr m ↦ inl (inr (among_take (length s.pending) w.state.pending x m)) ]));
-              bears = codes_bear f s w.state made.code (ending_is types texts fs f s w.state made.grown before place).code made.grown g.bears ((ending_is types texts fs f s w.state made.grown before place).bears w.state);
+                  codes_apart f s w.state after made.code (ending_is types texts fs f s w.state made.grown low before place).code g.apart
+                  ((ending_is types texts fs f s w.state made.grown low before place).apart w.state after (omega arith) (λ x o. elim o [ inl m ↦ inl (inl m) | inr m ↦ inl (inr (among_take (length s.pending) w.state.pending x m)) ]));
+              bears = codes_bear f s w.state made.code (ending_is types texts fs f s w.state made.grown low before place).code made.grown g.bears ((ending_is types texts fs f s w.state made.grown low before place).bears w.state);
             };
       };
     }
 
     pub ended_part : Makes types texts fs f None s (gives w.given (end_pending (length s.pending) place w.state)) Q
-    ended_part = subst (λ (r : State). Makes types texts fs f None s (gives w.given r) Q) (sym (behind_is types texts fs f s w.state made.grown before place)) ended_behind
+    ended_part = subst (λ (r : State). Makes types texts fs f None s (gives w.given r) Q) (sym (behind_is types texts fs f s w.state made.grown low before place)) ended_behind
 
   -- ---- a part that ends all its temporaries is a statement, where what it needs is known
 

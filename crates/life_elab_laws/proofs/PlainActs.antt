@@ -15,6 +15,7 @@ use Rattle.life_elab_laws.proofs.GivenApart.{looked_change, looked_of, looked_pl
 -- of what may be looked at by it, where the variables are what they were
 pub record IsPlainAct (act : Act) (names : List ℕ) (steady : State → Type 0) : Type 0 where
   pub free : (place : Place) (to : Operand) (s : State) (pending : List ℕ) → act place to (record s { pending = pending }) ≡ record (act place to s) { pending = pending }
+  pub kept : (place : Place) (to : Operand) (s : State) (living : List ℕ) → act place to (record s { living = living }) ≡ record (act place to s) { living = living }
   pub code : Place → Operand → State → List Tree
   pub written : (place : Place) (to : Operand) (s : State) → (act place to s).code ≡ s.code ++ code place to s
   pub looks : (place : Place) (to : Operand) (s : State) → steady s → (y : ℕ) → Among y (looked_of (trees (code place to s))) → Among y names
@@ -27,6 +28,7 @@ nil_right xs y m = elim (among_either xs [] y m) [ inl h ↦ h | inr none ↦ ab
 pub copied_plain : (steady : State → Type 0) (from : Operand) → IsPlainAct (copied from) [] steady
 copied_plain steady from = record {
   free = λ place to s pending. refl;
+  kept = λ place to s living. refl;
   code = λ place to s. Acts place (Copy to from) ∷ [];
   written = λ place to s. refl;
   looks = λ place to s still y m. m;
@@ -35,6 +37,7 @@ copied_plain steady from = record {
 pub copied_at_plain : (steady : State → Type 0) (at : Place) (from : Operand) → IsPlainAct (copied_at at from) [] steady
 copied_at_plain steady at from = record {
   free = λ place to s pending. refl;
+  kept = λ place to s living. refl;
   code = λ place to s. Acts at (Copy to from) ∷ [];
   written = λ place to s. refl;
   looks = λ place to s still y m. m;
@@ -45,6 +48,7 @@ copied_at_plain steady at from = record {
 pub set_plain : (steady : State → Type 0) (view : Location) → IsPlainAct (set_to view) [] steady
 set_plain steady view = record {
   free = λ place to s pending. refl;
+  kept = λ place to s living. refl;
   code = λ place to s. Acts place (Changes to (Set (View view))) ∷ [];
   written = λ place to s. refl;
   looks = λ place to s still y m. m;
@@ -53,6 +57,7 @@ set_plain steady view = record {
 pub standing_plain : (steady : State → Type 0) (at : Place) (view : Location) → IsPlainAct (standing at (set_to view)) [] steady
 standing_plain steady at view = record {
   free = λ place to s pending. refl;
+  kept = λ place to s living. refl;
   code = λ place to s. Acts at (Changes to (Set (View view))) ∷ [];
   written = λ place to s. refl;
   looks = λ place to s still y m. m;
@@ -70,6 +75,11 @@ module _ (change : Characters → Change) (quiet : (to : Operand) (c : Character
   changed_free at (InString place o) to s pending = refl
   changed_free at (InView l) to s pending = refl
   changed_free at (InRegister r) to s pending = refl
+
+  changed_kept : (at : Place) (x : Seen) (to : Operand) (s : State) (living : List ℕ) → changed_by change at x to (record s { living = living }) ≡ record (changed_by change at x to s) { living = living }
+  changed_kept at (InString place o) to s living = refl
+  changed_kept at (InView l) to s living = refl
+  changed_kept at (InRegister r) to s living = refl
 
   changed_code : Place → Seen → Operand → State → List Tree
   changed_code at (InString place o) to s = Acts place (Aim (whole (length s.locals)) (Whole o)) ∷ Acts at (Changes to (change (View (whole (length s.locals))))) ∷ []
@@ -105,6 +115,8 @@ pub joined_plain : (steady : State → Type 0) (at : Place) (x y : Seen) → IsP
 joined_plain steady at x y = record {
   free = λ place to s pending.
       ap (λ (r : State). changed_by Append at y to r) (changed_free Set set_quiet at x to s pending) ∙ changed_free Append append_quiet at y to (changed_by Set at x to s) pending;
+  kept = λ place to s living.
+      ap (λ (r : State). changed_by Append at y to r) (changed_kept Set set_quiet at x to s living) ∙ changed_kept Append append_quiet at y to (changed_by Set at x to s) living;
   code = λ place to s. changed_code Set set_quiet at x to s ++ changed_code Append append_quiet at y to (changed_by Set at x to s);
   written = λ place to s.
       changed_written Append append_quiet at y to (changed_by Set at x to s)

@@ -1,7 +1,7 @@
 -- Variables, calls, pointers, places behind them, literals, and what is seen: how each is written.
 use Rattle.std.proofs.Common.{◌≡◌, ◌⊎◌, inl, inr, ℕ, Bool, true, List, [], ◌∷◌, Contains, length, nat_lt, slice_get, Option, Some, None, refl, sym, ap, ◌∙◌, subst, unwrap_or, false, ◌||◌}
 use Rattle.std.proofs.lemmas.Bool.{and_from, false≢true}
-use Rattle.life_served.specs.Served.{is_plain_type, is_walker_of_values}
+use Rattle.life_served.specs.Served.{is_plain_type, is_walker_of_values, is_owning}
 use Rattle.life_types.specs.Pointees.{or_void, ty_of}
 use Rattle.life_types.specs.TypeTests.{is_raw, is_value, is_void}
 use Rattle.life_types.specs.Types.{Types}
@@ -47,7 +47,7 @@ use Rattle.life_elab_laws.proofs.LentArguments.{plain_hands}
 use Rattle.life_elab_laws.proofs.CalledPointers.{pointed_call, referred_call, viewed_call, walked_call}
 use Rattle.life_elab_laws.proofs.ExpressionForms.{IsCall, IsForm, IsWhole, nullable_raw, of_number, place_form, pointer_form, pointer_own, pointing_itself, no_literal, no_null}
 use Rattle.life_elab_laws.proofs.ExpressionKinds.{IsAddressed, IsDereferenced, kind_local, variable_built}
-use Rattle.life_elab_laws.proofs.ExpressionTypes.{IsAnswered, answered_as, answers_nothing, answers_place, answers_raw, answers_value, answers_view, own_value, answers_owner, answers_walker}
+use Rattle.life_elab_laws.proofs.ExpressionTypes.{IsAnswered, answered_as, answers_nothing, answers_place, answers_raw, answers_struct, answers_value, answers_view, own_value, answers_owner, answers_walker, answers_made, answers_unique}
 use Rattle.life_elab_laws.proofs.Filling.{aimed_filling, null_filling, text_filling}
 use Rattle.life_elab_laws.proofs.FormedVariables.{behind_place, const_same, pointer_formed, type_later, variable_formed, owner_no_value, value_no_void, owner_no_location}
 use Rattle.life_elab_laws.proofs.Gifts.{IsGivenAs, a_number, a_place, a_pointer, a_pointing, arguments}
@@ -155,7 +155,7 @@ module _ (a : Around) (visible : List ℕ) (types : Types) (texts : ℕ) (fs : L
       let t = setting.results g of there in
       ap or_void (setting.front of.result.0 t.0 t.1) ∙ sym (ap (λ (o : Option Ty). unwrap_or o ty.Void) t.1)
 
-  pub walker_lent : (t : Ty) → is_walker_of_values a.program.types t ≡ true → (is_void t || is_value t) ≡ false
+  pub walker_lent : (t : Ty) → is_walker_of_values a.program.types t ≡ true → (is_void t || (is_value t || is_owning a.program.types t)) ≡ false
   walker_lent (ty.Iterator target constant) w = refl
   walker_lent (ty.Span target constant) w = refl
   walker_lent _ w = absurd (false≢true w)
@@ -171,8 +171,8 @@ module _ (a : Around) (visible : List ℕ) (types : Types) (texts : ℕ) (fs : L
     later = result_later g is.of is.there
 
     -- where no owner is given over
-    lent : (t : Ty) → type_at a.program.types is.of.result ≡ t → (is_void t || is_value t) ≡ false → (s : State) → Standing s → Makes types texts fs f None s (handed s) (arguments types texts fs f (parameter_types (Some is.of)))
-    lent t same plain s stands = plain_hands a types texts fs f setting g is.of is.there (ap (λ (t : Ty). is_void t || is_value t) same ∙ plain) s (handed s) (is.hands s stands)
+    lent : (t : Ty) → type_at a.program.types is.of.result ≡ t → (is_void t || (is_value t || is_owning a.program.types t)) ≡ false → (s : State) → Standing s → Makes types texts fs f None s (handed s) (arguments types texts fs f (parameter_types (Some is.of)))
+    lent t same plain s stands = plain_hands a types texts fs f setting g is.of is.there (ap (λ (t : Ty). is_void t || (is_value t || is_owning a.program.types t)) same ∙ plain) s (handed s) (is.hands s stands)
 
     computed : Answers → e.category ≡ category.Value → is_number e.ty ≡ true → (place : Place) (into : Option ℕ) (s : State) → IsIntoOf (own_type e.ty) s into → Standing s
         → Makes types texts fs f into s (computed_by into (own_type e.ty) place (λ r. called g (handed s).given (whole r)) (handed s).state) (a_number types texts fs f (own_type e.ty))
@@ -181,9 +181,12 @@ module _ (a : Around) (visible : List ℕ) (types : Types) (texts : ℕ) (fs : L
         call_part types texts fs f g is.of (setting.callees g is.of is.there) s (handed s) (is.hands s stands) into (own_type e.ty) place (later ∙ sym (ap own_type own)) (own_value e.ty n) wanted
     computed (answers_raw target constant raw w own held) c n place into s wanted stands = absurd (false≢true (sym (ap is_number own) ∙ n))
     computed (answers_walker w own held) c n place into s wanted stands = absurd (false≢true (sym (walker_is a.program.types (type_at a.program.types is.of.result) w).value ∙ sym (ap is_number own) ∙ n))
+    computed (answers_unique target unique w own held) c n place into s wanted stands = absurd (false≢true (sym (ap is_number own) ∙ n))
+    computed (answers_made o own held) c n place into s wanted stands = absurd (owner_no_value a.program.types (type_at a.program.types is.of.result) o (sym (ap is_number own) ∙ n))
     computed (answers_view view own held) c n place into s wanted stands = absurd (false≢true (sym (ap is_number own) ∙ n))
     computed (answers_place target constant refers w own held) c n place into s wanted stands = absurd (value_place (sym c ∙ held))
     computed (answers_owner target constant refers o own held) c n place into s wanted stands = absurd (value_place (sym c ∙ held))
+    computed (answers_struct target constant number refers structure own held) c n place into s wanted stands = absurd (value_place (sym c ∙ held))
 
     named : Answers → (id : TyId) (constant : Bool) → e.category ≡ category.Place id constant → is_value (type_at a.program.types id) ≡ true → (place : Place) (s : State) → Standing s
         → Placed (type_at a.program.types id) constant s ((form_uses a (call g given delimiters) place e.ty e.category).at s)
@@ -191,7 +194,11 @@ module _ (a : Around) (visible : List ℕ) (types : Types) (texts : ℕ) (fs : L
     named (answers_value w own held) id constant at v place s stands = absurd (value_place (sym held ∙ at))
     named (answers_raw target d raw w own held) id constant at v place s stands = absurd (value_place (sym held ∙ at))
     named (answers_walker w own held) id constant at v place s stands = absurd (value_place (sym held ∙ at))
+    named (answers_unique target unique w own held) id constant at v place s stands = absurd (value_place (sym held ∙ at))
+    named (answers_made o own held) id constant at v place s stands = absurd (value_place (sym held ∙ at))
     named (answers_view view own held) id constant at v place s stands = absurd (value_place (sym held ∙ at))
+    named (answers_struct target d number refers structure own held) id constant at v place s stands =
+        absurd (false≢true (sym (ap is_value structure) ∙ ap (λ (i : TyId). is_value (type_at a.program.types i)) (place_same target id d constant (sym held ∙ at)) ∙ v))
     named (answers_owner target d refers o own held) id constant at v place s stands = absurd (owner_no_value a.program.types (type_at a.program.types target) o (ap (λ (i : TyId). is_value (type_at a.program.types i)) (place_same target id d constant (sym held ∙ at)) ∙ v))
     named (answers_place target d refers w own held) id constant at v place s stands =
         let first = lent (ty.Reference target d) refers refl s stands in
@@ -204,6 +211,9 @@ module _ (a : Around) (visible : List ℕ) (types : Types) (texts : ℕ) (fs : L
     pointed (answers_value v own held) p place s stands = absurd (number_no_pointer e.ty (ap is_number own ∙ v) p)
     pointed (answers_place target constant refers w own held) p place s stands = absurd (number_no_pointer e.ty (ap is_number own ∙ w) p)
     pointed (answers_owner target constant refers o own held) p place s stands = absurd (owner_no_location a.program.types (type_at a.program.types target) o (sym (ap is_pointed own) ∙ p))
+    pointed (answers_unique target unique w own held) p place s stands = absurd (false≢true (sym (ap is_pointed own) ∙ p))
+    pointed (answers_struct target constant number refers structure own held) p place s stands = absurd (false≢true (sym (ap is_pointed own) ∙ p))
+    pointed (answers_made o own held) p place s stands = absurd (owner_no_location a.program.types (type_at a.program.types is.of.result) o (sym (ap is_pointed own) ∙ p))
     pointed (answers_raw target constant raw w own held) p place s stands =
         subst (λ (t : ExprType). Points t s (mapped (λ (xs : List Argument). By (called g xs)) (handed s))) (sym own)
         (pointed_call types texts fs f g is.of (setting.callees g is.of is.there) s (handed s) (lent (ty.Raw target constant) raw refl s stands) a.program.types setting.front target constant w (later ∙ raw))
@@ -219,18 +229,24 @@ module _ (a : Around) (visible : List ℕ) (types : Types) (texts : ℕ) (fs : L
     answers_no_literal (answers_value v own held) at = no_literal a visible types texts fs f setting (type_at a.program.types is.of.result) (sym own ∙ at)
     answers_no_literal (answers_raw target constant raw w own held) at = no_literal a visible types texts fs f setting (ty.Raw target constant) (sym own ∙ at)
     answers_no_literal (answers_walker w own held) at = no_literal a visible types texts fs f setting (type_at a.program.types is.of.result) (sym own ∙ at)
+    answers_no_literal (answers_unique target unique w own held) at = no_literal a visible types texts fs f setting (ty.Unique target) (sym own ∙ at)
+    answers_no_literal (answers_made o own held) at = no_literal a visible types texts fs f setting (type_at a.program.types is.of.result) (sym own ∙ at)
     answers_no_literal (answers_view view own held) at = no_literal a visible types texts fs f setting ty.View (sym own ∙ at)
     answers_no_literal (answers_place target constant refers w own held) at = no_literal a visible types texts fs f setting (type_at a.program.types target) (sym own ∙ at)
     answers_no_literal (answers_owner target constant refers o own held) at = no_literal a visible types texts fs f setting (type_at a.program.types target) (sym own ∙ at)
+    answers_no_literal (answers_struct target constant number refers structure own held) at = no_literal a visible types texts fs f setting (ty.Struct number) (sym own ∙ at)
 
     answers_no_null : Answers → e.ty ≡ NullPointer → ⊥
     answers_no_null (answers_nothing void own held) at = no_null a visible types texts fs f setting ty.Void (sym own ∙ at)
     answers_no_null (answers_value v own held) at = no_null a visible types texts fs f setting (type_at a.program.types is.of.result) (sym own ∙ at)
     answers_no_null (answers_raw target constant raw w own held) at = no_null a visible types texts fs f setting (ty.Raw target constant) (sym own ∙ at)
     answers_no_null (answers_walker w own held) at = no_null a visible types texts fs f setting (type_at a.program.types is.of.result) (sym own ∙ at)
+    answers_no_null (answers_unique target unique w own held) at = no_null a visible types texts fs f setting (ty.Unique target) (sym own ∙ at)
+    answers_no_null (answers_made o own held) at = no_null a visible types texts fs f setting (type_at a.program.types is.of.result) (sym own ∙ at)
     answers_no_null (answers_view view own held) at = no_null a visible types texts fs f setting ty.View (sym own ∙ at)
     answers_no_null (answers_place target constant refers w own held) at = no_null a visible types texts fs f setting (type_at a.program.types target) (sym own ∙ at)
     answers_no_null (answers_owner target constant refers o own held) at = no_null a visible types texts fs f setting (type_at a.program.types target) (sym own ∙ at)
+    answers_no_null (answers_struct target constant number refers structure own held) at = no_null a visible types texts fs f setting (ty.Struct number) (sym own ∙ at)
 
     call_of : IsKind a.program.types e → IsForm a visible types texts fs f setting (call g given delimiters) e
     call_of kind = record {
@@ -361,7 +377,7 @@ module _ (a : Around) (visible : List ℕ) (types : Types) (texts : ℕ) (fs : L
 
   pub null_form : (e : Typed) → e.ty ≡ NullPointer → e.category ≡ category.Value → IsForm a visible types texts fs f setting null e
   null_form e t c =
-      pointer_form a visible types texts fs f setting null e (record { kind = a_null t c; place = λ id d at. absurd (value_place (sym c ∙ at)) }) c (λ n. false≢true (sym (ap is_number t) ∙ n)) refl (λ place b. refl) (λ at. absurd (null_text (sym t ∙ at))) (λ at place. refl)
+      pointer_form a visible types texts fs f setting null e (record { kind = a_null t c; place = λ id d at. absurd (value_place (sym c ∙ at)) }) c (λ n. false≢true (sym (ap is_number t) ∙ n)) refl (λ place b. refl) (λ at. absurd (null_text (sym t ∙ at))) (λ at place. (refl, refl))
       (λ p place s stands. leaf_part types texts fs f (aimed Null) s (a_pointing types texts fs f e.ty) (λ b. subst (λ (t : ExprType). IsGivenAs types texts fs f t (aimed Null)) (sym t) (null_given types texts fs f)) (λ b k alive. null_filling f (length s.locals) k))
     where
       null_text : NullPointer ≡ TextLiteral → ⊥
@@ -370,7 +386,7 @@ module _ (a : Around) (visible : List ℕ) (types : Types) (texts : ℕ) (fs : L
   -- a literal is seen where it stands
   pub text_form : (n : ℕ) (e : Typed) → e.ty ≡ TextLiteral → e.category ≡ category.Value → nat_lt n texts ≡ true → IsForm a visible types texts fs f setting (text n) e
   text_form n e t c few =
-      pointer_form a visible types texts fs f setting (text n) e (record { kind = a_text t c; place = λ id d at. absurd (value_place (sym c ∙ at)) }) c (λ m. false≢true (sym (ap is_number t) ∙ m)) refl (λ place b. refl) (λ at place. record { place = place; number = n; few = few; is = refl }) (λ at. absurd (text_null (sym t ∙ at)))
+      pointer_form a visible types texts fs f setting (text n) e (record { kind = a_text t c; place = λ id d at. absurd (value_place (sym c ∙ at)) }) c (λ m. false≢true (sym (ap is_number t) ∙ m)) refl (λ place b. refl) (λ at place. record { nameless = refl; place = place; number = n; few = few; is = refl }) (λ at. absurd (text_null (sym t ∙ at)))
       (λ p place s stands. leaf_part types texts fs f (aimed (Text n)) s (a_pointing types texts fs f e.ty)
       (λ b. subst (λ (t : ExprType). IsGivenAs types texts fs f t (aimed (Text n))) (sym t) (literal_given types texts fs f n few))
       (λ b k alive. text_filling f n (length s.locals) k))

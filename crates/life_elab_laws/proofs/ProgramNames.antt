@@ -1,17 +1,17 @@
 -- The functions of a core program have the names of the typed ones, in their order, so no two of them have one.
-use Rattle.std.proofs.Common.{◌≡◌, ℕ, true, ◌&&◌, ◌||◌, not, List, [], ◌∷◌, map, nat_eq, refl, ap, ◌∙◌, Bool}
-use Rattle.std.specs.List.{list_any}
-use Rattle.std.proofs.lemmas.Bool.{false≢true}
+use Rattle.std.proofs.Common.{◌≡◌, ℕ, true, ◌&&◌, ◌||◌, not, List, [], ◌∷◌, map, length, nat_eq, nat_lt, refl, sym, ap, ◌∙◌, Bool, ◌<◌, arith}
+use Rattle.std.specs.List.{list_all, list_any}
+use Rattle.std.proofs.lemmas.Bool.{and_from, and_parts}
+use Rattle.std.proofs.lemmas.Bool.Decides.{nat_tests}
 use Rattle.life_types.specs.Types.{Types}
 use Rattle.life_types.specs.declared.ty.NameId.{NameId}
 use Rattle.life_types.specs.declared.ty.TyId.{TyId}
-use Rattle.life_served.specs.Served.{has_no_structs}
 use Rattle.life_core.specs.Function.{Function}
 use Rattle.life_elab.specs.Programs.{member_names}
 use Rattle.life_typed.specs.Programs.{FunctionForm, ProgramForm, StructForm}
 use Rattle.life_well_typed.specs.Names as typed
 use Rattle.life_well_typed.specs.Results.{HaveMembers}
-use Rattle.life_proper.specs.WellFormedPrograms.{have_names, have_own_names, is_of_name}
+use Rattle.life_proper.specs.WellFormedPrograms.{have_names, have_own_names, is_name, is_of_name}
 use Rattle.life_elab_laws.proofs.Programs.{AreWritten}
 
 module _ (p : ProgramForm) (types : Types) where
@@ -30,13 +30,19 @@ module _ (p : ProgramForm) (types : Types) where
       ∙ ap (λ (b : Bool). not (list_any (typed.is_of_name f.name) fs) && b) (own_names fs cores h.1)
   own_names _ _ h = absurd h
 
--- where there are no structs, the table has none
-pub no_structs_there : (forms : List StructForm) (structs : List (List TyId)) → has_no_structs forms ≡ true → HaveMembers forms structs → structs ≡ []
-no_structs_there [] [] b have = refl
-no_structs_there [] (ids ∷ structs) b have = absurd have
-no_structs_there (s ∷ ss) structs b have = absurd (false≢true b)
+-- each struct has a member, and each of these a name
+pub members_named : (names : ℕ) (forms : List StructForm) (structs : List (List TyId)) → list_all (typed.is_struct_named names) forms ≡ true → HaveMembers forms structs → have_names names structs (map member_names forms) ≡ true
+members_named names [] [] b have = refl
+members_named names (s ∷ ss) (ids ∷ structs) b have =
+    let both = and_parts (list_all (typed.is_name names) s.members) (list_all (typed.is_struct_named names) ss) b in
+    and_from (nat_lt 0 (length ids)) _ (less 0 (length ids) have.0)
+    (and_from (nat_eq (length ids) (length s.members)) _ (equal (length ids) (length s.members) (sym have.1))
+    (and_from (list_all (is_name names) s.members) (have_names names structs (map member_names ss)) both.0 (members_named names ss structs both.1 have.2)))
+  where
+    less : (m n : ℕ) → m < n → nat_lt m n ≡ true
+    less m n h = grind (arith, nat_tests)
 
--- .. and there are no members
-pub no_members : (names : ℕ) (structs : List (List TyId)) (forms : List StructForm) → structs ≡ [] → has_no_structs forms ≡ true → have_names names structs (map member_names forms) ≡ true
-no_members names structs [] none b = ap (λ (s : List (List TyId)). have_names names s []) none
-no_members names structs (s ∷ ss) none b = absurd (false≢true b)
+    equal : (m n : ℕ) → m ≡ n → nat_eq m n ≡ true
+    equal m n h = grind (arith, nat_tests)
+members_named names [] (ids ∷ structs) b have = absurd have
+members_named names (s ∷ ss) [] b have = absurd have

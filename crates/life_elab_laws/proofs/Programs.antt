@@ -13,7 +13,6 @@ use Rattle.life_typed.specs.BaseTypes.{type_at}
 use Rattle.life_typed.specs.Programs.{FunctionForm, ProgramForm, is_main}
 use Rattle.life_core.specs.Function.{Function}
 use Rattle.life_core.specs.declared.program.Local.{Local}
-use Rattle.life_core.specs.declared.program.LocalKind.TheVariants.{Register}
 use Rattle.life_proper.specs.Checking.{checked, is_checked}
 use Rattle.life_core_served.specs.ProperPrograms.{has_own_breaks, have_own_breaks}
 use Rattle.life_pset.specs.Elements.{AreShort, elements_of}
@@ -25,8 +24,8 @@ use Rattle.life_elab.specs.Programs.{Functions, around, texts_of, with_function}
 use Rattle.life_well_typed.specs.Mains.{HasIntMain, HaveIntMains}
 use Rattle.life_well_typed.specs.Names.{HasNames, is_function_named}
 use Rattle.life_well_typed.specs.Results.{HasResults, HaveResults}
-use Rattle.life_elab_laws.proofs.Beginning.{first_locals, first_types}
-use Rattle.life_elab_laws.proofs.Callees.{IsBegun, IsFunctionOf, callee_from, gives_from, parameter_at, served_parts, result_register, takes_handed, type_found}
+use Rattle.life_elab_laws.proofs.Beginning.{first_locals, first_types, nothing_past}
+use Rattle.life_elab_laws.proofs.Callees.{IsBegun, IsFunctionOf, callee_from, gives_from, parameter_at, served_parts, result_before, result_nameless, takes_handed, type_found}
 use Rattle.life_elab_laws.proofs.Calls.{IsCallee}
 use Rattle.life_elab_laws.proofs.ExpressionKinds.{function_built}
 use Rattle.life_elab_laws.proofs.FormedLocals.{HasFormedHead, head_formed}
@@ -38,10 +37,11 @@ use Rattle.life_elab_laws.proofs.Setting.{GivesBack, Setting, unasked}
 use Rattle.life_elab_laws.proofs.Shaped.{AreShaped}
 use Rattle.life_elab_laws.proofs.ShapedLocals.{written_shaped}
 use Rattle.life_elab_laws.proofs.ShortPlaces.{short_function}
+use Rattle.life_elab_laws.proofs.StructTypes.{HasStructs, IsServedTable, members_later, structs_later}
 use Rattle.life_elab_laws.proofs.WrittenLocals.{AreWrittenLocals}
-use Rattle.life_typed.specs.declared.basic.TheConstants.{CHAR}
 use Rattle.life_types.specs.declared.ty.Ty.TheVariants as ty
 use Rattle.life_elab_laws.proofs.HandedTypes.{handed_type, plain_parameter}
+use Rattle.life_elab_laws.proofs.OwnLocals.{first_own}
 
 -- ---- one function among others
 
@@ -49,11 +49,6 @@ there : {X : Type 0} (xs : List X) (n : ℕ) → n < length xs → (x : X) × (s
 there [] n lt = absurd (omega (arith, lt))
 there (x ∷ xs) zero lt = (x, refl)
 there (x ∷ xs) (suc n) lt = there xs n (omega (arith, lt))
-
--- where a table has no more
-past : {X : Type 0} (xs : List X) → slice_get xs (length xs) ≡ None
-past [] = refl
-past (x ∷ xs) = past xs
 
 pub int_at : (p : ProgramForm) (fs : List FunctionForm) (n : ℕ) (f : FunctionForm) → HaveIntMains p.names p.types fs → slice_get fs n ≡ Some f → is_main p.names f.name ≡ true → type_at p.types f.result ≡ ty.Int
 int_at p = each_at (λ (f : FunctionForm). is_main p.names f.name ≡ true → type_at p.types f.result ≡ ty.Int) (HaveIntMains p.names p.types) (λ f fs h. h)
@@ -109,19 +104,22 @@ all_written p (f ∷ fs) w grows table =
       each = λ types later. (record { before = w.types; table = table; is = refl; later = front_then s.types.types _ types.types rest.table later }, rest.each types later);
     }
 
-module _ (p : ProgramForm) (typed : IsWellTyped p) (built : are_served_functions (length (texts_of p)) p.types p.functions ≡ true) (results : HasResults p) (chars : type_at p.types CHAR ≡ ty.Char) where
+module _ (p : ProgramForm) (typed : IsWellTyped p) (built : are_served_functions (length (texts_of p)) p.types p.functions ≡ true) (results : HasResults p) (told : IsServedTable p.types) where
   pub of_program : (n : ℕ) (f : FunctionForm) → slice_get p.functions n ≡ Some f → IsFunctionOf p f
   of_program n f at =
       let t = result_at p.types p.functions n f results at in
       record { typed = each_at (IsWellTypedFunction p) (AreWellTyped p) (λ g gs h. h) p.functions n f typed at; built = served_parts (length (texts_of p)) p.types f (function_built (length (texts_of p)) p.types p.functions n f built at); ty = t.0; result = t.1 }
 
-  setting_of : (types : Types) (fs : List Function) (f : FunctionForm) (core : Function) (n : ℕ) → slice_get p.functions n ≡ Some f → IsFront p.types.types types.types → GivesBack (around p f) types core
-      → ((l : Local) → slice_get core.locals core.parameters ≡ Some l → is_void (ty_of types core.result) ≡ false → (l.name ≡ None) × (l.kind ≡ Register))
+  setting_of : (types : Types) (fs : List Function) (f : FunctionForm) (core : Function) (n : ℕ) → slice_get p.functions n ≡ Some f → IsFront p.types.types types.types → KeepsOrder p.types types → GivesBack (around p f) types core
+      → ((l : Local) → slice_get core.locals core.parameters ≡ Some l → is_void (ty_of types core.result) ≡ false → l.name ≡ None) → (is_void (ty_of types core.result) ≡ false → core.parameters < first_own (around p f))
       → ((g : ℕ) (of : FunctionForm) → slice_get p.functions g ≡ Some of → IsCallee types fs g of) → AreShaped types core.locals → Setting (around p f) types fs core
-  setting_of types fs f core n at front gives register callees shaped = let is = of_program n f at in record {
+  setting_of types fs f core n at front order gives register own callees shaped = let is = of_program n f at in record {
     front = front;
     variables = is.built.variables;
-    chars = chars;
+    values = told.structs;
+    structs = structs_later p.types types front order told.structs;
+    members = members_later p.types types front order;
+    chars = told.chars;
     returned = λ g of there. (of_program g of there).built.result;
     result = is.built.result;
     taken = λ g of there m id at.
@@ -134,8 +132,8 @@ module _ (p : ProgramForm) (typed : IsWellTyped p) (built : are_served_functions
     results = λ g of there. result_at p.types p.functions g of results there;
     gives = gives;
     shaped = shaped;
-    registers = λ l there some. (register l there some).1;
-    nameless = λ l there some. (register l there some).0;
+    own = own;
+    nameless = λ l there some. register l there some;
   }
 
   -- ---- what is written grows: shown with functions that only begin
@@ -156,12 +154,15 @@ module _ (p : ProgramForm) (typed : IsWellTyped p) (built : are_served_functions
   abbrev mute : FunctionForm → Function
   mute f = record (begun f) { result = record { 0 = length p.types.types } }
 
+  none_back : is_void (ty_of p.types (record { 0 = length p.types.types })) ≡ false → ⊥
+  none_back some = false≢true (sym some ∙ ap (λ (o : Option Ty). is_void (or_void o)) (nothing_past p.types.types))
+
   mute_setting : (n : ℕ) (f : FunctionForm) → slice_get p.functions n ≡ Some f → Setting (around p f) p.types (map begun p.functions) (mute f)
   mute_setting n f at =
       let is = of_program n f at in
       let table = front_itself p.types.types in
       let first = subst (λ (x : Types). IsFront x.types p.types.types) (sym (first_types (around p f) p.types is.typed.parameters table)) table in
-      setting_of p.types (map begun p.functions) f (mute f) n at table (unasked (ap class (past p.types.types))) (λ l there some. absurd (false≢true (sym some ∙ ap (λ (o : Option Ty). is_void (or_void o)) (past p.types.types)))) begun_callee
+      setting_of p.types (map begun p.functions) f (mute f) n at table (order_none p.types) (unasked (ap class (nothing_past p.types.types))) (λ l there some. absurd (none_back some)) (λ some. absurd (none_back some)) begun_callee
       (written_shaped (around p f) (first_state (around p f) p.types) p.types table first is.built.variables (first_locals (around p f) p.types is.typed.parameters table is.ty is.result is.built.result))
 
   pub grows : (n : ℕ) (f : FunctionForm) → slice_get p.functions n ≡ Some f → (T : Types) → IsFront p.types.types T.types → FunctionGrows p f T
@@ -188,6 +189,9 @@ module _ (p : ProgramForm) (typed : IsWellTyped p) (built : are_served_functions
   pub whole_order : KeepsOrder p.types whole.types
   whole_order = all.order
 
+  pub whole_front : IsFront p.types.types whole.types.types
+  whole_front = all.table
+
   pub each_written : AreWritten p whole.types p.functions whole.functions
   each_written = subst (AreWritten p whole.types p.functions) (sym all.listed) (all.each whole.types (front_itself whole.types.types))
 
@@ -203,6 +207,10 @@ module _ (p : ProgramForm) (typed : IsWellTyped p) (built : are_served_functions
 
     pub front : IsFront p.types.types whole.types.types
     front = front_then p.types.types w.before.types whole.types.types w.table as_begun.later
+
+    -- structs are served there too
+    held : HasStructs whole.types
+    held = structs_later p.types whole.types whole_front whole_order told.structs
 
     shaped : AreShaped whole.types core.locals
     shaped =
@@ -236,11 +244,11 @@ module _ (p : ProgramForm) (typed : IsWellTyped p) (built : are_served_functions
     one_body mains =
         let begun_so = as_begun n f at core w in
         let setting =
-        setting_of whole.types whole.functions f core n at (front n f at core w) (gives_from p f w.before whole.types core is begun_so (int_at p p.functions n f mains at)) (result_register p f w.before whole.types core is begun_so) callee (shaped n f at core w) in
+        setting_of whole.types whole.functions f core n at (front n f at core w) whole_order (gives_from p f w.before whole.types core is begun_so (int_at p p.functions n f mains at)) (result_nameless p f w.before whole.types core is begun_so) (result_before p f w.before whole.types core is begun_so) callee (shaped n f at core w) in
         function_proper p f w.before whole.types whole.functions core setting is w.table (as_begun n f at core w) (written_begins n f at core w) (ap (λ (c : Function). c.body) w.is)
 
     one_short : AreShort (elements_of whole.types core)
-    one_short = short_function whole.types core (shaped n f at core w) (takes_handed p f w.before whole.types core is (as_begun n f at core w))
+    one_short = short_function whole.types (held n f at core w) core (shaped n f at core w) (takes_handed p f w.before whole.types core is (as_begun n f at core w))
 
     -- the locals are well formed, and what else stands beside the body
     pub one_head : HasNames p → HasFormedHead whole.types (length p.names) core
@@ -248,7 +256,7 @@ module _ (p : ProgramForm) (typed : IsWellTyped p) (built : are_served_functions
         let g = grows n f at w.before w.table in
         subst (HasFormedHead whole.types (length p.names)) (sym w.is)
         (head_formed p f w.before whole.types (length p.names) is w.table (front n f at core w) g.locals w.later g.own
-        (passed_at (is_function_named (length p.names)) (list_all (is_function_named (length p.names))) (λ g gs. refl) p.functions n f names.named at))
+        (passed_at (is_function_named (length p.names)) (list_all (is_function_named (length p.names))) (λ g gs. refl) p.functions n f names.named at) (held n f at core w))
 
   -- ---- what is so of each function is so of all
 

@@ -1,14 +1,10 @@
 -- The core program of a well typed program that is served and that passes no limit is proper, and is served itself.
-use Rattle.std.proofs.Common.{◌≡◌, ◌&&◌, ◌+◌, true, List, [], ◌∷◌, length, sym, ap, subst, ℕ, length-append}
+use Rattle.std.proofs.Common.{◌≡◌, ◌&&◌, ◌+◌, true, [], ◌∷◌, length, sym, subst, ℕ, length-append}
 use Rattle.std.proofs.lemmas.Bool.{and_parts}
-use Rattle.std.specs.List.{list_all}
-use Rattle.life_types.specs.Types.{Types}
-use Rattle.life_types.specs.declared.ty.TyId.{TyId}
-use Rattle.life_served.specs.Served.{are_served_functions, has_no_structs, has_served_types, is_served}
+use Rattle.life_served.specs.Served.{are_served_functions, has_served_types, has_fine_structs, is_served}
 use Rattle.life_typed.specs.Programs.{ProgramForm}
 use Rattle.life_pset.specs.Limits.{IsProgramWithinLimits}
 use Rattle.life_core_served.specs.ProperPrograms.{IsProperProgram, IsServedProgram}
-use Rattle.life_core_served.specs.Served.{are_served_members, has_served_structs}
 use Rattle.life_proper.proofs.ProperFunctions.{ready_program}
 use Rattle.life_well_typed.specs.Functions.{IsWellTyped}
 use Rattle.life_well_typed.specs.Mains.{HasIntMain}
@@ -17,45 +13,44 @@ use Rattle.life_well_typed.specs.Results.{HasResults, HasTable}
 use Rattle.life_elab.specs.Bounds.{HaveShortPlaces}
 use Rattle.life_elab.specs.ProgramForms.{translated}
 use Rattle.life_elab.specs.Programs.{texts_of}
-use Rattle.life_elab_laws.proofs.ProgramNames.{no_structs_there}
 use Rattle.life_elab_laws.proofs.Programs.{program_breaks, program_checked, program_short}
+use Rattle.life_elab_laws.proofs.StructTypes.{IsServedTable, structs_told}
 use Rattle.life_elab_laws.proofs.WellFormedTranslations.{program_formed, program_keeps, program_serves, program_structs}
 use Rattle.life_elab_laws.proofs.WrittenResults.{program_writes_results}
 
--- where there is no struct, all structs are served
-no_struct_served : (types : Types) → types.structs ≡ [] → has_served_structs types ≡ true
-no_struct_served types none = ap (λ (structs : List (List TyId)). list_all (are_served_members types) structs) none
-
 module _ (p : ProgramForm) (built : is_served p ≡ true) where
-  tested : (has_no_structs p.structs && are_served_functions (length p.texts + 1) p.types p.functions) ≡ true
-  tested = (and_parts (has_served_types p.types) (has_no_structs p.structs && are_served_functions (length p.texts + 1) p.types p.functions) built).1
+  tested : (has_fine_structs p.types && are_served_functions (length p.texts + 1) p.types p.functions) ≡ true
+  tested = (and_parts (has_served_types p.types) (has_fine_structs p.types && are_served_functions (length p.texts + 1) p.types p.functions) built).1
 
-  none : has_no_structs p.structs ≡ true
-  none = (and_parts (has_no_structs p.structs) (are_served_functions (length p.texts + 1) p.types p.functions) tested).0
+  structs : has_fine_structs p.types ≡ true
+  structs = (and_parts (has_fine_structs p.types) (are_served_functions (length p.texts + 1) p.types p.functions) tested).0
 
   -- so many texts has its core program
   served : are_served_functions (length (texts_of p)) p.types p.functions ≡ true
   served =
       subst (λ (n : ℕ). are_served_functions n p.types p.functions ≡ true) (sym (length-append p.texts ((10 ∷ []) ∷ [])))
-      (and_parts (has_no_structs p.structs) (are_served_functions (length p.texts + 1) p.types p.functions) tested).1
+      (and_parts (has_fine_structs p.types) (are_served_functions (length p.texts + 1) p.types p.functions) tested).1
+
+  told : HasTable p → IsServedTable p.types
+  told table = record { chars = table.chars; structs = structs_told p.types table.ordered table.once structs }
 
   pub served_short : IsWellTyped p → HasResults p → HasTable p → HaveShortPlaces (translated p).types (translated p).functions
-  served_short typed results table = program_short p typed served results table.chars
+  served_short typed results table = program_short p typed served results (told table)
 
   pub served_proper : IsWellTyped p → HasResults p → HasTable p → HasNames p → HasIntMain p → IsProgramWithinLimits (translated p) → IsProperProgram (translated p)
   served_proper typed results table names mains limits = record {
-    well_formed = program_formed p typed served results table.chars mains names table.ordered table.once (no_structs_there p.structs p.types.structs none table.structs) none;
-    ready = ready_program (translated p) (program_checked p typed served results table.chars mains);
-    results = program_writes_results p typed served results table.chars mains;
-    breaks = program_breaks p typed served results table.chars mains;
-    given = program_keeps p typed served results table.chars mains;
+    well_formed = program_formed p typed served results (told table) mains names table.ordered table.once table.structs;
+    ready = ready_program (translated p) (program_checked p typed served results (told table) mains);
+    results = program_writes_results p typed served results (told table) mains;
+    breaks = program_breaks p typed served results (told table) mains;
+    given = program_keeps p typed served results (told table) mains;
     limits = limits;
   }
 
   pub served_served : IsWellTyped p → HasResults p → HasTable p → HasIntMain p → IsServedProgram (translated p)
   served_served typed results table mains = record {
-    structs = no_struct_served (translated p).types (program_structs p typed served results table.chars mains (no_structs_there p.structs p.types.structs none table.structs));
-    serves = program_serves p typed served results table.chars mains;
+    structs = program_structs p typed served results (told table) mains;
+    serves = program_serves p typed served results (told table) mains;
   }
 
 pub translation_proper : (p : ProgramForm) → IsWellTyped p → HasResults p → HasTable p → HasNames p → HasIntMain p → is_served p ≡ true → IsProgramWithinLimits (translated p) → IsProperProgram (translated p)

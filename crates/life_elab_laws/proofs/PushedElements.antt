@@ -20,12 +20,13 @@ use Rattle.life_proper.specs.Placed.{is_given, is_number_of}
 use Rattle.life_proper.specs.WellFormed.{is_change_of}
 use Rattle.life_proper.specs.declared.known.Known.{Known}
 use Rattle.life_well_typed.specs.Expressions.{typed_in}
-use Rattle.life_well_typed.specs.Given.{is_number}
+use Rattle.life_well_typed.specs.Given.{is_given as is_given_as, is_number}
 use Rattle.life_writer.specs.Around.{Around}
 use Rattle.life_writer.specs.ExpressionForms.{uses}
 use Rattle.life_writer.specs.Giving as giving
 use Rattle.life_writer.specs.Giving.{given_over}
 use Rattle.life_writer.specs.Temporaries.{consumed}
+use Rattle.life_writer.specs.Uses.{Uses}
 use Rattle.life_writer.specs.Using.{value}
 use Rattle.life_writer.specs.Writing.{Gives, State, ◌>>◌, emit, gives}
 use Rattle.life_elab_laws.proofs.AliasForms.{owning_builds, value_builds}
@@ -33,8 +34,10 @@ use Rattle.life_elab_laws.proofs.ChangeSteps.{Takes, changes_part, push_takes}
 use Rattle.life_elab_laws.proofs.Elements.{IsElement, element_is, element_there, has_owner, has_value, inner_owner}
 use Rattle.life_elab_laws.proofs.ExpressionForms.{IsWhole, Standing}
 use Rattle.life_elab_laws.proofs.FormedVariables.{owner_no_value}
-use Rattle.life_elab_laws.proofs.Gifts.{Gift, IsPlaceOf, a_number, both, nothing as no_gift}
+use Rattle.life_elab_laws.proofs.Gifts.{Gift, IsPlaceOf, a_given, a_number, both, nothing as no_gift}
 use Rattle.life_elab_laws.proofs.GivenKinds.{taken_number}
+use Rattle.life_elab_laws.proofs.GivenOwners.{given_handing}
+use Rattle.life_elab_laws.proofs.Handing.{HandingAlone}
 use Rattle.life_elab_laws.proofs.MadeForms.{Builds, IsOwning, owning_owner}
 use Rattle.life_elab_laws.proofs.Making.{IsOpen, IsPlace}
 use Rattle.life_elab_laws.proofs.Parts.{Makes, Part, gives_part, keep_part, then_part, under_part}
@@ -60,6 +63,22 @@ module _ (a : Around) (visible : List ℕ) (types : Types) (texts : ℕ) (fs : L
   giving_number form (inr owner) n =
       let o = owning_owner a visible types texts fs f setting form owner in
       absurd (owner_no_value a.program.types o.ty o.owner (subst (λ (x : ExprType). is_number x ≡ true) o.is n))
+
+  -- an owner is built, and given over
+  over_owner : (t : Ty) → is_owner_of_values a.program.types t ≡ true → (u : Uses) (behind : Place) (s : State) → given_over u t behind s ≡ (giving.given u t behind s >> λ rest r. rest (consumed u.place t) r)
+  over_owner ty.Text o u behind s = refl
+  over_owner (ty.Vector item) o u behind s = refl
+  over_owner _ o u behind s = absurd (false≢true o)
+
+  pub owner_over : (e : Form) → IsGiving e → (t : Ty) → is_owner_of_values a.program.types t ≡ true → is_given_as a.program.types t (typed_in e) ≡ true → (behind : Place) (s : State) → Standing a visible types texts fs f setting s
+      → (let v = given_over (uses a e) t behind s in HandingAlone types texts fs f (v.given ∷ []) s v (a_given types texts fs f t))
+  owner_over e is t o given behind s stands =
+      subst (λ (v : Gives ℕ). HandingAlone types texts fs f (v.given ∷ []) s v (a_given types texts fs f t)) (sym (over_owner t o (uses a e) behind s))
+      (given_handing a visible types texts fs f setting t (uses a e).place s (giving.given (uses a e) t behind s) (inl o) (built is) stands)
+    where
+      built : IsGiving e → Builds a visible types texts fs f setting t s (giving.given (uses a e) t behind s)
+      built (inl whole) = value_builds a visible types texts fs f setting e whole t o given behind s stands
+      built (inr owner) = owning_builds a visible types texts fs f setting e owner t o given behind s stands
 
   -- ---- behind what gave the vector
 
@@ -100,16 +119,6 @@ module _ (a : Around) (visible : List ℕ) (types : Types) (texts : ℕ) (fs : L
       pushes v r number =
           ap (λ (b : Bool). cond b (is_number_of types f (ty_of types item) r) (is_given types f (ty_of types item) r)) (ap is_value holds ∙ v) ∙ ap (λ (w : Ty). is_number_of types f w r) holds ∙ number
 
-      -- an owner
-      over_owner : (t : Ty) → is_owner_of_values a.program.types t ≡ true → given_over (uses a e) t behind s ≡ (giving.given (uses a e) t behind s >> λ rest r. rest (consumed (uses a e).place t) r)
-      over_owner ty.Text o = refl
-      over_owner (ty.Vector element) o = refl
-      over_owner _ o = absurd (false≢true o)
-
-      built : is_owner_of_values a.program.types t ≡ true → IsGiving e → Builds a visible types texts fs f setting t s (giving.given (uses a e) t behind s)
-      built o (inl whole) = value_builds a visible types texts fs f setting e whole t o taken behind s stands
-      built o (inr owner) = owning_builds a visible types texts fs f setting e owner t o taken behind s stands
-
       pub given_pushed : Pushes (given_over (uses a e) t behind s)
       given_pushed = go (element_is a.program.types t worth)
         where
@@ -121,5 +130,4 @@ module _ (a : Around) (visible : List ℕ) (types : Types) (texts : ℕ) (fs : L
               (λ r n. (pushes v r n, push_takes types f t r n)))
           go (has_owner inner) =
               let o = inner_owner a.program.types t inner in
-              subst Pushes (sym (over_owner t o))
-              (pushed_part a visible types texts fs f setting t (uses a e).place s (giving.given (uses a e) t behind s) o (built o is) stands P x to item at typed ready holds)
+              pushed_part a.program.types types texts fs f t o s (given_over (uses a e) t behind s) (owner_over e is t o taken behind s stands) P x to item at typed ready holds

@@ -50,8 +50,8 @@ one_same : {x y : ℕ} → x ∷ [] ≡ y ∷ [] → x ≡ y
 one_same e = cc
 
 -- a hidden local is no temporary
-pub hidden_spared : (f : Function) (table : List Ty) (y : ℕ) → IsHidden f y → IsTemporary f.locals table y → ⊥
-hidden_spared f table y hid is = false≢true (sym (ap (has_kind is_object) hid.there ∙ ap is_object hid.kind) ∙ ap (has_kind is_object) is.there ∙ ap is_object is.kind)
+pub hidden_spared : (f : Function) (low : ℕ) (table : List Ty) (y : ℕ) → IsHidden f y → IsTemporary low f.locals table y → ⊥
+hidden_spared f low table y hid is = false≢true (sym (ap (has_kind is_object) hid.there ∙ ap is_object hid.kind) ∙ ap (has_kind is_object) is.there ∙ ap is_object is.kind)
 
 module _ (types : Types) (texts : ℕ) (fs : List Function) (f : Function) where
   -- ---- what a hidden reference or iterator points to
@@ -78,7 +78,7 @@ module _ (types : Types) (texts : ℕ) (fs : List Function) (f : Function) where
 
   -- no temporary's end touches it
   pub base_spared : (t : Ty) (constant : Bool) (b : Base) (n : ℕ) (k j : List Known) → IsHiddenBase t constant b → IsBase b n k → Spares types texts fs f k j → IsBase b n j
-  base_spared t constant b n k j is h spares = record { local = h.local; uses = h.uses; below = h.below; held = spares h.local (hidden_spared f types.types h.local (is.is h.local h.uses)) ∙ h.held }
+  base_spared t constant b n k j is h spares = record { local = h.local; uses = h.uses; below = h.below; held = spares h.local (λ low. hidden_spared f low types.types h.local (is.is h.local h.uses)) ∙ h.held }
 
   -- a reference to an owner, at a place or made
   pub hidden_owner_part : (few : Types) → IsFront few.types types.types → (id : TyId) (constant : Bool) (t : Ty) (o : Operand) (colon : Place) (s : State) → is_owner_of_values few t ≡ true

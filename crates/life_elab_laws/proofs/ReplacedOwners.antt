@@ -8,7 +8,7 @@ use Rattle.life_types.specs.declared.place.Place.{Place}
 use Rattle.life_types.specs.declared.ty.Ty.{Ty}
 use Rattle.life_types.specs.declared.ty.Ty.TheVariants as ty
 use Rattle.life_typed.specs.Delimiters.{DelimitersForm}
-use Rattle.life_typed.specs.TypedForm.{Form, Typed, binary, call, dereference, index, local, method, move, paren, text_of, typed}
+use Rattle.life_typed.specs.TypedForm.{Form, Typed, binary, call, dereference, index, local, member, method, move, paren, text_of, typed}
 use Rattle.life_typed.specs.declared.typed_expr.Category.{Category}
 use Rattle.life_typed.specs.declared.typed_expr.Category.TheVariants as category
 use Rattle.life_typed.specs.declared.typed_expr.ExprType.{ExprType}
@@ -36,7 +36,7 @@ use Rattle.life_elab_laws.proofs.StringForms.{makes_a_text}
 use Rattle.life_elab_laws.proofs.TypedKinds.{ok_same}
 
 -- nothing between operands needs none
-row_plain : (w : Row) (left right : Uses) (place : Place) (t : ExprType) (c : Category) → (binary_uses w left right place t c).replacing ≡ None
+pub row_plain : (w : Row) (left right : Uses) (place : Place) (t : ExprType) (c : Category) → (binary_uses w left right place t c).replacing ≡ None
 row_plain (Computed by common) left right place t c = refl
 row_plain (Joined by) left right place t c = refl
 row_plain (IsNull side) left right place t c = refl
@@ -108,6 +108,7 @@ module _ (a : Around) (visible : List ℕ) (types : Types) (texts : ℕ) (fs : L
         let t : (typed_in inner).ty ≡ e.ty = ap (λ (y : Typed). y.ty) (ok_same h.0) in
         subst (λ (x : ExprType). IsReplacedAt (moved_in inner) x ((uses a inner).replacing)) t (replaced inner b (ap is_owner_type t ∙ n) h.1)
     replaced_made (dereference inner) e b n h place = inl refl
+    replaced_made (member base which) e b n h place = inl refl
     replaced_made (index base position closing) e b n h place = inl refl
     replaced_made (method base which given delimiters) e b n h place = inl (edge_plain which base given delimiters place e.ty e.category (and_parts (is_edge which) _ b).0)
     replaced_made (binary o left right) e b n h place = inl (row_plain (row_between o left right) (uses a left) (uses a right) place e.ty e.category)

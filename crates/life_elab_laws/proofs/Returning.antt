@@ -53,6 +53,7 @@ use Rattle.life_elab_laws.proofs.Setting.{GivesBack, Setting, asked, unasked}
 use Rattle.life_elab_laws.proofs.Shaped.{is_passing}
 use Rattle.life_elab_laws.proofs.Shaping.{stated_alone, stated_append}
 use Rattle.life_elab_laws.proofs.WrittenLocals.{locals_added}
+use Rattle.life_elab_laws.proofs.OwnLocals.{first_own}
 
 -- what is given back fits the result: a std::unique_ptr alone is moved out
 pub back_given : (t : Ty) (result : TyId) (named : Option TypedLocal) (given : Bool) → is_unique t ≡ false → (moves_out t result named || given) ≡ true → given ≡ true
@@ -70,7 +71,7 @@ module _ (a : Around) (types : Types) (texts : ℕ) (fs : List Function) (f : Fu
       go (unasked value) = ap (λ (c : Class). are_ready k (record nothing { uses = result_uses c f.parameters })) value
       go (asked count some over) = absurd (never (some, over))
 
-  result_ready : (k : List Known) → known_at k (result_local a) ≡ known.Ready → is_node_ready types f k Return ≡ true
+  pub result_ready : (k : List Known) → known_at k (result_local a) ≡ known.Ready → is_node_ready types f k Return ≡ true
   result_ready k there = go setting.gives
     where
       used : (c : Class) → f.parameters ≡ result_local a → are_ready k (record nothing { uses = result_uses c f.parameters }) ≡ true
@@ -136,8 +137,8 @@ module _ (a : Around) (types : Types) (texts : ℕ) (fs : List Function) (f : Fu
     -- .. and behind what is given back, in the register of the result
     module _ (register : IsResultRegister a s) (keyword token : Place) {A : Type 0} (w : Gives A) (Q : Gift types texts fs f A) (made : Makes types texts fs f (Some (result_local a)) s w Q)
         (lands : (n : ℕ) (k : List Known) → Q.ready w.given n k → known_at k (result_local a) ≡ known.Ready) where
-      can : TemporariesEnd types texts fs f
-      can = temporary_ends types texts fs f setting.registers
+      can : TemporariesEnd types texts fs f (first_own a)
+      can = temporary_ends types texts fs f (first_own a) setting.own
 
       abbrev into : Option ℕ
       into = Some (result_local a)
@@ -153,8 +154,8 @@ module _ (a : Around) (types : Types) (texts : ℕ) (fs : List Function) (f : Fu
       later = full_follows types texts fs f a v in_loop into s w Q h can token made
 
       -- the register of the result is none of them
-      no_temporary : Begins types f w.state → IsTemporary f.locals types.types (result_local a) → ⊥
-      no_temporary b is =
+      no_temporary : Begins types f w.state → (low : ℕ) → IsTemporary low f.locals types.types (result_local a) → ⊥
+      no_temporary b low is =
           let same : is.local ≡ register.local = same_Some is.local register.local (sym is.there ∙ b.locals (result_local a) register.local (made.grown.locals (result_local a) register.local register.there)) in
           false≢true (sym (ap (λ (l : Local). is_object l.kind) same ∙ ap is_object register.kind) ∙ ap is_object is.kind)
 
@@ -165,7 +166,7 @@ module _ (a : Around) (types : Types) (texts : ℕ) (fs : List Function) (f : Fu
       not_ending : Among (result_local a) ending → ⊥
       not_ending m = false≢true (sym is.lasts ∙ ap (λ (l : Local). is_passing l) same ∙ passing)
         where
-          is : IsLiving r_state (result_local a)
+          is : IsLiving (first_own a) r_state (result_local a)
           is = later.living (result_local a) (among_drop 0 w.state.living (result_local a) (reverse_among (drop 0 w.state.living) (result_local a) m))
 
           same : is.local ≡ register.local
@@ -204,7 +205,7 @@ module _ (a : Around) (types : Types) (texts : ℕ) (fs : List Function) (f : Fu
           written_there : known_at last (result_local a) ≡ known.Ready
           written_there =
               blank_beside ending middle (result_local a) not_ending
-              ∙ ends_spare types texts fs f s w.state made.grown h.stands.pends token b g.after (result_local a) (no_temporary b)
+              ∙ ends_spare types texts fs f s w.state made.grown _ h.stands.pends token b g.after (result_local a) (no_temporary b)
               ∙ lands (length w.state.locals) g.after g.gives
 
           leaves_there : Leaves f in_loop w.state.living (take s.outside s.living) (flow types f (trees (all_code ++ back)) (Some k))
@@ -278,4 +279,4 @@ module _ (a : Around) (types : Types) (texts : ℕ) (fs : List Function) (f : Fu
       pub result_returned : (x : State) → x ≡ w.state → DoesLevel types texts fs f a v in_loop s (left 0 keyword (Returns keyword) (end_pending (length s.pending) token x))
       result_returned x same =
           subst (λ (x : State). DoesLevel types texts fs f a v in_loop s (left 0 keyword (Returns keyword) (end_pending (length s.pending) token x))) (sym same)
-          (subst (λ (x : State). DoesLevel types texts fs f a v in_loop s (left 0 keyword (Returns keyword) x)) (sym (behind_is types texts fs f s w.state made.grown h.stands.pends token)) result_left)
+          (subst (λ (x : State). DoesLevel types texts fs f a v in_loop s (left 0 keyword (Returns keyword) x)) (sym (behind_is types texts fs f s w.state made.grown _ h.stands.pends token)) result_left)

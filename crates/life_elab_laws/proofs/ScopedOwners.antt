@@ -9,14 +9,12 @@ use Rattle.life_types.specs.declared.place.Place.{Place}
 use Rattle.life_types.specs.declared.ty.Ty.{Ty}
 use Rattle.life_core.specs.Function.{Function}
 use Rattle.life_core.specs.Operands.{Operand, object_named}
-use Rattle.life_core.specs.Step.{Live}
 use Rattle.life_core.specs.Tree.{Acts as Act, Tree, trees}
 use Rattle.life_core.specs.declared.program.Local.{Local}
 use Rattle.life_proper.specs.Knowing.{known_at}
-use Rattle.life_proper.specs.ReadyKnown.{can_leave}
+use Rattle.life_proper.specs.ReadyKnown.{can_leave, set_known}
 use Rattle.life_proper.specs.declared.known.Known.{Known}
 use Rattle.life_proper.specs.declared.known.Known.TheVariants as known
-use Rattle.life_proper.proofs.ReadyTests.{one_known}
 use Rattle.life_well_typed.specs.Visible.{Visible}
 use Rattle.life_writer.specs.Around.{Around}
 use Rattle.life_writer.specs.Uses.{Remaining}
@@ -29,13 +27,12 @@ use Rattle.life_elab_laws.proofs.Emitting.{keeps_set}
 use Rattle.life_elab_laws.proofs.EndSteps.{IsEnded, ended, ends_here}
 use Rattle.life_elab_laws.proofs.Ending.{blank_beside, blank_in, blank_length, ends_there, set_blank}
 use Rattle.life_elab_laws.proofs.Exits.{Knows}
-use Rattle.life_elab_laws.proofs.Falling.{Falls, falls_append, falls_filling}
+use Rattle.life_elab_laws.proofs.Falling.{Falls, falls_append}
 use Rattle.life_elab_laws.proofs.Following.{Adds, Follows, adds_settled, adds_then, follows_again, follows_settled, knows_alive, settled, take_itself}
 use Rattle.life_elab_laws.proofs.Fronts.{IsFront, front_append, front_itself, front_length, front_then, last_there}
 use Rattle.life_elab_laws.proofs.Gifts.{Gift, IsPlaceOf, a_place, both, nothing as no_gift}
-use Rattle.life_elab_laws.proofs.GivenApart.{Apart, codes_apart}
+use Rattle.life_elab_laws.proofs.GivenApart.{Apart, codes_apart, AreApart}
 use Rattle.life_elab_laws.proofs.Growing.{Begins, begins_before}
-use Rattle.life_elab_laws.proofs.Held.{blank_there}
 use Rattle.life_elab_laws.proofs.Knowledge.{at_set, beside_set, set_length}
 use Rattle.life_elab_laws.proofs.MadeForms.{Builds, Found, gift_of, one_new}
 use Rattle.life_elab_laws.proofs.Making.{Alive, IsOpen, opened_later}
@@ -45,11 +42,14 @@ use Rattle.life_elab_laws.proofs.Parts.{Goes, Part, Runs, gives_part, keep_part,
 use Rattle.life_elab_laws.proofs.PendingTemporaries.{ArePending, temporary_later}
 use Rattle.life_elab_laws.proofs.Setting.{Setting}
 use Rattle.life_elab_laws.proofs.Shaped.{is_passing, owner_later}
-use Rattle.life_elab_laws.proofs.Shaping.{IsFine, fine_acts, fine_append}
+use Rattle.life_elab_laws.proofs.Shaping.{IsFine, fine_append}
 use Rattle.life_elab_laws.proofs.TemporaryEnds.{temporary_ends}
 use Rattle.life_elab_laws.proofs.Types.{types_before}
 use Rattle.life_elab_laws.proofs.VariablePlaces.{Stands}
 use Rattle.life_elab_laws.proofs.WrittenLocals.{FitsTemporary, locals_added, owner_below}
+use Rattle.life_core.specs.declared.instr.Form.TheVariants.{Plain}
+use Rattle.life_elab_laws.proofs.Handing.{GoesHanding, RunsHanding, handed_apart}
+use Rattle.life_elab_laws.proofs.OwnLocals.{first_own}
 
 module _ (a : Around) (types : Types) (texts : ℕ) (fs : List Function) (f : Function) (setting : Setting a types fs f) (v : Visible) (s : State) (h : Follows types f a v s)
     (t : Ty) (owner : is_owner_of_values a.program.types t ≡ true) (place : Place) (w : Gives Remaining) (is : Builds a v.visible types texts fs f setting t s w) where
@@ -69,7 +69,7 @@ module _ (a : Around) (types : Types) (texts : ℕ) (fs : List Function) (f : Fu
   there = settled types f s w.state
 
   first : Follows types f a v there
-  first = follows_settled types f a v s w.state is.part.grown h
+  first = follows_settled types f a v s w.state is.hands.grown h
 
   pub within : HasPartsBelow w.state.types (length w.state.types.types) t
   within = owner_below a.program.types w.state.types (front_length a.program.types.types w.state.types.types first.stands.table) t owner
@@ -85,7 +85,7 @@ module _ (a : Around) (types : Types) (texts : ℕ) (fs : List Function) (f : Fu
 
   -- it has come to life
   abbrev begun : State
-  begun = emit place (Live x is.form) kept
+  begun = emit (is.comes.at place) (is.comes.step x) kept
 
   abbrev there_kept : State
   there_kept = with_temporary a types texts fs f place t fits there within
@@ -93,16 +93,17 @@ module _ (a : Around) (types : Types) (texts : ℕ) (fs : List Function) (f : Fu
   second : Follows types f a v there_kept
   second = follows_temporary a types texts fs f place t fits there within v first
 
-  before : ArePending w.state
-  before = is.part.grown.pends h.stands.pends
+  before : ArePending (first_own a) w.state
+  before = is.hands.grown.pends _ h.stands.pends
 
   below : (y : ℕ) → Among y w.state.pending → y < x
   below y m = let was = before.each y m in slice_get_within w.state.locals y was.local was.there
 
-  begun_pends : ArePending begun
+  begun_pends : ArePending (first_own a) begun
   begun_pends = record {
+    past = omega (arith, before.past, length-append w.state.locals (tl ∷ []));
     ascend = before.ascend;
-    each = λ y m. temporary_later w.state.locals begun.locals w.state.types.types begun.types.types y (front_append w.state.locals (tl ∷ [])) (types_before w.state.types.types t) (before.each y m);
+    each = λ y m. temporary_later _ w.state.locals begun.locals w.state.types.types begun.types.types y (front_append w.state.locals (tl ∷ [])) (types_before w.state.types.types t) (before.each y m);
     beside = λ y m c. elim (Contains-push_cases w.state.living x y c) [ inl old ↦ before.beside y m old | inr e ↦ let lt = below y m in omega (arith, e, lt) ];
   }
 
@@ -122,7 +123,7 @@ module _ (a : Around) (types : Types) (texts : ℕ) (fs : List Function) (f : Fu
   acted = is.act place (object_named x) begun
 
   acts : Part types texts fs f P (is.found, object_named x) None begun (gives tt acted) (no_gift types texts fs f)
-  acts = is.acts place (object_named x) begun stood (λ n c. refl) (one_new a v.visible types texts fs f setting s x is.part.grown.count)
+  acts = is.acts place (object_named x) begun stood (λ n c. refl) (one_new a v.visible types texts fs f setting s x h.stands.opened is.hands.grown.count)
 
   pub acted_table : IsFront a.program.types.types acted.types.types
   acted_table = front_then a.program.types.types begun.types.types acted.types.types stood.table acts.grown.types
@@ -142,8 +143,8 @@ module _ (a : Around) (types : Types) (texts : ℕ) (fs : List Function) (f : Fu
         (gives_part types texts fs f P (is.found, object_named x) None (is.found, object_named x) begun P (λ b p. p) (λ b k alive q. q)) acts)
         (under_part types texts fs f (a_place types texts fs f t false) (object_named x) B ((is.found, object_named x), tt) None acted last H part (λ p. p.0.1) (λ n k q. q.0.1))
 
-    pends : ArePending last.state
-    pends = R.grown.pends begun_pends
+    pends : ArePending (first_own a) last.state
+    pends = R.grown.pends _ begun_pends
 
     -- ---- nothing was pending before
 
@@ -187,7 +188,7 @@ module _ (a : Around) (types : Types) (texts : ℕ) (fs : List Function) (f : Fu
 
     adds : Adds types f s finished
     adds =
-        adds_then types f s there finished (adds_settled types f s w.state is.part.grown)
+        adds_then types f s there finished (adds_settled types f s w.state is.hands.grown)
         (adds_then types f there there_kept finished (adds_temporary a types texts fs f place t fits there within v first)
         (record {
           locals = R.grown.locals;
@@ -199,13 +200,13 @@ module _ (a : Around) (types : Types) (texts : ℕ) (fs : List Function) (f : Fu
         }))
 
     abbrev comes : List Tree
-    comes = Act place (Live x is.form) ∷ []
+    comes = Act (is.comes.at place) (is.comes.step x) ∷ []
 
     abbrev all_code : List Tree
-    all_code = is.part.code ++ (comes ++ (R.code ++ e.code))
+    all_code = is.hands.code ++ (comes ++ (R.code ++ e.code))
 
     opened : IsOpen w.state
-    opened = opened_later s w.state is.part.grown h.stands.opened
+    opened = opened_later s w.state is.hands.grown h.stands.opened
 
     -- ---- in the finished function
 
@@ -216,8 +217,8 @@ module _ (a : Around) (types : Types) (texts : ℕ) (fs : List Function) (f : Fu
       it : slice_get f.locals x ≡ Some tl
       it = begins.locals x tl (last_there w.state.locals tl)
 
-      found_first : Runs types texts fs f (no_gift types texts fs f) tt None s (gives is.found w.state) Q is.part.code
-      found_first = is.part.runs (begins_before_it a types texts fs f place t fits w.state within begins) tt
+      found_first : RunsHanding types texts fs f (no_gift types texts fs f) tt is.over s (gives is.found w.state) Q is.hands.code
+      found_first = is.hands.runs (begins_before_it a types texts fs f place t fits w.state within begins) tt
 
       is_place : IsPlaceOf types texts fs f t false (object_named x)
       is_place = kept_place a types texts fs f place t fits w.state within begins
@@ -227,19 +228,19 @@ module _ (a : Around) (types : Types) (texts : ℕ) (fs : List Function) (f : Fu
 
       ends_fine : IsFine types texts fs f e.code
       ends_fine =
-          e.fine (all_among (ends_here types texts fs f) over (λ z m. temporary_ends types texts fs f setting.registers z (temporary_later last.state.locals f.locals last.state.types.types types.types z b.locals b.table (pends.each z (over_pending z m)))))
+          e.fine (all_among (ends_here types texts fs f) over (λ z m. temporary_ends types texts fs f (first_own a) setting.own z (temporary_later _ last.state.locals f.locals last.state.types.types types.types z b.locals b.table (pends.each z (over_pending z m)))))
 
       all_fine : IsFine types texts fs f all_code
       all_fine =
-          fine_append types texts fs f is.part.code (comes ++ (R.code ++ e.code)) found_first.fine
+          fine_append types texts fs f is.hands.code (comes ++ (R.code ++ e.code)) found_first.fine
           (fine_append types texts fs f comes (R.code ++ e.code)
-          (fine_acts types texts fs f place (Live x is.form) (temporary_lives a types texts fs f place t fits w.state within begins is.form))
+          (is.comes.fine found_first.typed place x (temporary_lives a types texts fs f place t fits w.state within begins Plain).formed is_place)
           (fine_append types texts fs f R.code e.code runs.fine ends_fine))
 
       -- ---- on a way
 
       module _ (k : List Known) (knows : Knows f s.living k) where
-        g : Goes types texts fs f None s (gives is.found w.state) Q is.part.code k
+        g : GoesHanding types texts fs f is.over s (gives is.found w.state) Q is.hands.code k
         g = found_first.goes k (knows_alive types f a v s h k knows) tt
 
         lt : x < length g.after
@@ -283,9 +284,9 @@ module _ (a : Around) (types : Types) (texts : ℕ) (fs : List Function) (f : Fu
 
         falls : Falls types f all_code k final
         falls =
-            falls_append types f is.part.code (comes ++ (R.code ++ e.code)) k g.after final g.falls
-            (falls_append types f comes (R.code ++ e.code) g.after j final
-            (falls_filling types f place (Live x is.form) x g.after (record { ready = one_known known.Blank g.after x (blank_there g.after x blank); after = refl }))
+            falls_append types f is.hands.code (comes ++ (R.code ++ e.code)) k (set_known known.Ready is.over g.after) final g.falls
+            (falls_append types f comes (R.code ++ e.code) (set_known known.Ready is.over g.after) j final
+            (is.comes.falls found_first place x g.after g.gives g.blank blank (λ m. let far = is.hands.below x m in omega (arith, far)))
             (falls_append types f R.code e.code j r.after final r.falls (e.falls r.after ready)))
 
         known_there : Knows f last.state.living final
@@ -303,14 +304,14 @@ module _ (a : Around) (types : Types) (texts : ℕ) (fs : List Function) (f : Fu
 
         -- what isn't a temporary is known as before its ends
         spares : Spares types texts fs f r.after final
-        spares z none = blank_beside over r.after z (λ m. none (temporary_later last.state.locals f.locals last.state.types.types types.types z b.locals b.table (pends.each z (over_pending z m))))
+        spares z none = blank_beside over r.after z (λ m. none _ (temporary_later _ last.state.locals f.locals last.state.types.types types.types z b.locals b.table (pends.each z (over_pending z m))))
 
         all_apart : Apart f s finished (trees all_code)
-        all_apart =
-            codes_apart f s w.state finished is.part.code (comes ++ (R.code ++ e.code)) g.apart
-            (codes_apart f w.state begun finished comes (R.code ++ e.code) (kept_none a types texts fs f place t fits w.state within)
+        all_apart under =
+            handed_apart types texts fs f is.over [] s w.state begun finished is.hands.code comes (R.code ++ e.code) under (λ z m. inr (is.comes.named place x z m)) (g.apart under)
+            (λ low. subst (λ (xs : List ℕ). AreApart f w.state begun xs []) (sym (is.comes.looks place x g.after g.gives)) (kept_none a types texts fs f place t fits w.state within low))
             (codes_apart f begun last.state finished R.code e.code r.apart
-            (e.apart last.state finished (omega arith) (λ z o. elim o [ inl m ↦ inl (inl m) | inr m ↦ inl (inr (among_take n last.state.pending z m)) ]))))
+            (e.apart last.state finished (omega arith) (λ z o. elim o [ inl m ↦ inl (inl m) | inr m ↦ inl (inr (among_take n last.state.pending z m)) ])))
 
         opening : Opening types texts fs f (H.ready last.given (length last.state.locals)) s finished all_code k
         opening = record {
@@ -326,15 +327,15 @@ module _ (a : Around) (types : Types) (texts : ℕ) (fs : List Function) (f : Fu
       adds = adds;
       locals = λ are.
           locals_added types a begun last.state R.grown.types R.registers
-          (temporary_written a types texts fs f place t fits w.state within (locals_added types a s w.state is.part.grown.types is.part.registers are));
-      order = order_then s.types w.state.types last.state.types is.part.registers.1 (order_then w.state.types kept.types last.state.types (type_ordered w.state.types t within) R.registers.1);
+          (temporary_written a types texts fs f place t fits w.state within (locals_added types a s w.state is.hands.grown.types is.hands.registers are));
+      order = order_then s.types w.state.types last.state.types is.hands.registers.1 (order_then w.state.types kept.types last.state.types (type_ordered w.state.types t within) R.registers.1);
       follows = third;
       code = all_code;
       written =
-          ap (λ (c : List Tree). c ++ e.code) (R.written ∙ ap (λ (c : List Tree). (c ++ comes) ++ R.code) is.part.written)
-          ∙ append_assoc ((s.code ++ is.part.code) ++ comes) R.code e.code
-          ∙ append_assoc (s.code ++ is.part.code) comes (R.code ++ e.code)
-          ∙ append_assoc s.code is.part.code (comes ++ (R.code ++ e.code));
+          ap (λ (c : List Tree). c ++ e.code) (R.written ∙ ap (λ (c : List Tree). (c ++ comes) ++ R.code) is.hands.written)
+          ∙ append_assoc ((s.code ++ is.hands.code) ++ comes) R.code e.code
+          ∙ append_assoc (s.code ++ is.hands.code) comes (R.code ++ e.code)
+          ∙ append_assoc s.code is.hands.code (comes ++ (R.code ++ e.code));
       fine = λ b. all_fine b;
       goes = λ b k knows. opening b k knows;
     }

@@ -1,4 +1,4 @@
--- The types of variables that are served: values, what points to them, owners, iterators and spans, and unique_ptrs.
+-- The types of variables that are served: values, what points to them, owners, iterators and spans, unique_ptrs, and structs.
 use Rattle.std.proofs.Common.{◌≡◌, ◌⊎◌, inl, inr, Bool, true, ◌||◌, slice_get, Option, Some, None, refl, unwrap_or}
 use Rattle.std.proofs.lemmas.Bool.{false≢true, or_cases, or_left, or_right}
 use Rattle.life_types.specs.TypeTests.{is_value}
@@ -6,7 +6,7 @@ use Rattle.life_types.specs.Types.{Types}
 use Rattle.life_types.specs.declared.ty.Ty.{Ty}
 use Rattle.life_types.specs.declared.ty.Ty.TheVariants as ty
 use Rattle.life_types.specs.declared.ty.TyId.{TyId}
-use Rattle.life_served.specs.Served.{is_owner_of_values, is_pointing, is_served_type, is_served_variable, is_unique_of_element, is_walker_of_values}
+use Rattle.life_served.specs.Served.{is_owner_of_values, is_pointing, is_served_type, is_served_variable, is_struct, is_unique_of_element, is_walker_of_values}
 
 -- the test of a type
 abbrev pub serves : Types → Ty → Bool
@@ -14,16 +14,19 @@ serves types t = is_value t || is_served_type types t
 
 -- what it lets through
 abbrev pub IsServedType : Types → Ty → Type 0
-IsServedType types t = ((is_value t || is_pointing types t) ≡ true) ⊎ ((is_owner_of_values types t ≡ true) ⊎ ((is_walker_of_values types t ≡ true) ⊎ (is_unique_of_element types t ≡ true)))
+IsServedType types t = ((is_value t || is_pointing types t) ≡ true) ⊎ ((is_owner_of_values types t ≡ true) ⊎ ((is_walker_of_values types t ≡ true) ⊎ ((is_unique_of_element types t ≡ true) ⊎ (is_struct t ≡ true))))
 
 pub served_type_is : (types : Types) (t : Ty) → serves types t ≡ true → IsServedType types t
 served_type_is types t h = elim (or_cases (is_value t) (is_served_type types t) h) [
   | inl v ↦ inl (or_left (is_value t) (is_pointing types t) v)
-  | inr s ↦ elim (or_cases (is_pointing types t) (is_owner_of_values types t || (is_walker_of_values types t || is_unique_of_element types t)) s) [
+  | inr s ↦ elim (or_cases (is_pointing types t) (is_owner_of_values types t || (is_walker_of_values types t || (is_unique_of_element types t || is_struct t))) s) [
     | inl p ↦ inl (or_right (is_value t) (is_pointing types t) p)
-    | inr more ↦ elim (or_cases (is_owner_of_values types t) (is_walker_of_values types t || is_unique_of_element types t) more) [
+    | inr more ↦ elim (or_cases (is_owner_of_values types t) (is_walker_of_values types t || (is_unique_of_element types t || is_struct t)) more) [
       | inl o ↦ inr (inl o)
-      | inr others ↦ elim (or_cases (is_walker_of_values types t) (is_unique_of_element types t) others) [ inl w ↦ inr (inr (inl w)) | inr u ↦ inr (inr (inr u)) ]
+      | inr others ↦ elim (or_cases (is_walker_of_values types t) (is_unique_of_element types t || is_struct t) others) [
+        | inl w ↦ inr (inr (inl w))
+        | inr others ↦ elim (or_cases (is_unique_of_element types t) (is_struct t) others) [ inl u ↦ inr (inr (inr (inl u))) | inr structure ↦ inr (inr (inr (inr structure))) ]
+      ]
     ]
   ]
 ]
@@ -31,15 +34,18 @@ served_type_is types t h = elim (or_cases (is_value t) (is_served_type types t) 
 pub type_serves : (types : Types) (t : Ty) → IsServedType types t → serves types t ≡ true
 type_serves types t (inl b) = elim (or_cases (is_value t) (is_pointing types t) b) [
   | inl v ↦ or_left (is_value t) (is_served_type types t) v
-  | inr p ↦ or_right (is_value t) (is_served_type types t) (or_left (is_pointing types t) (is_owner_of_values types t || (is_walker_of_values types t || is_unique_of_element types t)) p)
+  | inr p ↦ or_right (is_value t) (is_served_type types t) (or_left (is_pointing types t) (is_owner_of_values types t || (is_walker_of_values types t || (is_unique_of_element types t || is_struct t))) p)
 ]
 type_serves types t (inr more) =
-    or_right (is_value t) (is_served_type types t) (or_right (is_pointing types t) (is_owner_of_values types t || (is_walker_of_values types t || is_unique_of_element types t)) (go more))
+    or_right (is_value t) (is_served_type types t) (or_right (is_pointing types t) (is_owner_of_values types t || (is_walker_of_values types t || (is_unique_of_element types t || is_struct t))) (go more))
   where
-    go : (is_owner_of_values types t ≡ true) ⊎ ((is_walker_of_values types t ≡ true) ⊎ (is_unique_of_element types t ≡ true)) → (is_owner_of_values types t || (is_walker_of_values types t || is_unique_of_element types t)) ≡ true
-    go (inl o) = or_left (is_owner_of_values types t) (is_walker_of_values types t || is_unique_of_element types t) o
-    go (inr (inl w)) = or_right (is_owner_of_values types t) (is_walker_of_values types t || is_unique_of_element types t) (or_left (is_walker_of_values types t) (is_unique_of_element types t) w)
-    go (inr (inr u)) = or_right (is_owner_of_values types t) (is_walker_of_values types t || is_unique_of_element types t) (or_right (is_walker_of_values types t) (is_unique_of_element types t) u)
+    go : (is_owner_of_values types t ≡ true) ⊎ ((is_walker_of_values types t ≡ true) ⊎ ((is_unique_of_element types t ≡ true) ⊎ (is_struct t ≡ true))) → (is_owner_of_values types t || (is_walker_of_values types t || (is_unique_of_element types t || is_struct t))) ≡ true
+    go (inl o) = or_left (is_owner_of_values types t) (is_walker_of_values types t || (is_unique_of_element types t || is_struct t)) o
+    go (inr (inl w)) = or_right (is_owner_of_values types t) (is_walker_of_values types t || (is_unique_of_element types t || is_struct t)) (or_left (is_walker_of_values types t) (is_unique_of_element types t || is_struct t) w)
+    go (inr (inr (inl u))) =
+        or_right (is_owner_of_values types t) (is_walker_of_values types t || (is_unique_of_element types t || is_struct t)) (or_right (is_walker_of_values types t) (is_unique_of_element types t || is_struct t) (or_left (is_unique_of_element types t) (is_struct t) u))
+    go (inr (inr (inr structure))) =
+        or_right (is_owner_of_values types t) (is_walker_of_values types t || (is_unique_of_element types t || is_struct t)) (or_right (is_walker_of_values types t) (is_unique_of_element types t || is_struct t) (or_right (is_unique_of_element types t) (is_struct t) structure))
 
 -- what is built where it has come to life, by an act of its own: an owner, or a unique_ptr
 abbrev pub IsBuilt : Types → Ty → Type 0
@@ -53,7 +59,8 @@ variable_found types id b = go (slice_get types.types id.0) refl b
     void (inl e) = false≢true e
     void (inr (inl o)) = false≢true o
     void (inr (inr (inl w))) = false≢true w
-    void (inr (inr (inr u))) = false≢true u
+    void (inr (inr (inr (inl u)))) = false≢true u
+    void (inr (inr (inr (inr structure)))) = false≢true structure
 
     go : (o : Option Ty) → slice_get types.types id.0 ≡ o → serves types (unwrap_or o ty.Void) ≡ true → (t : Ty) × (slice_get types.types id.0 ≡ Some t) × IsServedType types t
     go None at b = absurd (void (served_type_is types ty.Void b))

@@ -1,6 +1,7 @@
 -- Where a function is written: in a program that is served, whose core functions take and give what they should.
-use Rattle.std.proofs.Common.{◌≡◌, ℕ, true, false, List, None, Some, slice_get}
+use Rattle.std.proofs.Common.{◌≡◌, ℕ, true, false, List, None, Some, slice_get, ◌<◌}
 use Rattle.life_types.specs.Pointees.{ty_of}
+use Rattle.life_types.specs.Trees.{members_at}
 use Rattle.life_types.specs.TypeTests.{is_void}
 use Rattle.life_types.specs.Types.{Types, class_at}
 use Rattle.life_types.specs.declared.ty.Class.TheVariants.{Value}
@@ -21,7 +22,8 @@ use Rattle.life_elab_laws.proofs.Calls.{IsCallee}
 use Rattle.life_elab_laws.proofs.Fronts.{IsFront}
 use Rattle.life_elab_laws.proofs.HandedTypes.{IsHandedType}
 use Rattle.life_elab_laws.proofs.Shaped.{AreShaped}
-use Rattle.life_core.specs.declared.program.LocalKind.TheVariants.{Register}
+use Rattle.life_elab_laws.proofs.StructTypes.{HasStructs}
+use Rattle.life_elab_laws.proofs.OwnLocals.{first_own}
 
 -- what a return gives back: nothing, or a value, which may be left unwritten; or something that is written, past whose text control doesn't run
 pub data GivesBack (a : Around) (types : Types) (f : Function) : Type 0 where
@@ -31,6 +33,10 @@ pub data GivesBack (a : Around) (types : Types) (f : Function) : Type 0 where
 pub record Setting (a : Around) (types : Types) (fs : List Function) (f : Function) : Type 0 where
   pub front : IsFront a.program.types.types types.types
   pub variables : are_served_variables a.program.types a.function.locals ≡ true
+  -- structs are served, and have the same members in both tables
+  pub values : HasStructs a.program.types
+  pub structs : HasStructs types
+  pub members : (number : ℕ) → members_at types number ≡ members_at a.program.types number
   -- the table has chars, where views have elements
   pub chars : type_at a.program.types CHAR ≡ ty.Char
   pub returned : (g : ℕ) (of : FunctionForm) → slice_get a.program.functions g ≡ Some of → is_served_result a.program.types of.result ≡ true
@@ -44,6 +50,6 @@ pub record Setting (a : Around) (types : Types) (fs : List Function) (f : Functi
   -- what the function itself gives back; its locals without names are registers, and the others variables
   pub gives : GivesBack a types f
   pub shaped : AreShaped types f.locals
-  -- .. and that of the result is one of these registers
-  pub registers : (l : Local) → slice_get f.locals f.parameters ≡ Some l → is_void (ty_of types f.result) ≡ false → l.kind ≡ Register
+  -- .. its own locals lie beyond that of the result, which has no name
+  pub own : is_void (ty_of types f.result) ≡ false → f.parameters < first_own a
   pub nameless : (l : Local) → slice_get f.locals f.parameters ≡ Some l → is_void (ty_of types f.result) ≡ false → l.name ≡ None

@@ -13,7 +13,7 @@ use Rattle.life_typed.specs.BaseTypes.{type_at}
 use Rattle.life_core.specs.declared.program.Local.{Local}
 use Rattle.life_elab_laws.proofs.Fronts.{IsFront, each_at}
 use Rattle.life_elab_laws.proofs.ServedTypes.{IsServedType, serves, type_serves, variable_found, IsBuilt}
-use Rattle.life_elab_laws.proofs.Targets.{IsTarget, owner_target, target_is, target_type, to_owner, to_value, value_target}
+use Rattle.life_elab_laws.proofs.Targets.{IsTarget, owner_target, struct_target, target_is, target_type, to_owner, to_struct, to_value, value_target}
 use Rattle.life_core.specs.Kinds.{is_object}
 use Rattle.life_elab_laws.proofs.Elements.{IsElement, has_value, has_owner, element_is, inner_element, value_element}
 
@@ -39,7 +39,7 @@ module _ (few more : Types) (front : IsFront few.types more.types) where
       go None at o = absurd (void_within n o)
       go (Some t) at o = ap (λ (x : Option Ty). is_owner_within n more (unwrap_or x ty.Void)) (front id.0 t at) ∙ further t o
 
-  within_later : (n : ℕ) (t : Ty) → is_owner_within n few t ≡ true → is_owner_within n more t ≡ true
+  pub within_later : (n : ℕ) (t : Ty) → is_owner_within n few t ≡ true → is_owner_within n more t ≡ true
   within_later zero t o = absurd (false≢true o)
   within_later (suc n) ty.Text o = refl
   within_later (suc n) (ty.Vector element) o = elim (or_cases (is_value (type_at few element)) (is_owner_within n few (type_at few element)) o) [
@@ -71,6 +71,7 @@ module _ (few more : Types) (front : IsFront few.types more.types) where
       go : IsTarget few t → is_target more t ≡ true
       go (to_value v) = value_target more t v
       go (to_owner o) = owner_target more t (owner_later t o)
+      go (to_struct number is) = struct_target more t number is
 
   pub target_later : (id : TyId) → is_target few (type_at few id) ≡ true → is_target more (type_at more id) ≡ true
   target_later id h = go (slice_get few.types id.0) refl h
@@ -105,7 +106,8 @@ module _ (few more : Types) (front : IsFront few.types more.types) where
   served_later t (inl b) = inl (type_later t b)
   served_later t (inr (inl o)) = inr (inl (owner_later t o))
   served_later t (inr (inr (inl w))) = inr (inr (inl (walker_later t w)))
-  served_later t (inr (inr (inr u))) = inr (inr (inr (unique_later t u)))
+  served_later t (inr (inr (inr (inl u)))) = inr (inr (inr (inl (unique_later t u))))
+  served_later t (inr (inr (inr (inr structure)))) = inr (inr (inr (inr structure)))
 
   pub variable_later : (id : TyId) → is_served_variable few id ≡ true → is_served_variable more id ≡ true
   variable_later id b =

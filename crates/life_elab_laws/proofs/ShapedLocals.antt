@@ -39,7 +39,7 @@ module _ (a : Around) (s : State) (whole : Types) (front : IsFront a.program.typ
           reached : FitsTemporary a.program.types is.ty → IsServedType whole is.ty
           reached (inl value) = inl (or_left (is_value is.ty) (is_pointing whole is.ty) value)
           reached (inr (inl owner)) = inr (inl (owner_later a.program.types whole front is.ty owner))
-          reached (inr (inr unique)) = inr (inr (inr (unique_later a.program.types whole front is.ty unique)))
+          reached (inr (inr unique)) = inr (inr (inr (inl (unique_later a.program.types whole front is.ty unique))))
 
   own_shaped : (l : Local) → IsOwn a l → IsShaped whole l
   own_shaped l is lasts =

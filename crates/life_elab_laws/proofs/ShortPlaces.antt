@@ -1,10 +1,10 @@
--- The places of a function that is translated have eight steps at most: its objects are values and owners of values, which have no more, and such are behind its parameters.
-use Rattle.std.proofs.Common.{◌≡◌, ◌<◌, ◌≤◌, ◌+◌, inl, ℕ, zero, suc, Bool, true, false, ◌&&◌, ◌||◌, List, [], ◌∷◌, ◌++◌, if◌then◌else◌, flat_map, map, nat_lt, slice_get, Option, Some, None, is_none, not, refl, ap, ◌∙◌, subst, sym, unwrap_or, arith, inr, ◌⊎◌}
-use Rattle.std.proofs.lemmas.Bool.{false≢true, or_cases}
+-- The places of a function that is translated have eight steps at most: its objects are values, owners of values and structs of these, which have no more, and such are behind its parameters.
+use Rattle.std.proofs.Common.{◌≡◌, length, ◌<◌, ◌≤◌, ◌+◌, inl, ℕ, zero, suc, Bool, true, false, ◌&&◌, ◌||◌, List, [], ◌∷◌, ◌++◌, if◌then◌else◌, flat_map, map, nat_lt, slice_get, Option, Some, None, is_none, not, refl, ap, ◌∙◌, subst, sym, unwrap_or, arith, inr, ◌⊎◌}
+use Rattle.std.proofs.lemmas.Bool.{and_parts, false≢true, or_cases}
 use Rattle.std.proofs.lemmas.Bool.Decides.{nat_tests}
-use Rattle.life_served.specs.Served.{is_served_variable, is_element, is_owner_of_values, is_owner_within, is_target}
+use Rattle.life_served.specs.Served.{have_each, is_element, is_member_within, is_owner_of_values, is_owner_within, is_served_variable, is_target}
 use Rattle.life_types.specs.Pointees.{or_void, ty_of}
-use Rattle.life_types.specs.Trees.{tree_at, tree_of, tree_within}
+use Rattle.life_types.specs.Trees.{members_at, struct_of, tree_at, tree_of, tree_within}
 use Rattle.life_types.specs.TypeTests.{is_pointer, is_value}
 use Rattle.life_types.specs.Types.{Types}
 use Rattle.life_types.specs.declared.place.Place.{Place}
@@ -20,19 +20,20 @@ use Rattle.life_core.specs.declared.program.Local.{Local}
 use Rattle.life_core.specs.declared.program.LocalKind.{LocalKind}
 use Rattle.life_core.specs.declared.program.LocalKind.TheVariants.{Object, Register, Range}
 use Rattle.life_core.specs.Kinds.{is_object}
-use Rattle.life_pset.specs.Elements.{AreShort, Input, input_at, input_if, input_root, causes_of_end, caused_at, caused_elements, elements_of, end_elements, input_places, inputs_among, inputs_from, inputs_of, local_inputs, local_place, locations_in, node_elements, object_places, objects_from, places_in, pointers_in, step_elements}
+use Rattle.life_pset.specs.Elements.{AreShort, Input, input_at, input_if, input_root, causes_of_end, caused_at, caused_elements, elements_of, end_elements, input_places, inputs_among, inputs_from, inputs_of, local_inputs, local_place, locations_in, node_elements, object_places, objects_from, places_from, places_in, pointers_in, step_elements}
 use Rattle.life_pset.specs.Shapes.{has_buffer, is_variable, shape, shape_if, target_of, tree_if, unslotted}
 use Rattle.life_pset.specs.declared.element.AbsPlace.{AbsPlace}
 use Rattle.life_pset.specs.declared.element.Cause.{Cause}
 use Rattle.life_pset.specs.declared.element.Element.{Element}
 use Rattle.life_pset.specs.declared.element.Element.TheVariants as element
+use Rattle.life_elab_laws.proofs.StructTypes.{HasStructs}
 use Rattle.life_elab_laws.proofs.ServedTypes.{IsServedType, serves, type_serves, value_serves}
 use Rattle.life_elab_laws.proofs.Shaped.{AreShaped, IsShaped}
-use Rattle.life_elab_laws.proofs.HandedTypes.{IsHandedType, a_raw, a_reference, a_value, a_view, a_walker, an_alias, an_owner, a_unique}
-use Rattle.life_pset.specs.Places.{longer, owned_place, owned_step, root_place, too_long}
+use Rattle.life_elab_laws.proofs.HandedTypes.{IsHandedType, a_raw, a_reference, a_value, a_view, a_walker, an_alias, an_owner, a_unique, a_struct_alias}
+use Rattle.life_pset.specs.Places.{longer, member_place, owned_place, owned_step, root_place, too_long}
 use Rattle.life_elab_laws.proofs.Elements.{IsElement, has_owner, has_value, element_is, element_target}
 use Rattle.life_pset.specs.declared.element.Root.{Root}
-use Rattle.life_elab_laws.proofs.Targets.{IsTarget, owner_target, target_is, target_referred, to_owner, to_value, value_target}
+use Rattle.life_elab_laws.proofs.Targets.{IsTarget, owner_target, target_is, target_referred, to_owner, to_value, value_target, struct_target, to_struct}
 use Rattle.life_elab_laws.proofs.OperandsThere.{type_either}
 
 -- ---- lists
@@ -77,7 +78,7 @@ module _ (f : Function) where
 
 -- ---- types of variables
 
-module _ (types : Types) where
+module _ (types : Types) (structs : HasStructs types) where
   -- a value has no parts
   value_parts : (n : ℕ) (item : TyId) (at : AbsPlace) → AreShort (element.At at ∷ []) → is_value (type_at types item) ≡ true → AreShort (map element.At (places_in at (tree_within n types item)))
   value_parts zero item at short v = short
@@ -128,6 +129,54 @@ module _ (types : Types) where
       go (has_value v) = value_parts n item at (omega (arith, room), tt) v
       go (has_owner o) = within_parts 7 n item at room o
 
+  -- a struct has its members, and these have parts themselves, as far as there is room
+  member_room : (at : AbsPlace) (k m : ℕ) → at.length + suc m ≤ 8 → k < 255 → (member_place at k).length + m ≤ 8
+  member_room at k m room few = among (nat_lt k 255) refl
+    where
+      past : (a b : ℕ) → nat_lt a b ≡ false → b ≤ a
+      past a b h = grind (arith, nat_tests)
+
+      go : (b : Bool) → nat_lt at.length 8 ≡ b → (if b then longer at k else too_long at).length + m ≤ 8
+      go true is = omega (arith, room)
+      go false is = absurd (omega (arith, room, past at.length 8 is))
+
+      among : (b : Bool) → nat_lt k 255 ≡ b → (if b then (if nat_lt at.length 8 then longer at k else too_long at) else too_long at).length + m ≤ 8
+      among true is = go (nat_lt at.length 8) refl
+      among false is = absurd (omega (arith, few, past k 255 is))
+
+  -- what a member has, so many steps deep
+  abbrev IsShortMember : (m n : ℕ) → Type 0
+  IsShortMember m n = (id : TyId) (to : AbsPlace) → to.length + m ≤ 8 → is_member_within m types (type_at types id) ≡ true → AreShort (map element.At (places_in to (tree_within n types id)))
+
+  members_short : (m n : ℕ) (at : AbsPlace) → at.length + suc m ≤ 8 → IsShortMember m n → (k : ℕ) (ids : List TyId) → k + length ids < 255 → have_each (is_member_within m types) types ids ≡ true
+      → AreShort (map element.At (places_from at k (struct_of (tree_within n types) ids)))
+  members_short m n at room inside k [] few b = tt
+  members_short m n at room inside k (id ∷ ids) few b =
+      let parts = and_parts (is_member_within m types (type_at types id)) (have_each (is_member_within m types) types ids) b in
+      short_places (places_in (member_place at k) (tree_within n types id)) (places_from at (k + 1) (struct_of (tree_within n types) ids))
+      (inside id (member_place at k) (member_room at k m room (omega (arith, few))) parts.0)
+      (members_short m n at room inside (k + 1) ids (omega (arith, few)) parts.1)
+
+  struct_short : (m n : ℕ) (at : AbsPlace) → at.length + suc m ≤ 8 → IsShortMember m n → (ids : List TyId) → length ids < 33 → have_each (is_member_within m types) types ids ≡ true → AreShort (map element.At (places_in at (struct_of (tree_within n types) ids)))
+  struct_short m n at room inside [] few b = (omega (arith, room), tt)
+  struct_short m n at room inside (id ∷ ids) few b = (omega (arith, room), members_short m n at room inside 0 (id ∷ ids) (omega (arith, few)) b)
+
+  member_parts : (m n : ℕ) (at : AbsPlace) → at.length + suc m ≤ 8 → IsShortMember m n → (o : Option Ty) → is_member_within (suc m) types (unwrap_or o ty.Void) ≡ true → AreShort (map element.At (places_in at (tree_of types (tree_within n types) o)))
+  member_parts m n at room inside (Some (ty.Struct number)) b = struct_short m n at room inside (members_at types number) (structs.few number) b
+  member_parts m n at room inside (Some ty.Text) b = owner_parts m n at room (λ item. within_parts m n item (owned_place at) (owned_room at m room)) (Some ty.Text) refl
+  member_parts m n at room inside (Some (ty.Vector item)) b = owner_parts m n at room (λ item. within_parts m n item (owned_place at) (owned_room at m room)) (Some (ty.Vector item)) b
+  member_parts m n at room inside (Some ty.Bool) b = (omega (arith, room), tt)
+  member_parts m n at room inside (Some ty.Char) b = (omega (arith, room), tt)
+  member_parts m n at room inside (Some ty.Int) b = (omega (arith, room), tt)
+  member_parts m n at room inside (Some ty.Long) b = (omega (arith, room), tt)
+  member_parts m n at room inside (Some ty.Size) b = (omega (arith, room), tt)
+  member_parts m n at room inside _ b = absurd (false≢true b)
+
+  member_short : (m n : ℕ) → IsShortMember m n
+  member_short zero n id to room b = value_parts n id to (omega (arith, room), tt) b
+  member_short (suc m) zero id to room b = (omega (arith, room), tt)
+  member_short (suc m) (suc n) id to room b = member_parts m n to room (member_short m n) (slice_get types.types id.0) b
+
   -- .. nor has a pointer, and an owner has its elements
   short_parts : (id : TyId) → is_served_variable types id ≡ true → (x : ℕ) → AreShort (map element.At (places_in (local_place x) (tree_at types id)))
   unfolding tree_at
@@ -140,8 +189,8 @@ module _ (types : Types) where
       go : (o : Option Ty) → serves types (unwrap_or o ty.Void) ≡ true → AreShort (map element.At (places_in (local_place x) (tree_of types (tree_within id.0 types) o)))
       go (Some ty.Text) b = (omega arith, (omega arith, tt))
       go (Some (ty.Vector item)) b = (omega arith, element_parts id.0 item (owned_place (local_place x)) (omega arith) (plain (is_element types (type_at types item)) b))
-      go (Some (ty.Unique target)) b = (omega arith, element_parts id.0 target (owned_place (local_place x)) (omega arith) b)
-      go (Some (ty.Struct number)) b = absurd (false≢true b)
+      go (Some (ty.Unique target)) b = (omega arith, element_parts id.0 target (owned_place (local_place x)) (omega arith) (plain (is_element types (type_at types target)) b))
+      go (Some (ty.Struct number)) b = struct_short 2 id.0 (local_place x) (omega arith) (member_short 2 id.0) (members_at types number) (structs.few number) (structs.members number)
       go _ b = (omega arith, tt)
 
   -- .. and stands as it is, also where a parameter has it
@@ -221,7 +270,7 @@ module _ (types : Types) where
       ap (λ (b : Bool). if b then at ∷ [] else pointers_in at (tree_at types id)) (ap (λ (o : Option Ty). is_variable k (or_void o)) found ∙ no_buffer_pointer k t none)
       ∙ ap (λ (o : Option Ty). pointers_in at (tree_of types (tree_within id.0 types) o)) found ∙ one id.0 at
 
-  -- what stands behind it is short: a value is one place, and an owner has its elements too
+  -- what stands behind it is short: a value is one place, an owner has its elements too, and a struct its members
   abbrev IsShortBehind : TyId → Type 0
   IsShortBehind id = (r : Root) → AreShort (map element.At (places_in (root_place r) (tree_if types (target_of (ty_of types id)))))
 
@@ -246,12 +295,27 @@ module _ (types : Types) where
       parts (Some (ty.Vector item)) o = (omega arith, element_parts id.0 item (owned_place (root_place r)) (omega arith) o)
       parts _ o = absurd (false≢true o)
 
+  -- .. a struct its members
+  behind_short : (r : Root) (id : TyId) (number : ℕ) → type_at types id ≡ ty.Struct number → AreShort (map element.At (places_in (root_place r) (tree_at types id)))
+  unfolding tree_at
+  behind_short r id number s = parts (slice_get types.types id.0) s
+    where
+      no_struct : ty.Void ≡ ty.Struct number → ⊥
+      no_struct e = cc
+
+      parts : (t : Option Ty) → unwrap_or t ty.Void ≡ ty.Struct number → AreShort (map element.At (places_in (root_place r) (tree_of types (tree_within id.0 types) t)))
+      parts None e = absurd (no_struct e)
+      parts (Some t) e =
+          subst (λ (u : Ty). AreShort (map element.At (places_in (root_place r) (tree_of types (tree_within id.0 types) (Some u))))) (sym e)
+          (struct_short 2 id.0 (root_place r) (omega arith) (member_short 2 id.0) (members_at types number) (structs.few number) (structs.members number))
+
   target_short : (id : TyId) → is_target types (type_at types id) ≡ true → (r : Root) → AreShort (map element.At (places_in (root_place r) (tree_at types id)))
   target_short id h r = go (target_is types (type_at types id) h)
     where
       go : IsTarget types (type_at types id) → AreShort (map element.At (places_in (root_place r) (tree_at types id)))
       go (to_value w) = subst (λ (xs : List AbsPlace). AreShort (map element.At xs)) (sym (one_place id w (root_place r))) (omega arith, tt)
       go (to_owner o) = owner_short r id o
+      go (to_struct number s) = behind_short r id number s
 
   -- ---- inputs whose places are short
 
@@ -323,6 +387,9 @@ module _ (types : Types) where
   handed_inputs k x id (an_alias target constant at o) =
       let h = owner_target types (type_at types target) o in
       pointer_inputs k x id (ty.Reference target constant) at (inl h) refl (λ n place. refl) (target_behind id (ty.Reference target constant) target at refl h)
+  handed_inputs k x id (a_struct_alias target constant number at s) =
+      let h = struct_target types (type_at types target) number s in
+      pointer_inputs k x id (ty.Reference target constant) at (inl h) refl (λ n place. refl) (target_behind id (ty.Reference target constant) target at refl h)
   handed_inputs k x id (a_view at) =
       pointer_inputs k x id ty.View at (inl refl) refl (λ n place. refl) (λ r. subst (λ (o : Option Ty). AreShort (map element.At (places_in (root_place r) (tree_if types (target_of (or_void o)))))) (sym at) (omega arith, tt))
   handed_inputs k x id (a_walker (ty.Iterator target constant) at w) =
@@ -332,7 +399,7 @@ module _ (types : Types) where
   handed_inputs k x id (a_walker _ at w) = absurd (false≢true w)
   handed_inputs k x id (an_owner t at o) = owner_inputs k x id t at o
   handed_inputs k x id (a_unique target at w) =
-      pointer_inputs k x id (ty.Unique target) at (inr (inr (inr w))) refl (λ n place. refl)
+      pointer_inputs k x id (ty.Unique target) at (inr (inr (inr (inl w)))) refl (λ n place. refl)
       (λ r. subst (λ (o : Option Ty). AreShort (map element.At (places_in (root_place r) (tree_if types (target_of (or_void o)))))) (sym at) (omega arith, tt))
 
   local_short : (n x : ℕ) (l : Local) → (x < n → IsHandedType types l.ty) → AreShortInputs (local_inputs types n x l)

@@ -24,12 +24,13 @@ use Rattle.life_elab_laws.proofs.Setting.{Setting}
 use Rattle.life_elab_laws.proofs.Outputs.{item_part}
 use Rattle.life_elab_laws.proofs.Simples.{Acts, done_part}
 use Rattle.life_elab_laws.proofs.VariablePlaces.{Stands, stands_later}
+use Rattle.life_elab_laws.proofs.OwnLocals.{first_own}
 
 module _ (a : Around) (types : Types) (texts : ℕ) (fs : List Function) (f : Function) (setting : Setting a types fs f) (v : Visible) (in_loop : Bool) where
   -- its temporaries end behind it
   acts_does : (s s' : State) (behind : Place) → Follows types f a v s → Acts a v.visible types texts fs f setting s s' → DoesLevel types texts fs f a v in_loop s (end_pending (length s.pending) behind s')
   acts_does s s' behind follows part = record {
-    does = does_full types texts fs f a v in_loop None s (gives tt s') (nothing types texts fs f) follows (temporary_ends types texts fs f setting.registers) behind part;
+    does = does_full types texts fs f a v in_loop None s (gives tt s') (nothing types texts fs f) follows (temporary_ends types texts fs f (first_own a) setting.own) behind part;
     level = end_living types texts fs f (reverse (drop (length s.pending) s'.pending)) behind s' ∙ part.grown.living;
   }
 

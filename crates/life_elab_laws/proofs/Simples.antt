@@ -1,8 +1,8 @@
 -- Assignments, steps, and calls that stand alone.
-use Rattle.std.proofs.Common.{◌≡◌, inl, inr, ℕ, Bool, true, false, if◌then◌else◌, List, cond, is_none, length, not, Option, Some, None, refl, sym, ap, ◌∙◌, subst, ◌&&◌, ◌||◌}
+use Rattle.std.proofs.Common.{◌≡◌, inl, inr, ℕ, Bool, true, false, if◌then◌else◌, List, cond, is_none, length, not, Option, Some, None, Err, refl, sym, ap, ◌∙◌, subst, ◌&&◌, ◌||◌, rules}
 use Rattle.std.proofs.lemmas.Bool.{and_from, and_parts, false≢true, or_cases}
 use Rattle.std.specs.Prelude.{pos}
-use Rattle.life_types.specs.TypeTests.{is_value, is_void, is_text, is_view, is_iterator}
+use Rattle.life_types.specs.TypeTests.{is_value, is_void, is_text, is_unique, is_view, is_iterator}
 use Rattle.life_types.specs.Types.{Types, class}
 use Rattle.life_types.specs.declared.place.Place.{Place}
 use Rattle.life_types.specs.declared.ty.Class.{Class}
@@ -11,7 +11,7 @@ use Rattle.life_types.specs.declared.ty.Ty.{Ty}
 use Rattle.life_types.specs.declared.ty.Ty.TheVariants as ty
 use Rattle.life_tree.specs.declared.operator.CompoundOperator.{CompoundOperator}
 use Rattle.life_tree.specs.declared.operator.StepOperator.{StepOperator}
-use Rattle.life_served.specs.Served.{are_served_elements, calls_any, fills_owner, fills_unique, form_type, is_call, is_changing, is_number_type, is_owner_of_values, is_owner_type, is_served_any, is_served_assigned, is_served_change, is_served_either, is_served_expression, is_served_left, is_served_object, is_served_owner, is_served_owning, is_served_renewed, is_served_reset, is_served_simple, is_served_target, is_served_unique, is_served_walker, is_vector, is_vector_type, is_view_type, is_walker_of_values, is_walker_type}
+use Rattle.life_served.specs.Served.{are_served_elements, calls_any, fills_owner, fills_unique, form_type, is_call, is_changing, is_number_type, is_owner_of_values, is_owner_type, is_served_any, is_served_assigned, is_served_change, is_served_either, is_served_expression, is_served_left, is_served_object, is_served_owner, is_served_owning, is_served_renewed, is_served_reset, is_served_simple, is_served_struct, is_served_unique, is_served_walker, is_vector, is_vector_type, is_view_type, is_walker_of_values, is_walker_type, is_struct_type, is_element, is_served_fresh, is_unique_type}
 use Rattle.life_typed.specs.Operators.{promoted}
 use Rattle.life_typed.specs.Statements.{can_step, compounded}
 use Rattle.life_typed.specs.TypedForm.{Form, Typed, call, forms, method, text, typed, whole as whole_form}
@@ -52,11 +52,11 @@ use Rattle.life_elab.specs.SimpleForms.{advanced, appended, assigned, combined, 
 use Rattle.life_elab.specs.Simples.{compound_operator, held, put_back, step_operator}
 use Rattle.life_elab_laws.proofs.Aiming.{literal_given, pointed_fine, pointed_keeps, pointed_ready}
 use Rattle.life_elab_laws.proofs.HandingCalls.{alone_call_part}
-use Rattle.life_elab_laws.proofs.ExpressionTypes.{IsAnswered, answers_nothing, answers_place, answers_raw, answers_value, answers_view, own_no_iterator, own_no_text, own_value, seen_kind, answers_owner, answers_walker}
+use Rattle.life_elab_laws.proofs.ExpressionTypes.{IsAnswered, answers_nothing, answers_place, answers_raw, answers_value, answers_view, own_no_iterator, own_no_text, own_value, seen_kind, answers_owner, answers_walker, answers_struct, answers_made, answers_unique, own_no_unique}
 use Rattle.life_elab_laws.proofs.ExpressionForms.{IsCall, IsWhole}
-use Rattle.life_elab_laws.proofs.Expressions.{asked_expression, givings, named_unique, object_expression, owner_expression, walker_expression, whole_expression}
+use Rattle.life_elab_laws.proofs.Expressions.{asked_expression, givings, named_unique, object_expression, owner_expression, struct_expression, walker_expression, whole_expression, fresh_expression}
 use Rattle.life_elab_laws.proofs.PointerForms.{placed_operand, pointer_whole, points_whole, result_later}
-use Rattle.life_elab_laws.proofs.FormedFits.{given_raw, given_seen, given_owner, given_string, given_walker, given_vector}
+use Rattle.life_elab_laws.proofs.FormedFits.{given_raw, given_seen, given_owner, given_string, given_walker, given_vector, given_struct}
 use Rattle.life_elab_laws.proofs.Filling.{text_filling}
 use Rattle.life_elab_laws.proofs.Gifts.{Gift, takes_from, a_number, a_place, a_pointer, a_pointing, both, nothing}
 use Rattle.life_elab_laws.proofs.GivenKinds.{given_number, given_pointer, given_view}
@@ -80,7 +80,7 @@ use Rattle.life_elab_laws.proofs.ObjectForms.{IsObject, IsOwner}
 use Rattle.life_elab_laws.proofs.JoinedForms.{literal_builds}
 use Rattle.life_elab_laws.proofs.ListForms.{list_builds}
 use Rattle.life_elab_laws.proofs.Saving.{saved_part}
-use Rattle.life_elab_laws.proofs.MadeForms.{Builds, BuildsIn, IsMade, IsOwning, is_made, stands_there, temporary_dead, temporary_made}
+use Rattle.life_elab_laws.proofs.MadeForms.{Builds, BuildsIn, IsMade, IsOwning, is_made, stands_there, temporary_dead, temporary_made, temporary_spare}
 use Rattle.life_elab_laws.proofs.MovedOwners.{given_moved, IsNamedAt, moved_assigned_part}
 use Rattle.life_elab_laws.proofs.MoveSteps.{moves_part, owner_moves}
 use Rattle.life_elab_laws.proofs.NamedTargets.{named_target, named_unique_target}
@@ -88,7 +88,8 @@ use Rattle.life_names.specs.declared.fault.IllKind.{IllKind}
 use Rattle.life_elab_laws.proofs.OwnerSteps.{copies_part}
 use Rattle.life_elab_laws.proofs.ReplacedOwners.{IsReplaced, replaced}
 use Rattle.life_elab_laws.proofs.SeenForms.{string_points}
-use Rattle.life_elab_laws.proofs.UniqueStatements.{reset_part, unique_assigned_part}
+use Rattle.life_elab_laws.proofs.StructStatements.{struct_assigned_part}
+use Rattle.life_elab_laws.proofs.UniqueStatements.{reset_part, unique_assigned_part, unique_renewed_part}
 use Rattle.life_elab_laws.proofs.WalkerForms.{IsWalker, walker_pointer, walker_points, vector_points}
 use Rattle.life_elab_laws.proofs.WalkerSteps.{advance_filling, advance_given, keeps_itself}
 use Rattle.life_types.specs.Pointees.{ty_of}
@@ -98,10 +99,15 @@ use Rattle.life_elab_laws.proofs.ViewForms.{asks_for, gives_as}
 use Rattle.life_typed.specs.Members.{answer, has_method, method_answer}
 use Rattle.life_elab_laws.proofs.ReferredOwners.{walker_value}
 use Rattle.life_well_typed.specs.Members.{IsCalled}
-use Rattle.life_typed.specs.Conversions.{fits}
+use Rattle.life_typed.specs.Conversions.{fits, fitting}
+use Rattle.life_typed.specs.declared.misfit.Misfit.TheVariants.{General}
+use Rattle.life_types.specs.contracts.ty.TyIdPartialEq.TheImpl.{ghosts as id}
+use Rattle.life_elab_laws.proofs.CalledUniques.{called_unique}
 use Rattle.life_elab_laws.proofs.Elements.{one_element}
 use Rattle.life_elab_laws.proofs.PushedElements.{AreGiving}
 use Rattle.life_elab_laws.proofs.FreeObjects.{object_part}
+use Rattle.life_elab_laws.proofs.StructReferences.{kind_no_struct}
+use Rattle.life_elab_laws.proofs.StructForms.{IsStruct}
 
 value_class : (t : Ty) → is_value t ≡ true → class (Some t) ≡ classes.Value
 value_class = by_values (λ t. class (Some t) ≡ classes.Value) refl refl refl refl refl
@@ -348,8 +354,11 @@ module _ (a : Around) (visible : List ℕ) (types : Types) (texts : ℕ) (fs : L
       by_answer (answers_value v own held) = number_thrown e behind s (whole e b h) (ap is_number own ∙ v) stands
       by_answer (answers_raw target constant raw w own held) = pointer_thrown e behind s (whole e b h) target constant own held stands
       by_answer (answers_walker w own held) = absurd (kind_no_walker a.program.types e (whole e b h).kind.kind (type_at a.program.types is.of.result) w own)
+      by_answer (answers_unique target unique w own held) = absurd (false≢true (sym (own_no_unique a.program.types e (whole e b h).kind.kind) ∙ ap (λ (x : ExprType). is_unique (own_type x)) own))
+      by_answer (answers_made o own held) = absurd (kind_no_owner a.program.types e (whole e b h).kind.kind (type_at a.program.types is.of.result) o own)
       by_answer (answers_view view own held) = view_thrown e behind s (whole e b h) own held stands
       by_answer (answers_place target constant refers w own held) = number_thrown e behind s (whole e b h) (ap is_number own ∙ w) stands
+      by_answer (answers_struct target constant number refers structure own held) = absurd (kind_no_struct a.program.types e (whole e b h).kind.kind (ap is_struct_type own))
       by_answer (answers_owner target constant refers o own held) = absurd (kind_no_owner a.program.types e (whole e b h).kind.kind (type_at a.program.types target) o own)
   discarded_part (method base m given d) e behind s same b h calls stands =
       let made : IsMadeOf a.program a.function.locals visible e (method base m given d) = subst (IsMadeOf a.program a.function.locals visible e) same h in
@@ -364,6 +373,67 @@ module _ (a : Around) (visible : List ℕ) (types : Types) (texts : ℕ) (fs : L
   object_thrown e behind s is stands =
       subst (Acts s) (sym (ap (λ (k : Category). thrown k (uses a (whole_form e)) behind s) is.place))
       (seen_part types texts fs f no_gift tt None s ((uses a (whole_form e)).at s) (a_place types texts fs f is.ty is.constant) (λ (o : Operand). tt) no_gift (is.names s stands) (λ b h. tt) (λ n k h. tt))
+
+  -- nor is the struct
+  struct_thrown : (e : Typed) (behind : Place) (s : State) → (is : IsStruct a visible types texts fs f setting (whole_form e)) → Standing s → Acts s (thrown e.category (uses a (whole_form e)) behind s)
+  struct_thrown e behind s is stands =
+      subst (Acts s) (sym (ap (λ (k : Category). thrown k (uses a (whole_form e)) behind s) is.place))
+      (seen_part types texts fs f no_gift tt None s ((uses a (whole_form e)).at s) (a_place types texts fs f (ty.Struct is.number) is.constant) (λ (o : Operand). tt) no_gift (is.names s stands) (λ b h. tt) (λ n k h. tt))
+
+  -- .. and one that a call gives is a temporary
+  made_thrown : (e : Typed) (behind : Place) (s : State) → (is : IsMade a visible types texts fs f setting (whole_form e)) → Standing s → Acts s (thrown e.category (uses a (whole_form e)) behind s)
+  made_thrown e behind s is stands =
+      let u = uses a (whole_form e) in
+      let w = mapped object_named (temporary_of u is.ty s) in
+      subst (Acts s)
+      (sym (ap (λ (k : Category). thrown k u behind s) is.value
+      ∙ ap (λ (x : Ty). cond (is_void x) (u.alone s) (thrown_by (class (Some x)) u behind s)) (ap own_type is.is)
+      ∙ by_owner is.ty is.owner
+      ∙ ap (λ (x : Ty). (temporary_of u x s).state) (ap own_type is.is)))
+      (seen_part types texts fs f no_gift tt None s w (a_place types texts fs f is.ty false) (λ (o : Operand). tt) no_gift
+      (temporary_made a visible types texts fs f setting is.ty u.place s (u.object s) (inl is.owner) (is.builds s stands) stands) (λ b h. tt) (λ n k h. tt))
+    where
+      by_owner : (t : Ty) → is_owner_of_values a.program.types t ≡ true → cond (is_void t) ((uses a (whole_form e)).alone s) (thrown_by (class (Some t)) (uses a (whole_form e)) behind s) ≡ (temporary_of (uses a (whole_form e)) (own (uses a (whole_form e))) s).state
+      by_owner ty.Text o = refl
+      by_owner (ty.Vector item) o = refl
+      by_owner _ o = absurd (false≢true o)
+
+  owning_thrown : (e : Typed) (behind : Place) (s : State) → IsOwning a visible types texts fs f setting (whole_form e) → Standing s → Acts s (thrown e.category (uses a (whole_form e)) behind s)
+  owning_thrown e behind s (stands_there is) stands = object_thrown e behind s is stands
+  owning_thrown e behind s (is_made is) stands = made_thrown e behind s is stands
+
+  -- .. also a unique_ptr, which owns what the call has made
+  fresh_thrown : (e : Typed) (behind : Place) (s : State) (target : TyId) → e.ty ≡ Of (ty.Unique target) → is_element a.program.types (type_at a.program.types target) ≡ true → e.category ≡ category.Value
+      → Builds a visible types texts fs f setting (ty.Unique target) s ((uses a (whole_form e)).object s) → Standing s → Acts s (thrown e.category (uses a (whole_form e)) behind s)
+  fresh_thrown e behind s target is worth held builds stands =
+      let u = uses a (whole_form e) in
+      let w = mapped object_named (temporary_of u (ty.Unique target) s) in
+      subst (Acts s)
+      (sym (ap (λ (k : Category). thrown k u behind s) held
+      ∙ ap (λ (x : Ty). cond (is_void x) (u.alone s) (thrown_by (class (Some x)) u behind s)) (ap own_type is)
+      ∙ ap (λ (x : Ty). (temporary_of u x s).state) (ap own_type is)))
+      (seen_part types texts fs f no_gift tt None s w (a_place types texts fs f (ty.Unique target) false) (λ (o : Operand). tt) no_gift
+      (temporary_made a visible types texts fs f setting (ty.Unique target) u.place s (u.object s) (inr worth) builds stands) (λ b h. tt) (λ n k h. tt))
+
+  fresh_left : (form : Form) (e : Typed) (behind : Place) (s : State) → e.form ≡ form → calls_any form ≡ true → is_served_fresh texts (whole_form e) ≡ true → Whole e → Standing s → Acts s (thrown e.category (uses a (whole_form e)) behind s)
+  fresh_left (call g given d) e behind s same calls b h stands =
+      let parts = and_parts (is_unique_type e.ty) (is_served_fresh texts e.form) b in
+      let made : IsMadeOf a.program a.function.locals visible e (call g given d) = subst (IsMadeOf a.program a.function.locals visible e) same h in
+      let x = called_unique a visible types texts fs f setting g e parts.0 made.0 in
+      let from = fresh_expression a visible types texts fs f setting (whole_form e) b h in
+      fresh_thrown e behind s x.0 x.2 x.1 from.value (from.builds x.0 x.1 (given_itself e x.0 x.2 from.value) s stands) stands
+    where
+      itself : (target : TyId) → id.eq target target ≡ true
+      itself target = search rules
+
+      given_itself : (e : Typed) (target : TyId) → e.ty ≡ Of (ty.Unique target) → e.category ≡ category.Value → is_given a.program.types (ty.Unique target) e ≡ true
+      given_itself e target is held =
+          ap (λ (x : ExprType). fits_at_all (fits a.program.types (ty.Unique target) x e.category)) is
+          ∙ ap (λ (c : Category). fits_at_all (fits a.program.types (ty.Unique target) (Of (ty.Unique target)) c)) held
+          ∙ ap (λ (b : Bool). fits_at_all (if b then fitting else Err General)) (itself target)
+  fresh_left (method base m given d) e behind s same calls b h stands =
+      absurd (false≢true (sym (ap (is_served_fresh texts) same) ∙ (and_parts (is_unique_type e.ty) (is_served_fresh texts e.form) b).1))
+  fresh_left _ e behind s same calls b h stands = absurd (false≢true calls)
 
   -- ---- changes of owners
 
@@ -428,12 +498,18 @@ module _ (a : Around) (visible : List ℕ) (types : Types) (texts : ℕ) (fs : L
 
   left_statement : (e : Typed) (behind : Place) (s : State) → is_served_left texts e ≡ true → Whole e → Standing s → Acts s (thrown e.category (uses a (whole_form e)) behind s)
   left_statement e behind s b h stands =
-      let one = and_parts (calls_any e.form) (is_served_target texts e || is_served_walker texts (whole_form e)) b in
-      elim (or_cases (is_served_target texts e) (is_served_walker texts (whole_form e)) one.1) [
+      let one = and_parts (calls_any e.form) (is_served_owning texts e || (is_served_walker texts (whole_form e) || (is_served_struct texts (whole_form e) || is_served_fresh texts (whole_form e)))) b in
+      elim (or_cases (is_served_owning texts e) (is_served_walker texts (whole_form e) || (is_served_struct texts (whole_form e) || is_served_fresh texts (whole_form e))) one.1) [
         | inl owner ↦
-            let two = and_parts (is_owner_type e.ty) (is_served_object texts (whole_form e)) owner in
-            object_thrown e behind s (object_expression a visible types texts fs f setting (whole_form e) two.1 two.0 h) stands
-        | inr walks ↦ walker_thrown e behind s (walker_expression a visible types texts fs f setting (whole_form e) walks h) (walker_left e.form e refl one.0 walks h) stands
+            let two = and_parts (is_owner_type e.ty) (is_served_owner texts (whole_form e)) owner in
+            owning_thrown e behind s (owner_expression a visible types texts fs f setting (whole_form e) two.1 two.0 h) stands
+        | inr others ↦ elim (or_cases (is_served_walker texts (whole_form e)) (is_served_struct texts (whole_form e) || is_served_fresh texts (whole_form e)) others) [
+          | inl walks ↦ walker_thrown e behind s (walker_expression a visible types texts fs f setting (whole_form e) walks h) (walker_left e.form e refl one.0 walks h) stands
+          | inr others ↦ elim (or_cases (is_served_struct texts (whole_form e)) (is_served_fresh texts (whole_form e)) others) [
+            | inl structure ↦ struct_thrown e behind s (struct_expression a visible types texts fs f setting (whole_form e) structure h) stands
+            | inr fresh ↦ fresh_left e.form e behind s refl one.0 fresh h stands
+          ]
+        ]
       ]
 
   -- ---- assignments of owners
@@ -483,7 +559,8 @@ module _ (a : Around) (visible : List ℕ) (types : Types) (texts : ℕ) (fs : L
       ∙ ap (λ (r : Option (State → Gives Act)). acted (replaced_by r (temporary_of u to.ty) s) (target_of (uses a (whole_form target))) equals) plain))
       (then_part types texts fs f no_gift tt None s (gives (object_named w.given, o.given) o.state) _ (both_of P P) no_gift stands.opened
       (and_part types texts fs f no_gift tt s (mapped object_named w) o P P stands.opened first second)
-      (moves_part types texts fs f setting.registers (both_of P P) (object_named w.given, o.given) to.ty o.given w.given equals o.state (owner_moves a.program.types to.ty to.owner) (λ h. (h.1, h.0)) (λ n k q. (q.1, q.0)) apart))
+      (moves_part types texts fs f (both_of P P) (object_named w.given, o.given) to.ty o.given w.given equals o.state (owner_moves a.program.types to.ty to.owner)
+      (λ h. (h.1, (h.0, temporary_spare a visible types texts fs f setting to.ty u.place s (u.object s) (inl to.owner) builds stands))) (λ n k q. (q.1, q.0)) apart))
 
   -- .. of a literal
   filled_part : (target e : Typed) (equals behind : Place) (s : State) → (to : IsObject a visible types texts fs f setting (whole_form target)) → to.constant ≡ false → (form : Form) → e.form ≡ form → fills_owner texts form ≡ true
@@ -654,13 +731,20 @@ module _ (a : Around) (visible : List ℕ) (types : Types) (texts : ℕ) (fs : L
       ]
 
   -- a unique_ptr
-  unique_reassigned_part : (target e : Typed) (equals behind : Place) (s : State) → (is_served_unique (whole_form target) && fills_unique texts e.form) ≡ true
+  unique_reassigned_part : (target e : Typed) (equals behind : Place) (s : State) → (is_served_unique (whole_form target) && (fills_unique texts e.form || is_served_fresh texts (whole_form e))) ≡ true
       → IsSimple a.program a.function.locals a.function.result visible (assign target equals (one e)) → Standing s → Acts s (assigned a target equals (one e) behind s)
   unique_reassigned_part target e equals behind s b h stands =
-      let parts = and_parts (is_served_unique (whole_form target)) (fills_unique texts e.form) b in
+      let parts = and_parts (is_served_unique (whole_form target)) (fills_unique texts e.form || is_served_fresh texts (whole_form e)) b in
       let to = named_unique a visible types texts fs f setting (whole_form target) parts.0 h.0.1 in
-      unique_assigned_part a visible types texts fs f setting target e equals behind to e.form s refl parts.1 h.1.1 (subst (λ (t : Ty). is_given a.program.types t e ≡ true) (own_same target.ty ∙ ap own_type to.is) h.1.0)
-      (named_unique_target a visible types texts fs f setting (whole_form target) parts.0 h.0.1) (and_parts (is_none (whole_fault a.program.types target.category)) (is_none (self_fault target.form (one e))) h.2).1 stands
+      let given = subst (λ (t : Ty). is_given a.program.types t e ≡ true) (own_same target.ty ∙ ap own_type to.is) h.1.0 in
+      let name = named_unique_target a visible types texts fs f setting (whole_form target) parts.0 h.0.1 in
+      let other = (and_parts (is_none (whole_fault a.program.types target.category)) (is_none (self_fault target.form (one e))) h.2).1 in
+      elim (or_cases (fills_unique texts e.form) (is_served_fresh texts (whole_form e)) parts.1) [
+        | inl fills ↦ unique_assigned_part a visible types texts fs f setting target e equals behind to e.form s refl fills h.1.1 given name other stands
+        | inr fresh ↦
+            unique_renewed_part a visible types texts fs f setting target e equals behind to e.form s refl (and_parts (is_unique_type e.ty) (is_served_fresh texts e.form) fresh).1
+            (fresh_expression a visible types texts fs f setting (whole_form e) fresh h.1.1) h.1.1 given name other stands
+      ]
 
   reset_statement : (form : Form) (e : Typed) (behind : Place) (s : State) → e.form ≡ form → is_served_reset form ≡ true → Whole e → Standing s → Acts s (thrown e.category (uses a (whole_form e)) behind s)
   reset_statement (method base methods.Reset given d) e behind s same b h stands =
@@ -669,15 +753,28 @@ module _ (a : Around) (visible : List ℕ) (types : Types) (texts : ℕ) (fs : L
   reset_statement (method base _ given d) e behind s same b h stands = absurd (false≢true b)
   reset_statement _ e behind s same b h stands = absurd (false≢true b)
 
+  -- a struct is copied
+  struct_reassigned_part : (target e : Typed) (equals behind : Place) (s : State) → (is_served_struct texts (whole_form target) && is_served_struct texts (whole_form e)) ≡ true
+      → IsSimple a.program a.function.locals a.function.result visible (assign target equals (one e)) → Standing s → Acts s (assigned a target equals (one e) behind s)
+  struct_reassigned_part target e equals behind s b h stands =
+      let parts = and_parts (is_served_struct texts (whole_form target)) (is_served_struct texts (whole_form e)) b in
+      let to = struct_expression a visible types texts fs f setting (whole_form target) parts.0 h.0.1 in
+      let from = struct_expression a visible types texts fs f setting (whole_form e) parts.1 h.1.1 in
+      let alike = given_struct a.program.types to.number from.number e from.is (subst (λ (t : Ty). is_given a.program.types t e ≡ true) (own_same target.ty ∙ ap own_type to.is) h.1.0) in
+      struct_assigned_part a visible types texts fs f setting target e equals behind s to (to_free target.category to.constant (ap is_constant to.place) (and_parts (is_place target.ty target.category) (not (is_constant target.category)) h.0.0).1) from alike stands
+
   reassigned_part : (target e : Typed) (equals behind : Place) (s : State) → is_served_renewed texts target e ≡ true → IsSimple a.program a.function.locals a.function.result visible (assign target equals (one e)) → Standing s
       → Acts s (assigned a target equals (one e) behind s)
   reassigned_part target e equals behind s b h stands = elim (or_cases ((is_owner_type target.ty && is_served_object texts (whole_form target)) && ((is_owner_type e.ty && is_served_owner texts (whole_form e)) || (fills_owner texts e.form))) _ b) [
     | inl owners ↦ owner_assigned_part target e equals behind s owners h stands
     | inr others ↦ elim (or_cases ((is_view_type target.ty && is_served_expression texts target) && (is_owner_type e.ty && is_served_owner texts (whole_form e))) _ others) [
       | inl views ↦ view_assigned_part target e equals behind s views h stands
-      | inr others ↦ elim (or_cases (is_served_walker texts (whole_form target) && (is_served_walker texts (whole_form e) || (is_owner_type e.ty && is_served_owner texts (whole_form e)))) (is_served_unique (whole_form target) && fills_unique texts e.form) others) [
+      | inr others ↦ elim (or_cases (is_served_walker texts (whole_form target) && (is_served_walker texts (whole_form e) || (is_owner_type e.ty && is_served_owner texts (whole_form e)))) _ others) [
         | inl walks ↦ walker_reassigned_part target e equals behind s walks h stands
-        | inr uniques ↦ unique_reassigned_part target e equals behind s uniques h stands
+        | inr others ↦ elim (or_cases (is_served_unique (whole_form target) && (fills_unique texts e.form || is_served_fresh texts (whole_form e))) (is_served_struct texts (whole_form target) && is_served_struct texts (whole_form e)) others) [
+          | inl uniques ↦ unique_reassigned_part target e equals behind s uniques h stands
+          | inr structs ↦ struct_reassigned_part target e equals behind s structs h stands
+        ]
       ]
     ]
   ]

@@ -45,6 +45,7 @@ use Rattle.life_elab_laws.proofs.Stopping.{still_stops, stops, stops_end, stops_
 use Rattle.life_elab_laws.proofs.TemporaryEnds.{temporary_ends}
 use Rattle.life_elab_laws.proofs.Under.{level_plain, level_under, nothing_more, nothing_stays, tests_under}
 use Rattle.life_elab_laws.proofs.UniqueTests.{deciding_condition}
+use Rattle.life_elab_laws.proofs.OwnLocals.{first_own}
 
 module _ (a : Around) (types : Types) (texts : ℕ) (fs : List Function) (f : Function) (setting : Setting a types fs f) (lines : nat_lt (end_line a) texts ≡ true) where
   abbrev IsTyped : StmtForm → Bool → Visible → Type 0
@@ -88,7 +89,7 @@ module _ (a : Around) (types : Types) (texts : ℕ) (fs : List Function) (f : Fu
       → Tests types texts fs f (Some behind) s (condition_or_true a keyword e behind s)
   decided_or_true v keyword None behind s b h follows =
       level_tests types texts fs f behind s (condition_or_true a keyword None behind s) refl
-      (non_zero_part types texts fs f keyword None ty.Bool (computed None ty.Bool keyword (constant (pos 1))) s follows.stands.pends (temporary_ends types texts fs f setting.registers) (constant_part types texts fs f None ty.Bool keyword (pos 1) (with_code [] s) refl tt))
+      (non_zero_part types texts fs f keyword None ty.Bool (computed None ty.Bool keyword (constant (pos 1))) s _ follows.stands.pends (temporary_ends types texts fs f (first_own a) setting.own) (constant_part types texts fs f None ty.Bool keyword (pos 1) (with_code [] s) refl tt))
   decided_or_true v keyword (Some e) behind s b h follows = decided v e behind s b h follows
 
   pub stepped : (v : Visible) (it : Option SimpleForm) (place : Place) (s : State) → is_served_step texts it ≡ true → IsSimpleIfAny a.program a.function.locals a.function.result v.visible it → Follows types f a v s → DoesLevel types texts fs f a v false s (simple_if a it place s)

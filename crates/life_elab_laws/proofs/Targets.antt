@@ -1,5 +1,5 @@
--- What a raw pointer or a reference is to: a value, or an owner of values.
-use Rattle.std.proofs.Common.{◌≡◌, ◌<◌, inl, inr, Bool, true, false, not, length, slice_get, Option, Some, None, refl, sym, ap, ◌∙◌, unwrap_or}
+-- What a raw pointer or a reference is to: a value, an owner of values, or a struct.
+use Rattle.std.proofs.Common.{◌≡◌, ◌<◌, inl, inr, ℕ, Bool, true, false, ◌||◌, not, length, slice_get, Option, Some, None, refl, sym, ap, ◌∙◌, unwrap_or}
 use Rattle.std.proofs.lemmas.Bool.{false≢true, or_cases, or_left, or_right}
 use Rattle.std.proofs.lemmas.Option.{slice_get_within}
 use Rattle.life_types.specs.Pointees.{or_void, ty_of}
@@ -8,7 +8,7 @@ use Rattle.life_types.specs.Types.{Types, is_slot_target, is_slot_type}
 use Rattle.life_types.specs.declared.ty.Ty.{Ty}
 use Rattle.life_types.specs.declared.ty.Ty.TheVariants as ty
 use Rattle.life_types.specs.declared.ty.TyId.{TyId}
-use Rattle.life_served.specs.Served.{is_owner_of_values, is_target}
+use Rattle.life_served.specs.Served.{is_owner_of_values, is_struct, is_target}
 use Rattle.life_typed.specs.BaseTypes.{type_at}
 use Rattle.life_proper.specs.OperandTypes.{same}
 use Rattle.life_pset.specs.Shapes.{referred}
@@ -18,15 +18,26 @@ use Rattle.life_elab_laws.proofs.Types.{same_type}
 pub data IsTarget (types : Types) (t : Ty) : Type 0 where
   to_value : is_value t ≡ true → IsTarget types t
   to_owner : is_owner_of_values types t ≡ true → IsTarget types t
+  to_struct : (number : ℕ) → t ≡ ty.Struct number → IsTarget types t
+
+struct_is : (t : Ty) → is_struct t ≡ true → (number : ℕ) × (t ≡ ty.Struct number)
+struct_is (ty.Struct number) h = (number, refl)
+struct_is _ h = absurd (false≢true h)
 
 pub target_is : (types : Types) (t : Ty) → is_target types t ≡ true → IsTarget types t
-target_is types t h = elim (or_cases (is_value t) (is_owner_of_values types t) h) [ inl v ↦ to_value v | inr o ↦ to_owner o ]
+target_is types t h = elim (or_cases (is_value t) (is_owner_of_values types t || is_struct t) h) [
+  | inl v ↦ to_value v
+  | inr other ↦ elim (or_cases (is_owner_of_values types t) (is_struct t) other) [ inl o ↦ to_owner o | inr structure ↦ let s = struct_is t structure in to_struct s.0 s.1 ]
+]
 
 pub value_target : (types : Types) (t : Ty) → is_value t ≡ true → is_target types t ≡ true
-value_target types t v = or_left (is_value t) (is_owner_of_values types t) v
+value_target types t v = or_left (is_value t) (is_owner_of_values types t || is_struct t) v
 
 pub owner_target : (types : Types) (t : Ty) → is_owner_of_values types t ≡ true → is_target types t ≡ true
-owner_target types t o = or_right (is_value t) (is_owner_of_values types t) o
+owner_target types t o = or_right (is_value t) (is_owner_of_values types t || is_struct t) (or_left (is_owner_of_values types t) (is_struct t) o)
+
+pub struct_target : (types : Types) (t : Ty) (number : ℕ) → t ≡ ty.Struct number → is_target types t ≡ true
+struct_target types t number is = ap (is_target types) is
 
 -- ---- its type
 

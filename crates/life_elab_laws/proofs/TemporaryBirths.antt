@@ -1,5 +1,5 @@
 -- A temporary comes to life: an object without a name, which is pending from there on.
-use Rattle.std.proofs.Common.{◌≡◌, ◌<◌, ◌⊎◌, inl, inr, ℕ, true, false, List, [], ◌∷◌, ◌++◌, Contains, length, slice_get, slice_set, Some, None, refl, ◌∙◌, subst, arith, length-append}
+use Rattle.std.proofs.Common.{◌≡◌, ◌<◌, ◌⊎◌, inl, inr, ℕ, true, false, List, [], ◌∷◌, ◌++◌, Contains, length, slice_get, slice_set, Some, None, refl, ◌∙◌, subst, arith, length-append, ◌≤◌}
 use Rattle.std.proofs.lemmas.Bool.{and_parts, false≢true, or_left}
 use Rattle.std.specs.List.{list_all}
 use Rattle.std.proofs.lemmas.Option.{slice_get_within}
@@ -73,7 +73,7 @@ no_reference types t (inr (inr unique)) = go t unique
     go _ w = absurd (false≢true w)
 
 module _ (types : Types) (texts : ℕ) (fs : List Function) (f : Function) (place : Place) (step : ℕ → Step) (t : Ty) (s : State) (fits : FitsTemporary types t)
-    (opened : IsOpen s) (before : ArePending s) (within : HasPartsBelow s.types (length s.types.types) t) where
+    (opened : IsOpen s) (low : ℕ) (before : ArePending low s) (within : HasPartsBelow s.types (length s.types.types) t) where
   -- its number, and its local
   abbrev pub x : ℕ
   x = length s.locals
@@ -91,8 +91,9 @@ module _ (types : Types) (texts : ℕ) (fs : List Function) (f : Function) (plac
 
   -- ---- what is written grows
 
-  is : IsTemporary begun.locals begun.types.types x
-  is = record {
+  own : (n : ℕ) → n ≤ length s.locals → IsTemporary n begun.locals begun.types.types x
+  own n le = record {
+    beyond = le;
     local = l;
     there = last_there s.locals l;
     nameless = refl;
@@ -105,16 +106,17 @@ module _ (types : Types) (texts : ℕ) (fs : List Function) (f : Function) (plac
   below : (y : ℕ) → Among y s.pending → y < x
   below y m = let was = before.each y m in slice_get_within s.locals y was.local was.there
 
-  pends : ArePendingIn begun.locals begun.types.types s.living (s.pending ++ x ∷ [])
-  pends = record {
+  pends : (n : ℕ) → ArePending n s → ArePendingIn n begun.locals begun.types.types s.living (s.pending ++ x ∷ [])
+  pends n p = record {
+    past = omega (arith, p.past, length-append s.locals (l ∷ []));
     ascend = ascend_more 0 s.pending x before.ascend (omega arith) below;
     each = λ y m. each y (among_either s.pending (x ∷ []) y m);
     beside = λ y m. beside y (among_either s.pending (x ∷ []) y m);
   }
     where
-      each : (y : ℕ) → Among y s.pending ⊎ Among y (x ∷ []) → IsTemporary begun.locals begun.types.types y
-      each y (inl old) = temporary_later s.locals begun.locals s.types.types begun.types.types y (front_append s.locals (l ∷ [])) (types_before s.types.types t) (before.each y old)
-      each y (inr (inl e)) = subst (IsTemporary begun.locals begun.types.types) e is
+      each : (y : ℕ) → Among y s.pending ⊎ Among y (x ∷ []) → IsTemporary n begun.locals begun.types.types y
+      each y (inl old) = temporary_later _ s.locals begun.locals s.types.types begun.types.types y (front_append s.locals (l ∷ [])) (types_before s.types.types t) (p.each y old)
+      each y (inr (inl e)) = subst (IsTemporary n begun.locals begun.types.types) e (own n p.past)
       each y (inr (inr none)) = absurd none
 
       beside : (y : ℕ) → Among y s.pending ⊎ Among y (x ∷ []) → Contains s.living y → ⊥
@@ -131,7 +133,7 @@ module _ (types : Types) (texts : ℕ) (fs : List Function) (f : Function) (plac
     living = refl;
     pending = front_append s.pending (x ∷ []);
     fresh = λ y m lt. elim (among_either s.pending (x ∷ []) y m) [ inl old ↦ old | inr new ↦ elim new [ inl e ↦ absurd (omega (arith, e, lt)) | inr none ↦ absurd none ] ];
-    pends = λ p. pends;
+    pends = λ n p. pends n p;
     outside = refl;
   }
 
@@ -219,17 +221,17 @@ module _ (types : Types) (texts : ℕ) (fs : List Function) (f : Function) (plac
 
 -- .. by itself
 module _ (types : Types) (texts : ℕ) (fs : List Function) (f : Function) (place : Place) (form : Form) (t : Ty) (s : State) (fits : FitsTemporary types t)
-    (opened : IsOpen s) (before : ArePending s) (within : HasPartsBelow s.types (length s.types.types) t) where
+    (opened : IsOpen s) (low : ℕ) (before : ArePending low s) (within : HasPartsBelow s.types (length s.types.types) t) where
   abbrev lives : ℕ → Step
   lives x = Live x form
 
   abbrev pub lived_there : Gives Operand
-  lived_there = born types texts fs f place lives t s fits opened before within
+  lived_there = born types texts fs f place lives t s fits opened low before within
 
   pub lived_fine : Begins types f lived_there.state → IsFineStep types texts fs f (Live (length s.locals) form)
-  lived_fine b = record { given = refl; formed = born_lives types texts fs f place lives t s fits opened before within b }
+  lived_fine b = record { given = refl; formed = born_lives types texts fs f place lives t s fits opened low before within b }
 
   pub lived_part : Makes types texts fs f None s lived_there (a_place types texts fs f t false)
   lived_part =
-      born_part types texts fs f place lives t s fits opened before within (nothing types texts fs f) tt
+      born_part types texts fs f place lives t s fits opened low before within (nothing types texts fs f) tt
       (λ b p. lived_fine b) (λ k q blank. live_fills types f (length s.locals) form k blank)

@@ -1,5 +1,5 @@
 -- The types that well typed expressions have, where they are served: values, pointers to values and to owners, views, literals, nothing, and nullptr.
-use Rattle.std.proofs.Common.{◌≡◌, inl, inr, Bool, true, false, ◌||◌, cond, subst, Option, Some, None, Result, Ok, Err, refl, sym, ap, ◌∙◌}
+use Rattle.std.proofs.Common.{◌≡◌, inl, inr, ℕ, Bool, true, false, ◌||◌, cond, subst, Option, Some, None, Result, Ok, Err, refl, sym, ap, ◌∙◌}
 use Rattle.std.proofs.lemmas.Bool.{false≢true}
 use Rattle.std.proofs.lemmas.Option.{cond_some}
 use Rattle.life_types.specs.TypeTests.{is_iterator, is_text, is_unique, is_value, is_view}
@@ -18,8 +18,8 @@ use Rattle.life_typed.specs.declared.typed_expr.Category.TheVariants as category
 use Rattle.life_typed.specs.declared.typed_expr.ExprType.TheVariants.{Of, NullPointer, TextLiteral}
 use Rattle.life_type_expr.specs.Operands.{answer_of, combination, combined_to, place_of, value, variable_of}
 use Rattle.life_elab_laws.proofs.ServedTypes.{IsServedType}
-use Rattle.life_elab_laws.proofs.ResultTypes.{IsResultType, gives_alias, gives_walker, gives_nothing, gives_raw, gives_reference, gives_value, gives_view}
-use Rattle.life_elab_laws.proofs.Targets.{IsTarget, target_is, to_owner, to_value}
+use Rattle.life_elab_laws.proofs.ResultTypes.{IsResultType, gives_alias, gives_walker, gives_nothing, gives_raw, gives_reference, gives_struct, gives_value, gives_view, gives_owner, gives_unique}
+use Rattle.life_elab_laws.proofs.Targets.{IsTarget, target_is, to_owner, to_struct, to_value}
 use Rattle.life_elab_laws.proofs.Values.{by_values}
 use Rattle.life_typed.specs.declared.typed_expr.ExprType.{ExprType}
 
@@ -208,6 +208,10 @@ owner_refused types ty.Text o n = false≢true n
 owner_refused types (ty.Vector element) o n = false≢true n
 owner_refused types _ o n = false≢true o
 
+-- nor is a struct
+pub struct_refused : (t : Ty) (number : ℕ) → t ≡ ty.Struct number → is_plain_type (Of t) ≡ true → ⊥
+struct_refused t number is n = false≢true (sym (ap (λ (u : Ty). is_plain_type (Of u)) is) ∙ n)
+
 -- so is an iterator or a span
 pub walker_named : (types : Types) (e : Typed) (id : TyId) (c : Bool) (form : Form) (t : Ty) → is_walker_of_values types t ≡ true → e ≡ variable_of t types id c e.place form → e ≡ place_of types id c e.place form
 walker_named types e id c form (ty.Iterator target constant) w is = is
@@ -221,9 +225,12 @@ walker_refused types _ w n = false≢true w
 
 pub kind_of_variable : (types : Types) (e : Typed) (id : TyId) (c : Bool) (form : Form) (t : Ty) → type_at types id ≡ t → IsServedType types t
     → is_plain_type e.ty ≡ true → e ≡ variable_of t types id c e.place form → IsKind types e
-kind_of_variable types e id c form (ty.Unique target) at (inr (inr (inr u))) n is =
+kind_of_variable types e id c form (ty.Unique target) at (inr (inr (inr (inl u)))) n is =
     absurd (false≢true (subst (λ (x : ExprType). is_plain_type x ≡ true) (ap (λ (x : Typed). x.ty) is ∙ ap Of at) n))
-kind_of_variable types e id c form _ at (inr (inr (inr u))) n is = absurd (false≢true u)
+kind_of_variable types e id c form _ at (inr (inr (inr (inl u)))) n is = absurd (false≢true u)
+kind_of_variable types e id c form (ty.Struct number) at (inr (inr (inr (inr structure)))) n is =
+    absurd (false≢true (subst (λ (x : ExprType). is_plain_type x ≡ true) (ap (λ (x : Typed). x.ty) is ∙ ap Of at) n))
+kind_of_variable types e id c form _ at (inr (inr (inr (inr structure)))) n is = absurd (false≢true structure)
 kind_of_variable types e id c form t at (inr (inr (inl w))) n is =
     absurd (walker_refused types t w (subst (λ (x : ExprType). is_plain_type x ≡ true) (ap (λ (x : Typed). x.ty) (walker_named types e id c form t w is) ∙ ap Of at) n))
 kind_of_variable types e id c form t at (inr (inl o)) n is =
@@ -237,6 +244,7 @@ kind_of_variable types e id c form t at (inl built) n is = go t at built is
         refers : IsTarget types (type_at types target) → IsKind types e
         refers (to_value v) = kind_of_place types e target constant form is (a_number (type_at types target) (ap (λ (x : Typed). x.ty) is) v)
         refers (to_owner o) = absurd (owner_refused types (type_at types target) o (subst (λ (x : ExprType). is_plain_type x ≡ true) (ap (λ (x : Typed). x.ty) is) n))
+        refers (to_struct number s) = absurd (struct_refused (type_at types target) number s (subst (λ (x : ExprType). is_plain_type x ≡ true) (ap (λ (x : Typed). x.ty) is) n))
     go ty.View at built is = kind_of_place types e id c form is (a_view (ap (λ (x : Typed). x.ty) is ∙ ap Of at))
     go ty.Bool at built is = kind_of_place types e id c form is (a_number ty.Bool (ap (λ (x : Typed). x.ty) is ∙ ap Of at) refl)
     go ty.Char at built is = kind_of_place types e id c form is (a_number ty.Char (ap (λ (x : Typed). x.ty) is ∙ ap Of at) refl)
@@ -263,6 +271,12 @@ kind_of_result types e t (gives_raw target constant raw w) plain is =
 kind_of_result types e (ty.Iterator target constant) (gives_walker w) plain is = absurd (walker_refused types (ty.Iterator target constant) w (subst (λ (x : ExprType). is_plain_type x ≡ true) (ap (λ (x : Typed). x.ty) is) plain))
 kind_of_result types e (ty.Span target constant) (gives_walker w) plain is = absurd (walker_refused types (ty.Span target constant) w (subst (λ (x : ExprType). is_plain_type x ≡ true) (ap (λ (x : Typed). x.ty) is) plain))
 kind_of_result types e _ (gives_walker w) plain is = absurd (false≢true w)
+kind_of_result types e ty.Text (gives_owner o) plain is = absurd (owner_refused types ty.Text o (subst (λ (x : ExprType). is_plain_type x ≡ true) (ap (λ (x : Typed). x.ty) is) plain))
+kind_of_result types e (ty.Vector item) (gives_owner o) plain is = absurd (owner_refused types (ty.Vector item) o (subst (λ (x : ExprType). is_plain_type x ≡ true) (ap (λ (x : Typed). x.ty) is) plain))
+kind_of_result types e _ (gives_owner o) plain is = absurd (false≢true o)
+kind_of_result types e t (gives_unique target unique w) plain is =
+    let here = is ∙ ap (λ (u : Ty). answer_of u types e.place e.form) unique in
+    absurd (false≢true (subst (λ (x : ExprType). is_plain_type x ≡ true) (ap (λ (x : Typed). x.ty) here) plain))
 kind_of_result types e t (gives_view view) plain is =
     let here = is ∙ ap (λ (u : Ty). answer_of u types e.place e.form) view in
     record {
@@ -275,6 +289,9 @@ kind_of_result types e t (gives_reference target constant refers w) plain is =
 kind_of_result types e t (gives_alias target constant refers o) plain is =
     let here = is ∙ ap (λ (u : Ty). answer_of u types e.place e.form) refers in
     absurd (owner_refused types (type_at types target) o (subst (λ (x : ExprType). is_plain_type x ≡ true) (ap (λ (x : Typed). x.ty) here) plain))
+kind_of_result types e t (gives_struct target constant number refers s) plain is =
+    let here = is ∙ ap (λ (u : Ty). answer_of u types e.place e.form) refers in
+    absurd (struct_refused (type_at types target) number s (subst (λ (x : ExprType). is_plain_type x ≡ true) (ap (λ (x : Typed). x.ty) here) plain))
 
 -- ---- operators
 

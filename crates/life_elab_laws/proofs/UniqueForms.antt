@@ -13,7 +13,7 @@ use Rattle.life_well_typed.specs.Members.{IsCalled}
 use Rattle.life_well_typed.specs.Expressions.{IsExpression, IsMadeOf, IsVariable, typed_in}
 use Rattle.life_elab_laws.proofs.ExpressionForms.{IsForm, Placed, Points, Standing, no_literal, pointer_form, no_null}
 use Rattle.life_elab_laws.proofs.Making.{IsPlace}
-use Rattle.life_elab_laws.proofs.VariablePlaces.{IsVariableAt, IsVariableType, an_alias, a_raw, a_reference, a_unique, a_value, a_view, a_walker, an_owner, kind_is, place_is, variable_there, variable_type}
+use Rattle.life_elab_laws.proofs.VariablePlaces.{IsVariableAt, IsVariableType, an_alias, a_raw, a_reference, a_struct, a_unique, a_value, a_view, a_walker, an_owner, kind_is, place_is, variable_there, variable_type, a_struct_alias}
 use Rattle.life_elab_laws.proofs.Parts.{Makes, leaf_part, seen_part, then_part}
 use Rattle.life_core.specs.declared.program.LocalKind.TheVariants.{Object}
 use Rattle.life_typed.specs.declared.typed_expr.Category.TheVariants as category
@@ -79,6 +79,7 @@ module _ (a : Around) (visible : List ℕ) (types : Types) (texts : ℕ) (fs : L
     pub id : TyId
     pub constant : Bool
     pub place : e.category ≡ category.Place id constant
+    pub owns : type_at a.program.types id ≡ ty.Unique target
     pub number : ℕ
     pub declared : TypedLocal
     pub found : slice_get a.function.locals number ≡ Some declared
@@ -99,6 +100,7 @@ module _ (a : Around) (visible : List ℕ) (types : Types) (texts : ℕ) (fs : L
     id = is.id;
     constant = is.constant;
     place = sym c ∙ is.place;
+    owns = is.owns;
     number = is.number;
     declared = is.declared;
     found = is.found;
@@ -136,6 +138,8 @@ module _ (a : Around) (visible : List ℕ) (types : Types) (texts : ℕ) (fs : L
           kind (a_reference target constant at v) = other (type_at a.program.types target) (ap (λ (y : Typed). y.ty) (named (ty.Reference target constant) at)) (value_simple (type_at a.program.types target) v).unique
           kind (an_alias target constant at o) = other (type_at a.program.types target) (ap (λ (y : Typed). y.ty) (named (ty.Reference target constant) at)) (owner_no_unique a.program.types (type_at a.program.types target) o)
           kind (a_walker t at w) = other t (ap (λ (y : Typed). y.ty) (walker_named a.program.types e l.ty l.constant (local x) t w (named t at)) ∙ ap Of (as_type t at)) (walker_no_unique a.program.types t w)
+          kind (a_struct number at) = other (ty.Struct number) (ap (λ (y : Typed). y.ty) (named (ty.Struct number) at) ∙ ap Of (as_type (ty.Struct number) at)) refl
+          kind (a_struct_alias target constant number at structure) = other (ty.Struct number) (ap (λ (y : Typed). y.ty) (named (ty.Reference target constant) at) ∙ ap Of structure) refl
           kind (an_owner t at o) = other t (ap (λ (y : Typed). y.ty) (owner_named a.program.types e l.ty l.constant (local x) t o (named t at)) ∙ ap Of (as_type t at)) (owner_no_unique a.program.types t o)
           kind (a_unique target at w) = record {
             target = target;
@@ -144,6 +148,7 @@ module _ (a : Around) (visible : List ℕ) (types : Types) (texts : ℕ) (fs : L
             id = l.ty;
             constant = l.constant;
             place = ap (λ (y : Typed). y.category) (named (ty.Unique target) at);
+            owns = as_type (ty.Unique target) at;
             number = x;
             declared = l;
             found = found;
@@ -198,7 +203,7 @@ module _ (a : Around) (visible : List ℕ) (types : Types) (texts : ℕ) (fs : L
     unique_target place s stands =
         subst (Placed a visible types texts fs f setting (type_at a.program.types is.target) false s) (sym reached)
         (then_part types texts fs f (no_gift types texts fs f) tt None s (gives (object_named (variable s is.number)) s) _ (a_place types texts fs f (ty.Unique is.target) false) (a_place types texts fs f (type_at a.program.types is.target) false) stands.opened (unique_placed s stands)
-        (target_part types texts fs f setting.registers a.program.types place is.target false (type_at a.program.types is.target) (variable s is.number) s setting.front stands.table refl is.worth))
+        (target_part types texts fs f a.program.types place is.target false (type_at a.program.types is.target) (variable s is.number) s setting.front stands.table refl is.worth))
       where
         reached : target_at (own (uses a form)) (uses a form) place (category.Place is.target false) s ≡ element place (category.Place is.target false) (Owner (object_named (variable s is.number))) which.Target s
         reached =
@@ -236,5 +241,5 @@ module _ (a : Around) (visible : List ℕ) (types : Types) (texts : ℕ) (fs : L
             subst (λ (w : Gives Operand). Points a visible types texts fs f setting (Of (ty.Raw is.target false)) s (mapped (λ o. aimed (Get (location_in o))) w)) (sym (unique_operand s stands))
             (seen_part types texts fs f (no_gift types texts fs f) tt None s (gives (object_named (variable s is.number)) s) (a_place types texts fs f (ty.Unique is.target) false) (λ o. aimed (Get (location_in o))) (a_pointing types texts fs f (Of (ty.Raw is.target false)))
             (unique_placed s stands)
-            (λ b q. got_given types texts fs f setting.registers is.target false (variable s is.number) (ap (is_element types) (element_there a.program.types types setting.front is.target is.worth) ∙ element_further a.program.types types setting.front (type_at a.program.types is.target) is.worth) q)
-            (λ n k q. got_filling types texts fs f setting.registers (variable s is.number) n k q))
+            (λ b q. got_given types texts fs f is.target false (variable s is.number) (ap (is_element types) (element_there a.program.types types setting.front is.target is.worth) ∙ element_further a.program.types types setting.front (type_at a.program.types is.target) is.worth) q)
+            (λ n k q. got_filling types texts fs f (variable s is.number) n k q))

@@ -20,7 +20,7 @@ use Rattle.life_elab_laws.proofs.Gifts.{a_number, nothing as no_gift}
 use Rattle.life_elab_laws.proofs.MovedOwners.{given_moved}
 use Rattle.life_elab_laws.proofs.GivenKinds.{given_number}
 use Rattle.life_writer.specs.Giving.{given_over}
-use Rattle.life_well_typed.specs.Given.{is_given}
+use Rattle.life_well_typed.specs.Given.{is_given, is_number}
 use Rattle.life_served.specs.Served.{is_element, is_inner_owner, is_number_type, is_served_form, is_served_made}
 use Rattle.life_types.specs.TypeTests.{is_value}
 use Rattle.life_writer.specs.Writing.{Gives, State, mapped}
@@ -31,6 +31,7 @@ use Rattle.life_typed.specs.BaseTypes.{type_at}
 use Rattle.life_elab_laws.proofs.Elements.{IsElement, element_is, element_there, has_owner, has_value}
 use Rattle.life_typed.specs.Conversions.{fits}
 use Rattle.life_type_expr.specs.Lists.{fits_at_all}
+use Rattle.life_typed.specs.declared.typed_expr.Category.{Category}
 use Rattle.life_typed.specs.declared.typed_expr.ExprType.{ExprType}
 use Rattle.life_typed.specs.declared.typed_expr.ExprType.TheVariants.{Of}
 use Rattle.std.proofs.lemmas.Bool.{and_parts, false≢true}
@@ -60,11 +61,31 @@ module _ (a : Around) (visible : List ℕ) (types : Types) (texts : ℕ) (fs : L
 
   -- what one to this type is made to own
   pub record IsOwnedBy (target id : TyId) (argument : Form) (closing : Place) : Type 0 where
-    pub makes : (s : State) → Standing a visible types texts fs f setting s → Makes types texts fs f None s (owned_operand (type_of a id) (uses_if a argument) closing s) (a_made types texts fs f setting.registers target)
+    pub makes : (s : State) → Standing a visible types texts fs f setting s → Makes types texts fs f None s (owned_operand (type_of a id) (uses_if a argument) closing s) (a_made types texts fs f target)
 
   -- a number that is given over stays where it is
   over : (e : Uses) (closing : Place) (t : Ty) → is_value t ≡ true → ◌≡◌ {A = State → Gives ℕ} (given_over e t closing) (value e closing t None)
   over e closing = by_values (λ t. ◌≡◌ {A = State → Gives ℕ} (given_over e t closing) (value e closing t None)) refl refl refl refl refl
+
+  -- what stands there at first
+  pub zero_owned : (target id : TyId) (closing : Place) → IsOwnedBy target id nothing closing
+  zero_owned target id closing = record {
+    makes = λ s stands. leaf_part types texts fs f made.Zero s (a_made types texts fs f target) (λ b. zero_fits types texts fs f target) (λ b k alive. tt);
+  }
+
+  -- a number
+  pub number_owned : (target id : TyId) (closing place : Place) (t : ExprType) (c : Category) (form : Form) → ty_of types target ≡ type_at a.program.types id → is_value (type_at a.program.types id) ≡ true → is_number t ≡ true
+      → IsWhole a visible types texts fs f setting (typed place t c form) → IsOwnedBy target id (typed place t c form) closing
+  number_owned target id closing place t c form later v number is =
+      let u = uses a (typed place t c form) in
+      let w = type_at a.program.types id in
+      record {
+        makes = λ s stands.
+            subst (λ (g : State → Gives ℕ). Makes types texts fs f None s (mapped made.Of (g s)) (a_made types texts fs f target)) (sym (over u closing w v))
+            (seen_part types texts fs f (no_gift types texts fs f) tt None s (value u closing w None s) (a_number types texts fs f w) made.Of (a_made types texts fs f target)
+            (is.valued number closing w v None s tt stands)
+            (λ b number. number_fits types texts fs f target w (value u closing w None s).given later v number) (λ n k q. (q, tt)));
+      }
 
   pub made_as : (target : TyId) → is_element a.program.types (type_at a.program.types target) ≡ true → (id : TyId) (argument : Form) (closing : Place) (e : Typed) → is_served_made texts argument ≡ true → is_given a.program.types (ty.Unique target) e ≡ true
       → IsMadeOf a.program a.function.locals visible e (make_unique id argument closing) → IsWholeIfAny argument → IsOwnedBy target id argument closing
@@ -88,20 +109,9 @@ module _ (a : Around) (visible : List ℕ) (types : Types) (texts : ℕ) (fs : L
       later = element_there a.program.types types setting.front target worth ∙ ap (type_at a.program.types) (sym one)
 
       go : (argument : Form) → is_served_made texts argument ≡ true → is_optional a.program.types id argument ≡ true → IsWholeIfAny argument → IsOwnedBy target id argument closing
-      go nothing served fits is = record {
-        makes = λ s stands.
-            leaf_part types texts fs f made.Zero s (a_made types texts fs f setting.registers target) (λ b. zero_fits types texts fs f setting.registers target) (λ b k alive. tt);
-      }
+      go nothing served fits is = zero_owned target id closing
       go (typed place t c form) served fits is =
           let parts = and_parts (is_number_type t) (is_served_form texts (typed place t c form)) served in
           let v = number_taken a.program.types (type_at a.program.types id) (typed_in (typed place t c form)) there parts.0 fits in
-          let u = uses a (typed place t c form) in
-          let w = type_at a.program.types id in
-          record {
-            makes = λ s stands.
-                subst (λ (g : State → Gives ℕ). Makes types texts fs f None s (mapped made.Of (g s)) (a_made types texts fs f setting.registers target)) (sym (over u closing w v))
-                (seen_part types texts fs f (no_gift types texts fs f) tt None s (value u closing w None s) (a_number types texts fs f w) made.Of (a_made types texts fs f setting.registers target)
-                (is.valued (given_number a.program.types w (typed_in (typed place t c form)) v fits) closing w v None s tt stands)
-                (λ b number. number_fits types texts fs f setting.registers target w (value u closing w None s).given later v number) (λ n k q. (q, tt)));
-          }
+          number_owned target id closing place t c form later v (given_number a.program.types (type_at a.program.types id) (typed_in (typed place t c form)) v fits) is
       go _ served fits is = absurd (false≢true served)

@@ -1,9 +1,9 @@
 -- Instructions on unique_ptrs that are variables: what they are made to own, what they own, and a pointer to that.
-use Rattle.std.proofs.Common.{◌≡◌, inl, inr, ℕ, Bool, true, false, cond, not, List, [], ◌∷◌, None, length, refl, sym, ap, ◌∙◌, subst, Some, slice_get}
+use Rattle.std.proofs.Common.{◌≡◌, inl, inr, ℕ, Bool, true, false, cond, not, List, [], ◌∷◌, None, length, refl, sym, ap, ◌∙◌, subst}
 use Rattle.std.proofs.lemmas.Bool.{and_from, and_parts, false≢true}
 use Rattle.std.specs.List.{list_all}
 use Rattle.life_types.specs.Pointees.{ty_of}
-use Rattle.life_types.specs.TypeTests.{is_constant, is_value, is_void}
+use Rattle.life_types.specs.TypeTests.{is_constant, is_value}
 use Rattle.life_types.specs.Types.{Types}
 use Rattle.life_types.specs.declared.place.Place.{Place}
 use Rattle.life_types.specs.declared.ty.Ty.{Ty}
@@ -53,16 +53,13 @@ use Rattle.life_served.specs.Served.{is_element, is_target}
 use Rattle.life_elab_laws.proofs.Targets.{target_no_void, target_same}
 use Rattle.life_elab_laws.proofs.Types.{type_added}
 use Rattle.life_elab_laws.proofs.WrittenLocals.{fits_below, fits_register}
-use Rattle.life_core.specs.declared.program.Local.{Local}
-use Rattle.life_core.specs.declared.program.LocalKind.TheVariants.{Register}
 
 -- the local that a value to own is in, if there is one
 abbrev pub made_uses_of : Made → List ℕ
 made_uses_of (made.Of r) = r ∷ []
 made_uses_of _ = []
 
-module _ (types : Types) (texts : ℕ) (fs : List Function) (f : Function)
-    (registers : (l : Local) → slice_get f.locals f.parameters ≡ Some l → is_void (ty_of types f.result) ≡ false → l.kind ≡ Register) where
+module _ (types : Types) (texts : ℕ) (fs : List Function) (f : Function) where
   -- ---- what one is made to own
 
   -- it fits, and nothing is given over but a number
@@ -100,7 +97,7 @@ module _ (types : Types) (texts : ℕ) (fs : List Function) (f : Function)
 
   -- the type of one that is named
   pub named_type : (target : TyId) (constant : Bool) (y : ℕ) → IsPlaceOf types texts fs f (ty.Unique target) constant (object_named y) → type_in types f (whole y) ≡ ty.Unique target
-  named_type target constant y is = (moved_there types texts fs f registers (ty.Unique target) y refl (record { typed = is.typed; held = refl })).typed
+  named_type target constant y is = (moved_there types texts fs f (ty.Unique target) y refl (record { typed = is.typed; held = refl })).typed
 
   -- it is made to own something
   make_fine : (target : TyId) (what : Made) (used : List ℕ) (y : ℕ) → IsPlaceOf types texts fs f (ty.Unique target) false (object_named y) → IsMadeFor target what used → IsFineStep types texts fs f (Make (whole y) what)

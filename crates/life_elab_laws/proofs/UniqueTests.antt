@@ -62,6 +62,7 @@ use Rattle.life_well_typed.specs.Expressions.{typed_in}
 use Rattle.life_proper.proofs.ReadyTests.{uses_ready}
 use Rattle.life_writer.specs.Variables.{variable}
 use Rattle.life_core.specs.Operands.{Location, Operand, whole}
+use Rattle.life_elab_laws.proofs.OwnLocals.{first_own}
 
 module _ (a : Around) (visible : List ℕ) (types : Types) (texts : ℕ) (fs : List Function) (f : Function) (setting : Setting a types fs f) where
   abbrev Stood : State → Type 0
@@ -72,7 +73,7 @@ module _ (a : Around) (visible : List ℕ) (types : Types) (texts : ℕ) (fs : L
   pub record IsNamedUnique (target : TyId) (l : Location) : Type 0 where
     pub typed : type_in types f l ≡ ty.Unique target
     -- it is no temporary, which may end before it is tested
-    pub lasts : IsTemporary f.locals types.types l.local → ⊥
+    pub lasts : (low : ℕ) → IsTemporary low f.locals types.types l.local → ⊥
 
   abbrev a_named : TyId → Gift types texts fs f Location
   a_named target = record {
@@ -89,8 +90,8 @@ module _ (a : Around) (visible : List ℕ) (types : Types) (texts : ℕ) (fs : L
     named_part s stands =
         leaf_part types texts fs f (whole (x s)) s (a_named is.target)
         (λ b. record {
-          typed = named_type types texts fs f setting.registers is.target false (x s) (object_formed types texts fs f a setting.front s b is.number is.declared v (ty.Unique is.target) false is.of_type refl refl);
-          lasts = λ t. none_some (sym t.nameless ∙ ap (λ (l : Local). l.name) (same_Some t.local v.local (sym t.there ∙ b.locals (x s) v.local v.there)) ∙ v.named);
+          typed = named_type types texts fs f is.target false (x s) (object_formed types texts fs f a setting.front s b is.number is.declared v (ty.Unique is.target) false is.of_type refl refl);
+          lasts = λ low t. none_some (sym t.nameless ∙ ap (λ (l : Local). l.name) (same_Some t.local v.local (sym t.there ∙ b.locals (x s) v.local v.there)) ∙ v.named);
         })
         (λ b k alive. (slice_get_within s.locals (x s) v.local v.there, alive.living (x s) v.lives))
       where
@@ -110,7 +111,7 @@ module _ (a : Around) (visible : List ℕ) (types : Types) (texts : ℕ) (fs : L
         (λ l n k j at h spares. uses_ready j (l.local ∷ []) [] (one_there j l.local (spares l.local at.lasts ∙ h.1)))
         (λ l h. or_right (is_raw (type_in types f l)) (is_unique (type_in types f l)) (ap is_unique h.typed))
         (subst (λ (w : Gives Location). Makes types texts fs f None (with_code [] s) w (a_named is.target)) (sym (nullable_is (with_code [] s) stands)) (named_part (with_code [] s) stands))
-        ends stands.pends (temporary_ends types texts fs f setting.registers)
+        ends _ stands.pends (temporary_ends types texts fs f (first_own a) setting.own)
 
     pub unique_condition : (b : Behind) (s : State) → Stood s → Tests types texts fs f b.ends s (condition (uses a form) b s)
     unique_condition b s stands =
@@ -133,7 +134,7 @@ module _ (a : Around) (visible : List ℕ) (types : Types) (texts : ℕ) (fs : L
   deciding_null form (by_unique is) t tested place ends s stands = unique_tested form is place ends s stands
   deciding_null form (by_value is) t tested place ends s stands =
       let raw = raw_if tested.own tested.nullable (sym (ap (λ (x : ExprType). is_unique (own_type x)) tested.is) ∙ own_no_unique a.program.types (typed_in form) is.kind.kind) in
-      not_null_part types texts fs f place ends tested.own (nullable (uses a form)) s raw stands.pends (temporary_ends types texts fs f setting.registers)
+      not_null_part types texts fs f place ends tested.own (nullable (uses a form)) s raw _ stands.pends (temporary_ends types texts fs f (first_own a) setting.own)
       (tested_pointer a visible types texts fs f setting form tested.own (with_code [] s) tested.is raw (is.pointers tested.own tested.is (raw_location tested.own raw) (with_code [] s) stands))
 
   -- ---- `!`

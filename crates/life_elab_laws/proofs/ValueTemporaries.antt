@@ -78,8 +78,8 @@ module _ (a : Around) (visible : List ℕ) (types : Types) (texts : ℕ) (fs : L
     saved_there : (s : State) (w : Gives ℕ) → Stood s → Makes types texts fs f None s w (a_number types texts fs f t) → PlacedThere s (mapped object_named (saved w.given (temporary place t) w.state))
     saved_there s w stands made =
         let later = stands_later a visible s w.state made.grown stands in
-        let x = lived_there types texts fs f place Plain t w.state (inl worth) later.opened later.pends (within w.state) in
-        let one = lived_part types texts fs f place Plain t w.state (inl worth) later.opened later.pends (within w.state) in
+        let x = lived_there types texts fs f place Plain t w.state (inl worth) later.opened _ later.pends (within w.state) in
+        let one = lived_part types texts fs f place Plain t w.state (inl worth) later.opened _ later.pends (within w.state) in
         let G = no_gift types texts fs f in
         let N = a_number types texts fs f t in
         let Q = a_place types texts fs f t false in
@@ -103,19 +103,19 @@ module _ (a : Around) (visible : List ℕ) (types : Types) (texts : ℕ) (fs : L
       later = stands_later a visible s w.state hands.grown stands
 
       -- it takes the result of the call
-      receives : Receives types texts fs f None w.state x (begun types texts fs f place calls t w.state (inl worth) later.opened later.pends (within w.state))
+      receives : Receives types texts fs f None w.state x (begun types texts fs f place calls t w.state (inl worth) later.opened _ later.pends (within w.state))
       receives = record {
-        grown = born_grows types texts fs f place calls t w.state (inl worth) later.opened later.pends (within w.state);
-        registers = born_registers types texts fs f place calls t w.state (inl worth) later.opened later.pends (within w.state);
+        grown = born_grows types texts fs f place calls t w.state (inl worth) later.opened _ later.pends (within w.state);
+        registers = born_registers types texts fs f place calls t w.state (inl worth) later.opened _ later.pends (within w.state);
         unwritten = refl;
-        opens = λ y o. one_pending x (length (begun types texts fs f place calls t w.state (inl worth) later.opened later.pends (within w.state)).locals) w.state.living w.state.pending y (omega (arith, length-append w.state.locals (new ∷ []))) o;
+        opens = λ y o. one_pending x (length (begun types texts fs f place calls t w.state (inl worth) later.opened _ later.pends (within w.state)).locals) w.state.living w.state.pending y (omega (arith, length-append w.state.locals (new ∷ []))) o;
         below = omega (arith, length-append w.state.locals (new ∷ []));
         beside = λ y lt b e. omega (arith, lt, e);
         aside = λ b y lt object e. omega (arith, lt, e);
         new = λ b object. omega arith;
-        blank = λ b k alive. one k (is_object_at f x) (born_blank types texts fs f place calls t w.state (inl worth) later.opened later.pends (within w.state) b k alive);
-        there = λ b k alive. at_set k x known.Ready (born_within types texts fs f place calls t w.state (inl worth) later.opened later.pends (within w.state) b k alive);
-        alive = λ b k alive. born_alive types texts fs f place calls t w.state (inl worth) later.opened later.pends (within w.state) b k alive;
+        blank = λ b k alive. one k (is_object_at f x) (born_blank types texts fs f place calls t w.state (inl worth) later.opened _ later.pends (within w.state) b k alive);
+        there = λ b k alive. at_set k x known.Ready (born_within types texts fs f place calls t w.state (inl worth) later.opened _ later.pends (within w.state) b k alive);
+        alive = λ b k alive. born_alive types texts fs f place calls t w.state (inl worth) later.opened _ later.pends (within w.state) b k alive;
       }
         where
           new : Local
@@ -127,13 +127,13 @@ module _ (a : Around) (visible : List ℕ) (types : Types) (texts : ℕ) (fs : L
 
       called_there : PlacedThere s (mapped object_named (filled place (called g w.given) (temporary place t) w.state))
       called_there =
-          call_received types texts fs f g of (setting.callees g of there) s w hands None x (begun types texts fs f place calls t w.state (inl worth) later.opened later.pends (within w.state)) (object_named x) (a_place types texts fs f t false) place receives
+          call_received types texts fs f g of (setting.callees g of there) s w hands None x (begun types texts fs f place calls t w.state (inl worth) later.opened _ later.pends (within w.state)) (object_named x) (a_place types texts fs f t false) place receives
           (λ b.
           ap (λ (u : Ty). goes_to types texts fs f u (Some (whole x))) same
           ∙ goes_object types texts fs f t x worth
-          (born_typed types texts fs f place calls t w.state (inl worth) later.opened later.pends (within w.state) b)
-          (born_object types texts fs f place calls t w.state (inl worth) later.opened later.pends (within w.state) b))
-          (λ b. born_place types texts fs f place calls t w.state (inl worth) later.opened later.pends (within w.state) b)
+          (born_typed types texts fs f place calls t w.state (inl worth) later.opened _ later.pends (within w.state) b)
+          (born_object types texts fs f place calls t w.state (inl worth) later.opened _ later.pends (within w.state) b))
+          (λ b. born_place types texts fs f place calls t w.state (inl worth) later.opened _ later.pends (within w.state) b)
           (λ k ready. record { local = x; uses = refl; below = receives.below; held = ready })
 
   -- ---- what an expression gives it

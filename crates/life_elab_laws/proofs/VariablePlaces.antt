@@ -28,14 +28,15 @@ use Rattle.life_elab_laws.proofs.Growing.{Grows, bare}
 use Rattle.life_elab_laws.proofs.Locations.{is_location}
 use Rattle.life_elab_laws.proofs.Making.{Alive, IsOpen, IsPlace, IsPointer}
 use Rattle.life_elab_laws.proofs.ServedTypes.{IsServedType, variable_found}
-use Rattle.life_elab_laws.proofs.Targets.{IsTarget, target_is, to_owner, to_value}
+use Rattle.life_elab_laws.proofs.Targets.{IsTarget, target_is, to_owner, to_struct, to_value}
 use Rattle.life_elab_laws.proofs.Values.{by_values}
 use Rattle.life_elab_laws.proofs.TypedKinds.{owner_named, walker_named}
 use Rattle.life_elab_laws.proofs.PendingTemporaries.{ArePending}
+use Rattle.life_elab_laws.proofs.OwnLocals.{first_own}
 
 -- ---- what a variable is
 
--- a value, or a pointer or reference to one or to an owner, a view, an iterator or a span, an owner of values, or a unique_ptr to what a vector may have
+-- a value, or a pointer or reference to one, to an owner or to a struct, a view, an iterator or a span, an owner of values, a unique_ptr to what a vector may have, or a struct
 pub data IsVariableType (types : Types) (id : TyId) : Type 0 where
   a_value : (t : Ty) → slice_get types.types id.0 ≡ Some t → is_value t ≡ true → IsVariableType types id
   a_raw : (target : TyId) (constant : Bool) → slice_get types.types id.0 ≡ Some (ty.Raw target constant) → is_target types (type_at types target) ≡ true → IsVariableType types id
@@ -45,6 +46,8 @@ pub data IsVariableType (types : Types) (id : TyId) : Type 0 where
   a_walker : (t : Ty) → slice_get types.types id.0 ≡ Some t → is_walker_of_values types t ≡ true → IsVariableType types id
   an_owner : (t : Ty) → slice_get types.types id.0 ≡ Some t → is_owner_of_values types t ≡ true → IsVariableType types id
   a_unique : (target : TyId) → slice_get types.types id.0 ≡ Some (ty.Unique target) → is_element types (type_at types target) ≡ true → IsVariableType types id
+  a_struct : (number : ℕ) → slice_get types.types id.0 ≡ Some (ty.Struct number) → IsVariableType types id
+  a_struct_alias : (target : TyId) (constant : Bool) (number : ℕ) → slice_get types.types id.0 ≡ Some (ty.Reference target constant) → type_at types target ≡ ty.Struct number → IsVariableType types id
 
 pub variable_type : (types : Types) (id : TyId) → is_served_variable types id ≡ true → IsVariableType types id
 variable_type types id b = let found = variable_found types id b in go found.0 found.1 found.2
@@ -52,8 +55,10 @@ variable_type types id b = let found = variable_found types id b in go found.0 f
     go : (t : Ty) → slice_get types.types id.0 ≡ Some t → IsServedType types t → IsVariableType types id
     go t at (inr (inl o)) = an_owner t at o
     go t at (inr (inr (inl w))) = a_walker t at w
-    go (ty.Unique target) at (inr (inr (inr u))) = a_unique target at u
-    go _ at (inr (inr (inr u))) = absurd (false≢true u)
+    go (ty.Unique target) at (inr (inr (inr (inl u)))) = a_unique target at u
+    go _ at (inr (inr (inr (inl u)))) = absurd (false≢true u)
+    go (ty.Struct number) at (inr (inr (inr (inr structure)))) = a_struct number at
+    go _ at (inr (inr (inr (inr structure)))) = absurd (false≢true structure)
     go ty.View at (inl b) = a_view at
     go ty.Bool at (inl b) = a_value ty.Bool at refl
     go ty.Char at (inl b) = a_value ty.Char at refl
@@ -66,6 +71,7 @@ variable_type types id b = let found = variable_found types id b in go found.0 f
         refers : IsTarget types (type_at types target) → IsVariableType types id
         refers (to_value v) = a_reference target constant at v
         refers (to_owner o) = an_alias target constant at o
+        refers (to_struct number s) = a_struct_alias target constant number at s
     go _ at (inl b) = absurd (false≢true b)
 
 pub owner_is : (types : Types) (t : Ty) → is_owner_of_values types t ≡ true → owns_elements t ≡ true
@@ -112,7 +118,7 @@ IsVariableAt a s x v = IsVariableAtBare a (bare s) x v
 pub record StandsBare (a : Around) (visible : List ℕ) (s : State) : Type 0 where
   pub table : IsFront a.program.types.types s.types.types
   pub opened : IsOpen s
-  pub pends : ArePending s
+  pub pends : ArePending (first_own a) s
   pub seen : (x : ℕ) (v : TypedLocal) → Contains visible x → slice_get a.function.locals x ≡ Some v → IsVariableAt a s x v
   -- each has a local of its own
   pub apart : (x y : ℕ) (v w : TypedLocal) → Contains visible x → slice_get a.function.locals x ≡ Some v → Contains visible y → slice_get a.function.locals y ≡ Some w → (x ≡ y → ⊥) → variable s x ≡ variable s y → ⊥
@@ -124,7 +130,7 @@ pub stands_later : (a : Around) (visible : List ℕ) (s s' : State) → Grows s 
 stands_later a visible s s' g h = record {
   table = front_then a.program.types.types s.types.types s'.types.types h.table g.types;
   opened = λ y c. omega (arith, h.opened y (subst (λ (ys : List ℕ). Contains ys y) g.living c), g.count);
-  pends = g.pends h.pends;
+  pends = g.pends _ h.pends;
   seen = λ x v c at. moved x v (h.seen x v c at);
   apart = λ x y v w c at d there other e. h.apart x y v w c at d there other (sym (stays x) ∙ e ∙ stays y);
 }
@@ -208,5 +214,7 @@ named_pointer types e v form reached is t of loc = go (variable_type types v.ty 
     go (an_owner u at o) = absurd (not_owner u o (ap (λ (x : Typed). x.ty) (owner_named types e v.ty v.constant form u o (found u at)) ∙ ap Of (typed u at)))
     go (a_unique target at w) =
         absurd (false≢true (ap is_location (same (sym (typed_unique target at) ∙ of)) ∙ loc))
+    go (a_struct number at) = absurd (false≢true (ap is_location (same (sym (ap (λ (x : Typed). x.ty) (found (ty.Struct number) at) ∙ ap Of (typed (ty.Struct number) at)) ∙ of)) ∙ loc))
+    go (a_struct_alias target constant number at s) = absurd (false≢true (ap is_location (same (sym (ap (λ (x : Typed). x.ty) (found (ty.Reference target constant) at) ∙ ap Of s) ∙ of)) ∙ loc))
     go (a_walker u at w) = at ∙ ap Some (sym (same (sym of ∙ ap (λ (x : Typed). x.ty) (walker_named types e v.ty v.constant form u w (found u at)) ∙ ap Of (typed u at))))
     go (a_view at) = at ∙ ap Some (sym (same (sym of ∙ ap (λ (x : Typed). x.ty) (found ty.View at) ∙ ap Of (typed ty.View at))))

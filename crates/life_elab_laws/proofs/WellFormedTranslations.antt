@@ -1,44 +1,47 @@
 -- The core program of a well typed program that is served is well formed, is served itself, and leaves alone what is given over.
-use Rattle.std.proofs.Common.{◌≡◌, ◌⊎◌, inl, inr, ℕ, true, List, [], length, nat_le, slice_get, Some, refl, ap, ◌∙◌, subst}
+use Rattle.std.proofs.Common.{◌≡◌, ◌⊎◌, inl, inr, ℕ, true, List, [], length, map, nat_le, slice_get, Option, Some, refl, ap, ◌∙◌, subst, unwrap_or}
 use Rattle.std.specs.List.{list_all}
-use Rattle.std.proofs.lemmas.Bool.{and_from}
+use Rattle.std.proofs.lemmas.Bool.{and_from, false≢true}
 use Rattle.life_types.specs.Trees.{IsOrdered}
 use Rattle.life_types.specs.Types.{HasEachOnce, Types}
+use Rattle.life_types.specs.declared.ty.Ty.{Ty}
+use Rattle.life_types.specs.declared.ty.Ty.TheVariants as ty
 use Rattle.life_types.specs.declared.ty.TyId.{TyId}
-use Rattle.life_served.specs.Served.{are_served_functions, has_no_structs}
+use Rattle.life_served.specs.Served.{are_served_functions}
 use Rattle.life_typed.specs.Programs.{FunctionForm, ProgramForm}
 use Rattle.life_core.specs.Function.{Function}
-use Rattle.life_core_served.specs.Served.{is_served, is_served_local, is_served_program}
+use Rattle.life_core_served.specs.Served.{are_served_members, has_served_structs, is_member_type, is_served, is_served_local, is_served_member, is_served_program}
 use Rattle.life_core.specs.declared.program.Local.{Local}
 use Rattle.life_proper.specs.GivenOver.{all_keep_given, keeps_all_given}
 use Rattle.life_proper.specs.WellFormed.{is_well_formed_tree}
-use Rattle.life_proper.specs.WellFormedPrograms.{IsWellFormedProgram, are_well_formed_locals, is_name, is_result_of, is_well_formed_function, names_parameters}
+use Rattle.life_proper.specs.WellFormedPrograms.{IsWellFormedProgram, are_well_formed_locals, have_names, is_name, is_result_of, is_well_formed_function, names_parameters}
 use Rattle.life_well_typed.specs.Functions.{IsWellTyped}
 use Rattle.life_well_typed.specs.Mains.{HasIntMain}
 use Rattle.life_well_typed.specs.Names.{HasNames}
-use Rattle.life_well_typed.specs.Results.{HasResults}
+use Rattle.life_well_typed.specs.Results.{HasResults, HaveMembers}
 use Rattle.life_elab.specs.ProgramForms.{translated, written}
-use Rattle.life_elab.specs.Programs.{around, texts_of}
+use Rattle.life_elab.specs.Programs.{around, member_names, texts_of}
 use Rattle.life_elab_laws.proofs.ExpressionKinds.{variable_built}
 use Rattle.life_elab_laws.proofs.Fronts.{IsFront}
 use Rattle.life_elab_laws.proofs.ServedTypes.{variable_found}
 use Rattle.life_elab_laws.proofs.ServedLocals.{all_pass, local_served}
 use Rattle.life_elab_laws.proofs.KeptGiven.{keeps_all}
-use Rattle.life_elab_laws.proofs.ProgramNames.{no_members, own_names}
-use Rattle.life_elab_laws.proofs.Programs.{IsWritten, each_written, front, grows, of_program, one_body, one_head, passed_by_all, whole, whole_order}
+use Rattle.life_elab_laws.proofs.ProgramNames.{members_named, own_names}
+use Rattle.life_elab_laws.proofs.OperandsThere.{type_either}
+use Rattle.life_elab_laws.proofs.StructTypes.{HasStructs, IsHeld, IsServedTable, a_struct_held, a_value_held, an_owner_held, has_member, held_is, structs_later}
+use Rattle.life_elab_laws.proofs.Values.{by_values}
+use Rattle.life_elab_laws.proofs.Programs.{IsWritten, each_written, front, grows, of_program, one_body, one_head, passed_by_all, whole, whole_front, whole_order}
 use Rattle.life_elab_laws.proofs.WrittenLocals.{IsIntermediate, IsOwn, fits_later, hidden_later, hidden_local, local_later, owner_local, register_local, value_fits, unique_local}
 use Rattle.life_typed.specs.BaseTypes.{type_at}
 use Rattle.life_elab_laws.proofs.FormedLocals.{variable_fits}
 use Rattle.life_elab_laws.proofs.Shaped.{owner_later, unique_later}
-use Rattle.life_typed.specs.declared.basic.TheConstants.{CHAR}
-use Rattle.life_types.specs.declared.ty.Ty.TheVariants as ty
 
-module _ (p : ProgramForm) (typed : IsWellTyped p) (built : are_served_functions (length (texts_of p)) p.types p.functions ≡ true) (results : HasResults p) (chars : type_at p.types CHAR ≡ ty.Char) (mains : HasIntMain p) where
+module _ (p : ProgramForm) (typed : IsWellTyped p) (built : are_served_functions (length (texts_of p)) p.types p.functions ≡ true) (results : HasResults p) (told : IsServedTable p.types) (mains : HasIntMain p) where
   abbrev functions : List Function
-  functions = (whole p typed built results chars).functions
+  functions = (whole p typed built results told).functions
 
   abbrev types : Types
-  types = (whole p typed built results chars).types
+  types = (whole p typed built results told).types
 
   abbrev names : ℕ
   names = length p.names
@@ -50,10 +53,10 @@ module _ (p : ProgramForm) (typed : IsWellTyped p) (built : are_served_functions
 
   module _ (n : ℕ) (f : FunctionForm) (at : slice_get p.functions n ≡ Some f) (core : Function) (w : IsWritten p types f core) where
     served_local : (x : ℕ) (l : Local) → slice_get core.locals x ≡ Some l → is_served_local types l ≡ true
-    served_local x l there = go ((grows p typed built results chars n f at w.before w.table).own x l (subst (λ (c : Function). slice_get c.locals x ≡ Some l) w.is there))
+    served_local x l there = go ((grows p typed built results told n f at w.before w.table).own x l (subst (λ (c : Function). slice_get c.locals x ≡ Some l) w.is there))
       where
         front_is : IsFront p.types.types types.types
-        front_is = front p typed built results chars n f at core w
+        front_is = front p typed built results told n f at core w
 
         go : IsIntermediate p.types (written (around p f) w.before).types l ⊎ IsOwn (around p f) l → is_served_local types l ≡ true
         go (inl is) = elim is.fits [
@@ -70,7 +73,7 @@ module _ (p : ProgramForm) (typed : IsWellTyped p) (built : are_served_functions
           ])
         ]
         go (inr is) =
-            let found = variable_found p.types is.variable.ty (variable_built p.types f.locals is.number is.variable (of_program p typed built results chars n f at).built.variables is.there) in
+            let found = variable_found p.types is.variable.ty (variable_built p.types f.locals is.number is.variable (of_program p typed built results told n f at).built.variables is.there) in
             local_served types l found.0 (ap (λ (id : TyId). slice_get types.types id.0) is.of.typed ∙ front_is is.variable.ty.0 found.0 found.1)
             (local_later p.types types front_is found.0 (variable_fits p.types found.0 found.2))
 
@@ -78,11 +81,11 @@ module _ (p : ProgramForm) (typed : IsWellTyped p) (built : are_served_functions
     one_served = all_pass (is_served_local types) core.locals served_local
 
     body_formed : is_well_formed_tree types texts functions core core.body ≡ true
-    body_formed = (one_body p typed built results chars n f at core w mains).stated.formed
+    body_formed = (one_body p typed built results told n f at core w mains).stated.formed
 
     one_formed : HasNames p → is_well_formed_function types names texts functions core ≡ true
     one_formed named =
-        let head = one_head p typed built results chars n f at core w named in
+        let head = one_head p typed built results told n f at core w named in
         and_from (is_name names core.name) _ head.name
         (and_from (nat_le core.parameters (length core.locals)) _ head.count
         (and_from (names_parameters core.parameters core.promise) _ head.promise
@@ -91,29 +94,46 @@ module _ (p : ProgramForm) (typed : IsWellTyped p) (built : are_served_functions
 
     one_keeps : all_keep_given types core ≡ true
     one_keeps =
-        let body = one_body p typed built results chars n f at core w mains in keeps_all types core body.apart body.stated.given
+        let body = one_body p typed built results told n f at core w mains in keeps_all types core body.apart body.stated.given
 
   -- ---- all of them
 
   pub program_keeps : keeps_all_given (translated p) ≡ true
-  program_keeps = passed_by_all p typed built results chars (all_keep_given types) (list_all (all_keep_given types)) refl (λ core cores. refl) one_keeps
+  program_keeps = passed_by_all p typed built results told (all_keep_given types) (list_all (all_keep_given types)) refl (λ core cores. refl) one_keeps
 
   pub program_serves : is_served_program (translated p) ≡ true
-  program_serves = passed_by_all p typed built results chars (is_served types) (list_all (is_served types)) refl (λ core cores. refl) one_served
+  program_serves = passed_by_all p typed built results told (is_served types) (list_all (is_served types)) refl (λ core cores. refl) one_served
 
-  -- no struct is added
-  pub program_structs : p.types.structs ≡ [] → types.structs ≡ []
-  program_structs none = (whole_order p typed built results chars).structs ∙ none
+  -- no struct is added, and none holds a pointer or a unique_ptr
+  pub program_structs : has_served_structs types ≡ true
+  program_structs = all_pass (are_served_members types) types.structs struct_at
+    where
+      held : HasStructs types
+      held = structs_later p.types types (whole_front p typed built results told) (whole_order p typed built results told) told.structs
 
-  pub program_formed : HasNames p → IsOrdered p.types → HasEachOnce p.types → p.types.structs ≡ [] → has_no_structs p.structs ≡ true → IsWellFormedProgram (translated p)
-  program_formed named ordered once structs none =
-      let order = whole_order p typed built results chars in
+      member_at : (number : ℕ) (ids : List TyId) → slice_get types.structs number ≡ Some ids → (m : ℕ) (id : TyId) → slice_get ids m ≡ Some id → is_served_member types id ≡ true
+      member_at number ids there m id at =
+          ap is_member_type (type_either types id) ∙ plain (type_at types id) (held_is types (type_at types id) (has_member types held number m id (ap (λ (o : Option (List TyId)). slice_get (unwrap_or o []) m) there ∙ at)))
+        where
+          plain : (t : Ty) → IsHeld types t → is_member_type t ≡ true
+          plain t (a_value_held v) = by_values (λ t. is_member_type t ≡ true) refl refl refl refl refl t v
+          plain ty.Text (an_owner_held o) = refl
+          plain (ty.Vector item) (an_owner_held o) = refl
+          plain _ (an_owner_held o) = absurd (false≢true o)
+          plain t (a_struct_held n is) = ap is_member_type is
+
+      struct_at : (number : ℕ) (ids : List TyId) → slice_get types.structs number ≡ Some ids → are_served_members types ids ≡ true
+      struct_at number ids there = all_pass (is_served_member types) ids (member_at number ids there)
+
+  pub program_formed : HasNames p → IsOrdered p.types → HasEachOnce p.types → HaveMembers p.structs p.types.structs → IsWellFormedProgram (translated p)
+  program_formed named ordered once structs =
+      let order = whole_order p typed built results told in
       record {
         table = order.ordered ordered;
         once = order.once once;
-        members = no_members names types.structs p.structs (program_structs structs) none;
-        own_names = own_names p types p.functions functions (each_written p typed built results chars) ∙ named.own;
+        members = ap (λ (ss : List (List TyId)). have_names names ss (map member_names p.structs)) order.structs ∙ members_named names p.structs p.types.structs named.members structs;
+        own_names = own_names p types p.functions functions (each_written p typed built results told) ∙ named.own;
         functions =
-            passed_by_all p typed built results chars (is_well_formed_function types names texts functions) (list_all (is_well_formed_function types names texts functions)) refl (λ core cores. refl)
+            passed_by_all p typed built results told (is_well_formed_function types names texts functions) (list_all (is_well_formed_function types names texts functions)) refl (λ core cores. refl)
             (λ n f at core w. one_formed n f at core w named);
       }

@@ -8,7 +8,7 @@ use Rattle.life_types.specs.Types.{Types, class_at}
 use Rattle.life_types.specs.declared.ty.Ty.{Ty}
 use Rattle.life_types.specs.declared.ty.Ty.TheVariants as ty
 use Rattle.life_types.specs.declared.ty.TyId.{TyId}
-use Rattle.life_served.specs.Served.{is_element, is_owner_of_values, is_pointing, is_unique_of_element}
+use Rattle.life_served.specs.Served.{is_element, is_owner_of_values, is_pointing, is_struct, is_unique_of_element}
 use Rattle.life_typed.specs.BaseTypes.{type_at}
 use Rattle.life_typed.specs.declared.typed_program.TypedLocal.{TypedLocal}
 use Rattle.life_core.specs.declared.program.Local.{Local}
@@ -77,18 +77,20 @@ hidden_pointer types (ty.Span target constant) h = refl
 hidden_pointer types ty.View h = refl
 hidden_pointer types _ h = absurd (false≢true h)
 
--- ---- what a local of any kind holds: an owner too
+-- ---- what a local of any kind holds: an owner or a struct too
 
 abbrev pub fits_local : Types → Ty → Bool
 fits_local types ty.Text = true
 fits_local types (ty.Vector element) = is_element types (type_at types element)
 fits_local types (ty.Unique target) = is_element types (type_at types target)
+fits_local types (ty.Struct number) = true
 fits_local types t = fits_register types t
 
 pub register_local : (types : Types) (t : Ty) → fits_register types t ≡ true → fits_local types t ≡ true
 register_local types ty.Text h = refl
 register_local types (ty.Vector element) h = absurd (false≢true h)
 register_local types (ty.Unique target) h = absurd (false≢true h)
+register_local types (ty.Struct number) h = refl
 register_local types _ h = h
 
 pub owner_local : (types : Types) (t : Ty) → is_owner_of_values types t ≡ true → fits_local types t ≡ true
@@ -99,6 +101,10 @@ owner_local types _ o = absurd (false≢true o)
 pub unique_local : (types : Types) (t : Ty) → is_unique_of_element types t ≡ true → fits_local types t ≡ true
 unique_local types (ty.Unique target) u = u
 unique_local types _ u = absurd (false≢true u)
+
+pub struct_local : (types : Types) (t : Ty) → is_struct t ≡ true → fits_local types t ≡ true
+struct_local types (ty.Struct number) s = refl
+struct_local types _ s = absurd (false≢true s)
 
 pub hidden_local : (types : Types) (t : Ty) → fits_hidden types t ≡ true → fits_local types t ≡ true
 hidden_local types (ty.Reference target constant) h = owner_target types (type_at types target) h
@@ -111,6 +117,7 @@ pub local_later : (few more : Types) → IsFront few.types more.types → (t : T
 local_later few more front ty.Text h = refl
 local_later few more front (ty.Vector element) h = element_later few more front element h
 local_later few more front (ty.Unique target) h = element_later few more front target h
+local_later few more front (ty.Struct number) h = refl
 local_later few more front (ty.Raw target constant) h = target_later few more front target h
 local_later few more front (ty.Reference target constant) h = target_later few more front target h
 local_later few more front (ty.Iterator target constant) h = element_later few more front target h

@@ -20,9 +20,9 @@ use Rattle.life_well_typed.specs.Results.{HasResults}
 use Rattle.life_elab.specs.ProgramForms.{translated}
 use Rattle.life_elab.specs.Programs.{around, texts_of}
 use Rattle.life_elab_laws.proofs.GivingBack.{GivesResult}
+use Rattle.life_elab_laws.proofs.StructTypes.{IsServedTable}
 use Rattle.life_elab_laws.proofs.Programs.{IsWritten, int_at, of_all, of_program, one_body, whole, written_result}
 use Rattle.life_elab_laws.proofs.ResultTypes.{past_end}
-use Rattle.life_typed.specs.declared.basic.TheConstants.{CHAR}
 
 -- ---- what must be written is given back, and control doesn't run past the end
 
@@ -39,24 +39,24 @@ needs main t over int e w = let some = written_some main t w in (some, past_end 
 
 -- ---- each function
 
-module _ (p : ProgramForm) (typed : IsWellTyped p) (built : are_served_functions (length (texts_of p)) p.types p.functions ≡ true) (results : HasResults p) (chars : type_at p.types CHAR ≡ ty.Char) (mains : HasIntMain p) where
-  module _ (n : ℕ) (f : FunctionForm) (at : slice_get p.functions n ≡ Some f) (core : Function) (w : IsWritten p (whole p typed built results chars).types f core) where
-    gives : writes_result p.names (whole p typed built results chars).types core ≡ true → GivesResult (around p f)
+module _ (p : ProgramForm) (typed : IsWellTyped p) (built : are_served_functions (length (texts_of p)) p.types p.functions ≡ true) (results : HasResults p) (told : IsServedTable p.types) (mains : HasIntMain p) where
+  module _ (n : ℕ) (f : FunctionForm) (at : slice_get p.functions n ≡ Some f) (core : Function) (w : IsWritten p (whole p typed built results told).types f core) where
+    gives : writes_result p.names (whole p typed built results told).types core ≡ true → GivesResult (around p f)
     gives must =
-        let of = of_program p typed built results chars n f at in
+        let of = of_program p typed built results told n f at in
         needs (is_main p.names f.name) (type_at p.types f.result) (ends f.body) (int_at p p.functions n f mains at) of.typed.ending
         (ap (λ (x : NameId). is_written_by (is_main p.names x) (Some (type_at p.types f.result))) (sym (ap (λ (c : Function). c.name) w.is))
-        ∙ ap (is_written_by (is_main p.names core.name)) (sym (written_result p typed built results chars n f at core w))
+        ∙ ap (is_written_by (is_main p.names core.name)) (sym (written_result p typed built results told n f at core w))
         ∙ must)
 
-    one_result : HasResultWritten p.names (whole p typed built results chars).types core
+    one_result : HasResultWritten p.names (whole p typed built results told).types core
     one_result must = λ q bits l way here is.
         let g = gives must in
-        let body = one_body p typed built results chars n f at core w mains in
-        results_found (whole p typed built results chars).types core body.checked core.parameters (body.returns g) q bits l way here is
+        let body = one_body p typed built results told n f at core w mains in
+        results_found (whole p typed built results told).types core body.checked core.parameters (body.returns g) q bits l way here is
 
   pub program_writes_results : WritesResults (translated p)
   program_writes_results =
       let names = p.names in
-      let types = (whole p typed built results chars).types in
-      of_all p typed built results chars (HasResultWritten names types) (HaveResultsWritten names types) tt (λ core cores one others. (one, others)) one_result
+      let types = (whole p typed built results told).types in
+      of_all p typed built results told (HasResultWritten names types) (HaveResultsWritten names types) tt (λ core cores one others. (one, others)) one_result

@@ -11,7 +11,7 @@ use Rattle.life_typed.specs.declared.typed_expr.ExprForm.TheFolds.{fold-roll-Exp
 use Rattle.life_typed.specs.declared.typed_expr.ExprForm.TheVariants as form
 use Rattle.life_typed.specs.declared.typed_expr.Method.{Method}
 use Rattle.life_typed.specs.declared.typed_expr.TypedExpr.{TypedExpr}
-use Rattle.life_served.specs.Served.{are_served_arguments, fills_unique, is_served_form, is_served_made, is_served_walker}
+use Rattle.life_served.specs.Served.{are_served_arguments, fills_unique, is_served_content, is_served_form, is_served_made, is_served_walker}
 use Rattle.life_served.specs.Told.{answered, called, combined, dereferenced, given_value, indexed, inverted, made_anew, made_text, moved_out, named, parenthesised, told}
 use Rattle.life_served.specs.declared.told.Told.{Told}
 
@@ -39,7 +39,7 @@ module _ (texts : ℕ) (f : Form) where
   seen_not = ap seen (sym form.rolls-Not) ∙ rw fold-roll-ExprForm
 
   -- what is made anew
-  pub seen_made : (element : TyId) (argument : Option (Box TypedExpr Global)) (closing : Place) → fills_unique texts (form_view (form.MakeUnique element argument closing) f) ≡ is_served_made texts (given_value argument)
+  pub seen_made : (element : TyId) (argument : Option (Box TypedExpr Global)) (closing : Place) → fills_unique texts (form_view (form.MakeUnique element argument closing) f) ≡ is_served_content texts (given_value argument)
   seen_made element None closing = ap (λ (e : ExprForm). fills_unique texts (form_view e f)) (sym (form.rolls-MakeUnique element None closing)) ∙ rw fold-roll-ExprForm
   seen_made element (Some e) closing = ap (λ (x : ExprForm). fills_unique texts (form_view x f)) (sym (form.rolls-MakeUnique element (Some e) closing)) ∙ rw fold-roll-ExprForm
 

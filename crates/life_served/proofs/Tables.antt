@@ -6,7 +6,8 @@ use Rattle.std.proofs.lemmas.List.{drop_all, drop_more}
 use Rattle.std.proofs.lemmas.Bool.{lt-ltb, le-ltb}
 use Rattle.life_types.specs.Types.{Types}
 use Rattle.life_types.specs.declared.ty.Ty.{Ty}
-use Rattle.life_served.specs.Served.{are_served_types, has_served_types, is_served_type}
+use Rattle.life_types.specs.declared.ty.TyId.{TyId}
+use Rattle.life_served.specs.Served.{are_struct_members, are_served_types, has_served_types, has_fine_structs, hold_members, is_served_type}
 
 -- what is left from a type on begins with it
 rest_from : {X : Type 0} (xs : List X) (i : ℕ) (x : X) → slice_get xs i ≡ Some x → drop i xs ≡ x ∷ drop (i + 1) xs
@@ -55,3 +56,33 @@ pub too_many : (types : Types) → 2 ^ 32 - 1 ≤ length types.types → false �
 too_many types many =
     let full : nat_lt (length types.types) (2 ^ 32 - 1) ≡ false = le-ltb (length types.types) (2 ^ 32 - 1) many in
     sym (ap (λ x. are_served_types types (drop 8 types.types) && x) full ∙ and_false (are_served_types types (drop 8 types.types)))
+
+-- ---- structs one after the other
+
+module _ (types : Types) (i : ℕ) (ids : List TyId) (b : Bool) (e : slice_get types.structs i ≡ Some ids) (found : b ≡ are_struct_members types ids)
+    (rest : hold_members types (drop i types.structs) ≡ hold_members types types.structs) where
+  one_struct : hold_members types (drop i types.structs) ≡ (b && hold_members types (drop (i + 1) types.structs))
+  one_struct = ap (hold_members types) (rest_from types.structs i ids e) ∙ ap (λ (x : Bool). x && hold_members types (drop (i + 1) types.structs)) (sym found)
+
+  -- one that is served is passed
+  pub struct_passed : b ≡ true → hold_members types (drop (i + 1) types.structs) ≡ hold_members types types.structs
+  struct_passed is = sym (one_struct ∙ ap (λ (x : Bool). x && hold_members types (drop (i + 1) types.structs)) is) ∙ rest
+
+  -- any other decides
+  pub struct_refused : b ≡ false → false ≡ hold_members types types.structs
+  struct_refused is = sym (one_struct ∙ ap (λ (x : Bool). x && hold_members types (drop (i + 1) types.structs)) is) ∙ rest
+
+-- none is left
+pub structs_passed : (types : Types) (i : ℕ) → length types.structs ≤ i → hold_members types (drop i types.structs) ≡ hold_members types types.structs → true ≡ hold_members types types.structs
+structs_passed types i past rest = sym (ap (hold_members types) (drop_all i types.structs past)) ∙ rest
+
+-- there are few, or too many
+pub few_structs : (types : Types) (b : Bool) → length types.structs < 2 ^ 32 → b ≡ hold_members types types.structs → b ≡ has_fine_structs types
+few_structs types b few is = is ∙ sym (ap (λ (x : Bool). hold_members types types.structs && x) (lt-ltb (length types.structs) (2 ^ 32) few) ∙ and_true (hold_members types types.structs))
+  where
+    and_true : (b : Bool) → (b && true) ≡ b
+    and_true true = refl
+    and_true false = refl
+
+pub many_structs : (types : Types) → 2 ^ 32 ≤ length types.structs → false ≡ has_fine_structs types
+many_structs types many = sym (ap (λ (x : Bool). hold_members types types.structs && x) (le-ltb (length types.structs) (2 ^ 32) many) ∙ and_false (hold_members types types.structs))

@@ -1,11 +1,11 @@
 -- What is told of a form with a value by what is told of its operand, and of a call of a member function, where it is `erase` and where it isn't.
 use Rattle.std.proofs.Common.{◌≡◌, ℕ, Bool, false, true, ◌&&◌, ◌||◌, refl, sym, ap, ◌∙◌, subst}
 use Rattle.std.proofs.lemmas.Bool.{false≢true}
-use Rattle.life_typed.specs.TypedForm.{Form, address_of, negate}
+use Rattle.life_typed.specs.TypedForm.{Form, address_of, member, negate}
 use Rattle.life_typed.specs.declared.typed_expr.Method.{Method}
 use Rattle.life_typed.specs.declared.typed_expr.Method.TheVariants as methods
 use Rattle.life_served.specs.Served.{is_end, is_erase, is_subspan}
-use Rattle.life_served.specs.Told.{addressed, asked, called, erased, told, value_alone}
+use Rattle.life_served.specs.Told.{addressed, asked, called, erased, member_of, told, value_alone}
 use Rattle.life_served.specs.declared.told.Told.{Told}
 
 -- what `erase` may be given counts for nothing else
@@ -18,7 +18,7 @@ other_dropped a b m d none = ap (λ (e : Bool). a || (b || (e && d))) none ∙ a
 
 pub asked_called : (m : Method) (t : Told) (given walks : Bool) → is_erase m ≡ false → asked m t given ≡ called m t given walks
 asked_called m t given walks none =
-    ap (λ (w : Bool). (let r : Told = record { value = (called m t given walks).value; owner = (called m t given walks).owner; walker = w; object = (called m t given walks).object; owns = false; unique = false; fresh = false } in r))
+    ap (λ (w : Bool). (let r : Told = record { value = (called m t given walks).value; owner = (called m t given walks).owner; walker = w; object = (called m t given walks).object; owns = false; unique = false; fresh = false; structure = false } in r))
     (sym (other_dropped (is_end m && (t.owns && t.owner)) (is_subspan m && (t.walker && given)) m (t.owns && (t.object && walks)) none))
 
 pub erased_called : (m : Method) (t : Told) (given walks : Bool) → is_erase m ≡ true → erased t walks ≡ called m t given walks
@@ -31,3 +31,6 @@ module _ (texts : ℕ) where
 
   pub tells_address : (f : Form) (t : Told) → told texts f ≡ t → addressed t ≡ told texts (address_of f)
   tells_address f t h = subst (λ (t : Told). addressed t ≡ told texts (address_of f)) h refl
+
+  pub tells_member : (f : Form) (t : Told) (which : ℕ) → told texts f ≡ t → member_of t ≡ told texts (member f which)
+  tells_member f t which h = subst (λ (t : Told). member_of t ≡ told texts (member f which)) h refl

@@ -1,5 +1,6 @@
--- Which programs are served so far: values, strings, vectors of values and of such owners, raw pointers and references to these, views of characters, literals, iterators and spans, and unique_ptrs.
+-- Which programs are served so far: values, strings, vectors of values and of such owners, raw pointers and references to these, views of characters, literals, iterators and spans, unique_ptrs, and structs of values, of strings and vectors and of such structs.
 use Rattle.std.specs.Prelude.{ℕ, zero, suc, ◌+◌, ◌-◌, ◌^◌, Bool, true, false, ◌&&◌, ◌||◌, not, if◌then◌else◌, List, [], ◌∷◌, drop, take, length, nat_lt, Option, Some, None, slice_get}
+use Rattle.life_types.specs.Trees.{members_at}
 use Rattle.life_types.specs.TypeTests.{is_reference, is_unique, is_value, is_view, is_void}
 use Rattle.life_types.specs.Types.{Types}
 use Rattle.life_types.specs.declared.ty.Ty.{Ty}
@@ -7,9 +8,9 @@ use Rattle.life_types.specs.declared.ty.Ty.TheVariants as ty
 use Rattle.life_types.specs.declared.ty.TyId.{TyId}
 use Rattle.life_types.specs.contracts.ty.TyIdPartialEq.TheImpl.{ghosts as id}
 use Rattle.life_typed.specs.BaseTypes.{type_at}
-use Rattle.life_typed.specs.Conversions.{is_const_place}
+use Rattle.life_typed.specs.Conversions.{is_const_place, is_place}
 use Rattle.life_typed.specs.Statements.{range_element}
-use Rattle.life_typed.specs.TypedForm.{address_of, binary, boolean, call, character, dereference, Form, forms, index, input, local, make_unique, method, move, negate, not as negation, nothing, null, number, paren, text, text_of, typed, Typed, whole, ◌⨟◌}
+use Rattle.life_typed.specs.TypedForm.{address_of, binary, boolean, call, character, dereference, Form, forms, index, input, local, make_unique, member, method, move, negate, not as negation, nothing, null, number, paren, text, text_of, typed, Typed, whole, ◌⨟◌}
 use Rattle.life_typed.specs.TypedStatement.{StmtForm, DeclarationForm, ForStartForm, InitialForm, ItemForm, SimpleForm, one, several, assign, compound, step, discarded, declared_first, done_first, printed, line_end, block, empty, sentence, branching, while_loop, for_loop, range_loop, loop_break, loop_continue, returned, print, assertion, branch, declaration, no_more, chain}
 use Rattle.life_typed.specs.declared.typed_expr.BinaryOperator.{BinaryOperator}
 use Rattle.life_typed.specs.declared.typed_expr.BinaryOperator.TheVariants.{And, Equal, NotEqual, Or}
@@ -18,7 +19,7 @@ use Rattle.life_typed.specs.declared.typed_expr.ExprType.TheVariants.{NullPointe
 use Rattle.life_typed.specs.declared.typed_expr.Method.{Method}
 use Rattle.life_typed.specs.declared.typed_expr.Method.TheVariants.{Back, Begin, Clear, Empty, End, Erase, Front, Get, PopBack, PushBack, Reserve, Reset, Size, Subspan, Substr}
 use Rattle.life_typed.specs.declared.typed_program.TypedLocal.{TypedLocal}
-use Rattle.life_typed.specs.Programs.{FunctionForm, ProgramForm, StructForm}
+use Rattle.life_typed.specs.Programs.{FunctionForm, ProgramForm}
 
 -- ---- types
 
@@ -41,11 +42,16 @@ is_element types t = is_value t || is_inner_owner types t
 abbrev pub is_owner_of_values : Types → Ty → Bool
 is_owner_of_values types t = is_owner_within 8 types t
 
+-- a struct
+abbrev pub is_struct : Ty → Bool
+is_struct (ty.Struct n) = true
+is_struct _ = false
+
 -- what a raw pointer or a reference is to
 abbrev pub is_target : Types → Ty → Bool
-is_target types t = is_value t || is_owner_of_values types t
+is_target types t = is_value t || (is_owner_of_values types t || is_struct t)
 
--- a raw pointer or a reference to a value or an owner, or a view of characters
+-- a raw pointer or a reference to a value, an owner or a struct, or a view of characters
 abbrev pub is_pointing : Types → Ty → Bool
 is_pointing types (ty.Raw target constant) = is_target types (type_at types target)
 is_pointing types (ty.Reference target constant) = is_target types (type_at types target)
@@ -65,7 +71,7 @@ is_unique_of_element types _ = false
 
 -- one that isn't among those that each table begins with
 abbrev pub is_served_type : Types → Ty → Bool
-is_served_type types t = is_pointing types t || (is_owner_of_values types t || (is_walker_of_values types t || is_unique_of_element types t))
+is_served_type types t = is_pointing types t || (is_owner_of_values types t || (is_walker_of_values types t || (is_unique_of_element types t || is_struct t)))
 
 abbrev pub are_served_types : Types → List Ty → Bool
 are_served_types types [] = true
@@ -75,11 +81,38 @@ are_served_types types (t ∷ ts) = is_served_type types t && are_served_types t
 abbrev pub has_served_types : Types → Bool
 has_served_types types = are_served_types types (drop 8 types.types) && nat_lt (length types.types) (2 ^ 32 - 1)
 
+-- whether each of them has such a type
+abbrev pub have_each : (Ty → Bool) → Types → List TyId → Bool
+have_each test types [] = true
+have_each test types (id ∷ ids) = test (type_at types id) && have_each test types ids
+
+-- what a member of a struct is, where no path into it has more steps: a value, an owner, or a struct of such members
+abbrev pub is_member_within : (steps : ℕ) → Types → Ty → Bool
+is_member_within zero types t = is_value t
+is_member_within (suc n) types (ty.Struct which) = have_each (is_member_within n types) types (members_at types which)
+is_member_within (suc n) types t = is_value t || is_owner_within (suc n) types t
+
+-- so far a path into a struct has three steps at most, the first of them to the member: members of members are asked anew wherever they stand
+abbrev pub is_struct_member : Types → Ty → Bool
+is_struct_member types t = is_member_within 2 types t
+
+-- the members of a struct, of which there are 32 at most, as the limit on members has it
+abbrev pub are_struct_members : Types → List TyId → Bool
+are_struct_members types ids = nat_lt (length ids) 33 && have_each (is_struct_member types) types ids
+
+abbrev pub hold_members : Types → List (List TyId) → Bool
+hold_members types [] = true
+hold_members types (ids ∷ structs) = are_struct_members types ids && hold_members types structs
+
+-- structs of such members, where numbers are left for more
+abbrev pub has_fine_structs : Types → Bool
+has_fine_structs types = hold_members types types.structs && nat_lt (length types.structs) (2 ^ 32)
+
 -- what is given over as a whole: an owner, or a unique_ptr
 abbrev pub is_owning : Types → Ty → Bool
 is_owning types t = is_owner_of_values types t || is_unique_of_element types t
 
--- what a parameter may hold; what is given over where the function gives a value or nothing
+-- what a parameter may hold; what is given over where the function gives a value, such a one or nothing
 abbrev pub is_served_parameter : Types → (owners : Bool) → TyId → Bool
 is_served_parameter types owners id =
     is_value (type_at types id) || (is_pointing types (type_at types id) || (is_walker_of_values types (type_at types id) || (owners && is_owning types (type_at types id))))
@@ -89,7 +122,7 @@ are_served_parameters types owners [] = true
 are_served_parameters types owners (v ∷ vs) = is_served_parameter types owners v.ty && are_served_parameters types owners vs
 
 abbrev pub takes_owners : Types → (result : TyId) → Bool
-takes_owners types id = is_void (type_at types id) || is_value (type_at types id)
+takes_owners types id = is_void (type_at types id) || (is_value (type_at types id) || is_owning types (type_at types id))
 
 -- .. and any variable
 abbrev pub is_served_variable : Types → TyId → Bool
@@ -99,9 +132,10 @@ abbrev pub are_served_variables : Types → List TypedLocal → Bool
 are_served_variables types [] = true
 are_served_variables types (v ∷ vs) = is_served_variable types v.ty && are_served_variables types vs
 
--- what is given back: a value, or what points to one or to an owner, an iterator or a span, or nothing
+-- what is given back: a value, or what points to one, to an owner or to a struct, an iterator or a span, an owner or a unique_ptr, or nothing
 abbrev pub is_served_result : Types → TyId → Bool
-is_served_result types id = is_void (type_at types id) || (is_value (type_at types id) || (is_pointing types (type_at types id) || is_walker_of_values types (type_at types id)))
+is_served_result types id =
+    is_void (type_at types id) || (is_value (type_at types id) || (is_pointing types (type_at types id) || (is_walker_of_values types (type_at types id) || is_owning types (type_at types id))))
 
 -- ---- kinds of types
 
@@ -129,9 +163,13 @@ abbrev pub is_unique_type : ExprType → Bool
 is_unique_type (Of t) = is_unique t
 is_unique_type _ = false
 
+abbrev pub is_struct_type : ExprType → Bool
+is_struct_type (Of t) = is_struct t
+is_struct_type _ = false
+
 -- none of these: they are served where something is asked of them, or they are changed
 abbrev pub is_plain_type : ExprType → Bool
-is_plain_type t = not (is_owner_type t || (is_walker_type t || is_unique_type t))
+is_plain_type t = not (is_owner_type t || (is_walker_type t || (is_unique_type t || is_struct_type t)))
 
 -- a view
 abbrev pub is_view_type : ExprType → Bool
@@ -147,14 +185,23 @@ is_span _ = false
 abbrev pub takes_owner : Ty → Bool
 takes_owner t = owns_elements t || (is_view t || (is_span t || is_reference t))
 
+-- what is given what has a value
+abbrev pub takes_value : Ty → Bool
+takes_value t = not (owns_elements t || (is_walker t || (is_unique t || is_struct t)))
+
 -- a vector is built of elements
 abbrev pub is_vector : Ty → Bool
 is_vector (ty.Vector element) = true
 is_vector _ = false
 
--- .. also for a reference to it
-abbrev pub takes_list : Ty → Bool
-takes_list t = is_vector t || is_reference t
+-- .. also for a reference to it, and a struct of members
+abbrev pub takes_list : Types → Ty → Bool
+takes_list types (ty.Reference target constant) = is_vector (type_at types target)
+takes_list types t = is_vector t || is_struct t
+
+-- what is given a struct: another one, or a reference
+abbrev pub takes_struct : Ty → Bool
+takes_struct t = is_struct t || is_reference t
 
 abbrev pub is_vector_type : ExprType → Bool
 is_vector_type (Of t) = is_vector t
@@ -283,7 +330,7 @@ is_served_unique (paren inner closing) = is_served_unique inner
 is_served_unique (typed place t category form) = is_unique_type t && is_served_unique form
 is_served_unique _ = false
 
--- .. which owns nothing more; that stands alone
+-- a unique_ptr owns nothing more; that stands alone
 abbrev pub is_served_reset : Form → Bool
 is_served_reset (method base called arguments delimiters) = is_reset called && is_served_unique base
 is_served_reset _ = false
@@ -312,9 +359,10 @@ module _ (texts : ℕ) where
     is_served_form (method base called arguments delimiters) =
         (is_asking called && ((is_served_either base (is_served_owner base) (is_served_form base) || is_served_walker base) && is_served_form arguments))
         || (is_get called && is_served_unique base)
+    is_served_form (member e which) = is_served_struct e
     is_served_form (negate e) = is_served_form e
     is_served_form (negation e) = is_served_form e || is_served_unique e
-    is_served_form (address_of e) = is_served_either e (is_served_object e) (is_served_form e)
+    is_served_form (address_of e) = is_served_either e (is_served_object e) (is_served_form e) || is_served_struct e
     is_served_form (binary operator left right) =
         (is_served_form left && is_served_form right)
         || ((is_testing operator && ((is_served_form left || is_served_unique left) && (is_served_form right || is_served_unique right)))
@@ -329,15 +377,26 @@ module _ (texts : ℕ) where
     -- .. that a function is called with: of any type
     pub are_served_arguments : Form → Bool
     are_served_arguments nothing = true
-    are_served_arguments (e ⨟ es) = (is_served_either e (is_served_owner e) (is_served_form e) || (is_served_walker e || is_served_fresh e)) && are_served_arguments es
+    are_served_arguments (e ⨟ es) = (is_served_either e (is_served_owner e) (is_served_form e) || (is_served_walker e || (is_served_fresh e || is_served_struct e))) && are_served_arguments es
     are_served_arguments _ = false
 
-    -- a unique_ptr that is made, or moved out of a variable
+    -- a unique_ptr that is made, moved out of a variable, or given by a call
     pub is_served_fresh : Form → Bool
+    is_served_fresh (call f arguments delimiters) = are_served_arguments arguments
     is_served_fresh (make_unique target argument closing) = is_served_made argument
     is_served_fresh (move x) = true
     is_served_fresh (typed place t category form) = is_unique_type t && is_served_fresh form
     is_served_fresh _ = false
+
+    -- a struct at a place: one that is named, that a call refers to, or that is behind a pointer
+    pub is_served_struct : Form → Bool
+    is_served_struct (local x) = true
+    is_served_struct (call f arguments delimiters) = are_served_arguments arguments
+    is_served_struct (paren inner closing) = is_served_struct inner
+    is_served_struct (member e which) = is_served_struct e
+    is_served_struct (dereference e) = is_served_form e
+    is_served_struct (typed place t category form) = is_struct_type t && is_served_struct form
+    is_served_struct _ = false
 
     -- what is made anew has a number, or what stands there at first
     pub is_served_made : Form → Bool
@@ -345,7 +404,7 @@ module _ (texts : ℕ) where
     is_served_made (typed place t category form) = is_number_type t && (is_plain_type t && is_served_form form)
     is_served_made _ = false
 
-    -- an owner at a place: one that is named, that a call refers to, that is behind a pointer or an iterator, or that is an element
+    -- an owner at a place: one that is named, that a call refers to, that is behind a pointer or an iterator, or that is an element or a member
     pub is_served_object : Form → Bool
     is_served_object (local x) = true
     is_served_object (call f arguments delimiters) = are_served_arguments arguments
@@ -353,8 +412,9 @@ module _ (texts : ℕ) where
     is_served_object (dereference e) = is_served_form e || (is_served_walker e || is_served_unique e)
     is_served_object (index base position closing) =
         (is_served_either base (is_served_owner base) (is_served_form base) || is_served_walker base) && is_served_form position
+    is_served_object (member e which) = is_served_struct e
     is_served_object (method base called arguments delimiters) = is_edge called && (is_owner_type (form_type base) && is_served_owner base)
-    is_served_object (typed place t category form) = is_served_object form
+    is_served_object (typed place t category form) = is_place category && is_served_object form
     is_served_object _ = false
 
     -- an owner: one at a place, a string that is made, or what is moved out of a variable
@@ -366,6 +426,7 @@ module _ (texts : ℕ) where
     is_served_owner (dereference e) = is_served_form e || (is_served_walker e || is_served_unique e)
     is_served_owner (index base position closing) =
         (is_served_either base (is_served_owner base) (is_served_form base) || is_served_walker base) && is_served_form position
+    is_served_owner (member e which) = is_served_struct e
     is_served_owner (method base called arguments delimiters) = is_edge called && (is_owner_type (form_type base) && is_served_owner base)
     is_served_owner (binary operator left right) =
         is_served_either left (is_served_owner left) (is_served_form left) && is_served_either right (is_served_owner right) (is_served_form right)
@@ -393,6 +454,15 @@ module _ (texts : ℕ) where
   are_served_elements (e ⨟ es) = is_served_either e (is_served_owner e) (is_served_form e) && are_served_elements es
   are_served_elements _ = false
 
+  -- what a struct is given for its members: structs too
+  abbrev pub are_served_parts : Form → Bool
+  are_served_parts nothing = true
+  are_served_parts (e ⨟ es) = (is_served_either e (is_served_owner e) (is_served_form e) || is_served_struct e) && are_served_parts es
+  are_served_parts _ = false
+
+  abbrev pub are_served_listed : Ty → Form → Bool
+  are_served_listed t es = if is_struct t then are_served_parts es else are_served_elements es
+
   abbrev pub is_served_expression : Typed → Bool
   is_served_expression e = is_served_form (whole e)
 
@@ -417,43 +487,48 @@ module _ (texts : ℕ) where
   fills_owner (text n) = nat_lt n texts
   fills_owner _ = false
 
+  -- what a unique_ptr that is made owns: what stands there at first, a value, or an owner
+  abbrev pub is_served_content : Form → Bool
+  is_served_content nothing = true
+  is_served_content e = is_served_either e (is_served_owner e) (is_served_form e)
+
   -- what a unique_ptr is made of: nothing, what is made anew, or what is moved out of a variable
   abbrev pub fills_unique : Form → Bool
   fills_unique null = true
-  fills_unique (make_unique target argument closing) = is_served_made argument
+  fills_unique (make_unique target argument closing) = is_served_content argument
   fills_unique (move x) = true
   fills_unique _ = false
 
   -- ---- declarations and simple statements
 
-  -- an owner, a view, a span or a reference is given an owner, an owner a literal, an iterator or a span another one, or a unique_ptr what it owns
+  -- an owner, a view, a span or a reference is given an owner, an owner a literal, an iterator or a span another one, a unique_ptr what it owns, or a struct or a reference a struct
   abbrev pub is_served_owned : Ty → Typed → Bool
   is_served_owned t e =
       (takes_owner t && is_served_owning e)
-      || ((owns_elements t && fills_owner e.form) || ((is_walker t && is_served_walker (whole e)) || (is_unique t && fills_unique e.form)))
+      || ((owns_elements t && fills_owner e.form) || ((is_walker t && is_served_walker (whole e)) || ((is_unique t && (fills_unique e.form || is_served_fresh (whole e))) || (takes_struct t && is_served_struct (whole e)))))
 
   abbrev pub is_served_given : Ty → Typed → Bool
-  is_served_given t e = (not (owns_elements t || (is_walker t || is_unique t)) && is_served_expression e) || is_served_owned t e
+  is_served_given t e = (takes_value t && is_served_expression e) || is_served_owned t e
 
-  abbrev pub is_served_initial : Ty → Option InitialForm → Bool
-  is_served_initial t None = true
-  is_served_initial t (Some (one e)) = is_served_given t e
-  is_served_initial t (Some (several list)) = takes_list t && are_served_elements (forms list.elements)
+  abbrev pub is_served_initial : Types → Ty → Option InitialForm → Bool
+  is_served_initial types t None = true
+  is_served_initial types t (Some (one e)) = is_served_given t e
+  is_served_initial types t (Some (several list)) = takes_list types t && are_served_listed t (forms list.elements)
 
   abbrev pub is_served_declared : Types → Option TypedLocal → Option InitialForm → Bool
   is_served_declared types None value = true
-  is_served_declared types (Some v) value = is_served_initial (type_at types v.ty) value
+  is_served_declared types (Some v) value = is_served_initial types (type_at types v.ty) value
 
   -- an owner at a place
   abbrev pub is_served_target : Typed → Bool
   is_served_target e = is_owner_type e.ty && is_served_object (whole e)
 
-  -- an owner is copied or made, also of a literal, a view sees a string, a span a vector, an iterator or a span becomes another one, or a unique_ptr owns another value
+  -- an owner is copied or made, also of a literal, a view sees a string, a span a vector, an iterator or a span becomes another one, a unique_ptr owns another value, or a struct is copied
   abbrev pub is_served_renewed : (target e : Typed) → Bool
   is_served_renewed target e =
       (is_served_target target && (is_served_owning e || fills_owner e.form))
       || (((is_view_type target.ty && is_served_expression target) && is_served_owning e)
-      || ((is_served_walker (whole target) && (is_served_walker (whole e) || is_served_owning e)) || (is_served_unique (whole target) && fills_unique e.form)))
+      || ((is_served_walker (whole target) && (is_served_walker (whole e) || is_served_owning e)) || ((is_served_unique (whole target) && (fills_unique e.form || is_served_fresh (whole e))) || (is_served_struct (whole target) && is_served_struct (whole e)))))
 
   -- .. or anything else a value, or a vector elements
   abbrev pub is_served_assigned : Typed → InitialForm → Bool
@@ -472,7 +547,7 @@ module _ (texts : ℕ) where
   -- what is given back
   abbrev pub is_served_returned : Option Typed → Bool
   is_served_returned None = true
-  is_served_returned (Some e) = is_served_any e || is_served_walker (whole e)
+  is_served_returned (Some e) = is_served_any e || (is_served_walker (whole e) || (is_served_struct (whole e) || (is_served_fresh (whole e) || is_served_unique (whole e))))
 
   -- of numbers, or a string gains characters
   abbrev pub is_served_compound : (target e : Typed) → Bool
@@ -481,9 +556,9 @@ module _ (texts : ℕ) where
   abbrev pub is_served_stepped : Typed → Bool
   is_served_stepped target = is_served_expression target || is_served_walker (whole target)
 
-  -- a call that gives an owner at a place, an iterator or a span
+  -- a call that gives an owner, a struct at a place, an iterator, a span or a unique_ptr
   abbrev pub is_served_left : Typed → Bool
-  is_served_left e = calls_any e.form && (is_served_target e || is_served_walker (whole e))
+  is_served_left e = calls_any e.form && (is_served_owning e || (is_served_walker (whole e) || (is_served_struct (whole e) || is_served_fresh (whole e))))
 
   -- a call, a number that is left, or a change of an owner or of a unique_ptr
   abbrev pub is_served_alone : Typed → Bool
@@ -556,10 +631,6 @@ abbrev pub are_served_functions : (texts : ℕ) → Types → List FunctionForm 
 are_served_functions texts types [] = true
 are_served_functions texts types (f ∷ fs) = is_served_function texts types f && are_served_functions texts types fs
 
-abbrev pub has_no_structs : List StructForm → Bool
-has_no_structs [] = true
-has_no_structs (s ∷ ss) = false
-
 -- with the text that ends a line there is one more than the file has
 abbrev pub is_served : ProgramForm → Bool
-is_served p = has_served_types p.types && (has_no_structs p.structs && are_served_functions (length p.texts + 1) p.types p.functions)
+is_served p = has_served_types p.types && (has_fine_structs p.types && are_served_functions (length p.texts + 1) p.types p.functions)

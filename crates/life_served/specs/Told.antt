@@ -3,18 +3,20 @@ use Rattle.std.specs.Prelude.{ℕ, Bool, Box, false, true, ◌&&◌, ◌||◌, i
 use Rattle.std.specs.declared.alloc.Global.{Global}
 use Rattle.life_typed.specs.TypedForm.{Form, nested, nothing, operand_view, typed_view, whole}
 use Rattle.life_typed.specs.declared.typed_expr.BinaryOperator.{BinaryOperator}
+use Rattle.life_typed.specs.Conversions.{is_place}
+use Rattle.life_typed.specs.declared.typed_expr.Category.{Category}
 use Rattle.life_typed.specs.declared.typed_expr.ExprType.{ExprType}
 use Rattle.life_typed.specs.declared.typed_expr.Method.{Method}
 use Rattle.life_typed.specs.declared.typed_expr.TypedExpr.{TypedExpr, out-TypedExpr}
 use Rattle.life_typed.specs.declared.typed_expr.TypedOperand.{TypedOperand}
-use Rattle.life_served.specs.Served.{form_type, is_asking, is_edge, is_end, is_equality, is_erase, is_get, is_owner_type, is_plain_type, is_served_form, is_served_fresh, is_served_object, is_served_owner, is_served_unique, is_served_walker, is_subspan, is_testing, is_unique_type, is_walker_type}
+use Rattle.life_served.specs.Served.{form_type, is_asking, is_edge, is_end, is_equality, is_erase, is_get, is_owner_type, is_plain_type, is_served_form, is_served_fresh, is_served_object, is_served_owner, is_served_struct, is_served_unique, is_served_walker, is_struct_type, is_subspan, is_testing, is_unique_type, is_walker_type}
 use Rattle.life_served.specs.declared.told.Told.{Told}
 
 abbrev pub told : ℕ → Form → Told
-told texts f = record { value = is_served_form texts f; owner = is_served_owner texts f; walker = is_served_walker texts f; object = is_served_object texts f; owns = is_owner_type (form_type f); unique = is_served_unique f; fresh = is_served_fresh texts f }
+told texts f = record { value = is_served_form texts f; owner = is_served_owner texts f; walker = is_served_walker texts f; object = is_served_object texts f; owns = is_owner_type (form_type f); unique = is_served_unique f; fresh = is_served_fresh texts f; structure = is_served_struct texts f }
 
 abbrev pub value_alone : Bool → Told
-value_alone value = record { value = value; owner = false; walker = false; object = false; owns = false; unique = false; fresh = false }
+value_alone value = record { value = value; owner = false; walker = false; object = false; owns = false; unique = false; fresh = false; structure = false }
 
 -- an owner as such, and anything else as what has a value
 abbrev pub either : Told → Bool
@@ -22,28 +24,33 @@ either t = if t.owns then t.owner else t.value
 
 -- a variable
 abbrev pub named : Told
-named = record { value = true; owner = true; walker = true; object = true; owns = false; unique = true; fresh = false }
+named = record { value = true; owner = true; walker = true; object = true; owns = false; unique = true; fresh = false; structure = true }
 
 -- what is moved out of one is an owner, or a unique_ptr
 abbrev pub moved_out : Told
-moved_out = record { value = false; owner = true; walker = false; object = false; owns = false; unique = false; fresh = true }
+moved_out = record { value = false; owner = true; walker = false; object = false; owns = false; unique = false; fresh = true; structure = false }
 
 -- .. as a unique_ptr is that is made
 abbrev pub made_anew : Bool → Told
-made_anew given = record { value = false; owner = false; walker = false; object = false; owns = false; unique = false; fresh = given }
+made_anew given = record { value = false; owner = false; walker = false; object = false; owns = false; unique = false; fresh = given; structure = false }
 
 abbrev pub parenthesised : Told → Told
-parenthesised t = record { value = t.value; owner = t.owner; walker = t.walker; object = t.object; owns = false; unique = t.unique; fresh = false }
+parenthesised t = record { value = t.value; owner = t.owner; walker = t.walker; object = t.object; owns = false; unique = t.unique; fresh = false; structure = t.structure }
 
-abbrev pub typed_as : ExprType → Told → Told
-typed_as ty t = record { value = is_plain_type ty && t.value; owner = t.owner; walker = is_walker_type ty && t.walker; object = t.object; owns = is_owner_type ty; unique = is_unique_type ty && t.unique; fresh = is_unique_type ty && t.fresh }
+-- a place is one
+abbrev pub typed_as : ExprType → Category → Told → Told
+typed_as ty category t = record { value = is_plain_type ty && t.value; owner = t.owner; walker = is_walker_type ty && t.walker; object = is_place category && t.object; owns = is_owner_type ty; unique = is_unique_type ty && t.unique; fresh = is_unique_type ty && t.fresh; structure = is_struct_type ty && t.structure }
 
--- what stands at a place may be an owner
-abbrev pub placed : Bool → Told
-placed there = record { value = there; owner = there; walker = false; object = there; owns = false; unique = false; fresh = false }
+-- a member of a struct that is named
+abbrev pub member_of : Told → Told
+member_of t = record { value = t.structure; owner = t.structure; walker = false; object = t.structure; owns = false; unique = false; fresh = false; structure = t.structure }
+
+-- what stands at a place may be an owner, and behind a pointer a struct
+abbrev pub placed : (there structure : Bool) → Told
+placed there structure = record { value = there; owner = there; walker = false; object = there; owns = false; unique = false; fresh = false; structure = structure }
 
 abbrev pub dereferenced : Told → Told
-dereferenced t = placed (t.value || (t.walker || t.unique))
+dereferenced t = placed (t.value || (t.walker || t.unique)) t.value
 
 -- what decides
 abbrev pub tests : Told → Bool
@@ -53,14 +60,14 @@ abbrev pub inverted : Told → Told
 inverted t = value_alone (tests t)
 
 abbrev pub addressed : Told → Told
-addressed t = value_alone (if t.owns then t.object else t.value)
+addressed t = value_alone ((if t.owns then t.object else t.value) || t.structure)
 
--- a call answers a value, an iterator or a span, or the owner that a reference refers to
+-- a call answers a value, an iterator or a span, an owner, also one that a reference refers to, a struct that one refers to, or a unique_ptr
 abbrev pub answered : Bool → Told
-answered given = record { value = given; owner = given; walker = given; object = given; owns = false; unique = false; fresh = false }
+answered given = record { value = given; owner = given; walker = given; object = given; owns = false; unique = false; fresh = given; structure = given }
 
 abbrev pub indexed : Told → Bool → Told
-indexed t position = placed ((either t || t.walker) && position)
+indexed t position = placed ((either t || t.walker) && position) false
 
 -- a member function but `erase`, whose arguments are served as values
 abbrev pub asked : Method → Told → Bool → Told
@@ -72,11 +79,12 @@ asked m t given = record {
   owns = false;
   unique = false;
   fresh = false;
+  structure = false;
 }
 
 -- `erase` of what stands at an iterator
 abbrev pub erased : Told → Bool → Told
-erased t walks = record { value = false; owner = false; walker = t.owns && (t.object && walks); object = false; owns = false; unique = false; fresh = false }
+erased t walks = record { value = false; owner = false; walker = t.owns && (t.object && walks); object = false; owns = false; unique = false; fresh = false; structure = false }
 
 -- any of them
 abbrev pub called : Method → Told → (given walks : Bool) → Told
@@ -88,6 +96,7 @@ called m t given walks = record {
   owns = false;
   unique = false;
   fresh = false;
+  structure = false;
 }
 
 abbrev pub combined : BinaryOperator → Told → Told → Told
@@ -99,10 +108,11 @@ combined o t u = record {
   owns = false;
   unique = false;
   fresh = false;
+  structure = false;
 }
 
 abbrev pub made_text : Told → Told
-made_text t = record { value = false; owner = either t; walker = false; object = false; owns = false; unique = false; fresh = false }
+made_text t = record { value = false; owner = either t; walker = false; object = false; owns = false; unique = false; fresh = false; structure = false }
 
 -- what a new value is given, if anything
 abbrev pub given_value : Option (Box TypedExpr Global) → Form

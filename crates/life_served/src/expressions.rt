@@ -8,7 +8,7 @@ ghost use Rattle.life_served.specs.Told as telling;
 use crate::kinds::{is_changing, is_erase, is_number_type, is_reset, is_served_method};
 use crate::told::{
     Told, addressed, answered, asked, combined, dereferenced, either, erased, indexed, inverted,
-    made_anew, made_text, moved_out, named, parenthesised, tests, typed_as, value_alone,
+    made_anew, made_text, member_of, moved_out, named, parenthesised, tests, typed_as, value_alone,
 };
 use life_typed::{ExprForm, TypedExpr, TypedOperand};
 
@@ -18,7 +18,11 @@ pub fn told_of(texts: usize, expression: &TypedExpr) -> Told
     ensures { result ≡ telling.told texts (whole (typed_view expression.now)) }
 {
     let operand = told_within(texts, &expression.within);
-    typed_as(expression.ty, told_by(texts, &expression.form, operand))
+    typed_as(
+        expression.ty,
+        expression.category,
+        told_by(texts, &expression.form, operand),
+    )
 }
 
 // What is told of operands, each applied to the one before.
@@ -28,14 +32,18 @@ fn told_within(texts: usize, operands: &[TypedOperand]) -> Told
 {
     let mut told = value_alone(true);
     'operands: for operand in operands {
-        told = typed_as(operand.ty, told_by(texts, &operand.form, told));
+        told = typed_as(
+            operand.ty,
+            operand.category,
+            told_by(texts, &operand.form, told),
+        );
     }
     told
 }
 
 // What a form makes of an operand, by what is told of that.
 #[cycle(expressions)]
-#[tactic(auto, using(crate::proofs::Tellings::tells_negate, crate::proofs::Tellings::tells_address))]
+#[tactic(auto, using(crate::proofs::Tellings::tells_negate, crate::proofs::Tellings::tells_address, crate::proofs::Tellings::tells_member))]
 fn told_by(texts: usize, form: &ExprForm, operand: Told) -> Told
     ensures { (f : Form) → telling.told texts f ≡ operand → result ≡ telling.told texts (form_view form.now f) }
 {
@@ -52,6 +60,7 @@ fn told_by(texts: usize, form: &ExprForm, operand: Told) -> Told
         ExprForm::Call { arguments, .. } => answered(are_served_arguments(texts, arguments)),
         ExprForm::Paren { .. } => parenthesised(operand),
         ExprForm::TextOf { .. } => made_text(operand),
+        ExprForm::Member(_) => member_of(operand),
         ExprForm::Dereference => dereferenced(operand),
         ExprForm::AddressOf => addressed(operand),
         ExprForm::Negate => value_alone(operand.value),
@@ -94,7 +103,7 @@ fn are_served_arguments(texts: usize, arguments: &[TypedExpr]) -> bool
 {
     'arguments: for argument in arguments {
         let told = told_of(texts, argument);
-        let served = either(told) | (told.walker | told.fresh);
+        let served = either(told) | (told.walker | (told.fresh | told.structure));
         if !served {
             return false;
         }
@@ -130,6 +139,20 @@ pub fn are_served_elements(texts: usize, elements: &[TypedExpr]) -> bool
 {
     'elements: for element in elements {
         if !either(told_of(texts, element)) {
+            return false;
+        }
+    }
+    true
+}
+
+/// What a struct is given for its members: values, owners and structs.
+pub fn are_served_parts(texts: usize, elements: &[TypedExpr]) -> bool
+    ensures { result ≡ spec.are_served_parts texts (forms (typed_views elements.now)) }
+{
+    'elements: for element in elements {
+        let told = told_of(texts, element);
+        let served = either(told) | told.structure;
+        if !served {
             return false;
         }
     }
@@ -237,13 +260,23 @@ pub fn calls_any(form: &ExprForm) -> bool
     }
 }
 
-/// What a unique_ptr is made of: nothing, a new value, or what is moved out of a variable.
+// What a unique_ptr that is made owns: what stands there at first, a value, or an owner.
+fn is_served_content(texts: usize, operand: &Option<Box<TypedExpr>>) -> bool
+    ensures { result ≡ spec.is_served_content texts (telling.given_value operand.now) }
+{
+    match operand {
+        Some(operand) => either(told_of(texts, operand)),
+        None => true,
+    }
+}
+
+/// What a unique_ptr is made of: nothing, a new value or owner, or what is moved out of a variable.
 pub fn fills_unique(texts: usize, form: &ExprForm) -> bool
     ensures { (f : Form) → result ≡ spec.fills_unique texts (form_view form.now f) }
 {
     match form {
         ExprForm::Null => true,
-        ExprForm::MakeUnique { argument, .. } => is_served_made(texts, argument),
+        ExprForm::MakeUnique { argument, .. } => is_served_content(texts, argument),
         ExprForm::Move(_) => true,
         _ => false,
     }

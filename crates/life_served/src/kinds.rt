@@ -1,10 +1,12 @@
 // Kinds of types, of members and of operators.
-ghost use Rattle.std.specs.Prelude.{◌≡◌};
+ghost use Rattle.std.specs.Prelude.{◌≡◌, length};
+ghost use Rattle.life_types.specs.Trees.{members_at};
 ghost use Rattle.life_types.specs.TypeTests.{is_reference as refers};
 ghost use Rattle.life_typed.specs.BaseTypes.{type_at as type_there};
+ghost use Rattle.life_typed.specs.Conversions.{is_place};
 ghost use Rattle.life_served.specs.Served as spec;
 
-use life_typed::{BinaryOperator, ExprType, Method};
+use life_typed::{BinaryOperator, Category, ExprType, Method};
 use life_types::{Ty, TyId, TypeTable, is_unique, is_value, is_view, is_void};
 
 // How many types each table begins with.
@@ -15,6 +17,12 @@ const STEPS: u32 = 8;
 
 // How many it may have from an element on.
 const INNER_STEPS: u32 = 7;
+
+// How many it may have from a member on, so far: members of members are asked anew wherever they stand.
+const MEMBER_STEPS: u32 = 2;
+
+// One member more than a struct may have.
+const TOO_MANY_MEMBERS: usize = 33;
 
 pub fn type_at(types: &TypeTable, id: TyId) -> Ty
     ensures { result ≡ type_there types.now id }
@@ -58,14 +66,23 @@ fn is_owner_of_values(types: &TypeTable, ty: Ty) -> bool
     is_owner_within(STEPS, types, ty)
 }
 
+pub fn is_struct(ty: Ty) -> bool
+    ensures { result ≡ spec.is_struct ty }
+{
+    match ty {
+        Ty::Struct(_) => true,
+        _ => false,
+    }
+}
+
 // What a raw pointer or a reference is to.
 fn is_target(types: &TypeTable, ty: Ty) -> bool
     ensures { result ≡ spec.is_target types.now ty }
 {
-    is_value(ty) || is_owner_of_values(types, ty)
+    is_value(ty) || (is_owner_of_values(types, ty) || is_struct(ty))
 }
 
-// A raw pointer or a reference to a value or an owner, or a view of characters.
+// A raw pointer or a reference to a value, an owner or a struct, or a view of characters.
 fn is_pointing(types: &TypeTable, ty: Ty) -> bool
     ensures { result ≡ spec.is_pointing types.now ty }
 {
@@ -103,7 +120,8 @@ fn is_served_type(types: &TypeTable, ty: Ty) -> bool
 {
     is_pointing(types, ty)
         || (is_owner_of_values(types, ty)
-            || (is_walker_of_values(types, ty) || is_unique_of_element(types, ty)))
+            || (is_walker_of_values(types, ty)
+                || (is_unique_of_element(types, ty) || is_struct(ty))))
 }
 
 /// All types beside those that each table begins with. A table that is full counts as not served.
@@ -120,6 +138,73 @@ pub fn has_served_types(types: &TypeTable) -> bool
     false
 }
 
+// The members of a struct, and none of one that isn't there.
+fn members_of(types: &TypeTable, number: u32) -> &[TyId]
+    ensures { result.now ≡ members_at types.now number }
+{
+    if (number as usize) < types.struct_count() {
+        types.members(number)
+    } else {
+        &[]
+    }
+}
+
+// What a member of a struct is, where no path into it has more steps: a value, an owner, or a struct of
+// such members.
+#[cycle(members)]
+fn is_member_within(steps: u32, types: &TypeTable, ty: Ty) -> bool
+    ensures { result ≡ spec.is_member_within steps types.now ty }
+{
+    if steps == 0 {
+        return is_value(ty);
+    }
+    match ty {
+        Ty::Struct(number) => are_members_within(steps - 1, types, members_of(types, number)),
+        _ => is_value(ty) || is_owner_within(steps, types, ty),
+    }
+}
+
+#[cycle(members)]
+fn are_members_within(steps: u32, types: &TypeTable, members: &[TyId]) -> bool
+    ensures { result ≡ spec.have_each (spec.is_member_within steps types.now) types.now members.now }
+{
+    'members: for member in members {
+        if !is_member_within(steps, types, type_at(types, *member)) {
+            return false;
+        }
+    }
+    true
+}
+
+// The members of a struct, which are few.
+fn are_struct_members(types: &TypeTable, members: &[TyId]) -> bool
+    ensures { result ≡ spec.are_struct_members types.now members.now }
+{
+    members.len() < TOO_MANY_MEMBERS && are_members_within(MEMBER_STEPS, types, members)
+}
+
+fn hold_members(types: &TypeTable, count: u32) -> bool
+    requires { count ≡ length types.now.structs }
+    ensures { result ≡ spec.hold_members types.now types.now.structs }
+{
+    'structs: for number in 0..count {
+        if !are_struct_members(types, types.members(number)) {
+            return false;
+        }
+    }
+    true
+}
+
+/// All structs. A table with more of them than there are numbers counts as not served.
+pub fn has_fine_structs(types: &TypeTable) -> bool
+    ensures { result ≡ spec.has_fine_structs types.now }
+{
+    match u32::try_from(types.struct_count()) {
+        Ok(count) => hold_members(types, count),
+        Err(_) => false,
+    }
+}
+
 // What is given over as a whole: an owner, or a unique_ptr.
 fn is_owning(types: &TypeTable, ty: Ty) -> bool
     ensures { result ≡ spec.is_owning types.now ty }
@@ -127,7 +212,7 @@ fn is_owning(types: &TypeTable, ty: Ty) -> bool
     is_owner_of_values(types, ty) || is_unique_of_element(types, ty)
 }
 
-/// What a parameter may hold; what is given over where the function gives a value or nothing.
+/// What a parameter may hold; what is given over where the function gives a value, such a one or nothing.
 pub fn is_served_parameter(types: &TypeTable, owners: bool, id: TyId) -> bool
     ensures { result ≡ spec.is_served_parameter types.now owners id }
 {
@@ -142,7 +227,7 @@ pub fn takes_owners(types: &TypeTable, given: TyId) -> bool
     ensures { result ≡ spec.takes_owners types.now given }
 {
     let ty = type_at(types, given);
-    is_void(ty) || is_value(ty)
+    is_void(ty) || (is_value(ty) || is_owning(types, ty))
 }
 
 /// What any variable may hold.
@@ -153,12 +238,25 @@ pub fn is_served_variable(types: &TypeTable, id: TyId) -> bool
     is_value(ty) || is_served_type(types, ty)
 }
 
-/// What is given back: a value, or what points to one or to an owner, an iterator or a span, or nothing.
+/// What is given back: a value, or what points to one, to an owner or to a struct, an iterator or a span,
+/// or nothing.
 pub fn is_served_result(types: &TypeTable, id: TyId) -> bool
     ensures { result ≡ spec.is_served_result types.now id }
 {
     let ty = type_at(types, id);
-    is_void(ty) || (is_value(ty) || (is_pointing(types, ty) || is_walker_of_values(types, ty)))
+    is_void(ty)
+        || (is_value(ty)
+            || (is_pointing(types, ty) || (is_walker_of_values(types, ty) || is_owning(types, ty))))
+}
+
+/// Whether it stands at a place.
+pub fn is_placed(category: Category) -> bool
+    ensures { result ≡ is_place category }
+{
+    match category {
+        Category::Value => false,
+        Category::Place { .. } => true,
+    }
 }
 
 // ---- kinds of types
@@ -211,11 +309,28 @@ pub fn is_vector(ty: Ty) -> bool
     }
 }
 
-/// What a list in braces is given to: a vector, or a reference to one.
-pub fn takes_list(ty: Ty) -> bool
-    ensures { result ≡ spec.takes_list ty }
+/// What is given what has a value.
+pub fn takes_value(ty: Ty) -> bool
+    ensures { result ≡ spec.takes_value ty }
 {
-    is_vector(ty) || is_reference(ty)
+    !(owns_elements(ty) || (is_walker(ty) || (is_unique(ty) || is_struct(ty))))
+}
+
+/// What a list in braces is given to: a vector, a reference to one, or a struct.
+pub fn takes_list(types: &TypeTable, ty: Ty) -> bool
+    ensures { result ≡ spec.takes_list types.now ty }
+{
+    match ty {
+        Ty::Reference { target, .. } => is_vector(type_at(types, target)),
+        _ => is_vector(ty) || is_struct(ty),
+    }
+}
+
+/// What is given a struct: another one, or a reference.
+pub fn takes_struct(ty: Ty) -> bool
+    ensures { result ≡ spec.takes_struct ty }
+{
+    is_struct(ty) || is_reference(ty)
 }
 
 pub fn is_span(ty: Ty) -> bool
@@ -254,11 +369,20 @@ pub fn is_unique_type(ty: ExprType) -> bool
     }
 }
 
+pub fn is_struct_type(ty: ExprType) -> bool
+    ensures { result ≡ spec.is_struct_type ty }
+{
+    match ty {
+        ExprType::Of(ty) => is_struct(ty),
+        _ => false,
+    }
+}
+
 /// None of these.
 pub fn is_plain_type(ty: ExprType) -> bool
     ensures { result ≡ spec.is_plain_type ty }
 {
-    !(is_owner_type(ty) || (is_walker_type(ty) || is_unique_type(ty)))
+    !(is_owner_type(ty) || (is_walker_type(ty) || (is_unique_type(ty) || is_struct_type(ty))))
 }
 
 pub fn is_view_type(ty: ExprType) -> bool

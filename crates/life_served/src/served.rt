@@ -1,11 +1,13 @@
-// Which programs are served so far: values, strings, vectors of values and of such owners, raw pointers
-// and references to these, views of characters, literals, iterators and spans, and unique_ptrs to values.
+// Which programs are served so far: values, strings, vectors of values and of such owners, structs of
+// values, of strings and vectors and of such structs, raw pointers and references to these, views of
+// characters, literals, iterators and spans, and unique_ptrs to values.
 ghost use Rattle.std.specs.Prelude.{◌≡◌, ◌+◌, length, map, take};
 ghost use Rattle.life_typed.specs.Programs.{function_view, program_view};
 ghost use Rattle.life_served.specs.Served as spec;
 
 use crate::kinds::{
-    has_served_types, is_served_parameter, is_served_result, is_served_variable, takes_owners,
+    has_fine_structs, has_served_types, is_served_parameter, is_served_result, is_served_variable,
+    takes_owners,
 };
 use crate::statements::is_served_block;
 use life_typed::{Typed, TypedFunction, TypedLocal};
@@ -59,18 +61,20 @@ fn is_served_function(texts: usize, types: &TypeTable, function: &TypedFunction)
 }
 
 /// Whether a program is served: each type in it is `void`, a value type, `std::string`, a `std::vector` of
-/// values, of strings or of vectors, one in the other down to eight, a raw pointer or a reference to one of
-/// these, `std::string_view`, an iterator or a span, or a `std::unique_ptr` to a value, a string or a vector;
-/// no function gives an owner by value, and none takes one so that gives a pointer, a reference, an iterator
-/// or a span; no unique_ptr is made but by a declaration, an assignment or for a parameter, and then of a
-/// number if of anything; no vector but by these or for a reference to const, and no string but by these, for
-/// a parameter, by `+` or by `std::string(..)`; a loop over a range goes over a string, a vector, a view or a
-/// span, and its variable is an element's copy, a reference to it or to its value, or a view or a span of it;
-/// and there is no struct. A table of types without numbers that are left counts as not served.
+/// values, of strings or of vectors, one in the other down to eight, a struct of values, of strings and vectors
+/// and of such structs, a raw pointer or a reference to one of these, `std::string_view`, an iterator or a span,
+/// or a `std::unique_ptr` to a value, a string or a vector; no function takes or gives a struct by value, none is
+/// in a vector, and none is made but by a declaration of its own; no function takes an owner by value that gives
+/// a pointer, a reference, an iterator or a span; no unique_ptr is made but by a declaration, an assignment, for
+/// a parameter or where it is given back, and for these two of a number if of anything; no vector but by these,
+/// by a call or for a reference to const, and no string but by these, for a parameter, by `+` or by
+/// `std::string(..)`; a loop over a range goes over a string, a vector, a view or a span, and its variable is an
+/// element's copy, a reference to it or to its value, or a view or a span of it. A table of types without numbers
+/// that are left counts as not served.
 pub fn is_served(typed: &Typed) -> bool
     ensures { result ≡ spec.is_served (program_view typed.now) }
 {
-    if !has_served_types(&typed.types) || !typed.structs.is_empty() {
+    if !has_served_types(&typed.types) || !has_fine_structs(&typed.types) {
         return false;
     }
     let texts = typed.texts.len() + 1;

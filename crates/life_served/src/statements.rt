@@ -1,16 +1,18 @@
 // Which statements are served.
 ghost use Rattle.std.specs.Prelude.{◌≡◌, ◌&&◌, map};
-ghost use Rattle.life_typed.specs.TypedForm.{typed_view};
+ghost use Rattle.life_typed.specs.BaseTypes.{type_at as type_there};
+ghost use Rattle.life_typed.specs.TypedForm.{forms, typed_view, typed_views};
 ghost use Rattle.life_typed.specs.TypedStatement.{block_item_view, block_view, branch_view, declaration_view, for_start_view, initial_view, item_view, one, optional_view, simple_view, stmt_forms, stmt_view};
 ghost use Rattle.life_served.specs.Served as spec;
 
 use crate::expressions::{
-    are_served_elements, calls_any, fills_owner, fills_unique, is_call, is_served_change,
-    is_served_condition, is_served_condition_if, is_served_if_any, is_served_reset, told_of,
+    are_served_elements, are_served_parts, calls_any, fills_owner, fills_unique, is_call,
+    is_served_change, is_served_condition, is_served_condition_if, is_served_if_any,
+    is_served_reset, told_of,
 };
 use crate::kinds::{
-    is_number_type, is_vector_type, is_view_type, is_walker, owns_elements, takes_list,
-    takes_owner, type_at,
+    is_number_type, is_struct, is_vector_type, is_view_type, is_walker, owns_elements, takes_list,
+    takes_owner, takes_struct, takes_value, type_at,
 };
 use crate::ranges::{element_of, is_served_range, takes_elements};
 use crate::told::{Told, either};
@@ -18,7 +20,7 @@ use life_typed::{
     TypedBlock, TypedBlockItem, TypedBranch, TypedDeclaration, TypedExpr, TypedForStart,
     TypedInitial, TypedItem, TypedLocal, TypedSimple, TypedStmt,
 };
-use life_types::{Ty, TypeTable, is_unique};
+use life_types::{Ty, TyId, TypeTable, is_unique};
 
 // ---- declarations
 
@@ -27,23 +29,39 @@ fn is_served_given(texts: usize, ty: Ty, value: &TypedExpr) -> bool
     ensures { result ≡ spec.is_served_given texts ty (typed_view value.now) }
 {
     let told = told_of(texts, value);
-    let owns = owns_elements(ty);
-    let walks = is_walker(ty);
-    let unique = is_unique(ty);
-    (!(owns | (walks | unique)) & told.value)
+    (takes_value(ty) & told.value)
         | ((takes_owner(ty) & (told.owns & told.owner))
-            | ((owns & fills_owner(texts, &value.form))
-                | ((walks & told.walker) | (unique & fills_unique(texts, &value.form)))))
+            | ((owns_elements(ty) & fills_owner(texts, &value.form))
+                | ((is_walker(ty) & told.walker)
+                    | ((is_unique(ty) & (fills_unique(texts, &value.form) | told.fresh))
+                        | (takes_struct(ty) & told.structure)))))
 }
 
-fn is_served_initial(texts: usize, ty: Ty, value: &Option<TypedInitial>) -> bool
-    ensures { result ≡ spec.is_served_initial texts ty (optional_view initial_view value.now) }
+// By a list in braces.
+fn are_served_listed(texts: usize, ty: Ty, elements: &[TypedExpr]) -> bool
+    ensures { result ≡ spec.are_served_listed texts ty (forms (typed_views elements.now)) }
 {
+    if is_struct(ty) {
+        are_served_parts(texts, elements)
+    } else {
+        are_served_elements(texts, elements)
+    }
+}
+
+fn is_served_initial(
+    texts: usize,
+    types: &TypeTable,
+    id: TyId,
+    value: &Option<TypedInitial>,
+) -> bool
+    ensures { result ≡ spec.is_served_initial texts types.now (type_there types.now id) (optional_view initial_view value.now) }
+{
+    let ty = type_at(types, id);
     match value {
         None => true,
         Some(TypedInitial::Expr(value)) => is_served_given(texts, ty, value),
         Some(TypedInitial::List(list)) => {
-            takes_list(ty) && are_served_elements(texts, &list.elements)
+            takes_list(types, ty) && are_served_listed(texts, ty, &list.elements)
         }
     }
 }
@@ -57,7 +75,7 @@ fn is_served_declaration(
     ensures { result ≡ spec.is_served_declaration texts types.now locals.now (declaration_view declaration.now) }
 {
     match locals.get(declaration.local as usize) {
-        Some(local) => is_served_initial(texts, type_at(types, local.ty), &declaration.value),
+        Some(local) => is_served_initial(texts, types, local.ty, &declaration.value),
         None => true,
     }
 }
@@ -88,7 +106,8 @@ fn is_served_by_one(texts: usize, target: &TypedExpr, value: &TypedExpr) -> bool
         | ((is_target(to) & (owning | fills_owner(texts, &value.form)))
             | (((is_view_type(target.ty) & to.value) & owning)
                 | ((to.walker & (from.walker | owning))
-                    | (to.unique & fills_unique(texts, &value.form)))))
+                    | ((to.unique & (fills_unique(texts, &value.form) | from.fresh))
+                        | (to.structure & from.structure)))))
 }
 
 fn is_served_assigned(texts: usize, target: &TypedExpr, value: &TypedInitial) -> bool
@@ -120,12 +139,12 @@ fn is_served_stepped(texts: usize, target: &TypedExpr) -> bool
     told.value | told.walker
 }
 
-// A call that gives an owner at a place, an iterator or a span.
+// A call that gives an owner, a struct at a place, an iterator, a span or a unique_ptr.
 fn is_served_left(texts: usize, expression: &TypedExpr) -> bool
     ensures { result ≡ spec.is_served_left texts (typed_view expression.now) }
 {
     let told = told_of(texts, expression);
-    calls_any(&expression.form) & (is_target(told) | told.walker)
+    calls_any(&expression.form) & (is_owning(told) | (told.walker | (told.structure | told.fresh)))
 }
 
 // A call, a number that is left, or a change of an owner or of a unique_ptr.
@@ -190,7 +209,7 @@ fn is_served_returned(texts: usize, value: &Option<TypedExpr>) -> bool
     match value {
         Some(value) => {
             let told = told_of(texts, value);
-            either(told) | told.walker
+            either(told) | (told.walker | (told.structure | (told.fresh | told.unique)))
         }
         None => true,
     }

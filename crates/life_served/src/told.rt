@@ -3,10 +3,10 @@ ghost use Rattle.std.specs.Prelude.{◌≡◌};
 ghost use Rattle.life_served.specs.Told as spec;
 
 use crate::kinds::{
-    is_asking, is_edge, is_end, is_equality, is_get, is_owner_type, is_plain_type, is_subspan,
-    is_testing, is_unique_type, is_walker_type,
+    is_asking, is_edge, is_end, is_equality, is_get, is_owner_type, is_placed, is_plain_type,
+    is_struct_type, is_subspan, is_testing, is_unique_type, is_walker_type,
 };
-use life_typed::{BinaryOperator, ExprType, Method};
+use life_typed::{BinaryOperator, Category, ExprType, Method};
 
 /// Whether an expression is served, as each of the things that it may be used as.
 #[derive(Clone, Copy)]
@@ -25,6 +25,8 @@ pub struct Told {
     pub unique: bool,
     /// As a unique_ptr that is made, or moved out of a variable.
     pub fresh: bool,
+    /// As a struct at a place.
+    pub structure: bool,
 }
 
 pub fn value_alone(value: bool) -> Told
@@ -38,6 +40,7 @@ pub fn value_alone(value: bool) -> Told
         owns: false,
         unique: false,
         fresh: false,
+        structure: false,
     }
 }
 
@@ -60,6 +63,7 @@ pub fn named() -> Told
         owns: false,
         unique: true,
         fresh: false,
+        structure: true,
     }
 }
 
@@ -75,6 +79,7 @@ pub fn moved_out() -> Told
         owns: false,
         unique: false,
         fresh: true,
+        structure: false,
     }
 }
 /// What is made by `std::make_unique` is a unique_ptr.
@@ -89,6 +94,7 @@ pub fn made_anew(given: bool) -> Told
         owns: false,
         unique: false,
         fresh: given,
+        structure: false,
     }
 }
 
@@ -104,27 +110,45 @@ pub fn parenthesised(inner: Told) -> Told
         owns: false,
         unique: inner.unique,
         fresh: false,
+        structure: inner.structure,
     }
 }
 
 /// A form with its type.
-pub fn typed_as(ty: ExprType, form: Told) -> Told
-    ensures { result ≡ spec.typed_as ty form }
+pub fn typed_as(ty: ExprType, category: Category, form: Told) -> Told
+    ensures { result ≡ spec.typed_as ty category form }
 {
     Told {
         value: is_plain_type(ty) & form.value,
         owner: form.owner,
         walker: is_walker_type(ty) & form.walker,
-        object: form.object,
+        object: is_placed(category) & form.object,
         owns: is_owner_type(ty),
         unique: is_unique_type(ty) & form.unique,
         fresh: is_unique_type(ty) & form.fresh,
+        structure: is_struct_type(ty) & form.structure,
     }
 }
 
-/// What stands at a place may be an owner.
-fn placed(there: bool) -> Told
-    ensures { result ≡ spec.placed there }
+/// A member of a struct.
+pub fn member_of(base: Told) -> Told
+    ensures { result ≡ spec.member_of base }
+{
+    Told {
+        value: base.structure,
+        owner: base.structure,
+        walker: false,
+        object: base.structure,
+        owns: false,
+        unique: false,
+        fresh: false,
+        structure: base.structure,
+    }
+}
+
+/// What stands at a place may be an owner, and behind a pointer a struct.
+fn placed(there: bool, structure: bool) -> Told
+    ensures { result ≡ spec.placed there structure }
 {
     Told {
         value: there,
@@ -134,13 +158,14 @@ fn placed(there: bool) -> Told
         owns: false,
         unique: false,
         fresh: false,
+        structure,
     }
 }
 
 pub fn dereferenced(inner: Told) -> Told
     ensures { result ≡ spec.dereferenced inner }
 {
-    placed(inner.value | (inner.walker | inner.unique))
+    placed(inner.value | (inner.walker | inner.unique), inner.value)
 }
 
 /// What decides: a value, or a unique_ptr that is named.
@@ -160,14 +185,16 @@ pub fn inverted(inner: Told) -> Told
 pub fn addressed(inner: Told) -> Told
     ensures { result ≡ spec.addressed inner }
 {
-    value_alone(if inner.owns {
+    let placed = if inner.owns {
         inner.object
     } else {
         inner.value
-    })
+    };
+    value_alone(placed | inner.structure)
 }
 
-/// A call answers a value, an iterator or a span, or the owner that a reference refers to.
+/// A call answers a value, an iterator or a span, an owner, also one that a reference refers to, a struct that
+/// one refers to, or a unique_ptr.
 pub fn answered(given: bool) -> Told
     ensures { result ≡ spec.answered given }
 {
@@ -178,14 +205,15 @@ pub fn answered(given: bool) -> Told
         object: given,
         owns: false,
         unique: false,
-        fresh: false,
+        fresh: given,
+        structure: given,
     }
 }
 
 pub fn indexed(base: Told, position: bool) -> Told
     ensures { result ≡ spec.indexed base position }
 {
-    placed((either(base) | base.walker) & position)
+    placed((either(base) | base.walker) & position, false)
 }
 
 /// A member function but `erase`.
@@ -202,6 +230,7 @@ pub fn asked(method: Method, base: Told, arguments: bool) -> Told
         owns: false,
         unique: false,
         fresh: false,
+        structure: false,
     }
 }
 
@@ -217,6 +246,7 @@ pub fn erased(base: Told, walks: bool) -> Told
         owns: false,
         unique: false,
         fresh: false,
+        structure: false,
     }
 }
 
@@ -235,6 +265,7 @@ pub fn combined(operator: BinaryOperator, left: Told, right: Told) -> Told
         owns: false,
         unique: false,
         fresh: false,
+        structure: false,
     }
 }
 
@@ -250,5 +281,6 @@ pub fn made_text(inner: Told) -> Told
         owns: false,
         unique: false,
         fresh: false,
+        structure: false,
     }
 }

@@ -14,7 +14,7 @@ use Rattle.life_served.proofs.expressions.+expressions.Goals as goal
 pub told_of-returns : goal.told_of-returns
 told_of-returns t c =
     c.typed_as.ensures
-    ∙ ap (typed_as (out-TypedExpr c.args.expression.now).ty)
+    ∙ ap (typed_as (out-TypedExpr c.args.expression.now).ty (out-TypedExpr c.args.expression.now).category)
     (c.told_by.ensures (inside (within c.args.expression.now)) (sym (c.told_within-operand.ensures ∙ ap (λ (xs : List TypedOperand). told c.args.texts (inside xs)) c.deref.ensures.value)))
     ∙ sym (ap (told c.args.texts) (whole_seen c.args.expression.now))
 
@@ -24,7 +24,7 @@ told_within-operands-init t c = c.value_alone-told.ensures
 pub told_within-operands-preserved : goal.told_within-operands-preserved
 told_within-operands-preserved t c =
     further_told (told c.args.texts) c.args.operands.now c.operands.operand-index c.operand-item.result _ _ c.operands-test.true c.operand-item.is c.operands.invariant
-    (λ f h. c.typed_as-told.ensures ∙ ap (typed_as (out-TypedOperand c.operand-item.result).ty) (c.told_by.ensures f h))
+    (λ f h. c.typed_as-told.ensures ∙ ap (typed_as (out-TypedOperand c.operand-item.result).ty (out-TypedOperand c.operand-item.result).category) (c.told_by.ensures f h))
 
 pub told_within-returns : goal.told_within-returns
 told_within-returns t c = all_told (told c.args.texts) c.args.operands.now c.operands.operand-index _ c.operands-test.false c.operands.invariant

@@ -7,4 +7,4 @@ use Rattle.life_served.proofs.expressions.fills_unique.Goals as goal
 
 pub returns-in-MakeUnique : goal.returns-in-MakeUnique
 returns-in-MakeUnique c = λ f.
-    c.is_served_made.ensures ∙ sym (seen_made c.args.texts f c.in-MakeUnique.element c.in-MakeUnique.argument c.in-MakeUnique.closing) ∙ sym (ap (λ (x : ExprForm). fills_unique c.args.texts (form_view x f)) c.in-MakeUnique.is)
+    c.is_served_content.ensures ∙ sym (seen_made c.args.texts f c.in-MakeUnique.element c.in-MakeUnique.argument c.in-MakeUnique.closing) ∙ sym (ap (λ (x : ExprForm). fills_unique c.args.texts (form_view x f)) c.in-MakeUnique.is)

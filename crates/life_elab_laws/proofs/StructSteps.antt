@@ -1,0 +1,154 @@
+-- Places of members, and copies of structs.
+use Rattle.std.proofs.Common.{◌≡◌, ◌&&◌, ◌++◌, ◌||◌, nat_eq, ℕ, zero, suc, Bool, true, false, not, if◌then◌else◌, List, [], ◌∷◌, Option, Some, None, refl, ap, ◌∙◌, slice_get, unwrap_or}
+use Rattle.std.proofs.lemmas.Bool.{and_from, and_parts, false≢true}
+use Rattle.std.specs.List.{starts_with}
+use Rattle.life_types.specs.Pointees.{or_void, ty_of}
+use Rattle.life_types.specs.Trees.{holds_unique, members_at, struct_of, tree_at, tree_of, tree_within}
+use Rattle.life_types.specs.TypeTests.{is_pointer, is_value}
+use Rattle.life_types.specs.Types.{Types}
+use Rattle.life_types.specs.declared.place.Place.{Place}
+use Rattle.life_types.specs.declared.ty.Ty.{Ty}
+use Rattle.life_types.specs.declared.ty.Ty.TheVariants as ty
+use Rattle.life_types.specs.declared.ty.TyId.{TyId}
+use Rattle.life_served.specs.Served.{have_each, is_member_within}
+use Rattle.life_typed.specs.BaseTypes.{type_at}
+use Rattle.life_core.specs.Function.{Function}
+use Rattle.life_core.specs.Operands.{Name, Operand, Through}
+use Rattle.life_core.specs.Step.{Copy}
+use Rattle.life_core.specs.Touched.{place_uses}
+use Rattle.life_pset.specs.Shapes.{local_type, location_type, member_of, member_type, members_type, operand_type, target_type, tree_if, ty_if}
+use Rattle.life_proper.specs.OperandTypes.{keeps_const, same}
+use Rattle.life_proper.specs.WellFormed.{is_itself}
+use Rattle.life_proper.specs.Placed.{is_const_place, is_place, type_of}
+use Rattle.life_proper.specs.declared.known.Known.{Known}
+use Rattle.life_proper.specs.declared.known.Known.TheVariants as known
+use Rattle.life_proper.proofs.ReadyTests.{both_known, uses_ready}
+use Rattle.life_writer.specs.Using.{with_member}
+use Rattle.life_writer.specs.Writing.{State, emit, gives}
+use Rattle.life_elab_laws.proofs.Gifts.{Gift, IsPlaceOf, nothing}
+use Rattle.life_elab_laws.proofs.Held.{place_there}
+use Rattle.life_elab_laws.proofs.Instructions.{acted_part}
+use Rattle.life_elab_laws.proofs.Making.{IsPlace, keeps_all}
+use Rattle.life_elab_laws.proofs.Parts.{Part}
+use Rattle.life_elab_laws.proofs.Shaping.{IsFineStep}
+use Rattle.life_elab_laws.proofs.StructTypes.{HasStructs}
+use Rattle.life_elab_laws.proofs.Types.{same_type}
+
+void_struct : (number : ℕ) → ty.Void ≡ ty.Struct number → ⊥
+void_struct number e = cc
+
+-- ---- a member of a place is a place, and no variable itself
+
+member_uses : (m : ℕ) (o : Operand) → place_uses (with_member m o) ≡ place_uses o
+member_uses m (Name l) = refl
+member_uses m (Through p members) = refl
+
+pub member_there : (m : ℕ) (o : Operand) (n : ℕ) (k : List Known) → IsPlace o n k → IsPlace (with_member m o) n k
+member_there m o n k h = record { local = h.local; uses = member_uses m o ∙ h.uses; below = h.below; held = h.held }
+
+members_further : (types : Types) (id : Option TyId) (ms : List ℕ) (m : ℕ) → members_type types id (ms ++ m ∷ []) ≡ member_type types (members_type types id ms) m
+members_further types id [] m = refl
+members_further types id (k ∷ ms) m = members_further types (member_type types id k) ms m
+
+module _ (types : Types) (texts : ℕ) (fs : List Function) (f : Function) where
+  operand_further : (m : ℕ) (o : Operand) → operand_type types f (with_member m o) ≡ member_type types (operand_type types f o) m
+  operand_further m (Name l) = members_further types (local_type types f l.local) l.members m
+  operand_further m (Through p members) = members_further types (target_type types (location_type types f p)) members m
+
+  place_further : (m : ℕ) (o : Operand) → is_place types f (with_member m o) ≡ is_place types f o
+  place_further m (Name l) = refl
+  place_further m (Through p members) = refl
+
+  const_further : (m : ℕ) (o : Operand) → is_const_place types f (with_member m o) ≡ is_const_place types f o
+  const_further m (Name l) = refl
+  const_further m (Through p members) = refl
+
+  pub member_apart : (m y : ℕ) (o : Operand) → is_itself types texts fs f y (with_member m o) ≡ false
+  member_apart m y (Name l) = ap (λ (b : Bool). b && nat_eq l.local y) (longer l.members)
+    where
+      longer : (ms : List ℕ) → starts_with nat_eq [] (ms ++ m ∷ []) ≡ false
+      longer [] = refl
+      longer (n ∷ ms) = refl
+  member_apart m y (Through p members) = refl
+
+  pub member_placed : (number m : ℕ) (id : TyId) (t : Ty) (c : Bool) (o : Operand) → slice_get (members_at types number) m ≡ Some id → ty_of types id ≡ t → IsPlaceOf types texts fs f (ty.Struct number) c o
+      → IsPlaceOf types texts fs f t c (with_member m o)
+  member_placed number m id t c o at is h = record {
+    typed = ap (λ (b : Bool). if b then ty_if types (operand_type types f (with_member m o)) else ty.Void) (place_further m o) ∙ go (is_place types f o) h.typed;
+    held = ap (keeps_const c) (const_further m o) ∙ h.held;
+  }
+    where
+      go : (b : Bool) → (if b then ty_if types (operand_type types f o) else ty.Void) ≡ ty.Struct number → (if b then ty_if types (operand_type types f (with_member m o)) else ty.Void) ≡ t
+      go false e = absurd (void_struct number e)
+      go true e = ap (ty_if types) (operand_further m o) ∙ ap (λ (u : Ty). ty_if types (member_of types u m)) e ∙ ap (ty_if types) at ∙ is
+
+-- ---- no struct that is served holds a unique_ptr
+
+module _ (types : Types) where
+  value_free : (n : ℕ) (id : TyId) → is_value (type_at types id) ≡ true → holds_unique (tree_within n types id) ≡ false
+  value_free zero id v = refl
+  value_free (suc n) id v = go (slice_get types.types id.0) v
+    where
+      go : (o : Option Ty) → is_value (unwrap_or o ty.Void) ≡ true → holds_unique (tree_of types (tree_within n types) o) ≡ false
+      go (Some ty.Bool) v = refl
+      go (Some ty.Char) v = refl
+      go (Some ty.Int) v = refl
+      go (Some ty.Long) v = refl
+      go (Some ty.Size) v = refl
+      go _ v = absurd (false≢true v)
+
+  abbrev MemberFree : (m n : ℕ) → Type 0
+  MemberFree m n = (id : TyId) → is_member_within m types (type_at types id) ≡ true → holds_unique (tree_within n types id) ≡ false
+
+  members_free : (m n : ℕ) → MemberFree m n → (ids : List TyId) → have_each (is_member_within m types) types ids ≡ true → holds_unique (struct_of (tree_within n types) ids) ≡ false
+  members_free m n inside [] b = refl
+  members_free m n inside (id ∷ ids) b =
+      let parts = and_parts (is_member_within m types (type_at types id)) (have_each (is_member_within m types) types ids) b in
+      ap (λ (b : Bool). b || holds_unique (struct_of (tree_within n types) ids)) (inside id parts.0) ∙ members_free m n inside ids parts.1
+
+  held_free : (m n : ℕ) → MemberFree m n → (o : Option Ty) → is_member_within (suc m) types (unwrap_or o ty.Void) ≡ true → holds_unique (tree_of types (tree_within n types) o) ≡ false
+  held_free m n inside (Some (ty.Struct number)) b = members_free m n inside (members_at types number) b
+  held_free m n inside (Some ty.Text) b = refl
+  held_free m n inside (Some (ty.Vector item)) b = refl
+  held_free m n inside (Some ty.Bool) b = refl
+  held_free m n inside (Some ty.Char) b = refl
+  held_free m n inside (Some ty.Int) b = refl
+  held_free m n inside (Some ty.Long) b = refl
+  held_free m n inside (Some ty.Size) b = refl
+  held_free m n inside _ b = absurd (false≢true b)
+
+  member_free : (m n : ℕ) → MemberFree m n
+  member_free zero n id b = value_free n id b
+  member_free (suc m) zero id b = refl
+  member_free (suc m) (suc n) id b = held_free m n (member_free m n) (slice_get types.types id.0) b
+
+  struct_free : HasStructs types → (number : ℕ) (b : Bool) (id : Option TyId) → (if b then ty_if types id else ty.Void) ≡ ty.Struct number → holds_unique (tree_if types id) ≡ false
+  unfolding tree_at
+  struct_free structs number false id e = absurd (void_struct number e)
+  struct_free structs number true None e = absurd (void_struct number e)
+  struct_free structs number true (Some id) e = go (slice_get types.types id.0) e
+    where
+      go : (o : Option Ty) → or_void o ≡ ty.Struct number → holds_unique (tree_of types (tree_within id.0 types) o) ≡ false
+      go None e = absurd (void_struct number e)
+      go (Some t) e = ap (λ (u : Ty). holds_unique (tree_of types (tree_within id.0 types) (Some u))) e ∙ members_free 2 id.0 (member_free 2 id.0) (members_at types number) (structs.members number)
+
+-- ---- copies
+
+module _ (types : Types) (texts : ℕ) (fs : List Function) (f : Function) (structs : HasStructs types) where
+  pub struct_copy_fine : (number : ℕ) (to from : Operand) → type_of types f to ≡ ty.Struct number → keeps_const false (is_const_place types f to) ≡ true → type_of types f from ≡ ty.Struct number → IsFineStep types texts fs f (Copy to from)
+  struct_copy_fine number to from at free source = record {
+    given = refl;
+    formed =
+        and_from (same (type_of types f to) (type_of types f from)) _ (ap (λ (u : Ty). same u (type_of types f from)) at ∙ ap (same (ty.Struct number)) source ∙ same_type (ty.Struct number))
+        (and_from (not (is_pointer (type_of types f to))) _ (ap (λ (u : Ty). not (is_pointer u)) at)
+        (and_from (not (holds_unique (tree_if types (operand_type types f to)))) (not (is_const_place types f to)) (ap not (struct_free types structs number (is_place types f to) (operand_type types f to) at)) free));
+  }
+
+  pub struct_copies_part : {A : Type 0} (P : Gift types texts fs f A) (x : A) (number : ℕ) (constant : Bool) (to from : Operand) (place : Place) (s : State)
+      → (P.typed x → IsPlaceOf types texts fs f (ty.Struct number) false to × IsPlaceOf types texts fs f (ty.Struct number) constant from) → ((n : ℕ) (k : List Known) → P.ready x n k → IsPlace to n k × IsPlace from n k)
+      → Part types texts fs f P x None s (gives tt (emit place (Copy to from) s)) (nothing types texts fs f)
+  struct_copies_part P x number constant to from place s typed ready =
+      acted_part types texts fs f P x place (Copy to from) s
+      (λ h. let both = typed h in struct_copy_fine number to from both.0.typed both.0.held both.1.typed)
+      (λ n k q. let both = ready n k q in uses_ready k (place_uses to ++ place_uses from) [] (both_known known.Ready k (place_uses to) (place_uses from) (place_there to n k both.0) (place_there from n k both.1)))
+      (λ n m k q. keeps_all f m None k)
