@@ -16,6 +16,7 @@ use Rattle.life_store.specs.Meaning.{begun, frame}
 use Rattle.life_store.specs.State.{Cell, Empty, Named, Number, Pointer, Points, State, World}
 use Rattle.life_store.proofs.CellLemmas.{some_same}
 use Rattle.life_store.proofs.Entering.{empty_cells}
+use Rattle.life_store.proofs.MapLemmas.{one_or_apart}
 use Rattle.life_forest.specs.Frames.{OnNext, named_in}
 use Rattle.life_forest.specs.Typed.{IsStore}
 use Rattle.life_forest.specs.Kinds.{kinds_of}
@@ -23,6 +24,7 @@ use Rattle.life_forest.proofs.EnteredFrames.{IsTaking, AreTaking, composed_point
 use Rattle.life_forest.proofs.HandedOver.{AreHandedTo, IsHandedTo}
 use Rattle.life_forest.proofs.Following.{in_hand}
 use Rattle.life_forest.proofs.Steps.{touches_then, touches_self}
+use Rattle.life_forest.specs.Forest.{Touches}
 use Rattle.life_forest.proofs.Feet.{within_self}
 use Rattle.life_cover.specs.Buffered.{AreBut}
 use Rattle.life_cover.specs.Lacking.{IsLoose}
@@ -32,9 +34,12 @@ use Rattle.life_cover.proofs.Unkilled.{no_foot}
 use Rattle.life_cover.specs.Inputs.{foot_with, mutated}
 use Rattle.life_cover.specs.Regions.{Region}
 
--- each pointer there was handed over, each vector and each string has its buffer to which anybody comes, and nothing was touched but what was given
+-- each pointer there was handed over, and so was each object that isn't new; each vector and each string has its buffer to which anybody comes, and
+-- nothing that was there is touched
 pub record IsBegun (types : Types) (f : Function) (inputs : Root → Option Region) (vs : List Cell) (before : Content) (st : State) : Type 0 where
   pub points : (x : ℕ) (v : Pointer) → slice_get st.cells x ≡ Some (Points v) → slice_get vs x ≡ Some (Points v)
+  pub given : (x n : ℕ) → slice_get st.cells x ≡ Some (Named n) → (v : Cell) × (slice_get vs x ≡ Some v) × ((m : ℕ) → v ≡ Named m → n ≡ m)
+  pub quiet : Touches (kinds_of types) no_foot before st.world.content
   pub buffered : AreBut types (IsLoose types inputs (named_in vs) before) st.world.content
   pub own : IsOwn types f inputs (named_in vs) before st
 
@@ -43,6 +48,12 @@ module _ (types : Types) (ordered : IsOrdered types) (s : Setting) (f : Function
   begun_given : (x : ℕ) (v : Cell) (st after : State) → slice_get vs x ≡ Some v → IsBegun types f inputs vs before st → IsGiven types (IsLoose types inputs (named_in vs) before) x v st after → IsBegun types f inputs vs before after
   begun_given x v st after at_x begun h = record {
     points = λ y p e. ⊎_elim (λ new. subst (λ z. slice_get vs z ≡ Some (Points p)) new.0 (at_x ∙ ap Some new.1)) (λ was. begun.points y p was.1) (h.points y p e);
+    given = λ y n e. one_or_apart x y
+        (λ same. (v, subst (λ z. slice_get vs z ≡ Some v) same at_x, λ m is. (h.object m is).1 n (subst (λ z. slice_get after.cells z ≡ Some (Named n)) (sym same) e)))
+        (λ ne. begun.given y n (sym (h.stays y ne) ∙ e));
+    quiet =
+        touches_then (kinds_of types) hand before store.forest no_foot no_foot no_foot st.world.content after.world.content begun.quiet h.touch
+        (within_self (kinds_of types) before no_foot) (within_self (kinds_of types) before no_foot);
     buffered = h.buffered;
     own = record {
       touch =
@@ -91,7 +102,9 @@ module _ (types : Types) (ordered : IsOrdered types) (s : Setting) (f : Function
 pub frame_begun : (types : Types) (f : Function) (inputs : Root → Option Region) (vs : List Cell) (w : World) → AreBut types (IsLoose types inputs (named_in vs) w.content) w.content → IsBegun types f inputs vs w.content (frame f w)
 frame_begun types f inputs vs w buffered = record {
   points = λ x v e. absurd (unlike v (empty_cells f.locals x (Points v) e));
+  given = λ x n e. absurd (nameless n (empty_cells f.locals x (Named n) e));
   buffered = buffered;
+  quiet = touches_self (kinds_of types) no_foot w.content;
   own = record { touch = touches_self (kinds_of types) (foot_with types (mutated types f inputs) (named_in vs)) w.content; named = λ x n e. absurd (nameless n (empty_cells f.locals x (Named n) e)) };
 }
   where

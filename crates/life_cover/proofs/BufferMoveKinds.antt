@@ -32,10 +32,10 @@ use Rattle.life_forest.proofs.OneNumber.{one_type}
 use Rattle.life_cover.specs.Lacking.{MayLack}
 use Rattle.life_cover.specs.Regions.{IsPart, itself, Region}
 use Rattle.life_pset.specs.declared.element.Root.{Root}
-use Rattle.life_cover.proofs.Behind.{behind_content, no_local, tells_none}
+use Rattle.life_cover.proofs.Behind.{behind_content, no_local, tells_none, no_location}
 use Rattle.life_cover.proofs.BufferMoves.{IsBufferParts, moved_buffered}
 use Rattle.life_cover.proofs.Buffering.{IsBufferOwner, IsOwnerAt, but_more}
-use Rattle.life_cover.proofs.GivenBuffers.{HasGiven, IsBufferLocal, IsGiven, buffer_local, buffer_other, given_buffer, given_free, given_is, given_object, given_one, gives, its_buffer, not_given, parts_here, given_part}
+use Rattle.life_cover.proofs.GivenBuffers.{HasGiven, IsBufferLocal, IsGiven, buffer_local, given_buffer, given_free, given_is, given_object, given_one, gives, its_buffer, not_given, parts_here, given_part}
 use Rattle.life_cover.proofs.KeptBuffers.{all_some}
 use Rattle.life_cover.proofs.KnownFrames.{IsKnownFrame, IsRight, hand_of, store_of}
 use Rattle.life_cover.proofs.Lacking.{low_whole}
@@ -44,8 +44,10 @@ use Rattle.life_cover.proofs.Moved.{both_feet}
 use Rattle.life_cover.proofs.MovedFacts.{locals_apart, moved_covered, moved_spares}
 use Rattle.life_cover.proofs.OwnerMoves.{left_other, owner_touches}
 use Rattle.life_cover.proofs.Pointers.{OnRight}
-use Rattle.life_cover.proofs.UniqueLocals.{on_spot_local}
-use Rattle.life_cover.proofs.UniquesStay.{IsOther, had_beside_both}
+use Rattle.life_cover.proofs.SparedPointers.{buffer_free}
+use Rattle.life_cover.proofs.OtherTypes.{IsOther, buffer_other}
+use Rattle.life_cover.proofs.UniqueLocations.{on_spot_at}
+use Rattle.life_cover.proofs.UniquesStay.{had_beside_both}
 
 module _ (types : Types) (f : Function) (rest : ℕ → ℕ) (inputs : Root → Option Region) (S : Fact → Type 0) (st : State) (k : IsKnownFrame types f rest inputs S st) where
   -- what is bare behind a move of one local to another
@@ -120,12 +122,12 @@ module _ (types : Types) (f : Function) (rest : ℕ → ℕ) (inputs : Root → 
     x_part q there = itself 0 u.number refl (ap (λ (o : Object). o.ty) (some_same (sym there ∙ u.variable.there)) ∙ u.type)
 
     x_other : IsOther types u.number
-    x_other = buffer_other types (type_at types f x) u.number u.there buffer
+    x_other = buffer_other types k.ordered (type_at types f x) u.number u.there buffer
 
-    moved_safe : IsMade types f inputs S' (MovedBare types f rest inputs S st k x y) no_local no_local st (put_content behind st)
+    moved_safe : IsMade types f inputs S' (MovedBare types f rest inputs S st k x y) no_local no_location st (put_content behind st)
     moved_safe = (
-      moved_covered types f rest inputs S st k sigs number place S' x y right other u.number u.typed typed_y n m named_x named_y behind touch,
-      behind_content types f inputs (MovedBare types f rest inputs S st k x y) no_local no_local st behind
+      moved_covered types f rest inputs S st k sigs number place S' x y right other u.number u.typed typed_y n m named_x named_y (buffer_free types f rest inputs S st k u.number is_buffer) behind touch,
+      behind_content types f inputs (MovedBare types f rest inputs S st k x y) no_local no_location st behind
           (but_more types (λ j. (MayLack types f inputs S st j × (j ≢ n)) ⊎ (j ≡ m)) (MovedBare types f rest inputs S st k x y) behind
           (λ j bare. ⊎_elim (λ lacks. inl (lacks.0, λ e. lacks.1 (same (some_same (sym e ∙ named_x))))) (λ is. inr (named_y ∙ ap (λ i. Some (Named i)) (sym is))) bare)
           (moved_buffered types (MayLack types f inputs S st) has.held (low_whole types f rest inputs S st k (record { object = m; word = 0; ty = u.number }) has.held has.low) st.world.content k.buffered (parts_at types u.number) is_buffer m n
@@ -139,17 +141,17 @@ module _ (types : Types) (f : Function) (rest : ℕ → ℕ) (inputs : Root → 
         same : {i j : ℕ} → Named i ≡ Named j → i ≡ j
         same e = cc
 
-    moves_here : OnRight (moves_from (local_parts types f y) (record { object = n; index = 0; word = 0 }) (Some (Named m)) st) (IsMade types f inputs S' (MovedBare types f rest inputs S st k x y) no_local no_local st)
+    moves_here : OnRight (moves_from (local_parts types f y) (record { object = n; index = 0; word = 0 }) (Some (Named m)) st) (IsMade types f inputs S' (MovedBare types f rest inputs S st k x y) no_local no_location st)
     moves_here =
-        subst (λ (q : Parts). OnRight (moves_from q (record { object = n; index = 0; word = 0 }) (Some (Named m)) st) (IsMade types f inputs S' (MovedBare types f rest inputs S st k x y) no_local no_local st))
+        subst (λ (q : Parts). OnRight (moves_from q (record { object = n; index = 0; word = 0 }) (Some (Named m)) st) (IsMade types f inputs S' (MovedBare types f rest inputs S st k x y) no_local no_location st))
         (sym (parts_here types f rest inputs S st k sigs number place S' (named.Name (whole x)) y right buffer_y m named_y u.number typed_y))
-        (subst (λ (o : Option ℕ). OnRight (on_got (giving (parts_at types u.number) o) (λ owned. Next (put_content (moved_to (parts_at types u.number) (record { object = n; index = 0; word = 0 }) m (taken (parts_at types u.number) (owner_word owned ∷ []) st.world.content)) st))) (IsMade types f inputs S' (MovedBare types f rest inputs S st k x y) no_local no_local st)) (sym has.has)
-        (gives types (parts_at types u.number) is_buffer (record { object = n; index = 0; word = 0 }) m has.held st (IsMade types f inputs S' (MovedBare types f rest inputs S st k x y) no_local no_local st) moved_safe))
+        (subst (λ (o : Option ℕ). OnRight (on_got (giving (parts_at types u.number) o) (λ owned. Next (put_content (moved_to (parts_at types u.number) (record { object = n; index = 0; word = 0 }) m (taken (parts_at types u.number) (owner_word owned ∷ []) st.world.content)) st))) (IsMade types f inputs S' (MovedBare types f rest inputs S st k x y) no_local no_location st)) (sym has.has)
+        (gives types (parts_at types u.number) is_buffer (record { object = n; index = 0; word = 0 }) m has.held st (IsMade types f inputs S' (MovedBare types f rest inputs S st k x y) no_local no_location st) moved_safe))
 
-  pub buffer_move_kind : OnRight (does s types f (Move (named.Name (whole x)) y) st) (IsMade types f inputs S' (MovedBare types f rest inputs S st k x y) no_local no_local st)
-  buffer_move_kind = on_spot_local types f rest inputs S st k x (λ spot. moves_from (local_parts types f y) spot (cell st y) st) (IsMade types f inputs S' (MovedBare types f rest inputs S st k x y) no_local no_local st) (λ n named. by_cell n named (cell st y) refl)
+  pub buffer_move_kind : OnRight (does s types f (Move (named.Name (whole x)) y) st) (IsMade types f inputs S' (MovedBare types f rest inputs S st k x y) no_local no_location st)
+  buffer_move_kind = on_spot_at types f rest inputs S st k (whole x) (λ spot. moves_from (local_parts types f y) spot (cell st y) st) (IsMade types f inputs S' (MovedBare types f rest inputs S st k x y) no_local no_location st) (λ n named. by_cell n named (cell st y) refl)
     where
-      by_cell : (n : ℕ) → cell st x ≡ Some (Named n) → (v : Option Cell) → cell st y ≡ v → OnRight (moves_from (local_parts types f y) (record { object = n; index = 0; word = 0 }) v st) (IsMade types f inputs S' (MovedBare types f rest inputs S st k x y) no_local no_local st)
+      by_cell : (n : ℕ) → cell st x ≡ Some (Named n) → (v : Option Cell) → cell st y ≡ v → OnRight (moves_from (local_parts types f y) (record { object = n; index = 0; word = 0 }) v st) (IsMade types f inputs S' (MovedBare types f rest inputs S st k x y) no_local no_location st)
       by_cell n named (Some (Named m)) e = moves_here n m named e
       by_cell n named None e = tt
       by_cell n named (Some Empty) e = tt

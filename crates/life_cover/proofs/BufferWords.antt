@@ -116,12 +116,12 @@ other_members first others ws has u e =
     (b.0, ap owned_in (drop_index ws (width first) u (width first + u) refl) ∙ b.1)
 
 -- .. and of words one behind the other
-append_front : (xs ys : List ℕ) (u : ℕ) → u < length xs → slice_index (xs ++ ys) u ≡ slice_index xs u
+pub append_front : (xs ys : List ℕ) (u : ℕ) → u < length xs → slice_index (xs ++ ys) u ≡ slice_index xs u
 append_front [] ys u lt = absurd (omega (arith, lt))
 append_front (x ∷ xs) ys zero lt = refl
 append_front (x ∷ xs) ys (suc u) lt = append_front xs ys u (omega (arith, lt))
 
-append_back : (xs ys : List ℕ) (u v : ℕ) → v ≡ length xs + u → slice_index (xs ++ ys) v ≡ slice_index ys u
+pub append_back : (xs ys : List ℕ) (u v : ℕ) → v ≡ length xs + u → slice_index (xs ++ ys) v ≡ slice_index ys u
 append_back [] ys u v e = ap (slice_index ys) (omega (arith, e))
 append_back (x ∷ xs) ys u zero e = absurd (omega (arith, e))
 append_back (x ∷ xs) ys u (suc v) e = append_back xs ys u v (omega (arith, e))

@@ -9,7 +9,7 @@ use Rattle.life_core.specs.declared.program.FnId.{FnId}
 use Rattle.life_core.specs.Function.{Function}
 use Rattle.life_core.specs.Operands.{Argument, Location}
 use Rattle.life_core.specs.Step.{Call}
-use Rattle.life_pset.specs.Elements.{called, local_place}
+use Rattle.life_pset.specs.Elements.{called}
 use Rattle.life_pset.specs.Places.{under}
 use Rattle.life_pset.specs.declared.element.AbsPlace.{AbsPlace}
 use Rattle.life_pset.specs.declared.element.Cause.{Cause}
@@ -26,7 +26,7 @@ use Rattle.life_rules.specs.Matching.{fact_at, given_if}
 use Rattle.life_rules.proofs.Giving.{at_head, cons_cases, in_tail, none_in_empty}
 use Rattle.life_store.specs.Content.{Content}
 use Rattle.life_store.specs.Effects.{cell}
-use Rattle.life_store.specs.State.{Cell, Named, Pointer, Points, State, Target, To}
+use Rattle.life_store.specs.State.{Cell, Named, Pointer, Points, State}
 use Rattle.life_store.proofs.MapLemmas.{one_or_apart}
 use Rattle.life_forest.specs.Forest.{Foot, Touches, Within, whole}
 use Rattle.life_forest.specs.Frames.{named_in}
@@ -37,11 +37,11 @@ use Rattle.life_forest.proofs.Counting.{one_same}
 use Rattle.life_forest.proofs.Shaped.{IsShaped}
 use Rattle.life_forest.proofs.Steps.{touches_more}
 use Rattle.life_cover.specs.Covers.{IsCovered}
-use Rattle.life_cover.specs.Frames.{FrameCovered, RootStands, look_at}
+use Rattle.life_cover.specs.Frames.{FrameCovered, RootStands, look_in}
 use Rattle.life_cover.specs.Inputs.{StandsAt, entry_inputs, foot_with, frame_foot, may_change, mutated, owning}
 use Rattle.life_cover.specs.Kills.{Guards, IsUnnamed, LeftBy, Names, is_hit}
 use Rattle.life_cover.specs.Regions.{IsAt, Region}
-use Rattle.life_cover.proofs.Arguments.{IsAimedBy}
+use Rattle.life_cover.proofs.Arguments.{AreAimedBy}
 use Rattle.life_cover.proofs.CalledRight.{mutating_argument}
 use Rattle.life_cover.proofs.FootParts.{IsBelow, below_region, below_whole, foot_within, is_below}
 use Rattle.life_cover.proofs.GivenInputs.{caller_owns, input, is_entered, mutating, not_given_over, stood}
@@ -50,9 +50,14 @@ use Rattle.life_cover.proofs.Killing.{cover_on}
 use Rattle.life_cover.proofs.KnownFrames.{IsKnownFrame, IsRight, hand_of, rooted_of, store_of}
 use Rattle.life_cover.proofs.Left.{caused_of}
 use Rattle.life_cover.proofs.Mutated.{mutated_from, some_passes, which_passes}
+use Rattle.life_cover.proofs.PointerInputs.{in_signature}
 use Rattle.life_cover.proofs.PushKinds.{other_free}
 use Rattle.life_cover.proofs.Sparing.{local_low, place_within}
 use Rattle.life_cover.proofs.Takes.{left_all}
+use Rattle.life_types.specs.TypeTests.{is_pointer}
+use Rattle.life_contract.specs.Located.{located}
+use Rattle.life_proper.specs.Placed.{type_in}
+use Rattle.life_store.specs.Places.{location_cell}
 
 never_hit : (e : Element) → is_hit (λ a. false) e ≡ false
 never_hit element.Null = refl
@@ -63,7 +68,7 @@ never_hit element.Static = refl
 never_hit (element.At a) = refl
 
 module _ (types : Types) (f : Function) (rest : ℕ → ℕ) (inputs : Root → Option Region) (S : Fact → Type 0) (st : State) (k : IsKnownFrame types f rest inputs S st) (sigs : List Signature) (number : ℕ) (place : Place) (S' : Fact → Type 0) (target : Option Location) (g : FnId) (xs : List Argument)
-    (right : IsRight sigs types number f place (Call target g xs) S S') (values : List Cell) (gf : Function) (at_g : slice_get sigs g.0 ≡ Some (signature_of gf)) (shaped : IsShaped types gf) (aims : (q : ℕ) (t : Target) → slice_get values q ≡ Some (Points (To t)) → IsAimedBy types f inputs S st xs gf q t)
+    (right : IsRight sigs types number f place (Call target g xs) S S') (values : List Cell) (gf : Function) (at_g : slice_get sigs g.0 ≡ Some (signature_of gf)) (shaped : IsShaped types gf) (aims : AreAimedBy types f inputs S st xs gf values)
     (over : (n : ℕ) → 0 < times (named_in values) n → (x : ℕ) × (cell st x ≡ Some (Named n)) × IsUnnamed S x) where
   -- where the callee may touch owners
   abbrev regions : List Region
@@ -75,9 +80,9 @@ module _ (types : Types) (f : Function) (rest : ℕ → ℕ) (inputs : Root → 
   record IsTarget (b : Region) : Type 0 where
     pub at : AbsPlace
     pub stands : IsAt types st.world.content (RootStands types f (StandsAt inputs) st.cells) at b
-    pub from : ℕ
-    pub fact : S (fact_at (local_place from) (element.At at))
-    pub argument : is_mutating_argument types (signature_of gf) xs (local_place from) ≡ true
+    pub from : Location
+    pub fact : S (fact_at (located from) (element.At at))
+    pub argument : is_mutating_argument types (signature_of gf) xs (located from) ≡ true
     pub own : owning types f at.root ≡ true
 
   target_at : (b : Region) → Contains (mutated types gf (entry_inputs types gf st.world.content values)) b → IsTarget b
@@ -86,12 +91,12 @@ module _ (types : Types) (f : Function) (rest : ℕ → ℕ) (inputs : Root → 
       of : (r : Root) × (StandsAt (entry_inputs types gf st.world.content values) r b) × (owning types gf r ≡ true) → IsTarget b
       of m =
           let e = is_entered types gf st.world.content values m.0 b m.1 in
-          let aim = aims e.parameter e.target e.handed in record {
+          let aim = aims e.input e.target e.among e.handed in record {
             at = aim.place;
             stands = stood types f rest inputs S st k sigs number place S' target g xs right values gf at_g shaped aims over m.0 b m.1;
             from = aim.from;
             fact = aim.fact;
-            argument = mutating_argument sigs types number f place S target g xs (signature_of gf) at_g right.clean (input types f rest inputs S st k sigs number place S' target g xs right values gf at_g shaped aims over m.0 b m.1) aim.among (local_place aim.from) aim.argument
+            argument = mutating_argument sigs types number f place S target g xs (signature_of gf) at_g right.clean (input types f rest inputs S st k sigs number place S' target g xs right values gf at_g shaped aims over m.0 b m.1) (in_signature types k.ordered gf e.input e.among) (located aim.from) aim.argument
                 (mutating types f rest inputs S st k sigs number place S' target g xs right values gf at_g shaped aims over m.0 b m.1 m.2);
             own = caller_owns types f rest inputs S st k sigs number place S' target g xs right values gf at_g shaped aims over m.0 b m.1 m.2;
           }
@@ -133,9 +138,9 @@ module _ (types : Types) (f : Function) (rest : ℕ → ℕ) (inputs : Root → 
           let x : Fact = fact_at l (element.Invalid (called place g.0)) in
           let below : under t.1.at p ≡ true = ap (λ (a : AbsPlace). under a p) t.2 ∙ w.2 in (
             called place g.0,
-            right.closed.two (fact_at (local_place t.1.from) (element.At t.1.at)) (fact_at l (element.At p)) x t.1.fact s
+            right.closed.two (fact_at (located t.1.from) (element.At t.1.at)) (fact_at l (element.At p)) x t.1.fact s
                 (caused_of types f l (element.At p) (element.Invalid (called place g.0)) (right.closed.of (fact_at l (element.At p)) s) (right.closed.causes (element.Invalid (called place g.0)) (at_head (element.Invalid (called place g.0)) [])))
-                (subst (λ (o : Option Signature). Contains (called_two types place g.0 o xs target (fact_at (local_place t.1.from) (element.At t.1.at)) (fact_at l (element.At p))) x) (sym at_g)
+                (subst (λ (o : Option Signature). Contains (called_two types place g.0 o xs target (fact_at (located t.1.from) (element.At t.1.at)) (fact_at l (element.At p))) x) (sym at_g)
                 (subst (λ b. Contains (cond b (killed_by_call place g.0 target (element.At t.1.at) (fact_at l (element.At p))) []) x) (sym t.1.argument)
                 (subst (λ b. Contains (given_if (b && not (is_in_target target l)) x) x) (sym below)
                 (subst (λ b. Contains (given_if (not b) x) x) (sym free) (at_head x []))))),
@@ -192,12 +197,17 @@ module _ (types : Types) (f : Function) (rest : ℕ → ℕ) (inputs : Root → 
               (λ same. o.2 a names (e ∙ ap (λ z. root.Local z) (sym same)))
               (λ ne. other_free types f rest inputs S st k o.0 r.object o.1 o.2 y r.object ne h.0 (whole r.object (is_positive (times (r.object ∷ []) r.object) (let s = one_same r.object r.object refl in omega (arith, s)))))
 
+  -- one pointer
+  pub pointer_covered : (after : State) → Touches (kinds_of types) (foot_with types (mutated types gf (entry_inputs types gf st.world.content values)) (named_in values)) st.world.content after.world.content
+      → ((y m : ℕ) → cell st y ≡ Some (Named m) → times (named_in values) m ≡ 0 → cell after y ≡ Some (Named m)) → (l : Location) (p : Pointer) → is_pointer (type_in types f l) ≡ true → location_cell types f l st ≡ Some (Points p) → is_in_target target (located l) ≡ false
+      → IsCovered types after.world.content (RootStands types f (StandsAt inputs) after.cells) (may_change types f) S' (located l) (look_in types f l) p
+  pointer_covered after touch stay l p pointer was free =
+      cover_on types k.ordered (hand_of rest st) st.world.content after.world.content (store_of types f rest inputs S st k) callee_foot touch (RootStands types f (StandsAt inputs) st.cells) (RootStands types f (StandsAt inputs) after.cells) (may_change types f)
+      (rooted_of types f rest inputs S st k).fits killed (writes (Call target g xs)) S S' left guards (λ a r names free stands. roots_stay after stay a r names stands) (located l) (look_in types f l) p free (k.covered l p pointer was)
+
+  -- .. and all
   pub call_covered : (after : State) → Touches (kinds_of types) (foot_with types (mutated types gf (entry_inputs types gf st.world.content values)) (named_in values)) st.world.content after.world.content
       → ((y m : ℕ) → cell st y ≡ Some (Named m) → times (named_in values) m ≡ 0 → cell after y ≡ Some (Named m))
-      → ((y : ℕ) (p : Pointer) → cell after y ≡ Some (Points p) → ((cell st y ≡ Some (Points p)) × (is_in_target target (local_place y) ≡ false)) ⊎ IsCovered types after.world.content (RootStands types f (StandsAt inputs) after.cells) (may_change types f) S' (local_place y) (look_at types f y) p)
+      → ((l : Location) (p : Pointer) → is_pointer (type_in types f l) ≡ true → location_cell types f l after ≡ Some (Points p) → ((location_cell types f l st ≡ Some (Points p)) × (is_in_target target (located l) ≡ false)) ⊎ IsCovered types after.world.content (RootStands types f (StandsAt inputs) after.cells) (may_change types f) S' (located l) (look_in types f l) p)
       → FrameCovered types f inputs S' after
-  call_covered after touch stay points y p e = ⊎_elim
-      (λ was. cover_on types k.ordered (hand_of rest st) st.world.content after.world.content (store_of types f rest inputs S st k) callee_foot touch (RootStands types f (StandsAt inputs) st.cells) (RootStands types f (StandsAt inputs) after.cells) (may_change types f)
-      (rooted_of types f rest inputs S st k).fits killed (writes (Call target g xs)) S S' left guards (λ a r names free stands. roots_stay after stay a r names stands) (local_place y) (look_at types f y) p was.1 (k.covered y p was.0))
-      (λ new. new)
-      (points y p e)
+  call_covered after touch stay points l p pointer e = ⊎_elim (λ was. pointer_covered after touch stay l p pointer was.0 was.1) (λ new. new) (points l p pointer e)

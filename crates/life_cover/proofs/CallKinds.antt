@@ -1,5 +1,5 @@
 -- A call of a frame that hands over no slot: the facts behind it cover all pointers of the frame, the result among them.
-use Rattle.std.proofs.Common.{◌≡◌, ◌≢◌, ◌⊎◌, inl, inr, ⊎_elim, ℕ, ◌+◌, ◌≤◌, ◌<◌, true, false, List, [], ◌∷◌, Option, Some, None, refl, sym, ap, subst, ◌∙◌, arith}
+use Rattle.std.proofs.Common.{◌≡◌, ◌≢◌, ◌⊎◌, inl, inr, ⊎_elim, ℕ, ◌+◌, ◌≤◌, ◌<◌, true, false, List, [], ◌∷◌, length, Option, Some, None, refl, sym, ap, subst, ◌∙◌, arith}
 use Rattle.std.specs.Prelude.{Contains, flat_map, slice_get, ◌&&◌}
 use Rattle.std.proofs.lemmas.Bool.{false≢true, ne_eqb}
 use Rattle.std.proofs.lemmas.List.Elements.{Contains-append_right}
@@ -13,21 +13,25 @@ use Rattle.life_core.specs.Function.{Function}
 use Rattle.life_core.specs.Operands.{Argument, GivenOver, Location, PointerOf, Slot, Value}
 use Rattle.life_core.specs.Operands as operands
 use Rattle.life_core.specs.Step.{Call}
-use Rattle.life_pset.specs.Elements.{local_place}
-use Rattle.life_pset.specs.Places.{is_within, members_place}
+use Rattle.life_pset.specs.Elements.{local_place, locations_of}
+use Rattle.life_pset.specs.Places.{begins, path}
+use Rattle.life_pset.specs.Shapes as shapes
 use Rattle.life_pset.specs.declared.element.Fact.{Fact}
+use Rattle.life_pset.specs.contracts.element.RootPartialEq.TheImpl.{ghosts as compared}
 use Rattle.life_pset.specs.declared.element.Root.{Root}
+use Rattle.life_pset.specs.declared.element.Root.TheVariants as root
 use Rattle.life_contract.specs.Signatures.{Signature, signature_of}
 use Rattle.life_proper.specs.GivenOver.{given_argument}
-use Rattle.life_proper.specs.Placed.{is_slot_local, slot_at, type_at}
+use Rattle.life_proper.specs.Placed.{is_slot_local, slot_at, type_at, type_in}
+use Rattle.life_proper.specs.WellFormedPrograms.{is_result_of}
 use Rattle.life_rules.specs.Calling.{is_in_target}
 use Rattle.life_rules.proofs.Giving.{at_head}
 use Rattle.life_store.specs.Cells.{at}
 use Rattle.life_store.specs.Calls.{given_if, lent, number_handed, object_handed, pointer_handed, result_given, slots_returned}
 use Rattle.life_store.specs.Content.{Content}
 use Rattle.life_store.specs.Effects.{Effect, Next, Setting, cell, put_cell}
-use Rattle.life_store.specs.Places.{location_cell}
-use Rattle.life_store.specs.State.{Cell, Empty, Named, Number, Pointer, Points, State, Target, To, World, is_there}
+use Rattle.life_store.specs.Places.{location_cell, member_cell}
+use Rattle.life_store.specs.State.{Cell, Empty, Named, Number, Pointer, Points, State, World, is_there}
 use Rattle.life_store.proofs.CellLemmas.{cell_cases, none_some, some_same}
 use Rattle.life_store.proofs.MapLemmas.{one_or_apart}
 use Rattle.life_forest.specs.Forest.{Beneath, Foot, Touches, part, under, whole}
@@ -39,17 +43,17 @@ use Rattle.life_forest.proofs.Counting.{one_same, one_there}
 use Rattle.life_forest.proofs.Feet.{within_self}
 use Rattle.life_forest.proofs.Following.{in_hand}
 use Rattle.life_forest.proofs.Frames.{first_named}
-use Rattle.life_forest.proofs.HandedOver.{HandEach}
+use Rattle.life_forest.proofs.HandedOver.{HandEach, IsHandedTo}
 use Rattle.life_forest.proofs.Shaped.{IsShaped}
 use Rattle.life_forest.proofs.Steps.{alive_le, touches_then}
 use Rattle.life_cover.specs.Buffered.{AreBut}
-use Rattle.life_cover.specs.Frames.{FrameCovered, RootStands, look_at}
+use Rattle.life_cover.specs.Frames.{FrameCovered, RootStands, look_at, look_in, look_of}
 use Rattle.life_cover.specs.Inputs.{StandsAt, entry_inputs, foot_with, frame_foot, may_change, mutated}
 use Rattle.life_cover.specs.Covers.{IsCovered}
 use Rattle.life_cover.specs.Kills.{IsUnnamed}
 use Rattle.life_cover.specs.Lacking.{IsLoose, IsSpared}
-use Rattle.life_cover.specs.Passed.{IsPromised}
-use Rattle.life_cover.proofs.Arguments.{AreSlotless, IsAimedBy}
+use Rattle.life_cover.specs.Passed.{ArePromised, IsPromised}
+use Rattle.life_cover.proofs.Arguments.{AreAimedBy, AreSlotless}
 use Rattle.life_cover.proofs.Behind.{IsBehind}
 use Rattle.life_cover.proofs.CallCovers.{call_covered, call_spares}
 use Rattle.life_cover.proofs.CalledUniques.{had_called}
@@ -59,21 +63,26 @@ use Rattle.life_cover.proofs.Locals.{two_named}
 use Rattle.life_cover.proofs.Looks.{TakesAll}
 use Rattle.life_cover.proofs.Owning.{named_at}
 use Rattle.life_cover.proofs.PromisedResults.{result_covered}
+use Rattle.life_cover.proofs.ResultParts.{part_covered}
 use Rattle.life_cover.proofs.Putting.{set_other}
 use Rattle.life_cover.proofs.Unkilled.{no_foot}
 use Rattle.life_cover.specs.Regions.{Region}
-use Rattle.life_cover.specs.Uniques.{had_by}
+use Rattle.life_cover.specs.Uniques.{had_at, word_in}
+use Rattle.life_contract.specs.Located.{located}
+use Rattle.life_cover.proofs.CalledPointers.{called_before}
+use Rattle.life_cover.proofs.HeldCells.{put_held}
+use Rattle.life_cover.proofs.Unkept.{members_root}
 
 -- ---- the calls that are spoken of
 
--- the result goes to a whole local that is no slot
+-- the result goes to no slot
 abbrev pub IsPlainTarget : Types → Function → Option Location → Type 0
 IsPlainTarget types f None = Unit {0}
-IsPlainTarget types f (Some l) = (l.members ≡ []) × (slot_at types f l.local ≡ false)
+IsPlainTarget types f (Some l) = slot_at types f l.local ≡ false
 
 -- the facts cover all pointers behind it, what it touched lies beneath what the frame named or is an owner behind a mutating input, and nobody comes
 -- to what the callee left so
-abbrev pub IsCalled : Types → Function → (inputs : Root → Option Region) → (S' : Fact → Type 0) → (bare over lost loose : ℕ → Type 0) → State → State → Type 0
+abbrev pub IsCalled : Types → Function → (inputs : Root → Option Region) → (S' : Fact → Type 0) → (bare over : ℕ → Type 0) (lost : Location → Type 0) (loose : ℕ → Type 0) → State → State → Type 0
 IsCalled types f inputs S' bare over lost loose st after = FrameCovered types f inputs S' after × (IsBehind types f inputs bare over lost st after × ((n : ℕ) → loose n → IsLoose types inputs (named_in after.cells) after.world.content n))
 
 -- ---- what is handed over
@@ -156,15 +165,15 @@ given_object types f rest inputs S st k sigs number place S' target g xs right v
 -- ---- the facts behind it
 
 module _ (types : Types) (f : Function) (rest : ℕ → ℕ) (inputs : Root → Option Region) (S : Fact → Type 0) (st : State) (k : IsKnownFrame types f rest inputs S st) (sigs : List Signature) (number : ℕ) (place : Place) (S' : Fact → Type 0) (target : Option Location) (g : FnId) (xs : List Argument)
-    (right : IsRight sigs types number f place (Call target g xs) S S') (values : List Cell) (gf : Function) (at_g : slice_get sigs g.0 ≡ Some (signature_of gf)) (shaped : IsShaped types gf) (aims : (q : ℕ) (t : Target) → slice_get values q ≡ Some (Points (To t)) → IsAimedBy types f inputs S st xs gf q t)
-    (plain : AreSlotless xs) (each : HandEach types f st xs values) where
+    (right : IsRight sigs types number f place (Call target g xs) S S') (values : List Cell) (gf : Function) (at_g : slice_get sigs g.0 ≡ Some (signature_of gf)) (shaped : IsShaped types gf) (aims : AreAimedBy types f inputs S st xs gf values)
+    (plain : AreSlotless xs) (each : HandEach types f st xs values) (few : length (locations_of types gf) ≤ 256) where
   -- what is given over
   abbrev pub IsOver : ℕ → Type 0
   IsOver y = Contains (flat_map given_argument xs) y
 
   -- what is given the result
-  abbrev pub IsTarget : ℕ → Type 0
-  IsTarget y = (l : Location) × (target ≡ Some l) × (l.local ≡ y)
+  abbrev pub IsTarget : Location → Type 0
+  IsTarget q = (l : Location) × (target ≡ Some l) × (l.members ≡ []) × (l.local ≡ q.local)
 
   -- what the callee may touch
   abbrev pub callee_foot : Foot
@@ -185,11 +194,11 @@ module _ (types : Types) (f : Function) (rest : ℕ → ℕ) (inputs : Root → 
 
     -- .. and of unique_ptrs none that is named then
     had : (d : Content) → Touches (kinds_of types) (foot_with types (mutated types gf (entry_inputs types gf st.world.content values)) (named_in values)) st.world.content d
-        → (y m : ℕ) → cell (lent types f xs st) y ≡ Some (Named m) → is_unique (type_at types f y) ≡ true → had_by d m ≡ had_by st.world.content m
+        → (q : Location) (m : ℕ) → cell (lent types f xs st) q.local ≡ Some (Named m) → is_unique (type_in types f q) ≡ true → had_at d m (word_in types f q) ≡ had_at st.world.content m (word_in types f q)
     had = had_called types f rest inputs S st k gf xs values aims less hand
 
     -- what isn't given over is named still
-    stay : (y m : ℕ) → cell st y ≡ Some (Named m) → times (named_in values) m ≡ 0 → cell (record { world = w; cells = (lent types f xs st).cells }) y ≡ Some (Named m)
+    pub stay : (y m : ℕ) → cell st y ≡ Some (Named m) → times (named_in values) m ≡ 0 → cell (record { world = w; cells = (lent types f xs st).cells }) y ≡ Some (Named m)
     stay y m was none = lent_stays types f st xs values plain each y m was none st was
 
     -- .. or was given over
@@ -215,36 +224,40 @@ module _ (types : Types) (f : Function) (rest : ℕ → ℕ) (inputs : Root → 
       unowned = loose.0.unowned;
     })
 
+    -- what the callee left is behind what was there
+    pub left_behind : IsBehind types f inputs bare IsOver IsTarget st (record { world = w; cells = (lent types f xs st).cells })
+    left_behind = record {
+      buffered = buffered;
+      touch = spares w.content touch;
+      named = λ y m e. inl (in_hand st.cells y m (less y (Named m) refl e));
+      kept = λ y m was. still_named back stay y m was;
+      had = λ q m e unique. inr (less q.local (Named m) refl e, had w.content touch q m e unique);
+    }
+
     pub nothing_taken : target ≡ None → IsCalled types f inputs S' bare IsOver IsTarget LeftLoose st (record { world = w; cells = (lent types f xs st).cells })
     nothing_taken none = (
       call_covered types f rest inputs S st k sigs number place S' target g xs right values gf at_g shaped aims (given_object types f rest inputs S st k sigs number place S' target g xs right values plain each) back touch stay
-          (λ y p e. inl (less y (Points p) refl e, ap (λ (t : Option Location). is_in_target t (local_place y)) none)),
-      (
-        record {
-          buffered = buffered;
-          touch = spares w.content touch;
-          named = λ y m e. inl (in_hand st.cells y m (less y (Named m) refl e));
-          kept = λ y m was. still_named back stay y m was;
-          had = λ y m e unique. inr (less y (Named m) refl e, had w.content touch y m e unique);
-        },
-        loose_still back refl (λ y m e. e),
-      ),
+          (λ q p pointer e. inl (called_before types f rest inputs S st k gf xs values aims less hand w.content touch q p pointer e, ap (λ (t : Option Location). is_in_target t (located q)) none)),
+      (left_behind, loose_still back refl (λ y m e. e)),
     )
 
     -- a local that names nothing is given what comes back, which was handed over or is new
-    module _ (l : Location) (into : target ≡ Some l) (whole_target : IsPlainTarget types f (Some l)) (nameless : (m : ℕ) → cell st l.local ≡ Some (Named m) → ⊥) where
-      outside : (y : ℕ) → l.local ≢ y → is_in_target target (local_place y) ≡ false
-      outside y ne =
-          ap (λ (t : Option Location). is_in_target t (local_place y)) into
-          ∙ ap (λ ms. is_within (members_place (local_place l.local) ms) (local_place y)) whole_target.0
-          ∙ ap (λ b. b && true) (ne_eqb l.local y ne)
+    module _ (l : Location) (into : target ≡ Some l) (none : l.members ≡ []) (slotless : slot_at types f l.local ≡ false) (nameless : (m : ℕ) → cell st l.local ≡ Some (Named m) → ⊥) where
+      outside : (q : Location) → l.local ≢ q.local → is_in_target target (located q) ≡ false
+      outside q ne =
+          ap (λ (t : Option Location). is_in_target t (located q)) into
+          ∙ ap (λ (ro : Root). compared.eq ro (located q).root && begins (path (located l)) (path (located q))) (members_root l.members (local_place l.local))
+          ∙ ap (λ (ro : Root). compared.eq (root.Local l.local) ro && begins (path (located l)) (path (located q))) (members_root q.members (local_place q.local))
+          ∙ ap (λ b. b && begins (path (located l)) (path (located q))) (ne_eqb l.local q.local ne)
 
       -- a number or an object
-      module _ (v : Cell) (names : (j : ℕ) → v ≡ Named j → (0 < times (named_in values) j) ⊎ (st.world.content.births ≤ j)) (among : (j : ℕ) → v ≡ Named j → 0 < times (named_in vs) j) (pointless : (p : Pointer) → v ≡ Points p → ⊥) where
+      module _ (v : Cell) (names : (j : ℕ) → v ≡ Named j → (0 < times (named_in values) j) ⊎ (st.world.content.births ≤ j)) (among : (j : ℕ) → v ≡ Named j → 0 < times (named_in vs) j) (pointless : (p : Pointer) → v ≡ Points p → ⊥)
+          (typed : shapes.local_type types f l.local ≡ Some gf.result) (formed : is_result_of types gf.result (slice_get types.types gf.result.0) (slice_get gf.locals gf.parameters) ≡ true) (first : slice_get vs 0 ≡ Some v) (suits : IsHandedTo types w.content gf.result v)
+          (promised : ArePromised types gf (entry_inputs types gf st.world.content values) w.content vs) where
         taken : (after : State) → IsGiven types bare l.local v (record { world = w; cells = (lent types f xs st).cells }) after → IsCalled types f inputs S' bare IsOver IsTarget LeftLoose st after
         taken after h = (
           call_covered types f rest inputs S st k sigs number place S' target g xs right values gf at_g shaped aims (given_object types f rest inputs S st k sigs number place S' target g xs right values plain each) after both stays
-              (λ y p e. ⊎_elim (λ new. absurd (pointless p new.1)) (λ was. inl (less y (Points p) refl was.1, outside y was.0)) (h.points y p e)),
+              (λ q p pointer e. one_or_apart l.local q.local (λ same. inr (inside q p pointer e same)) (λ ne. inl (before q p pointer e ne, outside q ne))),
           (
             record {
               buffered = h.buffered;
@@ -256,8 +269,8 @@ module _ (types : Types) (f : Function) (rest : ℕ → ℕ) (inputs : Root → 
                   (λ new. inr (let b = touch.births in omega (arith, b, new))) other)
                   (h.named y m e);
               kept = λ y m was. still_named after stays y m was;
-              had = λ y m e unique. one_or_apart l.local y (λ same. inl (l, into, same))
-                  (λ ne. let old = sym (h.stays y ne) ∙ e in inr (less y (Named m) refl old, had after.world.content both y m old unique));
+              had = λ q m e unique. one_or_apart l.local q.local (λ same. inl (l, into, none, same))
+                  (λ ne. let old = sym (h.stays q.local ne) ∙ e in inr (less q.local (Named m) refl old, had after.world.content both q m old unique));
             },
             λ n loose. record {
               born = let b = h.touch.births in let l = loose.0.born in omega (arith, b, l);
@@ -268,6 +281,29 @@ module _ (types : Types) (f : Function) (rest : ℕ → ℕ) (inputs : Root → 
           ),
         )
           where
+            both : Touches (kinds_of types) (foot_with types (mutated types gf (entry_inputs types gf st.world.content values)) (named_in values)) st.world.content after.world.content
+            both =
+                touches_then (kinds_of types) (hand_of rest st) st.world.content (store_of types f rest inputs S st k).forest callee_foot no_foot callee_foot w.content after.world.content touch h.touch
+                (within_self (kinds_of types) st.world.content callee_foot) (record { whole = λ n lt e. absurd (false≢true e); part = λ m lt. inr (λ u e. absurd (false≢true e)) })
+
+            stays : (y m : ℕ) → cell st y ≡ Some (Named m) → times (named_in values) m ≡ 0 → cell after y ≡ Some (Named m)
+            stays y m was none = h.stays y (λ same. nameless m (ap (cell st) same ∙ was)) ∙ stay y m was none
+
+            -- the pointers in what comes back are as the callee promises
+            inside : (q : Location) (p : Pointer) → is_pointer (type_in types f q) ≡ true → location_cell types f q after ≡ Some (Points p) → l.local ≡ q.local → IsCovered types after.world.content (RootStands types f (StandsAt inputs) after.cells) (may_change types f) S' (located q) (look_in types f q) p
+            inside q p pointer e same = go q.members refl
+              where
+                go : (ms : List ℕ) → q.members ≡ ms → IsCovered types after.world.content (RootStands types f (StandsAt inputs) after.cells) (may_change types f) S' (located q) (look_in types f q) p
+                go [] whole_q = absurd (⊎_elim (λ new. pointless p new.1) (λ was. was.0 same) (h.points q.local p (ap (λ (ms : List ℕ). member_cell types f q.local ms (cell after q.local) after.world.content) (sym whole_q) ∙ e)))
+                go (m ∷ ms) some =
+                    part_covered types f rest inputs S st k sigs number place S' target g xs right values gf at_g shaped aims (given_object types f rest inputs S st k sigs number place S' target g xs right values plain each) few formed w.content vs promised after both stays l into none typed v first suits
+                    h.object (λ y j ne at_y. object_named types f rest inputs S st k y j (less y (Named j) refl (sym (h.stays y ne) ∙ at_y))) q p same m ms some pointer e
+
+            before : (q : Location) (p : Pointer) → is_pointer (type_in types f q) ≡ true → location_cell types f q after ≡ Some (Points p) → l.local ≢ q.local → location_cell types f q st ≡ Some (Points p)
+            before q p pointer e ne =
+                called_before types f rest inputs S st k gf xs values aims less hand after.world.content both q p pointer
+                (ap (λ (x : Option Cell). member_cell types f q.local q.members x after.world.content) (sym (h.stays q.local ne)) ∙ e)
+
             nothing_beneath : (n : ℕ) → Beneath (kinds_of types) w.content no_foot n → ⊥
             nothing_beneath n (whole _ e) = false≢true e
             nothing_beneath n (part q _ own) = let z = no_part (kinds_of types) (at w.content.objects q) n in omega (arith, z, own)
@@ -280,30 +316,22 @@ module _ (types : Types) (f : Function) (rest : ℕ → ℕ) (inputs : Root → 
                 (λ other. ⊎_elim (λ is. let e = among n is in let none = loose.0.unnamed in omega (arith, e, none)) (λ new. let b = loose.0.born in omega (arith, b, new)) other)
                 (h.named y.0 n y.1)
 
-            both : Touches (kinds_of types) (foot_with types (mutated types gf (entry_inputs types gf st.world.content values)) (named_in values)) st.world.content after.world.content
-            both =
-                touches_then (kinds_of types) (hand_of rest st) st.world.content (store_of types f rest inputs S st k).forest callee_foot no_foot callee_foot w.content after.world.content touch h.touch
-                (within_self (kinds_of types) st.world.content callee_foot) (record { whole = λ n lt e. absurd (false≢true e); part = λ m lt. inr (λ u e. absurd (false≢true e)) })
-
-            stays : (y m : ℕ) → cell st y ≡ Some (Named m) → times (named_in values) m ≡ 0 → cell after y ≡ Some (Named m)
-            stays y m was none = h.stays y (λ same. nameless m (ap (cell st) same ∙ was)) ∙ stay y m was none
-
         pub result_taken : (s : Setting) → IsFilled v → OnNext (result_given s types f l l.members v (record { world = w; cells = (lent types f xs st).cells })) (IsCalled types f inputs S' bare IsOver IsTarget LeftLoose st)
         result_taken s is =
-            subst (λ (ms : List ℕ). OnNext (result_given s types f l ms v back) (IsCalled types f inputs S' bare IsOver IsTarget LeftLoose st)) (sym whole_target.0)
-            (each_next (result_given s types f l [] v back) (value_given types k.ordered s f l.local v back bare buffered is (λ lo m there e. ap (is_slot_local types f) (sym there) ∙ whole_target.1)))
+            subst (λ (ms : List ℕ). OnNext (result_given s types f l ms v back) (IsCalled types f inputs S' bare IsOver IsTarget LeftLoose st)) (sym none)
+            (each_next (result_given s types f l [] v back) (value_given types k.ordered s f l.local v back bare buffered is (λ lo m there e. ap (is_slot_local types f) (sym there) ∙ slotless)))
           where
             each_next : (e : Effect) → OnNext e (IsGiven types bare l.local v back) → OnNext e (IsCalled types f inputs S' bare IsOver IsTarget LeftLoose st)
             each_next (Next after) h = taken after h
             each_next _ h = tt
 
       -- a pointer, as the callee promises it
-      module _ (p : Pointer) (pointer : is_pointer (type_at types f l.local) ≡ true) (result : is_pointer (ty_of types gf.result) ≡ true) (look : TakesAll types (look_at types f l.local) (look_at types gf gf.parameters)) (promised : IsPromised types gf (entry_inputs types gf st.world.content values) w.content p) where
+      module _ (p : Pointer) (pointer : is_pointer (type_at types f l.local) ≡ true) (result : is_pointer (ty_of types gf.result) ≡ true) (look : TakesAll types (look_at types f l.local) (look_of types (Some gf.result))) (promised : IsPromised types gf (entry_inputs types gf st.world.content values) w.content (Some gf.result) p) where
         abbrev after : State
         after = put_cell l.local (Points p) (record { world = w; cells = (lent types f xs st).cells })
 
         whole_is : target ≡ Some (operands.whole l.local)
-        whole_is = into ∙ ap (λ (ms : List ℕ). Some (record { local = l.local; members = ms })) whole_target.0
+        whole_is = into ∙ ap (λ (ms : List ℕ). Some (record { local = l.local; members = ms })) none
 
         lent_named : (y m : ℕ) → cell after y ≡ Some (Named m) → cell (lent types f xs st) y ≡ Some (Named m)
         lent_named y m e = ⊎_elim (λ h. absurd (unlike h.1)) (λ h. h.1) (cell_cases (lent types f xs st).cells l.local y (Points p) (Named m) e)
@@ -319,24 +347,24 @@ module _ (types : Types) (f : Function) (rest : ℕ → ℕ) (inputs : Root → 
 
         covered : IsCovered types w.content (RootStands types f (StandsAt inputs) after.cells) (may_change types f) S' (local_place l.local) (look_at types f l.local) p
         covered =
-            result_covered types f rest inputs S st k sigs number place S' target g xs right values gf at_g shaped aims (given_object types f rest inputs S st k sigs number place S' target g xs right values plain each) l.local whole_is pointer result look after touch still
+            result_covered types f rest inputs S st k sigs number place S' target g xs right values gf at_g shaped aims (given_object types f rest inputs S st k sigs number place S' target g xs right values plain each) few (operands.whole l.local) whole_is [] refl (operands.whole l.local) refl pointer result look after touch still
             (λ y m e. object_named types f rest inputs S st k y m (old_named y m e)) p promised
 
         pointer_taken : IsCalled types f inputs S' bare IsOver IsTarget LeftLoose st after
         pointer_taken = (
           call_covered types f rest inputs S st k sigs number place S' target g xs right values gf at_g shaped aims (given_object types f rest inputs S st k sigs number place S' target g xs right values plain each) after touch still
-              (λ y q e. ⊎_elim
-              (λ h. inr (subst (λ z. IsCovered types w.content (RootStands types f (StandsAt inputs) after.cells) (may_change types f) S' (local_place z) (look_at types f z) q) h.0
+              (λ y q pointer_y e. ⊎_elim
+              (λ h. inr (subst (λ (z : Location). IsCovered types w.content (RootStands types f (StandsAt inputs) after.cells) (may_change types f) S' (located z) (look_in types f z) q) h.0
               (subst (IsCovered types w.content (RootStands types f (StandsAt inputs) after.cells) (may_change types f) S' (local_place l.local) (look_at types f l.local)) (same_pointer h.1) covered)))
-              (λ h. inl (less y (Points q) refl h.1, outside y h.0))
-              (cell_cases (lent types f xs st).cells l.local y (Points p) (Points q) e)),
+              (λ h. inl (called_before types f rest inputs S st k gf xs values aims less hand w.content touch y q pointer_y h.1, outside y h.0))
+              (put_held types f back l.local (Points p) unnamed y q e)),
           (
             record {
               buffered = buffered;
               touch = spares w.content touch;
               named = λ y m e. inl (in_hand st.cells y m (old_named y m e));
               kept = λ y m was. still_named after still y m was;
-              had = λ y m e unique. inr (old_named y m e, had w.content touch y m (lent_named y m e) unique);
+              had = λ q m e unique. inr (old_named q.local m e, had w.content touch q m (lent_named q.local m e) unique);
             },
             loose_still after refl lent_named,
           ),
@@ -345,8 +373,11 @@ module _ (types : Types) (f : Function) (rest : ℕ → ℕ) (inputs : Root → 
             same_pointer : {u v : Pointer} → Points u ≡ Points v → u ≡ v
             same_pointer e = cc
 
+            unnamed : (n : ℕ) → Points p ≡ Named n → ⊥
+            unnamed n e = cc
+
         pub pointer_given : (s : Setting) → OnNext (result_given s types f l l.members (Points p) (record { world = w; cells = (lent types f xs st).cells })) (IsCalled types f inputs S' bare IsOver IsTarget LeftLoose st)
-        pointer_given s = subst (λ (ms : List ℕ). OnNext (result_given s types f l ms (Points p) back) (IsCalled types f inputs S' bare IsOver IsTarget LeftLoose st)) (sym whole_target.0) (by_local (slice_get f.locals l.local))
+        pointer_given s = subst (λ (ms : List ℕ). OnNext (result_given s types f l ms (Points p) back) (IsCalled types f inputs S' bare IsOver IsTarget LeftLoose st)) (sym none) (by_local (slice_get f.locals l.local))
           where
             by_local : (o : Option Local) → OnNext (given_if s types f o (Points p) l.local back) (IsCalled types f inputs S' bare IsOver IsTarget LeftLoose st)
             by_local None = tt

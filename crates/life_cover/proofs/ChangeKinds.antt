@@ -3,27 +3,27 @@
 use Rattle.std.proofs.Common.{◌≡◌, ℕ, true, false, List, [], ◌∷◌, Option, Some, None, refl, sym, ap, subst, ◌∙◌}
 use Rattle.std.specs.Prelude.{Contains}
 use Rattle.life_types.specs.Pointees.{ty_of}
-use Rattle.life_types.specs.TypeTests.{is_value, is_void}
+use Rattle.life_types.specs.TypeTests.{is_pointer, is_value, is_void}
 use Rattle.life_types.specs.Types.{Types}
 use Rattle.life_types.specs.declared.place.Place.{Place}
 use Rattle.life_types.specs.declared.ty.Ty.TheVariants as ty
 use Rattle.life_types.specs.declared.ty.TyId.{TyId}
 use Rattle.life_core.specs.Function.{Function}
-use Rattle.life_core.specs.Operands.{Location, Operand, whole}
+use Rattle.life_core.specs.Operands.{Location, Operand}
 use Rattle.life_core.specs.Operands as named
 use Rattle.life_core.specs.Step.{Append, Change, Changes, Clear, PopBack, PushBack, Reserve, Set}
-use Rattle.life_pset.specs.Elements.{local_place}
 use Rattle.life_pset.specs.declared.element.Fact.{Fact}
 use Rattle.life_pset.specs.declared.element.Root.{Root}
+use Rattle.life_contract.specs.Located.{located}
 use Rattle.life_contract.specs.Signatures.{Signature}
 use Rattle.life_proper.specs.OperandTypes.{is_range}
-use Rattle.life_proper.specs.Placed.{is_const_place, is_number, is_number_of, type_at, type_of}
+use Rattle.life_proper.specs.Placed.{is_const_place, is_number, is_number_of, type_in, type_of}
 use Rattle.life_rules.specs.Diagnosing.{reads}
 use Rattle.life_rules.proofs.Giving.{at_head}
 use Rattle.life_store.specs.Doing.{changed, does, on_given, pushes}
 use Rattle.life_store.specs.Effects.{Effect, Setting, cell, word_of_number}
 use Rattle.life_store.specs.Parts.{Single, Text, Vector, characters_type, operand_parts, parts_at}
-use Rattle.life_store.specs.Places.{Spot}
+use Rattle.life_store.specs.Places.{Spot, location_cell}
 use Rattle.life_store.specs.State.{Cell, Empty, Named, Number, Points, State}
 use Rattle.life_store.specs.Views.{seen_words, used}
 use Rattle.life_forest.proofs.OneNumber.{type_there}
@@ -40,6 +40,7 @@ use Rattle.life_cover.proofs.OwnerKinds.{append_kind, clear_kind, clear_text_kin
 use Rattle.life_cover.proofs.PointerKinds.{read_right}
 use Rattle.life_cover.proofs.Pointers.{OnRight, right_then}
 use Rattle.life_cover.proofs.Reaching.{IsReached, by_reach, spot_is}
+use Rattle.life_cover.proofs.SparedPointers.{owner_held}
 use Rattle.life_cover.proofs.Using.{NotInvalid}
 use Rattle.life_cover.proofs.Lacking.{owner_whole}
 use Rattle.life_cover.specs.Inputs.{may_change, owning, StandsAt}
@@ -62,20 +63,19 @@ module _ (types : Types) (f : Function) (rest : ℕ → ℕ) (inputs : Root → 
 
   -- ---- characters
 
-  -- a view that is read is a local
+  -- what is read is a view
   abbrev pub IsGiven : named.Characters → Type 0
-  IsGiven (named.View l) = (whole l.local ≡ l) × (is_range (type_at types f l.local) ≡ true)
+  IsGiven (named.View l) = (is_pointer (type_in types f l) ≡ true) × (is_range (type_in types f l) ≡ true)
   IsGiven (named.Single r) = Unit {0}
 
   abbrev CanGive : named.Characters → Type 1
   CanGive given = (go : List ℕ → Effect) (Q : State → Type 0) → ((ws : List ℕ) → OnRight (go ws) Q) → OnRight (on_given s types f given st go) Q
 
   -- .. that nothing is wrong with
-  given_right : (given : named.Characters) → IsGiven given → ((l : Location) → given ≡ named.View l → NotInvalid S (local_place l.local)) → CanGive given
+  given_right : (given : named.Characters) → IsGiven given → ((l : Location) → given ≡ named.View l → NotInvalid S (located l)) → CanGive given
   given_right (named.Single r) is valid go Q each = number_right (cell st r) (λ z. go (word_of_number z ∷ [])) Q (λ z. each (word_of_number z ∷ []))
   given_right (named.View l) is valid go Q each =
-      subst (λ (q : Location). CanGive (named.View q)) is.0
-      (λ go Q each. right_then (used st.world.content (cell st l.local)) (λ v. go (seen_words s.texts st.world.content v)) (λ u. Unit {0}) Q (range_fit types f rest inputs S st k l.local (valid l refl) is.1 (cell st l.local) refl) (λ v h. each (seen_words s.texts st.world.content v))) go Q each
+      right_then (used st.world.content (location_cell types f l st)) (λ v. go (seen_words s.texts st.world.content v)) (λ u. Unit {0}) Q (range_fit types f rest inputs S st k l is.0 (valid l refl) is.1 (location_cell types f l st) refl) (λ v h. each (seen_words s.texts st.world.content v))
 
   -- ---- a string
 
@@ -93,7 +93,7 @@ module _ (types : Types) (f : Function) (rest : ℕ → ℕ) (inputs : Root → 
     pub text_clear : IsRight sigs types n f place (Changes o Clear) S S' → OnRight (does s types f (Changes o Clear) st) (FrameCovered types f inputs S')
     text_clear right =
         owner_reached Clear right solid_text (λ r unmoved. let h = text_at r unmoved in
-        clear_text_kind types k.ordered f (hand_of rest st) st (store_of types f rest inputs S st k) (StandsAt inputs) (may_change types f) (owning types f) (rooted_of types f rest inputs S st k) sigs place S S' k.covered o r (change_owning types f rest inputs S st k sigs n place S' o free right r h.type) h.typed h.buffer h.owned s
+        clear_text_kind types k.ordered f (hand_of rest st) st (store_of types f rest inputs S st k) (StandsAt inputs) (may_change types f) (owning types f) (rooted_of types f rest inputs S st k) sigs place S S' k.covered o r (change_owning types f rest inputs S st k sigs n place S' o free right r h.type) (owner_held types f rest inputs S st k o r _ h.type) h.typed h.buffer h.owned s
         (characters_type types) (text_parts r) right.closed)
 
     pub text_push : (x : ℕ) → is_number types f x ≡ true → IsRight sigs types n f place (Changes o (PushBack x)) S S' → OnRight (does s types f (Changes o (PushBack x)) st) (FrameCovered types f inputs S')
@@ -103,33 +103,28 @@ module _ (types : Types) (f : Function) (rest : ℕ → ℕ) (inputs : Root → 
         by_cell : (r : IsReached types f st (StandsAt inputs) (may_change types f) S o) → IsOpened types f rest inputs S st k o r ty.Text (characters_type types) → (v : Option Cell) → cell st x ≡ v → OnRight (does s types f (Changes o (PushBack x)) st) (FrameCovered types f inputs S')
         by_cell r h (Some (Named m)) e = absurd (number_free types f rest inputs S st k x number m e)
         by_cell r h (Some (Number z)) e =
-            push_character_kind types k.ordered f (hand_of rest st) st (store_of types f rest inputs S st k) (StandsAt inputs) (may_change types f) (owning types f) (rooted_of types f rest inputs S st k) sigs place S S' k.covered o r (change_owning types f rest inputs S st k sigs n place S' o free right r h.type) h.typed h.buffer h.owned s
+            push_character_kind types k.ordered f (hand_of rest st) st (store_of types f rest inputs S st k) (StandsAt inputs) (may_change types f) (owning types f) (rooted_of types f rest inputs S st k) sigs place S S' k.covered o r (change_owning types f rest inputs S st k sigs n place S' o free right r h.type) (owner_held types f rest inputs S st k o r _ h.type) h.typed h.buffer h.owned s
             (characters_type types) (text_parts r) x z e right.closed
         by_cell r h None e = no_value r x None e tt
         by_cell r h (Some Empty) e = no_value r x (Some Empty) e tt
         by_cell r h (Some (Points p)) e = no_value r x (Some (Points p)) e tt
 
     text_given : (c : named.Characters → Change) (given : named.Characters) → IsGiven given → IsRight sigs types n f place (Changes o (c given)) S S' → ((l : Location) → reads (Changes o (c (named.View l))) ≡ l ∷ []) → CanGive given
-    text_given c given is right read = given_right given is (λ l e. valid l (subst (λ (x : named.Characters). IsRight sigs types n f place (Changes o (c x)) S S') e right) (is_whole given is l e))
+    text_given c given is right read = given_right given is (λ l e. valid l (subst (λ (x : named.Characters). IsRight sigs types n f place (Changes o (c x)) S S') e right))
       where
-        is_whole : (x : named.Characters) → IsGiven x → (l : Location) → x ≡ named.View l → whole l.local ≡ l
-        is_whole x i l e = (subst IsGiven e i).0
-
-        valid : (l : Location) → IsRight sigs types n f place (Changes o (c (named.View l))) S S' → whole l.local ≡ l → NotInvalid S (local_place l.local)
-        valid l now e =
-            subst (λ (q : Location). IsRight sigs types n f place (Changes o (c (named.View q))) S S' → NotInvalid S (local_place l.local)) e
-            (λ here. read_right sigs types n f place (Changes o (c (named.View (whole l.local)))) S here.clean (whole l.local) (subst (λ (xs : List Location). Contains xs (whole l.local)) (sym (read (whole l.local))) (at_head (whole l.local) []))) now
+        valid : (l : Location) → IsRight sigs types n f place (Changes o (c (named.View l))) S S' → NotInvalid S (located l)
+        valid l now = read_right sigs types n f place (Changes o (c (named.View l))) S now.clean l (subst (λ (xs : List Location). Contains xs l) (sym (read l)) (at_head l []))
 
     pub text_set : (given : named.Characters) → IsGiven given → IsRight sigs types n f place (Changes o (Set given)) S S' → OnRight (does s types f (Changes o (Set given)) st) (FrameCovered types f inputs S')
     text_set given is right =
         owner_reached (Set given) right solid_text (λ r unmoved. let h = text_at r unmoved in
-        set_kind types k.ordered f (hand_of rest st) st (store_of types f rest inputs S st k) (StandsAt inputs) (may_change types f) (owning types f) (rooted_of types f rest inputs S st k) sigs place S S' k.covered o r (change_owning types f rest inputs S st k sigs n place S' o free right r h.type) h.typed h.buffer h.owned s
+        set_kind types k.ordered f (hand_of rest st) st (store_of types f rest inputs S st k) (StandsAt inputs) (may_change types f) (owning types f) (rooted_of types f rest inputs S st k) sigs place S S' k.covered o r (change_owning types f rest inputs S st k sigs n place S' o free right r h.type) (owner_held types f rest inputs S st k o r _ h.type) h.typed h.buffer h.owned s
         (characters_type types) (text_parts r) given (text_given Set given is right (λ l. refl)) right.closed)
 
     pub text_append : (given : named.Characters) → IsGiven given → IsRight sigs types n f place (Changes o (Append given)) S S' → OnRight (does s types f (Changes o (Append given)) st) (FrameCovered types f inputs S')
     text_append given is right =
         owner_reached (Append given) right solid_text (λ r unmoved. let h = text_at r unmoved in
-        append_kind types k.ordered f (hand_of rest st) st (store_of types f rest inputs S st k) (StandsAt inputs) (may_change types f) (owning types f) (rooted_of types f rest inputs S st k) sigs place S S' k.covered o r (change_owning types f rest inputs S st k sigs n place S' o free right r h.type) h.typed h.buffer h.owned s
+        append_kind types k.ordered f (hand_of rest st) st (store_of types f rest inputs S st k) (StandsAt inputs) (may_change types f) (owning types f) (rooted_of types f rest inputs S st k) sigs place S S' k.covered o r (change_owning types f rest inputs S st k sigs n place S' o free right r h.type) (owner_held types f rest inputs S st k o r _ h.type) h.typed h.buffer h.owned s
         (characters_type types) (text_parts r) given (text_given Append given is right (λ l. refl)) right.closed)
 
   -- ---- a vector
@@ -148,19 +143,19 @@ module _ (types : Types) (f : Function) (rest : ℕ → ℕ) (inputs : Root → 
     pub vector_clear : IsRight sigs types n f place (Changes o Clear) S S' → OnRight (does s types f (Changes o Clear) st) (FrameCovered types f inputs S')
     vector_clear right =
         owner_reached Clear right solid_vector (λ r unmoved. let h = vector_at r unmoved in
-        clear_kind types k.ordered f (hand_of rest st) st (store_of types f rest inputs S st k) (StandsAt inputs) (may_change types f) (owning types f) (rooted_of types f rest inputs S st k) sigs place S S' k.covered o r (change_owning types f rest inputs S st k sigs n place S' o free right r h.type) h.typed h.buffer h.owned s
+        clear_kind types k.ordered f (hand_of rest st) st (store_of types f rest inputs S st k) (StandsAt inputs) (may_change types f) (owning types f) (rooted_of types f rest inputs S st k) sigs place S S' k.covered o r (change_owning types f rest inputs S st k sigs n place S' o free right r h.type) (owner_held types f rest inputs S st k o r _ h.type) h.typed h.buffer h.owned s
         element (parts_at types element) (vector_parts r) right.closed)
 
     pub vector_pop : IsRight sigs types n f place (Changes o PopBack) S S' → OnRight (does s types f (Changes o PopBack) st) (FrameCovered types f inputs S')
     vector_pop right =
         owner_reached PopBack right solid_vector (λ r unmoved. let h = vector_at r unmoved in
-        pop_kind types k.ordered f (hand_of rest st) st (store_of types f rest inputs S st k) (StandsAt inputs) (may_change types f) (owning types f) (rooted_of types f rest inputs S st k) sigs place S S' k.covered o r (change_owning types f rest inputs S st k sigs n place S' o free right r h.type) h.typed h.buffer h.owned s
+        pop_kind types k.ordered f (hand_of rest st) st (store_of types f rest inputs S st k) (StandsAt inputs) (may_change types f) (owning types f) (rooted_of types f rest inputs S st k) sigs place S S' k.covered o r (change_owning types f rest inputs S st k sigs n place S' o free right r h.type) (owner_held types f rest inputs S st k o r _ h.type) h.typed h.buffer h.owned s
         element (parts_at types element) (vector_parts r) right.closed)
 
     pub vector_reserve : (count : ℕ) → IsRight sigs types n f place (Changes o (Reserve count)) S S' → OnRight (does s types f (Changes o (Reserve count)) st) (FrameCovered types f inputs S')
     vector_reserve count right =
         owner_reached (Reserve count) right solid_vector (λ r unmoved. let h = vector_at r unmoved in
-        reserve_kind types k.ordered f (hand_of rest st) st (store_of types f rest inputs S st k) (StandsAt inputs) (may_change types f) (owning types f) (rooted_of types f rest inputs S st k) sigs place S S' k.covered o r (change_owning types f rest inputs S st k sigs n place S' o free right r h.type) h.typed h.buffer h.owned s
+        reserve_kind types k.ordered f (hand_of rest st) st (store_of types f rest inputs S st k) (StandsAt inputs) (may_change types f) (owning types f) (rooted_of types f rest inputs S st k) sigs place S S' k.covered o r (change_owning types f rest inputs S st k sigs n place S' o free right r h.type) (owner_held types f rest inputs S st k o r _ h.type) h.typed h.buffer h.owned s
         element (parts_at types element) (vector_parts r) count right.closed)
 
     -- a number
@@ -173,7 +168,7 @@ module _ (types : Types) (f : Function) (rest : ℕ → ℕ) (inputs : Root → 
         by_cell : (r : IsReached types f st (StandsAt inputs) (may_change types f) S o) → IsOpened types f rest inputs S st k o r (ty.Vector element) element → (v : Option Cell) → cell st x ≡ v → OnRight (does s types f (Changes o (PushBack x)) st) (FrameCovered types f inputs S')
         by_cell r h (Some (Named m)) e = absurd (number_free types f rest inputs S st k x (number_any types f (ty_of types element) x number) m e)
         by_cell r h (Some (Number z)) e =
-            push_kind types k.ordered f (hand_of rest st) st (store_of types f rest inputs S st k) (StandsAt inputs) (may_change types f) (owning types f) (rooted_of types f rest inputs S st k) sigs place S S' k.covered o r (change_owning types f rest inputs S st k sigs n place S' o free right r h.type) h.typed h.buffer h.owned s
+            push_kind types k.ordered f (hand_of rest st) st (store_of types f rest inputs S st k) (StandsAt inputs) (may_change types f) (owning types f) (rooted_of types f rest inputs S st k) sigs place S S' k.covered o r (change_owning types f rest inputs S st k sigs n place S' o free right r h.type) (owner_held types f rest inputs S st k o r _ h.type) h.typed h.buffer h.owned s
             element (vector_parts r ∙ ap (Vector element) single) x z e right.closed
         by_cell r h None e = no_value r x None e tt
         by_cell r h (Some Empty) e = no_value r x (Some Empty) e tt

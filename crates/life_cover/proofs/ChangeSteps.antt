@@ -11,13 +11,13 @@ use Rattle.life_types.specs.declared.ty.Ty.{Ty}
 use Rattle.life_types.specs.declared.ty.Ty.TheVariants as ty
 use Rattle.life_types.specs.declared.ty.TyId.{TyId}
 use Rattle.life_core.specs.Function.{Function}
-use Rattle.life_core.specs.Operands.{Characters, Location, Operand, whole}
+use Rattle.life_core.specs.Operands.{Characters, Location, Operand}
 use Rattle.life_core.specs.Operands as named
 use Rattle.life_core.specs.Step.{Append, Change, Changes, Clear, Erase, PopBack, PushBack, Reserve, Set, Step}
 use Rattle.life_pset.specs.declared.element.Fact.{Fact}
 use Rattle.life_pset.specs.declared.element.Root.{Root}
 use Rattle.life_contract.specs.Signatures.{Signature}
-use Rattle.life_proper.specs.OperandTypes.{is_range, same, walks}
+use Rattle.life_proper.specs.OperandTypes.{same, walks}
 use Rattle.life_proper.specs.Placed.{is_const_place, is_given, is_number_of, object_at, result_at, slot_at, type_at, type_in, type_of}
 use Rattle.life_proper.specs.WellFormed.{are_characters, is_change_of}
 use Rattle.life_rules.proofs.Giving.{at_head}
@@ -32,8 +32,7 @@ use Rattle.life_cover.specs.Covers.{IsSeenAs}
 use Rattle.life_cover.specs.Frames.{FrameCovered}
 use Rattle.life_cover.proofs.ChangeKinds.{IsGiven, not_pushed, text_append, text_clear, text_push, text_set, vector_clear, vector_pop, vector_push, vector_reserve}
 use Rattle.life_cover.proofs.EraseKinds.{vector_erase}
-use Rattle.life_cover.proofs.SingleParts.{pointer_alone}
-use Rattle.life_cover.proofs.KnownFrames.{at_pointer, IsKnownFrame, IsRight, object_uncounted, whole_location}
+use Rattle.life_cover.proofs.KnownFrames.{IsKnownFrame, IsRight, object_uncounted}
 use Rattle.life_cover.proofs.Looks.{view_range, given_type, seen_at, walks_single}
 use Rattle.life_cover.proofs.Pointers.{OnRight}
 use Rattle.life_cover.proofs.PushKinds.{vector_object}
@@ -47,17 +46,15 @@ module _ (types : Types) (f : Function) (rest : ℕ → ℕ) (inputs : Root → 
   Covers i = OnRight (does s types f i st) (FrameCovered types f inputs S')
 
   module _ (o : Operand) (free : is_const_place types f o ≡ false) where
-    given_whole : (given : Characters) → are_characters types texts fs f given ≡ true → IsGiven types f rest inputs S st k sigs n place S' s o free given
-    given_whole (named.Single r) e = tt
-    given_whole (named.View l) e =
-        let is = whole_location types k.untold f l (pointer_alone (type_in types f l) (range_points (type_in types f l) (view_range (type_in types f l) e))) in
-        (is, subst (λ (q : Location). is_range (type_in types f q) ≡ true) (sym is) (view_range (type_in types f l) e))
+    given_view : (given : Characters) → are_characters types texts fs f given ≡ true → IsGiven types f rest inputs S st k sigs n place S' s o free given
+    given_view (named.Single r) e = tt
+    given_view (named.View l) e = let ranged = view_range (type_in types f l) e in (range_points (type_in types f l) ranged, ranged)
 
     text_step : (c : Change) → type_of types f o ≡ ty.Text → Right (Changes o c) → is_change_of types texts fs f ty.Text c ≡ true → Covers (Changes o c)
     text_step (PushBack r) is right e = text_push types f rest inputs S st k sigs n place S' s o free is r (number_any types f ty.Char r e) right
     text_step Clear is right e = text_clear types f rest inputs S st k sigs n place S' s o free is right
-    text_step (Set given) is right e = text_set types f rest inputs S st k sigs n place S' s o free is given (given_whole given e) right
-    text_step (Append given) is right e = text_append types f rest inputs S st k sigs n place S' s o free is given (given_whole given e) right
+    text_step (Set given) is right e = text_set types f rest inputs S st k sigs n place S' s o free is given (given_view given e) right
+    text_step (Append given) is right e = text_append types f rest inputs S st k sigs n place S' s o free is given (given_view given e) right
     text_step _ is right e = absurd (false≢true e)
 
     -- a number is pushed, or an object
@@ -79,12 +76,11 @@ module _ (types : Types) (f : Function) (rest : ℕ → ℕ) (inputs : Root → 
         by_cell (Some Empty) there = not_pushed types f rest inputs S st k sigs n place S' s o free element is x (Some Empty) there right (λ spot. tt)
         by_cell (Some (Points p)) there = not_pushed types f rest inputs S st k sigs n place S' s o free element is x (Some (Points p)) there right (λ spot. tt)
 
-    erase_step : (element : TyId) → type_of types f o ≡ ty.Vector element → (x y : ℕ) → Right (Changes o (Erase (whole x) (whole y))) → walks types (type_at types f x) (ty_of types element) ≡ true → walks types (type_at types f y) (ty_of types element) ≡ true
-        → Covers (Changes o (Erase (whole x) (whole y)))
+    erase_step : (element : TyId) → type_of types f o ≡ ty.Vector element → (x y : Location) → Right (Changes o (Erase x y)) → walks types (type_in types f x) (ty_of types element) ≡ true → walks types (type_in types f y) (ty_of types element) ≡ true → Covers (Changes o (Erase x y))
     erase_step element is x y right from walk =
-        let seen = walks_seen types k.ordered k.once (type_at types f y) (ty_of types element) walk in
-        vector_erase types f rest inputs S st k sigs n place S' s o free element is x y (walks_single types (type_at types f x) (ty_of types element) from) seen.pointer (walks_single types (type_at types f y) (ty_of types element) walk)
-        (subst (λ (t : Option TyId). IsSeenAs types t element) (sym (seen_at types k.ordered k.once f k.shaped y (type_at types f y) refl (pointer_solid (type_at types f y) seen.pointer) ∙ seen.seen)) (inl (one_number types k.once seen.target element seen.is))) right
+        let seen = walks_seen types k.ordered k.once (type_in types f y) (ty_of types element) walk in
+        vector_erase types f rest inputs S st k sigs n place S' s o free element is x y (walks_seen types k.ordered k.once (type_in types f x) (ty_of types element) from).pointer (walks_single types (type_in types f x) (ty_of types element) from) seen.pointer (walks_single types (type_in types f y) (ty_of types element) walk)
+        (subst (λ (t : Option TyId). IsSeenAs types t element) (sym (seen_at types k.ordered k.once f k.shaped y (type_in types f y) refl (pointer_solid (type_in types f y) seen.pointer) ∙ seen.seen)) (inl (one_number types k.once seen.target element seen.is))) right
 
     vector_step : (element : TyId) (c : Change) → type_of types f o ≡ ty.Vector element → Right (Changes o c) → is_change_of types texts fs f (ty.Vector element) c ≡ true → Covers (Changes o c)
     vector_step element (PushBack x) is right e = push_step element x is right (is_value (ty_of types element)) refl e
@@ -93,12 +89,7 @@ module _ (types : Types) (f : Function) (rest : ℕ → ℕ) (inputs : Root → 
     vector_step element (Reserve r) is right e = vector_reserve types f rest inputs S st k sigs n place S' s o free element is r right
     vector_step element (Erase at into) is right e =
         let both = and_parts (walks types (type_in types f at) (ty_of types element)) (walks types (type_in types f into) (ty_of types element)) e in
-        at_pointer types f rest inputs S st k at (walks_seen types k.ordered k.once (type_in types f at) (ty_of types element) both.0).pointer
-        (λ a. Right (Changes o (Erase a into)) → walks types (type_in types f a) (ty_of types element) ≡ true → Covers (Changes o (Erase a into)))
-        (λ x now from.
-        at_pointer types f rest inputs S st k into (walks_seen types k.ordered k.once (type_in types f into) (ty_of types element) both.1).pointer
-        (λ b. Right (Changes o (Erase (whole x) b)) → walks types (type_in types f b) (ty_of types element) ≡ true → Covers (Changes o (Erase (whole x) b)))
-        (λ y here walk. erase_step element is x y here from walk) now both.1) right both.0
+        erase_step element is at into right both.0 both.1
     vector_step element _ is right e = absurd (false≢true e)
 
     pub change_step : (c : Change) (t : Ty) → type_of types f o ≡ t → Right (Changes o c) → is_change_of types texts fs f t c ≡ true → Covers (Changes o c)

@@ -1,11 +1,10 @@
 -- A value, a vector, a string or a struct of values is copied, by names or through pointers: there is no fault, and the facts behind it cover all
 -- pointers of the frame.
-use Rattle.std.proofs.Common.{◌≡◌, inl, inr, ℕ, ◌<◌, Bool, true, false, ◌&&◌, List, [], ◌∷◌, Option, Some, None, refl, sym, ap, subst, ◌∙◌, arith, ◌≢◌, ◌+◌}
-use Rattle.std.specs.Prelude.{if◌then◌else◌, slice_get, slice_index, drop}
+use Rattle.std.proofs.Common.{◌≡◌, ◌⊎◌, inl, inr, ℕ, ◌≤◌, ◌<◌, Bool, true, false, ◌&&◌, List, [], ◌∷◌, length, Option, Some, None, refl, sym, ap, subst, ◌∙◌, arith, ◌≢◌, ◌+◌}
+use Rattle.std.specs.Prelude.{if◌then◌else◌, slice_get, slice_index, drop, take}
 use Rattle.std.proofs.lemmas.Bool.{false≢true, ne_eqb}
 use Rattle.std.proofs.lemmas.List.Elements.{Contains-append_left, Contains-append_right}
-use Rattle.life_types.specs.Pointees.{or_void}
-use Rattle.life_types.specs.Trees.{IsOrdered, holds_owner, members_at, tree_at, tree_of}
+use Rattle.life_types.specs.Trees.{IsOrdered, holds_owner, is_plain, members_at, tree_at, tree_of}
 use Rattle.life_types.specs.TypeTests.{is_pointer, is_void}
 use Rattle.life_types.specs.Types.{Types}
 use Rattle.life_types.specs.declared.place.Place.{Place}
@@ -29,26 +28,27 @@ use Rattle.life_pset.specs.declared.element.Root.{Root}
 use Rattle.life_pset.specs.declared.element.Root.TheVariants as root
 use Rattle.life_contract.specs.Located.{located}
 use Rattle.life_contract.specs.Signatures.{Signature}
-use Rattle.life_proper.specs.Placed.{is_const_place, type_of}
+use Rattle.life_proper.specs.Placed.{is_const_place, type_of, type_in}
 use Rattle.life_rules.specs.Carrying.{is_gone, is_killed, named_kill, one_kill, writes}
 use Rattle.life_rules.specs.Diagnosing.{used_in}
 use Rattle.life_rules.specs.Keeping.{kept_through}
 use Rattle.life_store.specs.Content.{Slot, Object, Content}
 use Rattle.life_store.specs.Doing.{copied_to, does, on_character, replaced}
-use Rattle.life_store.specs.Effects.{Attempt, Got, GotTrap, GotFault, GotLost, Effect, Next, Setting, cell, put_content, word_of_number}
+use Rattle.life_store.specs.Effects.{Attempt, Got, GotTrap, GotFault, GotLost, Effect, Next, Setting, put_content, word_of_number}
 use Rattle.life_store.specs.Held.{slot_words, slots_if, words_at, words_if}
 use Rattle.life_store.specs.Owners.{copied, Words}
 use Rattle.life_store.specs.Parts.{Parts, Single, operand_parts, operand_type, parts_at, parts_if, parts_of, width, width_at}
 use Rattle.life_store.specs.Parts as parts
-use Rattle.life_store.specs.Places.{Spot, locate, on_place, operand_word, spot_words, wrote_spot}
-use Rattle.life_store.specs.State.{Named, Pointer, Points, State}
-use Rattle.life_store.proofs.CellLemmas.{some_same}
+use Rattle.life_store.specs.Places.{Spot, locate, on_place, operand_word, spot_words, wrote_spot, location_cell}
+use Rattle.life_store.specs.State.{Pointer, Points, State}
 use Rattle.life_forest.specs.Forest.{Touches}
 use Rattle.life_forest.specs.Kinds.{kinds_of, rank_of}
 use Rattle.life_forest.specs.Owned.{alive, times}
 use Rattle.life_forest.specs.Typed.{IsStore}
 use Rattle.life_forest.specs.Values.{Known, owned_of}
+use Rattle.life_forest.proofs.BegunPointers.{IsBegun}
 use Rattle.life_forest.proofs.Coming.{IfGot}
+use Rattle.life_forest.proofs.HoldingCopies.{IsCopyOf, copied_words}
 use Rattle.life_forest.proofs.Laying.{IsMade, made_at, parts_made}
 use Rattle.life_forest.proofs.OneNumber.{IsOfType}
 use Rattle.life_forest.proofs.Placed.{AreCopied, place_copied}
@@ -58,35 +58,36 @@ use Rattle.life_forest.proofs.TypedSteps.{operand_of, operand_same}
 use Rattle.life_cover.proofs.Behind.{both_got}
 use Rattle.life_cover.proofs.BufferWords.{drop_index, take_index}
 use Rattle.life_cover.proofs.Full.{filled}
-use Rattle.life_cover.proofs.SingleParts.{AreSingle, single_copied, single_ended, unowned_single}
+use Rattle.life_cover.proofs.SingleParts.{AreSingle, plain_single, single_copied, single_ended}
 use Rattle.life_cover.proofs.Recopying.{copied_but, IsCopied, more_self}
 use Rattle.life_cover.proofs.Unkept.{members_root, reached_owning}
 use Rattle.life_cover.specs.Covers.{IsCovered, IsSeenAs, Look}
-use Rattle.life_cover.specs.Frames.{FrameCovered, RootStands, look_at}
+use Rattle.life_cover.specs.Frames.{FrameCovered, RootStands, look_in}
 use Rattle.life_cover.specs.Inputs.{StandsAt, may_change, owning}
 use Rattle.life_cover.specs.Kills.{Closed}
-use Rattle.life_cover.specs.Members.{is_untold}
+use Rattle.life_cover.proofs.OwnerlessParts.{HasNoOwner, ownerless}
+use Rattle.life_cover.proofs.PlainParts.{plain_none}
+use Rattle.life_forest.proofs.PlainTypes.{plain_free, through_plain}
 use Rattle.life_cover.specs.Regions.{IsAt, Region, foot_of}
 use Rattle.life_cover.specs.Roots.{AreRooted}
 use Rattle.life_cover.specs.Lacking.{MayLack}
 use Rattle.life_cover.proofs.Copied.{copy_named, copy_through, copy_touches}
 use Rattle.life_cover.proofs.Copies.{copied_right, now, IsFull}
-use Rattle.life_cover.proofs.KnownFrames.{IsKnownFrame, IsRight, hand_of, reach_at, rooted_of, store_of, used_right}
+use Rattle.life_cover.proofs.KnownFrames.{IsKnownFrame, IsRight, hand_of, reach_at, rooted_of, store_of, used_right, object_named}
 use Rattle.life_cover.proofs.NumberKinds.{character_right}
 use Rattle.life_cover.proofs.Opening.{slot_there, region_part}
 use Rattle.life_cover.proofs.OwnerKinds.{right_got}
 use Rattle.life_cover.proofs.Pointers.{IfRight, OnRight, right_then}
-use Rattle.life_cover.proofs.Reaching.{IsReached, Reach, by_reach, on_place_right, spot_is}
+use Rattle.life_cover.proofs.Reaching.{IsReached, Reach, by_reach, on_place_right, spot_is, IsBy}
 use Rattle.life_cover.proofs.SaveKinds.{region_within, singles_touch}
 use Rattle.life_cover.proofs.Unkilled.{no_foot, unkilled_cover}
 use Rattle.life_cover.proofs.Using.{Faultless}
 use Rattle.life_cover.proofs.Lacking.{low_whole, owner_whole}
 use Rattle.life_rules.proofs.Giving.{at_head}
-
--- no unique_ptr
-abbrev pub IsCopyable : Ty → Type 0
-IsCopyable (ty.Unique target) = ⊥
-IsCopyable _ = Unit {0}
+use Rattle.life_store.specs.Kinds.{Pointing, kind_in}
+use Rattle.life_cover.proofs.Making.{known_at, place_short}
+use Rattle.life_cover.proofs.SparedPointers.{HasNoPointer, content_held, spares_nothing, spares_reached}
+use Rattle.life_cover.proofs.WithinLocations.{no_pointer_within}
 
 -- what a single word is holds no owner
 single_holds : (types : Types) (o : Option Ty) → parts_of types (parts_at types) o ≡ Single → holds_owner (tree_of types (tree_at types) o) ≡ true → ⊥
@@ -142,19 +143,29 @@ module _ (types : Types) (f : Function) (rest : ℕ → ℕ) (inputs : Root → 
   reach_from : Reach types f st (StandsAt inputs) (may_change types f) S from
   reach_from = reach_at types f rest inputs S st k right.closed.of from solid_from (λ p h. used_right sigs types n f place (Copy to from) S right.clean p (Contains-append_right (used_in to) (used_in from) p h))
 
-  -- no pointer is written
-  not_written : (o : Operand) → IsReached types f st (StandsAt inputs) (may_change types f) S o → (x : ℕ) (v : Pointer) → cell st x ≡ Some (Points v) → writes (Copy o from) (local_place x) ≡ false
-  not_written (named.Through p members) r x v e = refl
-  not_written (named.Name l) r x v e = outside_local l x (λ h. unlike (some_same (sym (ap (slice_get st.cells) h ∙ e) ∙ named_at)))
+  -- no pointer is written, where what is copied holds none
+  abbrev HoldsNone : Type 0
+  HoldsNone = (u j : ℕ) → kind_in (operand_parts types f to) u ≡ Pointing j → ⊥
+
+  not_written : (r : IsReached types f st (StandsAt inputs) (may_change types f) S to) → HoldsNone → (l : Location) (v : Pointer) → is_pointer (type_in types f l) ≡ true → location_cell types f l st ≡ Some (Points v) → writes (Copy to from) (located l) ≡ false
+  not_written r none l v pointer e = go to refl
     where
-      at_root : r.place.root ≡ root.Local l.local
-      at_root = ap (λ (a : AbsPlace). a.root) r.by ∙ members_root l.members (local_place l.local)
+      of : IsOfType types (operand_type types f to) (type_of types f to)
+      of = operand_of types k.ordered k.once 0 [] f k.shaped to (type_of types f to) refl solid_to
 
-      named_at : slice_get st.cells l.local ≡ Some (Named r.lies.start.object)
-      named_at = (subst (λ (ro : Root). RootStands types f (StandsAt inputs) st.cells ro r.lies.start) at_root r.lies.stands).0
+      go : (o : Operand) → to ≡ o → writes (Copy o from) (located l) ≡ false
+      go (named.Through p members) is = refl
+      go (named.Name a) is =
+          no_pointer_within types f rest inputs S st k a of.number (subst (λ (o : Operand). operand_type types f o ≡ Some of.number) is of.is) (λ u j h. none u j (ap (λ (id : Option TyId). kind_in (parts_if types id) u) of.is ∙ h)) short l v pointer e
+        where
+          at_place : (o : Operand) → to ≡ o → IsBy types f st (StandsAt inputs) (may_change types f) S o r.place
+          at_place o e = subst (λ (q : Operand). IsBy types f st (StandsAt inputs) (may_change types f) S q r.place) e r.by
 
-      unlike : {m : ℕ} → Points v ≡ Named m → ⊥
-      unlike h = cc
+          short : (located a).length ≤ 8
+          short =
+              subst (λ (b : AbsPlace). b.length ≤ 8) (at_place (named.Name a) is)
+              (place_short types k.ordered f k.shaped k.short st.world.content st.cells (λ x n named. object_named types f rest inputs S st k x n named) inputs k.given.each r.place
+              (known_at types k.ordered f k.shaped k.short st.world.content st.cells (λ x n named. object_named types f rest inputs S st k x n named) inputs k.given.each r.place r.region r.path r.lies))
 
   -- what holds an owner is no character of a string
   pub reached_holds : (r : IsReached types f st (StandsAt inputs) (may_change types f) S to) → holds_owner (tree_if types (shapes.operand_type types f to)) ≡ true → holds_owner (tree_at types r.region.ty) ≡ true
@@ -215,11 +226,17 @@ module _ (types : Types) (f : Function) (rest : ℕ → ℕ) (inputs : Root → 
 
   -- ---- what is written
 
+  -- the pointer in some words is that of what is copied from
+  abbrev pub IsFrom : ℕ → List ℕ → Type 0
+  IsFrom u us = (h : IsReached types f st (StandsAt inputs) (may_change types f) S from) × (take 5 (drop u us) ≡ take 5 (drop u (words_at st.world.content h.region.object h.index h.region.word (width (operand_parts types f to)))))
+
   -- a copy of which all is known
   pub record IsWritten (r : IsReached types f st (StandsAt inputs) (may_change types f) S to) (v : Words) : Type 0 where
     pub copied : IsCopied types k.ordered s (operand_parts types f to) (MayLack types f inputs S st) st.world.content v
     pub touches : Touches (kinds_of types) (foot_of types r.region) st.world.content (replaced (operand_parts types f to) (record { object = r.region.object; index = r.index; word = r.region.word }) v)
     pub single : AreSingle (operand_parts types f to) → v.1 ≡ st.world.content
+    pub wide : length v.0 ≡ width (operand_parts types f to)
+    pub pointers : (u : ℕ) → IsBegun (operand_parts types f to) u → IsFrom u v.0
 
   module _ (r : IsReached types f st (StandsAt inputs) (may_change types f) S to) where
     abbrev into_spot : Spot
@@ -238,20 +255,20 @@ module _ (types : Types) (f : Function) (rest : ℕ → ℕ) (inputs : Root → 
     -- ---- whatever holds behind it
 
     module _ (Q : State → Type 0) (each : (v : Words) → IsWritten r v → Q (put_content (replaced (operand_parts types f to) (record { object = r.region.object; index = r.index; word = r.region.word }) v) st)) where
-      words_copied : (us : List ℕ) → AreCopied types st.world.content (operand_parts types f to) us → IsFull st.world.content (operand_parts types f to) us → OnRight (copied_to s (operand_parts types f to) into_spot us st) Q
-      words_copied us known has =
+      words_copied : (us : List ℕ) → AreCopied types st.world.content (operand_parts types f to) us → IsFull st.world.content (operand_parts types f to) us → ((u : ℕ) → IsBegun (operand_parts types f to) u → IsFrom u us) → OnRight (copied_to s (operand_parts types f to) into_spot us st) Q
+      words_copied us known has came =
           right_then (copied s p us st.world.content) (λ v. Next (put_content (replaced p into_spot v) st)) (IsWritten r) Q
           (right_got (copied s p us st.world.content) (IsWritten r)
-          (if_such (copied s p us st.world.content) (λ v. IsCopied types k.ordered s p (MayLack types f inputs S st) st.world.content v × (Touches (kinds_of types) (foot_of types r.region) st.world.content (replaced p into_spot v) × (AreSingle p → v.1 ≡ st.world.content))) (IsWritten r)
-          (both_got (copied s p us st.world.content) (IsCopied types k.ordered s p (MayLack types f inputs S st) st.world.content) (λ v. Touches (kinds_of types) (foot_of types r.region) st.world.content (replaced p into_spot v) × (AreSingle p → v.1 ≡ st.world.content))
+          (if_such (copied s p us st.world.content) (λ v. IsCopied types k.ordered s p (MayLack types f inputs S st) st.world.content v × (Touches (kinds_of types) (foot_of types r.region) st.world.content (replaced p into_spot v) × ((AreSingle p → v.1 ≡ st.world.content) × IsCopyOf p us v))) (IsWritten r)
+          (both_got (copied s p us st.world.content) (IsCopied types k.ordered s p (MayLack types f inputs S st) st.world.content) (λ v. Touches (kinds_of types) (foot_of types r.region) st.world.content (replaced p into_spot v) × ((AreSingle p → v.1 ≡ st.world.content) × IsCopyOf p us v))
           (copied_but types k.ordered s st.world.content p (rank_of types r.region.ty) (subst (IsMade types k.ordered (rank_of types r.region.ty)) into_parts (made_at types k.ordered r.region.ty)) us known.wide has (MayLack types f inputs S st) st.world.content (more_self st.world.content) k.buffered)
-          (both_got (copied s p us st.world.content) (λ v. Touches (kinds_of types) (foot_of types r.region) st.world.content (replaced p into_spot v)) (λ v. AreSingle p → v.1 ≡ st.world.content)
+          (both_got (copied s p us st.world.content) (λ v. Touches (kinds_of types) (foot_of types r.region) st.world.content (replaced p into_spot v)) (λ v. (AreSingle p → v.1 ≡ st.world.content) × IsCopyOf p us v)
           (subst (λ (q : Parts). IfGot (copied s q us st.world.content) (λ v. Touches (kinds_of types) (foot_of types r.region) st.world.content (replaced q into_spot v))) into_parts
           (copy_touches types k.ordered (hand_of rest st) st.world.content (store_of types f rest inputs S st k) r.region.object r.index r.region.word r.region.ty r.holder r.there (region_within types f rest inputs S st k to r) r.small s us
           (known.wide ∙ ap width (sym into_parts)) (subst (λ (q : Parts). Known (kinds_of types) st.world.content q us) (sym into_parts) known.known)
           (subst (λ (q : Parts). (j : ℕ) → 0 < times (owned_of q us) j → 0 < alive st.world.content j) (sym into_parts) known.living)))
-          (single_stays (copied s p us st.world.content) refl)))
-          (λ v h. record { copied = h.0; touches = h.1.0; single = h.1.1 }))
+          (both_got (copied s p us st.world.content) (λ v. AreSingle p → v.1 ≡ st.world.content) (IsCopyOf p us) (single_stays (copied s p us st.world.content) refl) (copied_words s p us st.world.content known.wide))))
+          (λ v h. record { copied = h.0; touches = h.1.0; single = h.1.1.0; wide = h.1.1.1.0; pointers = λ u begun. let one = came u begun in (one.0, h.1.1.1.1 u begun ∙ one.1) }))
           (faultless_of (copied s p us st.world.content) _ (copied_right st.world.content s p us has st.world.content (now st.world.content s))))
           each
         where
@@ -274,8 +291,11 @@ module _ (types : Types) (f : Function) (rest : ℕ → ℕ) (inputs : Root → 
             known = subst (λ (q : Parts). Known (kinds_of types) st.world.content q (word_of_number z ∷ [])) (sym one) tt;
             living = λ j lt. absurd (none_owned (subst (λ (q : Parts). 0 < times (owned_of q (word_of_number z ∷ [])) j) one lt));
           })
-          (subst (λ (q : Parts). IsFull st.world.content q (word_of_number z ∷ [])) (sym one) tt))
+          (subst (λ (q : Parts). IsFull st.world.content q (word_of_number z ∷ [])) (sym one) tt) (too_wide (word_of_number z ∷ [])))
         where
+          too_wide : (us : List ℕ) (u : ℕ) → IsBegun (operand_parts types f to) u → IsFrom u us
+          too_wide us u begun = let fits = begun.fits in let width_is = ap width one in absurd (omega (arith, fits, width_is))
+
           none_owned : 0 < 0 → ⊥
           none_owned lt = omega (arith, lt)
 
@@ -284,7 +304,7 @@ module _ (types : Types) (f : Function) (rest : ℕ → ℕ) (inputs : Root → 
       copied_from =
           on_place_right types f st (StandsAt inputs) (may_change types f) S from reach_from (λ m i object. copied_to s (operand_parts types f to) into_spot (words_at st.world.content m i (operand_word types f from st) (width (operand_parts types f to))) st)
           (λ c. on_character s.texts c (λ z. copied_to s (operand_parts types f to) into_spot (word_of_number z ∷ []) st)) Q
-          (λ h. subst (λ w. OnRight (copied_to s (operand_parts types f to) into_spot (words_at st.world.content h.region.object h.index w (width (operand_parts types f to))) st) Q) (sym h.word) (words_copied (ws h) (are h) (full h)))
+          (λ h. subst (λ w. OnRight (copied_to s (operand_parts types f to) into_spot (words_at st.world.content h.region.object h.index w (width (operand_parts types f to))) st) Q) (sym h.word) (words_copied (ws h) (are h) (full h) (λ u begun. (h, refl))))
           (λ c single. character_copied (sym from_is ∙ single) c)
 
   -- ---- the kind
@@ -299,43 +319,62 @@ module _ (types : Types) (f : Function) (rest : ℕ → ℕ) (inputs : Root → 
           on_place (locate types f from st) (λ m i object. copied_to s (operand_parts types f to) spot (words_at st.world.content m i (operand_word types f from st) (width (operand_parts types f to))) st)
           (λ c. on_character s.texts c (λ z. copied_to s (operand_parts types f to) spot (word_of_number z ∷ []) st))
 
-  -- what holds no owner has values alone
-  pub copied_single : is_pointer (type_of types f to) ≡ false → IsCopyable (type_of types f to) → holds_owner (tree_if types (shapes.operand_type types f to)) ≡ false → AreSingle (operand_parts types f to)
-  copied_single pointer can none =
-      subst AreSingle (sym (ap (parts_if types) of.is))
-      (unowned_single types k.untold k.ordered of.number (ap (λ (t : Option Ty). is_untold (or_void t)) of.there ∙ untold_of (type_of types f to) pointer can)
-      (sym (ap (λ (id : Option TyId). holds_owner (tree_if types id)) (operand_same types k.ordered k.once 0 [] f k.shaped to ∙ of.is)) ∙ none))
+  -- what holds neither an owner nor a pointer has values alone
+  pub copied_single : HoldsNone → holds_owner (tree_if types (shapes.operand_type types f to)) ≡ false → AreSingle (operand_parts types f to)
+  copied_single none owns = plain_single (operand_parts types f to) (λ u lt e. no_owner u e) (λ u j lt e. none u j e)
     where
       of : IsOfType types (operand_type types f to) (type_of types f to)
       of = operand_of types k.ordered k.once 0 [] f k.shaped to (type_of types f to) refl solid_to
 
-      untold_of : (u : Ty) → is_pointer u ≡ false → IsCopyable u → is_untold u ≡ true
-      untold_of ty.View q c = absurd (false≢true (sym q))
-      untold_of (ty.Unique target) q c = absurd c
-      untold_of (ty.Raw target constant) q c = absurd (false≢true (sym q))
-      untold_of (ty.Reference target constant) q c = absurd (false≢true (sym q))
-      untold_of (ty.Iterator target constant) q c = absurd (false≢true (sym q))
-      untold_of (ty.Span target constant) q c = absurd (false≢true (sym q))
-      untold_of _ q c = refl
+      no_owner : HasNoOwner (operand_parts types f to)
+      no_owner u e =
+          ownerless types k.ordered of.number (ap (λ (id : Option TyId). holds_owner (tree_if types id)) (sym (operand_same types k.ordered k.once 0 [] f k.shaped to ∙ of.is)) ∙ owns) u
+          (ap (λ (id : Option TyId). kind_in (parts_if types id) u) (sym of.is) ∙ e)
 
-  -- .. as that the facts cover all pointers
-  pub copy_kind : is_pointer (type_of types f to) ≡ false → IsCopyable (type_of types f to) → OnRight (does s types f (Copy to from) st) (FrameCovered types f inputs S')
-  copy_kind pointer can = copy_right (FrameCovered types f inputs S') (λ r v written. by_holds r v written (holds_owner (tree_if types (shapes.operand_type types f to))) refl)
+  -- what is written behind a pointer is so, where it holds no owner; and else it lies where the frame's owners do
+  pub owned_or_single : (r : IsReached types f st (StandsAt inputs) (may_change types f) S to) → (owning types f r.place.root ≡ true) ⊎ AreSingle (operand_parts types f to)
+  owned_or_single r = by_holds (holds_owner (tree_if types (shapes.operand_type types f to))) refl
     where
+      of : IsOfType types (operand_type types f to) (type_of types f to)
+      of = operand_of types k.ordered k.once 0 [] f k.shaped to (type_of types f to) refl solid_to
+
+      through_none : (q : Location) (ms : List ℕ) → to ≡ named.Through q ms → HoldsNone
+      through_none q ms is u j h =
+          plain_none (parts_at types of.number)
+          (plain_free types k.ordered of.number (ap (λ (id : Option TyId). is_plain (tree_if types id)) (sym (operand_same types k.ordered k.once 0 [] f k.shaped to ∙ of.is)) ∙ subst (λ (o : Operand). is_plain (tree_if types (shapes.operand_type types f o)) ≡ true) (sym is) (through_plain types k.ordered f k.stand q ms)))
+          u j (ap (λ (id : Option TyId). kind_in (parts_if types id) u) (sym of.is) ∙ h)
+
+      by_operand : (o : Operand) → to ≡ o → IsBy types f st (StandsAt inputs) (may_change types f) S o r.place → holds_owner (tree_if types (shapes.operand_type types f to)) ≡ false → (owning types f r.place.root ≡ true) ⊎ AreSingle (operand_parts types f to)
+      by_operand (named.Name a) is by owns = inl (ap (λ (b : AbsPlace). owning types f b.root) by ∙ ap (owning types f) (members_root a.members (local_place a.local)))
+      by_operand (named.Through q ms) is by owns = inr (copied_single (through_none q ms is) owns)
+
+      by_holds : (b : Bool) → holds_owner (tree_if types (shapes.operand_type types f to)) ≡ b → (owning types f r.place.root ≡ true) ⊎ AreSingle (operand_parts types f to)
+      by_holds true owns = inl (reached_owning sigs types n f place (Copy to from) S right.clean to (λ x. ap (λ b. if b then kept_through types n f place x to else []) owns) k.ordered inputs st k.given.each r (r.change free) (reached_holds r owns))
+      by_holds false owns = by_operand to refl r.by owns
+
+  -- .. as that the facts cover all pointers, where there are none in what is copied
+  pub plain_copy_kind : HoldsNone → OnRight (does s types f (Copy to from) st) (FrameCovered types f inputs S')
+  plain_copy_kind none = copy_right (FrameCovered types f inputs S') (λ r v written. by_holds r v written (holds_owner (tree_if types (shapes.operand_type types f to))) refl)
+    where
+      region_free : (r : IsReached types f st (StandsAt inputs) (may_change types f) S to) → HasNoPointer types r.region.ty
+      region_free r u j h = none u j (ap (λ (p : Parts). kind_in p u) (sym (seen_parts to r)) ∙ h)
+
       value_written : (r : IsReached types f st (StandsAt inputs) (may_change types f) S to) → holds_owner (tree_if types (shapes.operand_type types f to)) ≡ false → (d : Content) → Touches (kinds_of types) no_foot st.world.content d → FrameCovered types f inputs S' (put_content d st)
-      value_written r holds d touch x v e =
+      value_written r holds d touch l v is e =
+          let was = content_held types f rest inputs S st k no_foot (spares_nothing types f rest inputs S st k) d touch l v is e in
           unkilled_cover types k.ordered (hand_of rest st) st.world.content d (store_of types f rest inputs S st k) touch (RootStands types f (StandsAt inputs) st.cells) (RootStands types f (StandsAt inputs) st.cells) (may_change types f) (rooted_of types f rest inputs S st k).fits sigs f place (Copy to from) S S' right.closed gone
-          (λ a h names free stands. stands) (local_place x) (look_at types f x) v (not_written to r x v e) (k.covered x v e)
+          (λ a h names free stands. stands) (located l) (look_in types f l) v (not_written r none l v is was) (k.covered l v is was)
         where
           gone : (e : Element) → is_gone types f place (Copy to from) e ≡ false
           gone e = ap (λ b. is_killed (if b then one_kill (named_kill place to) else one_kill None) e) holds
 
       owner_written : (r : IsReached types f st (StandsAt inputs) (may_change types f) S to) → holds_owner (tree_if types (shapes.operand_type types f to)) ≡ true → (d : Content) → Touches (kinds_of types) (foot_of types r.region) st.world.content d → FrameCovered types f inputs S' (put_content d st)
-      owner_written r holds d touch x w e =
+      owner_written r holds d touch l w is e =
+          let was = content_held types f rest inputs S st k (foot_of types r.region) (spares_reached types f rest inputs S st k to r (region_free r)) d touch l w is e in
           operand_copied types k.ordered f (hand_of rest st) st (store_of types f rest inputs S st k) (StandsAt inputs) (may_change types f) (owning types f) (rooted_of types f rest inputs S st k) sigs place from S S' to r (reached_owning sigs types n f place (Copy to from) S right.clean to (λ x. ap (λ b. if b then kept_through types n f place x to else []) holds) k.ordered inputs st k.given.each r (r.change free) (reached_holds r holds)) right.closed holds d touch
-          (local_place x) (look_at types f x) w (not_written to r x w e) (k.covered x w e)
+          (located l) (look_in types f l) w (not_written r none l w is was) (k.covered l w is was)
 
       by_holds : (r : IsReached types f st (StandsAt inputs) (may_change types f) S to) (v : Words) → IsWritten r v → (b : Bool) → holds_owner (tree_if types (shapes.operand_type types f to)) ≡ b
           → FrameCovered types f inputs S' (put_content (replaced (operand_parts types f to) (record { object = r.region.object; index = r.index; word = r.region.word }) v) st)
       by_holds r v written true holds = owner_written r holds (replaced (operand_parts types f to) (record { object = r.region.object; index = r.index; word = r.region.word }) v) written.touches
-      by_holds r v written false holds = value_written r holds (replaced (operand_parts types f to) (record { object = r.region.object; index = r.index; word = r.region.word }) v) (single_written r v written (copied_single pointer can holds))
+      by_holds r v written false holds = value_written r holds (replaced (operand_parts types f to) (record { object = r.region.object; index = r.index; word = r.region.word }) v) (single_written r v written (copied_single none holds))

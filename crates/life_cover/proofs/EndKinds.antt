@@ -22,9 +22,9 @@ use Rattle.life_pset.specs.declared.element.Element.TheVariants as element
 use Rattle.life_pset.specs.declared.element.Fact.{Fact}
 use Rattle.life_pset.specs.declared.element.Root.{Root}
 use Rattle.life_pset.specs.declared.element.Root.TheVariants as root
-use Rattle.life_contract.specs.Located.{is_root}
+use Rattle.life_contract.specs.Located.{is_root, located}
 use Rattle.life_contract.specs.Signatures.{Signature}
-use Rattle.life_proper.specs.Placed.{object_at}
+use Rattle.life_proper.specs.Placed.{object_at, type_in}
 use Rattle.life_rules.specs.Carrying.{ended_root, invalid_facts, writes}
 use Rattle.life_rules.specs.Matching.{fact_at, is_rooted_among, points_among}
 use Rattle.life_rules.proofs.Giving.{at_head, flat_map_into, in_tail}
@@ -36,7 +36,7 @@ use Rattle.life_store.specs.Held.{slots_if, words_if}
 use Rattle.life_store.specs.Owners.{ended, ended_object}
 use Rattle.life_store.specs.Parts.{local_parts, local_type, parts_at, parts_if, width_at}
 use Rattle.life_store.specs.State.{Pointer, Cell, Empty, Named, Number, Points, State}
-use Rattle.life_store.proofs.CellLemmas.{cell_cases}
+use Rattle.life_store.proofs.CellLemmas.{cell_cases, none_some}
 use Rattle.life_store.proofs.MapLemmas.{one_or_apart}
 use Rattle.life_forest.specs.Forest.{Beneath, Foot, IsForest, Touches, all_of, part, under, whole}
 use Rattle.life_forest.specs.FrameTypes.{IsVariable, Stands}
@@ -54,7 +54,7 @@ use Rattle.life_forest.proofs.Objects.{object_ended_touches}
 use Rattle.life_forest.proofs.StandingLives.{end_stands}
 use Rattle.life_forest.proofs.Steps.{alive_le, beneath_more, own_all, touches_self, touches_then}
 use Rattle.life_cover.proofs.Sparing.{local_low}
-use Rattle.life_cover.specs.Frames.{FrameCovered, RootStands, look_at}
+use Rattle.life_cover.specs.Frames.{FrameCovered, RootStands, look_in}
 use Rattle.life_cover.specs.Inputs.{frame_foot, may_change, StandsAt}
 use Rattle.life_cover.specs.Kills.{Closed, Guards, LeftBy, is_hit}
 use Rattle.life_cover.specs.Regions.{Region, foot_of}
@@ -66,6 +66,11 @@ use Rattle.life_cover.proofs.Locals.{two_named}
 use Rattle.life_cover.proofs.Pointers.{OnRight}
 use Rattle.life_cover.proofs.Putting.{set_other}
 use Rattle.life_cover.proofs.Takes.{made_of}
+use Rattle.life_types.specs.TypeTests.{is_pointer}
+use Rattle.life_core.specs.Operands.{Location}
+use Rattle.life_store.specs.Places.{location_cell, member_cell}
+use Rattle.life_cover.proofs.MemberWords.{held_before}
+use Rattle.life_cover.proofs.Unkept.{members_root}
 
 -- ---- lists of locals
 
@@ -377,12 +382,37 @@ module _ (types : Types) (f : Function) (rest : ℕ → ℕ) (inputs : Root → 
       unlike : (v : Pointer) → Points v ≡ Empty → ⊥
       unlike v e = cc
 
+      -- what a local holds that didn't end, and what its members do
+      held : (st' : State) → AreEnded types xs st st' → (l : Location) (v : Pointer) → is_pointer (type_in types f l) ≡ true → location_cell types f l st' ≡ Some (Points v) → (location_cell types f l st ≡ Some (Points v)) × (list_any (λ z. nat_eq z l.local) xs ≡ false)
+      held st' over l v pointer e = go l.members refl (slice_get st'.cells l.local) refl e
+        where
+          nameless : (m : ℕ) → Named m ≡ Empty → ⊥
+          nameless m h = cc
+
+          go : (ms : List ℕ) → l.members ≡ ms → (x : Option Cell) → slice_get st'.cells l.local ≡ x → member_cell types f l.local ms x st'.world.content ≡ Some (Points v) → (location_cell types f l st ≡ Some (Points v)) × (list_any (λ z. nat_eq z l.local) xs ≡ false)
+          go [] none x here h =
+              let old = over.was l.local (Points v) (here ∙ h) (unlike v) in
+              (ap (λ (ms : List ℕ). member_cell types f l.local ms (slice_get st.cells l.local) st.world.content) none ∙ old.0, old.1)
+          go (m ∷ ms) some (Some (Named j)) here h =
+              let old = over.was l.local (Named j) here (nameless j) in (
+                held_before types k.ordered k.once f k.shaped st (λ y i named. k.stands.frame.objects y i named) l pointer hand k.stands.store (foot_among st.cells xs)
+                    (record {
+                      apart = λ i named low. apart (kinds_of types) hand st.world.content k.stands.store.forest (foot_among st.cells xs) (all_of (i ∷ [])) (apart_feet l.local i named old.1) i low (whole i (is_positive (times (i ∷ []) i) (let one = one_same i i refl in omega (arith, one))));
+                      words = λ i u named lt. refl;
+                    }) st'.world.content over.touch v (ap (λ (y : Option Cell). member_cell types f l.local l.members y st'.world.content) (old.0 ∙ sym here) ∙ e),
+                old.1,
+              )
+          go (m ∷ ms) some None here h = absurd (none_some h)
+          go (m ∷ ms) some (Some Empty) here h = absurd (none_some h)
+          go (m ∷ ms) some (Some (Number z)) here h = absurd (none_some h)
+          go (m ∷ ms) some (Some (Points q)) here h = absurd (none_some h)
+
       behind : (st' : State) → AreEnded types xs st st' → FrameCovered types f inputs S' st'
-      behind st' over x v e =
-          let was = over.was x (Points v) e (unlike v) in
+      behind st' over l v pointer e =
+          let was = held st' over l v pointer e in
           cover_on types k.ordered hand st.world.content st'.world.content k.stands.store (foot_among st.cells xs) over.touch (RootStands types f (StandsAt inputs) st.cells) (RootStands types f (StandsAt inputs) st'.cells) (may_change types f) (rooted_of types f rest inputs S st k).fits
           (is_rooted_among xs) (writes (End xs)) S S' (left_by_end sigs types f place xs S S' right.closed (RootStands types f (StandsAt inputs) st.cells) objects) end_guards (λ a r names free stands. stay a.root r free stands)
-          (local_place x) (look_at types f x) v was.1 (k.covered x v was.0)
+          (located l) (look_in types f l) v (ap (λ (ro : Root). list_any (λ z. is_root z ro) xs) (members_root l.members (local_place l.local)) ∙ was.1) (k.covered l v pointer was.0)
         where
           stay : (ro : Root) (r : Region) → list_any (λ z. is_root z ro) xs ≡ false → RootStands types f (StandsAt inputs) st.cells ro r → RootStands types f (StandsAt inputs) st'.cells ro r
           stay (root.Local y) r free stands = (over.stays y r.object stands.0 free, stands.1, stands.2)

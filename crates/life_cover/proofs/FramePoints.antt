@@ -1,4 +1,4 @@
--- At each point of a proper function whose structs hold no pointers and no unique_ptrs that is reached with what is known of its frame: an instruction at which nothing
+-- At each point of a proper function that is reached with what is known of its frame: an instruction at which nothing
 -- is wrong makes no fault and doesn't stray, and all of this is known behind it.
 use Rattle.std.proofs.Common.{◌≡◌, ℕ, true, List, Some, subst, Option}
 use Rattle.life_types.specs.Trees.{IsOrdered}
@@ -22,6 +22,7 @@ use Rattle.life_store.specs.Doing.{does}
 use Rattle.life_store.specs.Effects.{Setting, Effect, Next, Traps, Faults, Strays}
 use Rattle.life_store.specs.State.{State, ready_of}
 use Rattle.life_forest.specs.Frames.{HasStore}
+use Rattle.life_forest.proofs.HeldPointers.{pointers_aim}
 use Rattle.life_forest.proofs.HeldPoints.{GoesOn, IsSound, held_goes, poised}
 use Rattle.life_forest.proofs.SettledSteps.{IsOneFrame}
 use Rattle.life_forest.proofs.SettlingLives.{HaveMembers}
@@ -35,10 +36,9 @@ use Rattle.life_cover.specs.Inputs.{AreGiven, frame_foot}
 use Rattle.life_cover.specs.Buffered.{AreBut}
 use Rattle.life_cover.proofs.GivenOn.{given_behind}
 use Rattle.life_cover.specs.Lacking.{MayLack}
-use Rattle.life_cover.specs.Members.{HaveUntoldMembers}
 use Rattle.life_cover.specs.Uniques.{UniquesTold}
 use Rattle.life_cover.proofs.FrameSteps.{IsSpoken}
-use Rattle.life_cover.proofs.Behind.{IsBehind, any_local}
+use Rattle.life_cover.proofs.Behind.{IsBehind, any_local, any_location}
 use Rattle.life_cover.proofs.KnownFrames.{IsKnownFrame, IsRight}
 use Rattle.life_cover.proofs.Pointers.{OnRight}
 use Rattle.life_cover.proofs.WholeSteps.{step_right}
@@ -78,7 +78,7 @@ pub record IsSafe (types : Types) (f : Function) (rest : ℕ → ℕ) (inputs : 
 pub record IsSafeNext (types : Types) (f : Function) (rest : ℕ → ℕ) (inputs : Root → Option Region) (S : Fact → Type 0) (past : Ready) (before st : State) : Type 0 where
   pub safe : IsSafe types f rest inputs S st
   pub bits : ready_of st ≡ past
-  pub behind : IsBehind types f inputs any_local any_local any_local before st
+  pub behind : IsBehind types f inputs any_local any_local any_location before st
   pub waits : KeepsWaiting types rest before.world.content st.world.content
 
 -- .. if there is one; there is neither a fault nor a stray step
@@ -88,24 +88,24 @@ GoesSafe types f rest inputs S bits before (Traps kind) = Unit {0}
 GoesSafe types f rest inputs S bits before (Faults kind) = ⊥
 GoesSafe types f rest inputs S bits before Strays = ⊥
 
-pub goes_safe : (types : Types) (f : Function) (rest : ℕ → ℕ) (inputs : Root → Option Region) (S : Fact → Type 0) (before : State) (bits : Ready) → HasStore types rest before → AreGiven types f inputs (frame_foot types f inputs before.cells) before.world.content → (e : Effect) → GoesOn types f rest before.world.content bits e → OnRight e (λ st. FrameCovered types f inputs S st × (AreBut types (MayLack types f inputs S st) st.world.content × IsBehind types f inputs any_local any_local any_local before st × UniquesTold types f S st)) → GoesSafe types f rest inputs S bits before e
-goes_safe types f rest inputs S before bits store given (Next st) goes right = record { safe = record { sound = goes.sound; given = given_behind types f rest inputs any_local any_local any_local before st store given right.1.1; covered = right.0; buffered = right.1.0; told = right.1.2 }; bits = goes.bits; behind = right.1.1; waits = goes.waits }
+pub goes_safe : (types : Types) (f : Function) (rest : ℕ → ℕ) (inputs : Root → Option Region) (S : Fact → Type 0) (before : State) (bits : Ready) → HasStore types rest before → AreGiven types f inputs (frame_foot types f inputs before.cells) before.world.content → (e : Effect) → GoesOn types f rest before.world.content bits e → OnRight e (λ st. FrameCovered types f inputs S st × (AreBut types (MayLack types f inputs S st) st.world.content × IsBehind types f inputs any_local any_local any_location before st × UniquesTold types f S st)) → GoesSafe types f rest inputs S bits before e
+goes_safe types f rest inputs S before bits store given (Next st) goes right = record { safe = record { sound = goes.sound; given = given_behind types f rest inputs any_local any_local any_location before st store given right.1.1; covered = right.0; buffered = right.1.0; told = right.1.2 }; bits = goes.bits; behind = right.1.1; waits = goes.waits }
 goes_safe types f rest inputs S before bits store given (Traps kind) goes right = tt
 goes_safe types f rest inputs S before bits store given (Faults kind) goes right = right
 goes_safe types f rest inputs S before bits store given Strays goes right = goes
 
 module _ (types : Types) (ordered : IsOrdered types) (once : HasEachOnce types) (some : HaveMembers types) (names texts : ℕ) (fs : List Function) (f : Function) (formed : is_well_formed_function types names texts fs f ≡ true) (points : ArePointsFormed types texts fs f)
-    (ready : HasReadyWays types f) (untold : HaveUntoldMembers types) (short : AreShort (elements_of types f)) where
+    (ready : HasReadyWays types f) (short : AreShort (elements_of types f)) where
   pub known : (rest : ℕ → ℕ) (inputs : Root → Option Region) (S : Fact → Type 0) (st : State) → IsSafe types f rest inputs S st → IsKnownFrame types f rest inputs S st
   known rest inputs S st safe = record {
     ordered = ordered;
     once = once;
-    untold = untold;
     shaped = locals_shaped types ordered names f (formed_parts types names texts fs f formed).locals;
     stand = locals_stand types ordered once some names texts fs f formed points ready;
     short = short;
     stands = safe.sound.stands;
     poised = poised types ordered once some names texts fs f formed points ready rest st safe.sound;
+    aims = pointers_aim types ordered f st safe.sound.held safe.sound.stands.frame;
     given = safe.given;
     covered = safe.covered;
     buffered = safe.buffered;

@@ -1,6 +1,6 @@
 -- An instruction of a frame at which nothing is wrong makes no fault, and the facts behind it cover all pointers of
 -- the frame: of values, pointers, vectors, strings, iterators, spans and views, by their types alone.
-use Rattle.std.proofs.Common.{◌≡◌, ◌⊎◌, ◌≢◌, ℕ, Bool, true, false, ◌&&◌, not, List, Some, refl, sym, ap, subst, ◌∙◌, [], Option, inl}
+use Rattle.std.proofs.Common.{◌≡◌, ◌≢◌, ℕ, Bool, true, false, ◌&&◌, not, List, Some, refl, sym, ap, subst, ◌∙◌, [], Option, inl}
 use Rattle.std.specs.Prelude.{pos}
 use Rattle.std.proofs.lemmas.Bool.{and_parts, false≢true}
 use Rattle.life_types.specs.Pointees.{ty_of}
@@ -34,25 +34,23 @@ use Rattle.life_store.specs.Doing.{does}
 use Rattle.life_store.specs.Edits.{buffer_of, size_of}
 use Rattle.life_store.specs.Effects.{Effect, GotFault, Next, Setting, cell, got_or, on_got, put_cell}
 use Rattle.life_store.specs.Parts.{characters_type}
-use Rattle.life_store.specs.Places.{Spot}
+use Rattle.life_store.specs.Places.{Spot, location_cell}
 use Rattle.life_store.specs.State.{Number, Pointer, Points, State, ready_of, Named}
 use Rattle.life_store.specs.declared.run.FaultKind.TheVariants as fault
 use Rattle.life_forest.specs.FrameTypes.{seen_in}
 use Rattle.life_forest.proofs.OneNumber.{also_solid, same_solid, one_type, type_there}
-use Rattle.life_forest.proofs.ReadyCells.{number_any, pointer_cell}
-use Rattle.life_forest.proofs.SeenTypes.{aims_seen, iterator_points, pointer_solid, range_points, raw_points, same_if, walks_seen}
+use Rattle.life_forest.proofs.ReadyCells.{location_pointer, number_any}
+use Rattle.life_forest.proofs.SeenTypes.{aims_seen, pointer_solid, range_points, raw_points, same_if, walks_seen}
 use Rattle.life_forest.proofs.TypedSteps.{IsSlotFree, value_solid}
-use Rattle.life_cover.specs.Frames.{FrameCovered, look_at}
+use Rattle.life_cover.specs.Frames.{FrameCovered, look_in}
 use Rattle.life_cover.specs.Inputs.{may_change, StandsAt}
 use Rattle.life_cover.specs.Regions.{owned_in_type, Region}
 use Rattle.life_cover.specs.Lacking.{MayLack}
 use Rattle.life_cover.proofs.AimKinds.{advances_kind, cuts_kind, empty_kind, null_kind, owner_cursor_kind, owner_item_kind, place_kind, repoint_kind, seen_cursor_kind, seen_item_kind, text_kind, whole_aim_kind}
 use Rattle.life_cover.proofs.ChangeSteps.{change_step}
-use Rattle.life_cover.proofs.CopyKinds.{copy_kind}
-use Rattle.life_cover.proofs.Copyable.{copied_type}
+use Rattle.life_cover.proofs.CopiedStructs.{copy_kind}
 use Rattle.life_cover.proofs.EndKinds.{end_kind}
-use Rattle.life_cover.proofs.SingleParts.{pointer_alone, unique_alone}
-use Rattle.life_cover.proofs.KnownFrames.{at_pointer, IsKnownFrame, IsRight, reach_at, used_right, whole_location, typed}
+use Rattle.life_cover.proofs.KnownFrames.{IsKnownFrame, IsRight, reach_at, used_right, typed}
 use Rattle.life_cover.proofs.LiveKinds.{live_kind}
 use Rattle.life_cover.proofs.MakeKinds.{IsMade}
 use Rattle.life_cover.proofs.MakeSteps.{IsMadeBy, make_right}
@@ -65,14 +63,14 @@ use Rattle.life_cover.proofs.Pointers.{OnRight, right_weaker}
 use Rattle.life_cover.proofs.Reaching.{by_reach, spot_is}
 use Rattle.life_cover.proofs.SaveKinds.{save_kind}
 use Rattle.life_cover.proofs.Lacking.{owner_whole}
-use Rattle.life_cover.proofs.Behind.{no_local}
-use Rattle.life_cover.proofs.MoveKinds.{move_kind}
+use Rattle.life_cover.proofs.Behind.{no_local, no_location}
+use Rattle.life_cover.proofs.MoveKinds.{MovedPlaces, move_kind}
 use Rattle.life_cover.proofs.BufferMoveKinds.{MovedBare, buffer_move_kind}
 use Rattle.life_rules.proofs.Giving.{at_head}
 use Rattle.life_cover.specs.Covers.{IsSeenAs}
 use Rattle.life_cover.proofs.PlainTargets.{through_other}
 use Rattle.life_cover.proofs.TargetKinds.{get_kind, target_kind}
-use Rattle.life_cover.proofs.UniqueLocals.{unique_local}
+use Rattle.life_cover.proofs.UniqueLocations.{unique_at}
 
 -- what a well-formed iterator is
 iterator_single : (t : Ty) → is_iterator t ≡ true → is_range t ≡ false
@@ -134,54 +132,49 @@ module _ (types : Types) (f : Function) (rest : ℕ → ℕ) (inputs : Root → 
   abbrev Covers : Step → Type 0
   Covers i = OnRight (does s types f i st) (FrameCovered types f inputs S')
 
-  -- a location of a pointer is a local
-  to_pointer : (p : Location) → is_pointer (type_in types f p) ≡ true → (P : Location → Type 0) → ((x : ℕ) → P (whole x)) → P p
-  to_pointer = at_pointer types f rest inputs S st k
-
-  held_pointer : (q : ℕ) → is_pointer (type_at types f q) ≡ true → IsThere (ready_of st) q → (v : Pointer) × (cell st q ≡ Some (Points v))
-  held_pointer q pointer there = pointer_cell types f st k.poised q pointer there
+  held_pointer : (q : Location) → is_pointer (type_in types f q) ≡ true → IsThere (ready_of st) q.local → (v : Pointer) × (location_cell types f q st ≡ Some (Points v))
+  held_pointer q pointer there = location_pointer types f st k.poised q pointer there
 
   -- ---- what is aimed at
 
-  item_for : (p : ℕ) (u : Ty) (target : TyId) → is_pointer (type_at types f p) ≡ true → seen_in types (Some (type_at types f p)) ≡ Some target → HasItem types k.ordered k.once u (Some target) → HasItem types k.ordered k.once u (look_at types f p).target
-  item_for p u target pointer sees item = subst (HasItem types k.ordered k.once u) (sym (seen_at types k.ordered k.once f k.shaped p (type_at types f p) refl (pointer_solid (type_at types f p) pointer) ∙ sees)) item
+  item_for : (p : Location) (u : Ty) (target : TyId) → is_pointer (type_in types f p) ≡ true → seen_in types (Some (type_in types f p)) ≡ Some target → HasItem types k.ordered k.once u (Some target) → HasItem types k.ordered k.once u (look_in types f p).target
+  item_for p u target pointer sees item = subst (HasItem types k.ordered k.once u) (sym (seen_at types k.ordered k.once f k.shaped p (type_in types f p) refl (pointer_solid (type_in types f p) pointer) ∙ sees)) item
 
   -- p sees what a unique_ptr owns
-  sees_target : (p x : ℕ) (unique : is_unique (type_at types f x) ≡ true) → aims_at types (type_at types f p) (owned_target types (type_at types f x)) ≡ true → (n : ℕ) (names : cell st x ≡ Some (Named n)) → IsSeenAs types (look_at types f p).target (unique_local types f rest inputs S st k x n names unique).target
-  sees_target p x unique aims n names =
-      let seen = aims_seen types k.ordered k.once (type_at types f p) (owned_target types (type_at types f x)) aims in
-      let u = unique_local types f rest inputs S st k x n names unique in
+  sees_target : (p q : Location) (unique : is_unique (type_in types f q) ≡ true) → aims_at types (type_in types f p) (owned_target types (type_in types f q)) ≡ true → (n : ℕ) (names : cell st q.local ≡ Some (Named n))
+      → IsSeenAs types (look_in types f p).target (unique_at types f rest inputs S st k q n names unique).target
+  sees_target p q unique aims n names =
+      let seen = aims_seen types k.ordered k.once (type_in types f p) (owned_target types (type_in types f q)) aims in
+      let u = unique_at types f rest inputs S st k q n names unique in
       let one = ty_of types seen.target in
-      let two = owned_target types (type_at types f x) in
-      subst (λ (o : Option TyId). IsSeenAs types o u.target) (sym (seen_at types k.ordered k.once f k.shaped p (type_at types f p) refl (pointer_solid (type_at types f p) seen.pointer) ∙ seen.seen))
+      let two = owned_target types (type_in types f q) in
+      subst (λ (o : Option TyId). IsSeenAs types o u.target) (sym (seen_at types k.ordered k.once f k.shaped p (type_in types f p) refl (pointer_solid (type_in types f p) seen.pointer) ∙ seen.seen))
       (inl (one_type types k.once seen.target u.target one (type_there types seen.target one refl (same_solid one two seen.is)) (type_there types u.target one (sym (same_is one two seen.is ∙ ap (owned_target types) u.is)) (same_solid one two seen.is))))
 
-  get_step : (p : ℕ) (u : Location) → Right (Aim (whole p) (named.Get u)) → gets types (type_at types f p) (owned_target types (type_in types f u)) ≡ true → Covers (Aim (whole p) (named.Get u))
+  get_step : (p : Location) (u : Location) → Right (Aim p (named.Get u)) → gets types (type_in types f p) (owned_target types (type_in types f u)) ≡ true → Covers (Aim p (named.Get u))
   get_step p u right e =
-      let seen = aims_seen types k.ordered k.once (type_at types f p) (owned_target types (type_in types f u)) (gets_aims types (type_at types f p) (owned_target types (type_in types f u)) e) in
+      let aims = gets_aims types (type_in types f p) (owned_target types (type_in types f u)) e in
+      let seen = aims_seen types k.ordered k.once (type_in types f p) (owned_target types (type_in types f u)) aims in
       let unique = target_unique types (type_in types f u) (also_solid (ty_of types seen.target) (owned_target types (type_in types f u)) seen.is) in
-      subst (λ (q : Location). Right (Aim (whole p) (named.Get q)) → is_unique (type_in types f q) ≡ true → aims_at types (type_at types f p) (owned_target types (type_in types f q)) ≡ true → Covers (Aim (whole p) (named.Get q)))
-      (whole_location types k.untold f u (unique_alone (type_in types f u) unique))
-      (λ now is aims. get_kind types f rest inputs S st k sigs n place S' s p seen.pointer (aims_single types (type_at types f p) (owned_target types (type_in types f u)) (gets_aims types (type_at types f p) (owned_target types (type_in types f u)) e)) u.local is k.told (sees_target p u.local is aims) now)
-      right unique (gets_aims types (type_at types f p) (owned_target types (type_in types f u)) e)
+      get_kind types f rest inputs S st k sigs n place S' s p seen.pointer (aims_single types (type_in types f p) (owned_target types (type_in types f u)) aims) u unique (sees_target p u unique aims) right
 
-  aim_step : (p : ℕ) (sr : Source) → Right (Aim (whole p) sr) → is_source_of types texts fs f (type_at types f p) sr ≡ true → Covers (Aim (whole p) sr)
-  aim_step p named.Null right e = null_kind types f rest inputs S st k sigs n place S' p (raw_points (type_at types f p) e) s right
+  aim_step : (p : Location) (sr : Source) → Right (Aim p sr) → is_source_of types texts fs f (type_in types f p) sr ≡ true → Covers (Aim p sr)
+  aim_step p named.Null right e = null_kind types f rest inputs S st k sigs n place S' p (raw_points (type_in types f p) e) s right
   aim_step p (named.Text number) right e =
-      text_kind types f rest inputs S st k sigs n place S' p (range_points (type_at types f p) (view_range (type_at types f p) (and_parts (is_view (type_at types f p)) _ e).0)) s number right
-  aim_step p named.Empty right e = empty_kind types f rest inputs S st k sigs n place S' p (range_points (type_at types f p) e) s right
+      text_kind types f rest inputs S st k sigs n place S' p (range_points (type_in types f p) (view_range (type_in types f p) (and_parts (is_view (type_in types f p)) _ e).0)) s number right
+  aim_step p named.Empty right e = empty_kind types f rest inputs S st k sigs n place S' p (range_points (type_in types f p) e) s right
   aim_step p (named.Place o) right e =
-      let both = and_parts (aims_at types (type_at types f p) (type_of types f o)) (keeps_const (is_constant (type_at types f p)) (is_const_place types f o)) e in
+      let both = and_parts (aims_at types (type_in types f p) (type_of types f o)) (keeps_const (is_constant (type_in types f p)) (is_const_place types f o)) e in
       let aims = both.0 in
-      let seen = aims_seen types k.ordered k.once (type_at types f p) (type_of types f o) aims in
-      place_kind types f rest inputs S st k sigs n place S' p seen.pointer o s right (also_solid (ty_of types seen.target) (type_of types f o) seen.is) aims (const_kept (is_constant (type_at types f p)) (is_const_place types f o) both.1)
+      let seen = aims_seen types k.ordered k.once (type_in types f p) (type_of types f o) aims in
+      place_kind types f rest inputs S st k sigs n place S' p seen.pointer o s right (also_solid (ty_of types seen.target) (type_of types f o) seen.is) aims (const_kept (is_constant (type_in types f p)) (is_const_place types f o) both.1)
   aim_step p (named.Whole o) right e =
-      let both = and_parts (spans types (type_at types f p) (type_of types f o)) (keeps_const (is_constant (type_at types f p)) (is_const_place types f o)) e in
+      let both = and_parts (spans types (type_in types f p) (type_of types f o)) (keeps_const (is_constant (type_in types f p)) (is_const_place types f o)) e in
       let all = both.0 in
-      let pointer = spans_points types (type_at types f p) (type_of types f o) all in
+      let pointer = spans_points types (type_in types f p) (type_of types f o) all in
       whole_aim_kind types f rest inputs S st k sigs n place S' p pointer o (type_of types f o) refl
-      (subst (HasItem types k.ordered k.once (type_of types f o)) (sym (seen_at types k.ordered k.once f k.shaped p (type_at types f p) refl (pointer_solid (type_at types f p) pointer))) (whole_item types k.ordered k.once (type_at types f p) (type_of types f o) all))
-      s right (spans_range types (type_at types f p) (type_of types f o) all) (const_kept (is_constant (type_at types f p)) (is_const_place types f o) both.1)
+      (subst (HasItem types k.ordered k.once (type_of types f o)) (sym (seen_at types k.ordered k.once f k.shaped p (type_in types f p) refl (pointer_solid (type_in types f p) pointer))) (whole_item types k.ordered k.once (type_in types f p) (type_of types f o) all))
+      s right (spans_range types (type_in types f p) (type_of types f o) all) (const_kept (is_constant (type_in types f p)) (is_const_place types f o) both.1)
   aim_step p (named.Get u) right e = get_step p u right e
 
   pub source_points : (t : Ty) (sr : Source) → is_source_of types texts fs f t sr ≡ true → is_pointer t ≡ true
@@ -215,62 +208,54 @@ module _ (types : Types) (f : Function) (rest : ℕ → ℕ) (inputs : Root → 
       unlike h = cc
   no_target which.Target is e = is
 
-  item_step : (p : ℕ) (b : Base) (w : Which) → IsElement w → Right (step.Element (whole p) b w) → aims_at types (type_at types f p) (type_of_element types f b w) ≡ true → keeps_const (is_constant (type_at types f p)) (is_const_base types f b) ≡ true
-      → AreReady (ready_of st) (touched_by f (step.Element (whole p) b w)) → Covers (step.Element (whole p) b w)
+  item_step : (p : Location) (b : Base) (w : Which) → IsElement w → Right (step.Element p b w) → aims_at types (type_in types f p) (type_of_element types f b w) ≡ true → keeps_const (is_constant (type_in types f p)) (is_const_base types f b) ≡ true
+      → AreReady (ready_of st) (touched_by f (step.Element p b w)) → Covers (step.Element p b w)
   item_step p (named.Owner o) w is right aims const ready =
-      let seen = aims_seen types k.ordered k.once (type_at types f p) (type_of_element types f (named.Owner o) w) aims in
+      let seen = aims_seen types k.ordered k.once (type_in types f p) (type_of_element types f (named.Owner o) w) aims in
       owner_item_kind types f rest inputs S st k sigs n place S' p seen.pointer o (type_of types f o) refl
       (item_for p (type_of types f o) seen.target seen.pointer seen.seen (element_item types k.ordered k.once (type_of types f o) seen.target (element_type (named.Owner o) w (ty_of types seen.target) is seen.is)))
-      s w (no_target w is) right (aims_single types (type_at types f p) (type_of_element types f (named.Owner o) w) aims) (const_kept (is_constant (type_at types f p)) (is_const_place types f o) const)
+      s w (no_target w is) right (aims_single types (type_in types f p) (type_of_element types f (named.Owner o) w) aims) (const_kept (is_constant (type_in types f p)) (is_const_place types f o) const)
   item_step p (named.Pointer l) w is right aims const ready =
-      let seen = aims_seen types k.ordered k.once (type_at types f p) (type_of_element types f (named.Pointer l) w) aims in
+      let seen = aims_seen types k.ordered k.once (type_in types f p) (type_of_element types f (named.Pointer l) w) aims in
       let is_element = element_type (named.Pointer l) w (ty_of types seen.target) is seen.is in
-      to_pointer l (range_points (type_in types f l) (element_ranged types (type_in types f l) seen.target is_element))
-      (λ q. Right (step.Element (whole p) (named.Pointer q) w) → same (ty_of types seen.target) (seen_element types (type_in types f q)) ≡ true → keeps_const (is_constant (type_at types f p)) (is_constant (type_in types f q)) ≡ true → IsThere (ready_of st) q.local → Covers (step.Element (whole p) (named.Pointer q) w))
-      (λ q now here const there.
-      seen_item_kind types f rest inputs S st k sigs n place S' p seen.pointer q (held_pointer q (range_points (type_at types f q) (element_ranged types (type_at types f q) seen.target here)) there) seen.target seen.seen here
-      (const_kept (is_constant (type_at types f p)) (is_constant (type_at types f q)) const) (aims_single types (type_at types f p) (type_of_element types f (named.Pointer l) w) aims) s w now)
-      right is_element const ready.uses.0
+      let points = range_points (type_in types f l) (element_ranged types (type_in types f l) seen.target is_element) in
+      seen_item_kind types f rest inputs S st k sigs n place S' p seen.pointer l points (held_pointer l points ready.uses.0) seen.target seen.seen is_element
+      (const_kept (is_constant (type_in types f p)) (is_constant (type_in types f l)) const) (aims_single types (type_in types f p) (type_of_element types f (named.Pointer l) w) aims) s w right
 
-  -- the target of a unique_ptr, which is a local, as none is behind a pointer
-  target_step : (p : ℕ) (o : Operand) → Right (step.Element (whole p) (named.Owner o) which.Target) → aims_at types (type_at types f p) (owned_target types (type_of types f o)) ≡ true → Covers (step.Element (whole p) (named.Owner o) which.Target)
+  -- the target of a unique_ptr, which is a local or a member of one, as none is behind a pointer
+  target_step : (p : Location) (o : Operand) → Right (step.Element p (named.Owner o) which.Target) → aims_at types (type_in types f p) (owned_target types (type_of types f o)) ≡ true → Covers (step.Element p (named.Owner o) which.Target)
   target_step p o right aims =
-      let seen = aims_seen types k.ordered k.once (type_at types f p) (owned_target types (type_of types f o)) aims in
-      by_operand seen.pointer (aims_single types (type_at types f p) (owned_target types (type_of types f o)) aims) o right aims (target_unique types (type_of types f o) (also_solid (ty_of types seen.target) (owned_target types (type_of types f o)) seen.is))
+      let seen = aims_seen types k.ordered k.once (type_in types f p) (owned_target types (type_of types f o)) aims in
+      by_operand seen.pointer (aims_single types (type_in types f p) (owned_target types (type_of types f o)) aims) o right aims (target_unique types (type_of types f o) (also_solid (ty_of types seen.target) (owned_target types (type_of types f o)) seen.is))
     where
-      by_operand : is_pointer (type_at types f p) ≡ true → (look_at types f p).ranged ≡ false → (q : Operand) → Right (step.Element (whole p) (named.Owner q) which.Target) → aims_at types (type_at types f p) (owned_target types (type_of types f q)) ≡ true → is_unique (type_of types f q) ≡ true → Covers (step.Element (whole p) (named.Owner q) which.Target)
+      by_operand : is_pointer (type_in types f p) ≡ true → (look_in types f p).ranged ≡ false → (q : Operand) → Right (step.Element p (named.Owner q) which.Target) → aims_at types (type_in types f p) (owned_target types (type_of types f q)) ≡ true → is_unique (type_of types f q) ≡ true → Covers (step.Element p (named.Owner q) which.Target)
       by_operand pointer single (named.Through q ms) now at is = absurd (false≢true (sym (through_other types f rest inputs S st k q ms (unique_solid (type_of types f (named.Through q ms)) is)) ∙ is))
       by_operand pointer single (named.Name l) now at is =
           let same_type : type_in types f l ≡ type_of types f (named.Name l) = typed types f rest inputs S st k (named.Name l) (unique_solid (type_of types f (named.Name l)) is) in
-          subst (λ (q : Location). Right (step.Element (whole p) (named.Owner (named.Name q)) which.Target) → is_unique (type_in types f q) ≡ true → aims_at types (type_at types f p) (owned_target types (type_in types f q)) ≡ true → Covers (step.Element (whole p) (named.Owner (named.Name q)) which.Target))
-          (whole_location types k.untold f l (unique_alone (type_in types f l) (ap is_unique same_type ∙ is)))
-          (λ here unique aims_l. target_kind types f rest inputs S st k sigs n place S' s p pointer single l.local unique k.told (sees_target p l.local unique aims_l) here)
-          now (ap is_unique same_type ∙ is) (subst (λ (t : Ty). aims_at types (type_at types f p) (owned_target types t) ≡ true) (sym same_type) at)
+          let unique = ap is_unique same_type ∙ is in
+          target_kind types f rest inputs S st k sigs n place S' s p pointer single l unique (sees_target p l unique (subst (λ (t : Ty). aims_at types (type_in types f p) (owned_target types t) ≡ true) (sym same_type) at)) now
 
-  element_step : (p : ℕ) (b : Base) (w : Which) → Right (step.Element (whole p) b w) → aims_at types (type_at types f p) (type_of_element types f b w) ≡ true → keeps_const (is_constant (type_at types f p)) (is_const_base types f b) ≡ true
-      → AreReady (ready_of st) (touched_by f (step.Element (whole p) b w)) → Covers (step.Element (whole p) b w)
+  element_step : (p : Location) (b : Base) (w : Which) → Right (step.Element p b w) → aims_at types (type_in types f p) (type_of_element types f b w) ≡ true → keeps_const (is_constant (type_in types f p)) (is_const_base types f b) ≡ true
+      → AreReady (ready_of st) (touched_by f (step.Element p b w)) → Covers (step.Element p b w)
   element_step p (named.Owner o) which.Target right aims const ready = target_step p o right aims
   element_step p (named.Pointer l) which.Target right aims const ready =
-      let seen = aims_seen types k.ordered k.once (type_at types f p) ty.Void aims in
+      let seen = aims_seen types k.ordered k.once (type_in types f p) ty.Void aims in
       absurd (false≢true (sym (also_solid (ty_of types seen.target) ty.Void seen.is)))
   element_step p b (which.Index r) right aims const ready = item_step p b (which.Index r) tt right aims const ready
   element_step p b which.First right aims const ready = item_step p b which.First tt right aims const ready
   element_step p b which.Last right aims const ready = item_step p b which.Last tt right aims const ready
 
-  cursor_step : (p : ℕ) (b : Base) (end : RangeEnd) → Right (Cursor (whole p) b end) → walks types (type_at types f p) (element_of types f b) ≡ true → keeps_const (is_constant (type_at types f p)) (is_const_base types f b) ≡ true
-      → AreReady (ready_of st) (touched_by f (Cursor (whole p) b end)) → Covers (Cursor (whole p) b end)
+  cursor_step : (p : Location) (b : Base) (end : RangeEnd) → Right (Cursor p b end) → walks types (type_in types f p) (element_of types f b) ≡ true → keeps_const (is_constant (type_in types f p)) (is_const_base types f b) ≡ true
+      → AreReady (ready_of st) (touched_by f (Cursor p b end)) → Covers (Cursor p b end)
   cursor_step p (named.Owner o) end right walk const ready =
-      let seen = walks_seen types k.ordered k.once (type_at types f p) (element_of types f (named.Owner o)) walk in
+      let seen = walks_seen types k.ordered k.once (type_in types f p) (element_of types f (named.Owner o)) walk in
       owner_cursor_kind types f rest inputs S st k sigs n place S' p seen.pointer o (type_of types f o) refl
-      (item_for p (type_of types f o) seen.target seen.pointer seen.seen (element_item types k.ordered k.once (type_of types f o) seen.target seen.is)) s end right (walks_single types (type_at types f p) (element_of types f (named.Owner o)) walk) (const_kept (is_constant (type_at types f p)) (is_const_place types f o) const)
+      (item_for p (type_of types f o) seen.target seen.pointer seen.seen (element_item types k.ordered k.once (type_of types f o) seen.target seen.is)) s end right (walks_single types (type_in types f p) (element_of types f (named.Owner o)) walk) (const_kept (is_constant (type_in types f p)) (is_const_place types f o) const)
   cursor_step p (named.Pointer l) end right walk const ready =
-      let seen = walks_seen types k.ordered k.once (type_at types f p) (element_of types f (named.Pointer l)) walk in
-      to_pointer l (range_points (type_in types f l) (element_ranged types (type_in types f l) seen.target seen.is))
-      (λ q. Right (Cursor (whole p) (named.Pointer q) end) → same (ty_of types seen.target) (seen_element types (type_in types f q)) ≡ true → keeps_const (is_constant (type_at types f p)) (is_constant (type_in types f q)) ≡ true → IsThere (ready_of st) q.local → Covers (Cursor (whole p) (named.Pointer q) end))
-      (λ q now here const there.
-      seen_cursor_kind types f rest inputs S st k sigs n place S' p seen.pointer q (held_pointer q (range_points (type_at types f q) (element_ranged types (type_at types f q) seen.target here)) there) seen.target seen.seen here
-      (const_kept (is_constant (type_at types f p)) (is_constant (type_at types f q)) const) (walks_single types (type_at types f p) (element_of types f (named.Pointer l)) walk) s end now)
-      right seen.is const ready.uses.0
+      let seen = walks_seen types k.ordered k.once (type_in types f p) (element_of types f (named.Pointer l)) walk in
+      let points = range_points (type_in types f l) (element_ranged types (type_in types f l) seen.target seen.is) in
+      seen_cursor_kind types f rest inputs S st k sigs n place S' p seen.pointer l points (held_pointer l points ready.uses.0) seen.target seen.seen seen.is
+      (const_kept (is_constant (type_in types f p)) (is_constant (type_in types f l)) const) (walks_single types (type_in types f p) (element_of types f (named.Pointer l)) walk) s end right
 
   -- ---- sizes
 
@@ -293,23 +278,20 @@ module _ (types : Types) (f : Function) (rest : ℕ → ℕ) (inputs : Root → 
       by_type (ty.Vector item) is h = with_item (ty.Vector item) item is refl refl refl
       by_type _ is h = absurd (false≢true (sym h))
   size_step r (named.Pointer l) right number some =
-      to_pointer l (range_points (type_in types f l) (seen_range types (type_in types f l) some))
-      (λ q. Right (Size r (named.Pointer q)) → is_void (seen_element types (type_in types f q)) ≡ false → Covers (Size r (named.Pointer q)))
-      (λ q now here. seen_size_kind types f rest inputs S st k sigs n place S' s r q now number (seen_range types (type_at types f q) here)) right some
+      let ranged = seen_range types (type_in types f l) some in
+      seen_size_kind types f rest inputs S st k sigs n place S' s r l (range_points (type_in types f l) ranged) right number ranged
 
   -- ---- what goes out
 
-  port_whole : (p : Port) → is_port types texts fs f p ≡ true → IsPort types f rest inputs S st k p
-  port_whole (Writes r) e = tt
-  port_whole (Takes r) e = number_any types f ty.Long r e
-  port_whole (WritesView l) e =
-      let is = whole_location types k.untold f l (pointer_alone (type_in types f l) (range_points (type_in types f l) (view_range (type_in types f l) e))) in
-      (is, subst (λ (q : Location). is_range (type_in types f q) ≡ true) (sym is) (view_range (type_in types f l) e))
+  port_fits : (p : Port) → is_port types texts fs f p ≡ true → IsPort types f rest inputs S st k p
+  port_fits (Writes r) e = tt
+  port_fits (Takes r) e = number_any types f ty.Long r e
+  port_fits (WritesView l) e = let ranged = view_range (type_in types f l) e in (range_points (type_in types f l) ranged, ranged)
 
   -- ---- each instruction
 
   pub step_covered : (i : Step) → IsSpoken types f i → IsRight sigs types n f place i S S' → is_well_formed_step types texts fs f i ≡ true → IsSlotFree types f i → AreReady (ready_of st) (touched_by f i) → OnRight (does s types f i st) (FrameCovered types f inputs S')
-  step_covered (Live x form) spoken right e free ready = live_kind types f rest inputs S st k sigs n place S' s x form right free
+  step_covered (Live x form) spoken right e free ready = live_kind types f rest inputs S st k sigs n place S' s x form right e free
   step_covered (End xs) spoken right e free ready = end_kind types f rest inputs S st k sigs n place S' xs s right
   step_covered (Eval r o) spoken right e free ready = eval_kind types f rest inputs S st k sigs n place S' s r o right (and_parts (is_number types f r) _ e).0
   step_covered (Load r o) spoken right e free ready =
@@ -322,65 +304,47 @@ module _ (types : Types) (f : Function) (rest : ℕ → ℕ) (inputs : Root → 
   step_covered (Copy to from) spoken right e free ready =
       let first = and_parts (same (type_of types f to) (type_of types f from)) _ e in
       let pointer = (and_parts (not (is_pointer (type_of types f to))) _ first.1).0 in
-      let unique = (and_parts (not (holds_unique (tree_if types (operand_type types f to)))) _ (and_parts (not (is_pointer (type_of types f to))) _ first.1).1).0 in
       copy_kind types f rest inputs S st k sigs n place S' s to from (not_false (is_const_place types f to) (and_parts (not (holds_unique (tree_if types (operand_type types f to)))) (not (is_const_place types f to)) (and_parts (not (is_pointer (type_of types f to))) _ first.1).1).1) right (same_solid (type_of types f to) (type_of types f from) first.0) (also_solid (type_of types f to) (type_of types f from) first.0) (same_is (type_of types f to) (type_of types f from) first.0)
-      (not_false (is_pointer (type_of types f to)) pointer) (copied_type types f rest inputs S st k to (same_solid (type_of types f to) (type_of types f from) first.0) unique)
+      (not_false (is_pointer (type_of types f to)) pointer)
   step_covered (Move to y) spoken right e free ready =
       by_move types f rest inputs S st k sigs n place S' texts fs y (λ q. Covers (Move q y))
-      (λ x now unique alike other. right_weaker (does s types f (Move (named.Name (whole x)) y) st) (IsMade types f inputs S' (MayLack types f inputs S st) no_local (λ z. (x ≡ z) ⊎ (y ≡ z)) st) (FrameCovered types f inputs S') (move_kind types f rest inputs S st k sigs n place S' s x y now unique alike other) (λ after h. h.0))
+      (λ to now unique alike other. right_weaker (does s types f (Move (named.Name to) y) st) (IsMade types f inputs S' (MayLack types f inputs S st) no_local (MovedPlaces to y) st) (FrameCovered types f inputs S') (move_kind types f rest inputs S st k sigs n place S' s to y now unique alike other) (λ after h. h.0))
       (λ x now buffer alike other.
-      right_weaker (does s types f (Move (named.Name (whole x)) y) st) (IsMade types f inputs S' (MovedBare types f rest inputs S st k x y) no_local no_local st) (FrameCovered types f inputs S') (buffer_move_kind types f rest inputs S st k sigs n place S' s x y now buffer alike other) (λ after h. h.0))
+      right_weaker (does s types f (Move (named.Name (whole x)) y) st) (IsMade types f inputs S' (MovedBare types f rest inputs S st k x y) no_local no_location st) (FrameCovered types f inputs S') (buffer_move_kind types f rest inputs S st k sigs n place S' s x y now buffer alike other) (λ after h. h.0))
       (λ o beside now buffer alike const.
-      right_weaker (does s types f (Move o y) st) (IsMade types f inputs S' (GivenBare types f rest inputs S st k y) no_local no_local st) (FrameCovered types f inputs S') (placed_move_kind types f rest inputs S st k sigs n place S' s o y beside now buffer alike const) (λ after h. h.0))
+      right_weaker (does s types f (Move o y) st) (IsMade types f inputs S' (GivenBare types f rest inputs S st k y) no_local no_location st) (FrameCovered types f inputs S') (placed_move_kind types f rest inputs S st k sigs n place S' s o y beside now buffer alike const) (λ after h. h.0))
       to right e
-  step_covered (Aim p sr) spoken right e free ready =
-      to_pointer p (source_points (type_in types f p) sr e) (λ q. Right (Aim q sr) → is_source_of types texts fs f (type_in types f q) sr ≡ true → Covers (Aim q sr)) (λ q now here. aim_step q sr now here) right e
+  step_covered (Aim p sr) spoken right e free ready = aim_step p sr right e
   step_covered (Repoint p q) spoken right e free ready =
-      let alike = alike_points types (type_in types f p) (type_in types f q) (and_parts (are_alike types (type_in types f p) (type_in types f q)) _ e).0 in
-      to_pointer p alike.0 (λ a. Right (Repoint a q) → takes types (type_in types f a) (type_in types f q) ≡ true → Covers (Repoint a q))
-      (λ a now here.
-      to_pointer q alike.1 (λ b. Right (Repoint (whole a) b) → takes types (type_at types f a) (type_in types f b) ≡ true → IsThere (ready_of st) b.local → Covers (Repoint (whole a) b))
-      (λ b next takes_b there. let points = alike_points types (type_at types f a) (type_at types f b) (and_parts (are_alike types (type_at types f a) (type_at types f b)) _ takes_b).0 in
-      repoint_kind types f rest inputs S st k sigs n place S' a points.0 b (held_pointer b points.1 there) s next takes_b) now here ready.uses.0) right e
+      let points = alike_points types (type_in types f p) (type_in types f q) (and_parts (are_alike types (type_in types f p) (type_in types f q)) _ e).0 in
+      repoint_kind types f rest inputs S st k sigs n place S' p points.0 q points.1 (held_pointer q points.1 ready.uses.0) s right e
   step_covered (step.Element p b w) spoken right e free ready =
       let both = and_parts (aims_at types (type_in types f p) (type_of_element types f b w)) (keeps_const (is_constant (type_in types f p)) (is_const_base types f b)) e in
-      to_pointer p (aims_seen types k.ordered k.once (type_in types f p) (type_of_element types f b w) both.0).pointer
-      (λ q. Right (step.Element q b w) → aims_at types (type_in types f q) (type_of_element types f b w) ≡ true → keeps_const (is_constant (type_in types f q)) (is_const_base types f b) ≡ true → AreReady (ready_of st) (touched_by f (step.Element q b w)) → Covers (step.Element q b w))
-      (λ q now aims const there. element_step q b w now aims const there) right both.0 both.1 ready
+      element_step p b w right both.0 both.1 ready
   step_covered (Cursor p b end) spoken right e free ready =
       let both = and_parts (walks types (type_in types f p) (element_of types f b)) (keeps_const (is_constant (type_in types f p)) (is_const_base types f b)) e in
-      to_pointer p (walks_seen types k.ordered k.once (type_in types f p) (element_of types f b) both.0).pointer
-      (λ q. Right (Cursor q b end) → walks types (type_in types f q) (element_of types f b) ≡ true → keeps_const (is_constant (type_in types f q)) (is_const_base types f b) ≡ true → AreReady (ready_of st) (touched_by f (Cursor q b end)) → Covers (Cursor q b end))
-      (λ q now walk const there. cursor_step q b end now walk const there) right both.0 both.1 ready
+      cursor_step p b end right both.0 both.1 ready
   step_covered (Advance p q r way) spoken right e free ready =
       let outer = and_parts (is_iterator (type_in types f p)) _ e in
       let taken = (and_parts (takes types (type_in types f p) (type_in types f q)) (is_number types f r) outer.1).0 in
-      to_pointer p (iterator_points (type_in types f p) outer.0) (λ a. Right (Advance a q r way) → is_iterator (type_in types f a) ≡ true → takes types (type_in types f a) (type_in types f q) ≡ true → Covers (Advance a q r way))
-      (λ a now iterates here. let points = alike_points types (type_at types f a) (type_in types f q) (and_parts (are_alike types (type_at types f a) (type_in types f q)) _ here).0 in
-      to_pointer q points.1 (λ b. Right (Advance (whole a) b r way) → takes types (type_at types f a) (type_in types f b) ≡ true → IsThere (ready_of st) b.local → Covers (Advance (whole a) b r way))
-      (λ b next takes_b there. let both = alike_points types (type_at types f a) (type_at types f b) (and_parts (are_alike types (type_at types f a) (type_at types f b)) _ takes_b).0 in
-      advances_kind types f rest inputs S st k sigs n place S' a both.0 b (held_pointer b both.1 there) s r way next takes_b (iterator_single (type_at types f a) iterates)) now here ready.uses.0) right outer.0 taken
+      let points = alike_points types (type_in types f p) (type_in types f q) (and_parts (are_alike types (type_in types f p) (type_in types f q)) _ taken).0 in
+      advances_kind types f rest inputs S st k sigs n place S' p points.0 q points.1 (held_pointer q points.1 ready.uses.0) s r way right taken (iterator_single (type_in types f p) outer.0)
   step_covered (Cut p q r count) spoken right e free ready =
       let outer = and_parts (is_range (type_in types f p)) _ e in
       let taken = (and_parts (takes types (type_in types f p) (type_in types f q)) _ outer.1).0 in
-      to_pointer p (range_points (type_in types f p) outer.0) (λ a. Right (Cut a q r count) → is_range (type_in types f a) ≡ true → takes types (type_in types f a) (type_in types f q) ≡ true → Covers (Cut a q r count))
-      (λ a now ranges here. let points = alike_points types (type_at types f a) (type_in types f q) (and_parts (are_alike types (type_at types f a) (type_in types f q)) _ here).0 in
-      to_pointer q points.1 (λ b. Right (Cut (whole a) b r count) → takes types (type_at types f a) (type_in types f b) ≡ true → IsThere (ready_of st) b.local → Covers (Cut (whole a) b r count))
-      (λ b next takes_b there. let both = alike_points types (type_at types f a) (type_at types f b) (and_parts (are_alike types (type_at types f a) (type_at types f b)) _ takes_b).0 in
-      cuts_kind types f rest inputs S st k sigs n place S' a both.0 b (held_pointer b both.1 there) s r count next takes_b ranges) now here ready.uses.0) right outer.0 taken
+      let points = alike_points types (type_in types f p) (type_in types f q) (and_parts (are_alike types (type_in types f p) (type_in types f q)) _ taken).0 in
+      cuts_kind types f rest inputs S st k sigs n place S' p points.0 q points.1 (held_pointer q points.1 ready.uses.0) s r count right taken outer.0
   step_covered (Size r b) spoken right e free ready =
       let both = and_parts (is_number_of types f ty.Size r) (not (is_void (element_of types f b))) e in
       size_step r b right (number_any types f ty.Size r both.0) (not_false (is_void (element_of types f b)) both.1)
   step_covered (Same r a b equal) spoken right e free ready =
       let both = and_parts (is_number_of types f ty.Bool r) (are_compared types (type_in types f a) (type_in types f b)) e in
       let points = compared_points types (type_in types f a) (type_in types f b) both.1 in
-      to_pointer a points.0 (λ x. Right (Same r x b equal) → are_compared types (type_in types f x) (type_in types f b) ≡ true → Covers (Same r x b equal))
-      (λ x now here. to_pointer b points.1 (λ y. Right (Same r (whole x) y equal) → are_compared types (type_at types f x) (type_in types f y) ≡ true → Covers (Same r (whole x) y equal))
-      (λ y next alike. same_kind types f rest inputs S st k sigs n place S' s r x y equal next (number_any types f ty.Bool r both.0) alike) now here) right both.1
+      same_kind types f rest inputs S st k sigs n place S' s r a b equal points.0 points.1 right (number_any types f ty.Bool r both.0) both.1
   step_covered (Changes o c) spoken right e free ready =
       let both = and_parts (is_change_of types texts fs f (type_of types f o) c) (not (is_const_place types f o)) e in
       change_step types f rest inputs S st k sigs n place S' texts fs s o (not_false (is_const_place types f o) both.1) c (type_of types f o) refl right both.0
   step_covered (Make u m) spoken right e free ready =
-      right_weaker (does s types f (Make u m) st) (IsMadeBy types f rest inputs S st k sigs n place S' texts fs s u.local m) (FrameCovered types f inputs S') (make_right types f rest inputs S st k sigs n place S' texts fs s u m right e) (λ after h. h.0)
+      right_weaker (does s types f (Make u m) st) (IsMadeBy types f rest inputs S st k sigs n place S' texts fs s u m) (FrameCovered types f inputs S') (make_right types f rest inputs S st k sigs n place S' texts fs s u m right e) (λ after h. h.0)
   step_covered (Call target g xs) spoken right e free ready = absurd spoken
-  step_covered (Ports p) spoken right e free ready = port_kind types f rest inputs S st k sigs n place S' s p right (port_whole p e)
+  step_covered (Ports p) spoken right e free ready = port_kind types f rest inputs S st k sigs n place S' s p right (port_fits p e)

@@ -52,7 +52,7 @@ use Rattle.life_cover.proofs.Inside.{beneath_lesser}
 use Rattle.life_cover.proofs.KnownFrames.{IsKnownFrame, IsRight, hand_of, store_of}
 use Rattle.life_cover.proofs.Lacking.{local_whole, named_wrong}
 use Rattle.life_cover.proofs.Pointers.{OnRight}
-use Rattle.life_cover.proofs.UniquesStay.{IsOther}
+use Rattle.life_cover.proofs.OtherTypes.{IsOther, buffer_other}
 
 -- ---- types whose values have a buffer
 
@@ -120,10 +120,6 @@ module _ (types : Types) (f : Function) (rest : ℕ → ℕ) (inputs : Root → 
         type = some_same (sym v.type ∙ of.is);
       }
 
--- what has a buffer is no unique_ptr
-pub buffer_other : (types : Types) (t : Ty) (id : TyId) → slice_get types.types id.0 ≡ Some t → has_buffer t ≡ true → IsOther types id
-buffer_other types t id there buffer target unique = false≢true (sym (ap has_buffer (some_same (sym there ∙ unique))) ∙ buffer)
-
 -- ---- what is moved
 
 module _ (types : Types) (f : Function) (rest : ℕ → ℕ) (inputs : Root → Option Region) (S : Fact → Type 0) (st : State) (k : IsKnownFrame types f rest inputs S st) (sigs : List Signature) (number : ℕ) (place : Place) (S' : Fact → Type 0) (to : Operand) (y : ℕ)
@@ -164,7 +160,7 @@ module _ (types : Types) (f : Function) (rest : ℕ → ℕ) (inputs : Root → 
   }
 
   pub given_other : IsOther types id
-  given_other = buffer_other types (type_at types f y) id given_there buffer
+  given_other = buffer_other types k.ordered (type_at types f y) id given_there buffer
 
   pub given_part : IsPart types st.world.content (record { object = m; word = 0; ty = id })
   given_part q there = itself 0 id refl (ap (λ (o : Object). o.ty) (some_same (sym there ∙ given_object.there)) ∙ given_object.type)

@@ -2,6 +2,7 @@
 use Rattle.std.proofs.Common.{ℕ, ◌+◌, inr, Option, ⊎_elim, arith}
 use Rattle.life_types.specs.Types.{Types}
 use Rattle.life_core.specs.Function.{Function}
+use Rattle.life_core.specs.Operands.{Location}
 use Rattle.life_pset.specs.declared.element.Root.{Root}
 use Rattle.life_store.specs.State.{State}
 use Rattle.life_forest.specs.Forest.{whole}
@@ -14,7 +15,7 @@ use Rattle.life_cover.proofs.Behind.{IsBehind}
 use Rattle.life_cover.proofs.Inputs.{given_on}
 use Rattle.life_cover.proofs.Owning.{named_at}
 
-pub given_behind : (types : Types) (f : Function) (rest : ℕ → ℕ) (inputs : Root → Option Region) (bare over lost : ℕ → Type 0) (st after : State) → HasStore types rest st → AreGiven types f inputs (frame_foot types f inputs st.cells) st.world.content → IsBehind types f inputs bare over lost st after
+pub given_behind : (types : Types) (f : Function) (rest : ℕ → ℕ) (inputs : Root → Option Region) (bare over : ℕ → Type 0) (lost : Location → Type 0) (st after : State) → HasStore types rest st → AreGiven types f inputs (frame_foot types f inputs st.cells) st.world.content → IsBehind types f inputs bare over lost st after
     → AreGiven types f inputs (frame_foot types f inputs after.cells) after.world.content
 given_behind types f rest inputs bare over lost st after store given behind =
     given_on types f inputs (λ m. times (named_in st.cells) m + rest m) st.world.content after.world.content store.forest (frame_foot types f inputs st.cells) given (frame_foot types f inputs after.cells) behind.touch

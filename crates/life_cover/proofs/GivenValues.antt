@@ -59,23 +59,25 @@ module _ (types : Types) (c d : Content) (word : ℕ) (ty : TyId) (single : part
 
 -- ---- behind a local that is given a value
 
--- what is named was named, is what was given, or is new; a pointer is what was given, and all other cells are as they were
+-- what is named was named, is what was given, or is new; a pointer is what was given, and all other cells are as they were. An object is given as it is
 pub record IsGiven (types : Types) (bare : ℕ → Type 0) (x : ℕ) (v : Cell) (st st' : State) : Type 0 where
   pub touch : Touches (kinds_of types) no_foot st.world.content st'.world.content
   pub buffered : AreBut types bare st'.world.content
   pub named : (y n : ℕ) → slice_get st'.cells y ≡ Some (Named n) → (slice_get st.cells y ≡ Some (Named n)) ⊎ ((v ≡ Named n) ⊎ (st.world.content.births ≤ n))
   pub points : (y : ℕ) (p : Pointer) → slice_get st'.cells y ≡ Some (Points p) → ((x ≡ y) × (v ≡ Points p)) ⊎ ((x ≢ y) × (slice_get st.cells y ≡ Some (Points p)))
   pub stays : (y : ℕ) → x ≢ y → slice_get st'.cells y ≡ slice_get st.cells y
+  pub object : (m : ℕ) → v ≡ Named m → (st'.world.content ≡ st.world.content) × ((n : ℕ) → slice_get st'.cells x ≡ Some (Named n) → n ≡ m)
 
 module _ (types : Types) (ordered : IsOrdered types) (s : Setting) (x : ℕ) (v : Cell) (st : State) (bare : ℕ → Type 0) (buffered : AreBut types bare st.world.content) where
   given_cell : (new : Cell) (d : Content) → ((p : Pointer) → new ≡ Points p → v ≡ Points p) → ((n : ℕ) → new ≡ Named n → (v ≡ Named n) ⊎ (st.world.content.births ≤ n)) → Touches (kinds_of types) no_foot st.world.content d → AreBut types bare d
-      → IsGiven types bare x v st (put_cell x new (put_content d st))
-  given_cell new d point name touch kept = record {
+      → ((m : ℕ) → v ≡ Named m → (d ≡ st.world.content) × ((n : ℕ) → new ≡ Named n → n ≡ m)) → IsGiven types bare x v st (put_cell x new (put_content d st))
+  given_cell new d point name touch kept whole = record {
     touch = touch;
     buffered = kept;
     named = λ y n e. ⊎_elim (λ h. inr (name n h.1)) (λ h. inl h.1) (cell_cases st.cells x y new (Named n) e);
     points = λ y p e. ⊎_elim (λ h. inl (h.0, point p h.1)) (λ h. inr (h.0, h.1)) (cell_cases st.cells x y new (Points p) e);
     stays = λ y ne. set_other st.cells x y new ne;
+    object = λ m is. ((whole m is).0, λ n e. ⊎_elim (λ h. (whole m is).1 n h.1) (λ h. absurd (h.0 refl)) (cell_cases st.cells x x new (Named n) e));
   }
 
   nothing_touched : Touches (kinds_of types) no_foot st.world.content st.world.content
@@ -97,8 +99,8 @@ module _ (types : Types) (ordered : IsOrdered types) (s : Setting) (x : ℕ) (v 
   number_nameless z n e = cc
 
   -- an object comes to life with a value
-  object_given : (ty : TyId) → parts_at types ty ≡ Single → (z : ℤ) → OnNext (born_with s ty z x st) (IsGiven types bare x v st)
-  object_given ty single z = go (nat_lt s.given.cells (live_words_of st.world.content + (2 + 1 * 1)))
+  object_given : (ty : TyId) → parts_at types ty ≡ Single → (z : ℤ) → ((m : ℕ) → v ≡ Named m → ⊥) → OnNext (born_with s ty z x st) (IsGiven types bare x v st)
+  object_given ty single z other = go (nat_lt s.given.cells (live_words_of st.world.content + (2 + 1 * 1)))
     where
       born : AreBut types bare (with_value_object ty st.world.content)
       born =
@@ -118,7 +120,8 @@ module _ (types : Types) (ordered : IsOrdered types) (s : Setting) (x : ℕ) (v 
           (at-set_same (with_value_object ty st.world.content).objects st.world.content.births st.world.content.births _ refl) others (omega arith) (omega arith))
           (set_but types bare st.world.content.births (with_word 0 0 (word_of_number z) (resized (st.world.content.clock + 1) 1 0 (newborn ty 1 1 st.world.content.clock))) (with_value_object ty st.world.content)
           (with_object st.world.content.births (with_word 0 0 (word_of_number z) (resized (st.world.content.clock + 1) 1 0 (newborn ty 1 1 st.world.content.clock))) (with_value_object ty st.world.content))
-          (inr (single_have types (with_word 0 0 (word_of_number z) (resized (st.world.content.clock + 1) 1 0 (newborn ty 1 1 st.world.content.clock))) single)) refl born))
+          (inr (single_have types (with_word 0 0 (word_of_number z) (resized (st.world.content.clock + 1) 1 0 (newborn ty 1 1 st.world.content.clock))) single)) refl born)
+          (λ m is. absurd (other m is)))
         where
           same : {i j : ℕ} → Named i ≡ Named j → i ≡ j
           same e = cc
@@ -130,12 +133,12 @@ module _ (types : Types) (ordered : IsOrdered types) (s : Setting) (x : ℕ) (v 
               ∙ at-set_other (with_birth ty 1 1 st.world.content).objects st.world.content.births n (resized (st.world.content.clock + 1) 1 0 (newborn ty 1 1 st.world.content.clock)) ne
               ∙ at-set_other st.world.content.objects st.world.content.births n (newborn ty 1 1 st.world.content.clock) ne
 
-  number_given_to : (f : Function) (l : Local) (h : Holding) (z : ℤ) → (h ≡ AnObject → parts_at types l.ty ≡ Single) → OnNext (number_given s h l.ty z x st) (IsGiven types bare x v st)
-  number_given_to f l AnObject z single = object_given l.ty (single refl) z
-  number_given_to f l ANumber z single = given_cell (Number z) st.world.content (number_other z) (λ n e. absurd (number_nameless z n e)) nothing_touched buffered
-  number_given_to f l Blank z single = tt
-  number_given_to f l APointer z single = tt
-  number_given_to f l AView z single = tt
+  number_given_to : (f : Function) (l : Local) (h : Holding) (z : ℤ) → (h ≡ AnObject → parts_at types l.ty ≡ Single) → ((m : ℕ) → v ≡ Named m → ⊥) → OnNext (number_given s h l.ty z x st) (IsGiven types bare x v st)
+  number_given_to f l AnObject z single other = object_given l.ty (single refl) z other
+  number_given_to f l ANumber z single other = given_cell (Number z) st.world.content (number_other z) (λ n e. absurd (number_nameless z n e)) nothing_touched buffered (λ m is. absurd (other m is))
+  number_given_to f l Blank z single other = tt
+  number_given_to f l APointer z single other = tt
+  number_given_to f l AView z single other = tt
 
 -- what a slot takes is no object
 abbrev pub TakesNoSlot : Types → Function → ℕ → Cell → Type 0
@@ -146,14 +149,19 @@ value_given types ordered s f x v st bare buffered is free = by_local (slice_get
   where
     by_cell : (l : Local) → slice_get f.locals x ≡ Some l → (u : Cell) → v ≡ u → IsFilled u → OnNext (given_to s types (sort_of types f x) l.ty u x st) (IsGiven types bare x v st)
     by_cell l there Empty e h = absurd h
-    by_cell l there (Points p) e h = given_cell types ordered s x v st bare buffered (Points p) st.world.content (λ q k. e ∙ k) (λ n k. absurd (unlike n k)) (nothing_touched types ordered s x v st bare buffered) buffered
+    by_cell l there (Points p) e h = given_cell types ordered s x v st bare buffered (Points p) st.world.content (λ q k. e ∙ k) (λ n k. absurd (unlike n k)) (nothing_touched types ordered s x v st bare buffered) buffered (λ m is. absurd (unlike m (sym e ∙ is)))
       where
         unlike : (n : ℕ) → Points p ≡ Named n → ⊥
         unlike n k = cc
     by_cell l there (Number z) e h = number_given_to types ordered s x v st bare buffered f l (sort_of types f x) z (object_parts types ordered f x l there)
+        (λ m is. number_nameless types ordered s x v st bare buffered z m (sym e ∙ is))
     by_cell l there (Named n) e h =
         subst (λ (b : Bool). OnNext (cond b (slot_born s types l.ty (Some n) x st) (Next (put_cell x (Named n) st))) (IsGiven types bare x v st)) (sym (free l n there e))
-        (given_cell types ordered s x v st bare buffered (Named n) st.world.content (named_other types ordered s x v st bare buffered n) (λ m k. inl (e ∙ k)) (nothing_touched types ordered s x v st bare buffered) buffered)
+        (given_cell types ordered s x v st bare buffered (Named n) st.world.content (named_other types ordered s x v st bare buffered n) (λ m k. inl (e ∙ k)) (nothing_touched types ordered s x v st bare buffered) buffered
+        (λ m is. (refl, λ j at. one (sym at ∙ (sym e ∙ is)))))
+      where
+        one : {i j : ℕ} → Named i ≡ Named j → i ≡ j
+        one k = cc
 
     by_local : (o : Option Local) → slice_get f.locals x ≡ o → OnNext (given_if s types f o v x st) (IsGiven types bare x v st)
     by_local None e = tt

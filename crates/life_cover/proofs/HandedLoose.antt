@@ -19,7 +19,7 @@ use Rattle.life_proper.specs.GivenOver.{given_argument}
 use Rattle.life_rules.specs.Matching.{fact_at}
 use Rattle.life_store.specs.Calls.{lent}
 use Rattle.life_store.specs.Effects.{cell}
-use Rattle.life_store.specs.State.{Cell, Named, Points, State, Target, To}
+use Rattle.life_store.specs.State.{Cell, Named, State}
 use Rattle.life_store.proofs.MapLemmas.{one_or_apart}
 use Rattle.life_forest.specs.Frames.{named_in}
 use Rattle.life_forest.specs.Kinds.{kinds_of}
@@ -31,7 +31,7 @@ use Rattle.life_cover.specs.Inputs.{StandsAt, entry_inputs}
 use Rattle.life_cover.specs.Kills.{IsUnnamed}
 use Rattle.life_cover.specs.Lacking.{IsLoose, IsMovedFrom, MayLack}
 use Rattle.life_cover.specs.Regions.{Region}
-use Rattle.life_cover.proofs.Arguments.{AreSlotless, IsAimedBy}
+use Rattle.life_cover.proofs.Arguments.{AreAimedBy, AreSlotless, IsAimedBy}
 use Rattle.life_cover.proofs.CallKinds.{given_named}
 use Rattle.life_cover.proofs.CalledRight.{not_moved}
 use Rattle.life_cover.proofs.GivenInputs.{is_entered, stood}
@@ -39,15 +39,17 @@ use Rattle.life_cover.proofs.KnownFrames.{IsKnownFrame, IsRight, object_named}
 use Rattle.life_cover.proofs.Lacking.{place_held, place_moved, variable_here}
 use Rattle.life_cover.proofs.Locals.{named_unowned, two_named}
 use Rattle.life_cover.proofs.Making.{IsItsPath, fact_path}
+use Rattle.life_contract.specs.Located.{located}
+use Rattle.life_cover.proofs.PointerInputs.{in_signature}
 
 module _ (types : Types) (f : Function) (rest : ℕ → ℕ) (inputs : Root → Option Region) (S : Fact → Type 0) (st : State) (k : IsKnownFrame types f rest inputs S st) (sigs : List Signature) (number : ℕ) (place : Place) (S' : Fact → Type 0) (target : Option Location) (g : FnId) (xs : List Argument)
-    (right : IsRight sigs types number f place (Call target g xs) S S') (values : List Cell) (gf : Function) (at_g : slice_get sigs g.0 ≡ Some (signature_of gf)) (shaped : IsShaped types gf) (aims : (q : ℕ) (t : Target) → slice_get values q ≡ Some (Points (To t)) → IsAimedBy types f inputs S st xs gf q t)
+    (right : IsRight sigs types number f place (Call target g xs) S S') (values : List Cell) (gf : Function) (at_g : slice_get sigs g.0 ≡ Some (signature_of gf)) (shaped : IsShaped types gf) (aims : AreAimedBy types f inputs S st xs gf values)
     (over : (n : ℕ) → 0 < times (named_in values) n → (x : ℕ) × (cell st x ≡ Some (Named n)) × IsUnnamed S x) (slotless : AreSlotless xs) (each : HandEach types f st xs values)
     (hand : (j : ℕ) → times (named_in (lent types f xs st).cells) j + times (named_in values) j ≡ times (named_in st.cells) j) (n : ℕ) where
   -- where an input of the callee stands an argument points
   module _ (r : Root) (a : Region) (stands : StandsAt (entry_inputs types gf st.world.content values) r a) where
-    abbrev aim : IsAimedBy types f inputs S st xs gf (is_entered types gf st.world.content values r a stands).parameter (is_entered types gf st.world.content values r a stands).target
-    aim = aims (is_entered types gf st.world.content values r a stands).parameter (is_entered types gf st.world.content values r a stands).target (is_entered types gf st.world.content values r a stands).handed
+    abbrev aim : IsAimedBy types f inputs S st xs gf (is_entered types gf st.world.content values r a stands).input (is_entered types gf st.world.content values r a stands).target
+    aim = aims (is_entered types gf st.world.content values r a stands).input (is_entered types gf st.world.content values r a stands).target (is_entered types gf st.world.content values r a stands).among (is_entered types gf st.world.content values r a stands).handed
 
     -- which is to nothing that nobody comes to
     loose_elsewhere : IsLoose types inputs (named_in st.cells) st.world.content n → a.object ≢ n
@@ -58,7 +60,7 @@ module _ (types : Types) (f : Function) (rest : ℕ → ℕ) (inputs : Root → 
     -- nor to what was moved from
     moved_elsewhere : IsMovedFrom types f S st.cells n → a.object ≢ n
     moved_elsewhere moved same =
-        not_moved sigs types number f place S target g xs (signature_of gf) at_g right.clean_of_two _ aim.among (local_place aim.from) aim.place aim.argument aim.fact
+        not_moved sigs types number f place S target g xs (signature_of gf) at_g right.clean_of_two (is_entered types gf st.world.content values r a stands).input (in_signature types k.ordered gf (is_entered types gf st.world.content values r a stands).input (is_entered types gf st.world.content values r a stands).among) (located aim.from) aim.place aim.argument aim.fact
         (subst (λ (p : AbsPlace). is_variable_place types f p ≡ true) (sym there) (variable_here types f rest inputs S st k moved.local n moved.names moved.owner)) moved.cause
         (subst (λ (p : AbsPlace). S (fact_at p (element.Moved moved.cause))) (sym there) moved.holds)
       where
@@ -66,7 +68,7 @@ module _ (types : Types) (f : Function) (rest : ℕ → ℕ) (inputs : Root → 
         here = record { local = moved.local; names = moved.names ∙ ap (λ i. Some (Named i)) (sym same); owner = moved.owner; cause = moved.cause; holds = moved.holds }
 
         its : IsItsPath aim.place
-        its = fact_path types k.ordered f k.shaped k.short st.world.content st.cells (object_named types f rest inputs S st k) inputs k.given.each (local_place aim.from) aim.place (right.closed.of (fact_at (local_place aim.from) (element.At aim.place)) aim.fact)
+        its = fact_path types k.ordered f k.shaped k.short st.world.content st.cells (object_named types f rest inputs S st k) inputs k.given.each (located aim.from) aim.place (right.closed.of (fact_at (located aim.from) (element.At aim.place)) aim.fact)
 
         there : aim.place ≡ local_place moved.local
         there = place_moved types f rest inputs S st k aim.place a (stood types f rest inputs S st k sigs number place S' target g xs right values gf at_g shaped aims over r a stands) its here

@@ -7,13 +7,14 @@ use Rattle.std.specs.List.{list_any}
 use Rattle.life_types.specs.Types.{Types}
 use Rattle.life_types.specs.declared.ty.Ty.TheVariants as ty
 use Rattle.life_types.specs.declared.ty.TyId.{TyId}
-use Rattle.life_types.specs.TypeTests.{is_pointer, is_unique, is_void}
+use Rattle.life_types.specs.TypeTests.{is_pointer, is_void}
 use Rattle.life_core.specs.Function.{Function}
-use Rattle.life_core.specs.Operands.{Characters, Location, Operand, whole}
+use Rattle.life_core.specs.Operands.{Characters, Location, Operand}
 use Rattle.life_core.specs.Operands as named
 use Rattle.life_core.specs.Step.{Append, Change, Changes, Clear, Erase, PopBack, PushBack, Reserve, Set, End}
+use Rattle.life_pset.specs.Shapes.{has_buffer}
 use Rattle.life_pset.specs.declared.element.Fact.{Fact}
-use Rattle.life_proper.specs.Placed.{type_of, type_at}
+use Rattle.life_proper.specs.Placed.{type_of, type_in}
 use Rattle.life_store.specs.Births.{end_cell, end_locals, end_object}
 use Rattle.life_store.specs.Cells.{at, at-unset_same}
 use Rattle.life_store.specs.Content.{Slot, Object, Content}
@@ -46,12 +47,12 @@ use Rattle.life_cover.specs.Inputs.{StandsAt, may_change, owning}
 use Rattle.life_cover.specs.Regions.{Region, foot_of}
 use Rattle.life_pset.specs.declared.element.Root.{Root}
 use Rattle.life_cover.specs.Lacking.{MayLack}
-use Rattle.life_cover.proofs.Behind.{IsBehind, behind_content, behind_points, both_got, both_next, right_next, no_local, TellsLost}
+use Rattle.life_cover.proofs.Behind.{IsBehind, behind_content, both_got, both_next, right_next, no_local, TellsLost, no_location}
 use Rattle.life_cover.proofs.Buffering.{AllSome, cleared_buffered, ended_but, popped_buffered, without_but, but_more}
 use Rattle.life_cover.proofs.Buffers.{clear_touches, pop_touches, push_touches, reserve_touches, rewrite_touches}
-use Rattle.life_cover.proofs.EraseKinds.{erased_within}
+use Rattle.life_cover.proofs.EraseKinds.{erased_within, store_behind as erased_store}
 use Rattle.life_cover.proofs.HeldElements.{all_free, elements_shut, held, held_type, vector_operand, vector_parts, elements_region, not_bare}
-use Rattle.life_cover.proofs.KnownFrames.{IsKnownFrame, hand_of, store_of, pointer_free}
+use Rattle.life_cover.proofs.KnownFrames.{IsKnownFrame, hand_of, store_of}
 use Rattle.life_cover.proofs.Opening.{IsOpened, text_opened, vector_opened, IsTyped, owner_typed, region_part}
 use Rattle.life_cover.proofs.Reaching.{IsReached, Reach, reached, fixed, outside, astray, spot_is}
 use Rattle.life_cover.proofs.Rebuffering.{AreFree, rewritten_buffered}
@@ -61,10 +62,13 @@ use Rattle.life_cover.proofs.Sparing.{change_spares, named_spares}
 use Rattle.life_cover.proofs.EndKinds.{AreEnded, all_end, among_named, foot_among}
 use Rattle.life_cover.proofs.Lacking.{low_whole}
 use Rattle.life_cover.proofs.Locals.{locals_other}
-use Rattle.life_cover.proofs.UniquesStay.{IsOther, had_beside, had_on, reached_other}
+use Rattle.life_cover.proofs.UniquesStay.{had_beside, had_on}
+use Rattle.life_cover.proofs.OtherTypes.{IsOther, reached_other}
 use Rattle.life_cover.proofs.Putting.{set_other}
 use Rattle.std.proofs.lemmas.Bool.{false≢true}
 use Rattle.std.proofs.lemmas.Bool.Decides.{nat_tests}
+use Rattle.life_cover.proofs.PointedBehind.{pointed_behind}
+use Rattle.life_cover.proofs.SparedPointers.{owner_free, spares_reached, variable_on}
 
 -- ---- ends
 
@@ -158,16 +162,16 @@ module _ (types : Types) (f : Function) (rest : ℕ → ℕ) (inputs : Root → 
   unlike n e = cc
 
   -- none of them is named then
-  pub ends_tell : (S' : Fact → Type 0) → OnNext (does s types f (End xs) st) (TellsLost types f S' (IsAmong xs))
+  pub ends_tell : (S' : Fact → Type 0) → OnNext (does s types f (End xs) st) (TellsLost types f S' (λ l. IsAmong xs l.local))
   ends_tell S' =
-      both_next (end_locals types f xs st) (AreEnded types xs st) (AreEnded types xs st) (TellsLost types f S' (IsAmong xs)) ends ends (λ after over again x n among e unique. absurd (false≢true (sym (over.was x (Named n) e (unlike n)).1 ∙ among)))
+      both_next (end_locals types f xs st) (AreEnded types xs st) (AreEnded types xs st) (TellsLost types f S' (λ l. IsAmong xs l.local)) ends ends (λ after over again l n among e unique. absurd (false≢true (sym (over.was l.local (Named n) e (unlike n)).1 ∙ among)))
     where
       ends : OnNext (end_locals types f xs st) (AreEnded types xs st)
       ends = right_next (end_locals types f xs st) (AreEnded types xs st) (all_end types k.ordered f rest xs st k.stands)
 
-  pub ends_behind : OnNext (does s types f (End xs) st) (IsBehind types f inputs (LeftBare (MayLack types f inputs S st) xs st) (IsAmong xs) no_local st)
+  pub ends_behind : OnNext (does s types f (End xs) st) (IsBehind types f inputs (LeftBare (MayLack types f inputs S st) xs st) (IsAmong xs) no_location st)
   ends_behind =
-      both_next (end_locals types f xs st) (λ after. AreBut types (LeftBare (MayLack types f inputs S st) xs st) after.world.content) (AreEnded types xs st) (IsBehind types f inputs (LeftBare (MayLack types f inputs S st) xs st) (IsAmong xs) no_local st)
+      both_next (end_locals types f xs st) (λ after. AreBut types (LeftBare (MayLack types f inputs S st) xs st) after.world.content) (AreEnded types xs st) (IsBehind types f inputs (LeftBare (MayLack types f inputs S st) xs st) (IsAmong xs) no_location st)
       (ends_buffered types f (MayLack types f inputs S st) xs st k.buffered)
       (right_next (end_locals types f xs st) (AreEnded types xs st) (all_end types k.ordered f rest xs st k.stands))
       (λ after buffered over.
@@ -176,7 +180,7 @@ module _ (types : Types) (f : Function) (rest : ℕ → ℕ) (inputs : Root → 
         touch = named_spares types f rest inputs S st k (foot_among st.cells xs) after.world.content (λ n e. let z = among_named st.cells xs n e in in_hand st.cells z.0 n z.2) (λ m w e. false≢true e) over.touch;
         named = λ x n e. inl (in_hand st.cells x n (over.was x (Named n) e (unlike n)).0);
         kept = λ x n e. by x (list_any (λ z. nat_eq z x) xs) refl (over.stays x n e);
-        had = λ x n e unique. let was = over.was x (Named n) e (unlike n) in inr (was.0, had_on types f rest inputs S st k x n was.0 unique (foot_among st.cells xs) after.world.content over.touch (other_ended x n was.0 was.1) refl);
+        had = λ l n e unique. let was = over.was l.local (Named n) e (unlike n) in inr (was.0, had_on types f rest inputs S st k l n was.0 unique (foot_among st.cells xs) after.world.content over.touch (other_ended l.local n was.0 was.1) refl);
       })
     where
       other_ended : (x n : ℕ) → slice_get st.cells x ≡ Some (Named n) → list_any (λ z. nat_eq z x) xs ≡ false → (foot_among st.cells xs).whole n ≡ true → ⊥
@@ -211,9 +215,9 @@ module _ (types : Types) (f : Function) (rest : ℕ → ℕ) (inputs : Root → 
   abbrev pub IsEdited : Content → Type 0
   IsEdited d = AreBut types (MayLack types f inputs S st) d × Touches (kinds_of types) (foot_of types r.region) st.world.content d
 
-  edited_behind : (own : owning types f r.place.root ≡ true) (other : IsOther types r.region.ty) (d : Content) → IsEdited d → IsBehind types f inputs (MayLack types f inputs S st) no_local no_local st (put_content d st)
+  edited_behind : (own : owning types f r.place.root ≡ true) (other : IsOther types r.region.ty) (d : Content) → IsEdited d → IsBehind types f inputs (MayLack types f inputs S st) no_local no_location st (put_content d st)
   edited_behind own other d h =
-      behind_content types f inputs (MayLack types f inputs S st) no_local no_local st d h.0 (change_spares types f rest inputs S st k o r own d h.1) (λ x n e unique. inr (had_beside types f rest inputs S st k r.region (region_part types f rest inputs S st k o r) other d h.1 x n e unique))
+      behind_content types f inputs (MayLack types f inputs S st) no_local no_location st d h.0 (change_spares types f rest inputs S st k o r own d h.1) (λ x n e unique. inr (had_beside types f rest inputs S st k r.region (region_part types f rest inputs S st k o r) other d h.1 x n e unique))
 
   within : LiesWithin types r.holder.ty r.region.word r.region.ty
   within = region_within types f rest inputs S st k o r
@@ -223,30 +227,30 @@ module _ (types : Types) (f : Function) (rest : ℕ → ℕ) (inputs : Root → 
 
   module _ (own : owning types f r.place.root ≡ true) (other : IsOther types r.region.ty) (b : ℕ) (owned : owned_at st.world.content (record { object = r.region.object; index = r.index; word = r.region.word }) ≡ Some b) where
     edit_next : (p : Parts) (edit : Edit) → IfGot (edited s p (record { object = r.region.object; index = r.index; word = r.region.word }) b edit st.world.content) IsEdited
-        → OnNext (edits s p (record { object = r.region.object; index = r.index; word = r.region.word }) edit st) (IsBehind types f inputs (MayLack types f inputs S st) no_local no_local st)
+        → OnNext (edits s p (record { object = r.region.object; index = r.index; word = r.region.word }) edit st) (IsBehind types f inputs (MayLack types f inputs S st) no_local no_location st)
     edit_next p edit h =
-        subst (λ w. OnNext (on_got (got_or w (GotFault fault.Moved)) go) (IsBehind types f inputs (MayLack types f inputs S st) no_local no_local st)) (sym owned)
-        (on_got_next (edited s p (record { object = r.region.object; index = r.index; word = r.region.word }) b edit st.world.content) (λ d. Next (put_content d st)) IsEdited (IsBehind types f inputs (MayLack types f inputs S st) no_local no_local st) h (edited_behind own other))
+        subst (λ w. OnNext (on_got (got_or w (GotFault fault.Moved)) go) (IsBehind types f inputs (MayLack types f inputs S st) no_local no_location st)) (sym owned)
+        (on_got_next (edited s p (record { object = r.region.object; index = r.index; word = r.region.word }) b edit st.world.content) (λ d. Next (put_content d st)) IsEdited (IsBehind types f inputs (MayLack types f inputs S st) no_local no_location st) h (edited_behind own other))
       where
         go : ℕ → Effect
         go m = on_got (edited s p (record { object = r.region.object; index = r.index; word = r.region.word }) m edit st.world.content) (λ d. Next (put_content d st))
 
-  no_edit : (p : Parts) (edit : Edit) → ((b : ℕ) → edited s p (record { object = r.region.object; index = r.index; word = r.region.word }) b edit st.world.content ≡ GotLost) → OnNext (edits s p (record { object = r.region.object; index = r.index; word = r.region.word }) edit st) (IsBehind types f inputs (MayLack types f inputs S st) no_local no_local st)
+  no_edit : (p : Parts) (edit : Edit) → ((b : ℕ) → edited s p (record { object = r.region.object; index = r.index; word = r.region.word }) b edit st.world.content ≡ GotLost) → OnNext (edits s p (record { object = r.region.object; index = r.index; word = r.region.word }) edit st) (IsBehind types f inputs (MayLack types f inputs S st) no_local no_location st)
   no_edit p edit lost =
-      on_got_each (buffer_of st.world.content (record { object = r.region.object; index = r.index; word = r.region.word })) (λ b. on_got (edited s p (record { object = r.region.object; index = r.index; word = r.region.word }) b edit st.world.content) (λ d. Next (put_content d st))) (IsBehind types f inputs (MayLack types f inputs S st) no_local no_local st)
-      (λ b. subst (λ (x : Attempt Content). OnNext (on_got x (λ d. Next (put_content d st))) (IsBehind types f inputs (MayLack types f inputs S st) no_local no_local st)) (sym (lost b)) tt)
+      on_got_each (buffer_of st.world.content (record { object = r.region.object; index = r.index; word = r.region.word })) (λ b. on_got (edited s p (record { object = r.region.object; index = r.index; word = r.region.word }) b edit st.world.content) (λ d. Next (put_content d st))) (IsBehind types f inputs (MayLack types f inputs S st) no_local no_location st)
+      (λ b. subst (λ (x : Attempt Content). OnNext (on_got x (λ d. Next (put_content d st))) (IsBehind types f inputs (MayLack types f inputs S st) no_local no_location st)) (sym (lost b)) tt)
 
-  pub by_change : (over : ℕ → Type 0) (p : Parts) → operand_parts types f o ≡ p → (change : Change) → OnNext (changed s types f p (record { object = r.region.object; index = r.index; word = r.region.word }) change st) (IsBehind types f inputs (MayLack types f inputs S st) over no_local st) → OnNext (does s types f (Changes o change) st) (IsBehind types f inputs (MayLack types f inputs S st) over no_local st)
+  pub by_change : (over : ℕ → Type 0) (p : Parts) → operand_parts types f o ≡ p → (change : Change) → OnNext (changed s types f p (record { object = r.region.object; index = r.index; word = r.region.word }) change st) (IsBehind types f inputs (MayLack types f inputs S st) over no_location st) → OnNext (does s types f (Changes o change) st) (IsBehind types f inputs (MayLack types f inputs S st) over no_location st)
   by_change over p is change h =
-      subst (λ e. OnNext e (IsBehind types f inputs (MayLack types f inputs S st) over no_local st)) (sym (spot_is types f st (StandsAt inputs) (may_change types f) S o r (λ sp. changed s types f (operand_parts types f o) sp change st)))
-      (subst (λ q. OnNext (changed s types f q (record { object = r.region.object; index = r.index; word = r.region.word }) change st) (IsBehind types f inputs (MayLack types f inputs S st) over no_local st)) (sym is) h)
+      subst (λ e. OnNext e (IsBehind types f inputs (MayLack types f inputs S st) over no_location st)) (sym (spot_is types f st (StandsAt inputs) (may_change types f) S o r (λ sp. changed s types f (operand_parts types f o) sp change st)))
+      (subst (λ q. OnNext (changed s types f q (record { object = r.region.object; index = r.index; word = r.region.word }) change st) (IsBehind types f inputs (MayLack types f inputs S st) over no_location st)) (sym is) h)
 
   -- a number, or no value, is added
-  by_number : (p : Parts) (x : ℕ) → ((m : ℕ) → cell st x ≡ Some (Named m) → ⊥) → ((z : ℤ) → OnNext (edits s p (record { object = r.region.object; index = r.index; word = r.region.word }) (Push (λ c. (word_of_number z ∷ [], c))) st) (IsBehind types f inputs (MayLack types f inputs S st) no_local no_local st))
-      → OnNext (pushes s types f p (record { object = r.region.object; index = r.index; word = r.region.word }) x (cell st x) st) (IsBehind types f inputs (MayLack types f inputs S st) no_local no_local st)
+  by_number : (p : Parts) (x : ℕ) → ((m : ℕ) → cell st x ≡ Some (Named m) → ⊥) → ((z : ℤ) → OnNext (edits s p (record { object = r.region.object; index = r.index; word = r.region.word }) (Push (λ c. (word_of_number z ∷ [], c))) st) (IsBehind types f inputs (MayLack types f inputs S st) no_local no_location st))
+      → OnNext (pushes s types f p (record { object = r.region.object; index = r.index; word = r.region.word }) x (cell st x) st) (IsBehind types f inputs (MayLack types f inputs S st) no_local no_location st)
   by_number p x free each = go (cell st x) refl
     where
-      go : (v : Option Cell) → cell st x ≡ v → OnNext (pushes s types f p (record { object = r.region.object; index = r.index; word = r.region.word }) x v st) (IsBehind types f inputs (MayLack types f inputs S st) no_local no_local st)
+      go : (v : Option Cell) → cell st x ≡ v → OnNext (pushes s types f p (record { object = r.region.object; index = r.index; word = r.region.word }) x v st) (IsBehind types f inputs (MayLack types f inputs S st) no_local no_location st)
       go None e = tt
       go (Some Empty) e = tt
       go (Some (Points q)) e = tt
@@ -274,7 +278,7 @@ module _ (types : Types) (f : Function) (rest : ℕ → ℕ) (inputs : Root → 
     text_at = text_opened types f rest inputs S st k o r unmoved is_text
 
     text_other : IsOther types r.region.ty
-    text_other = reached_other types f rest inputs S st k o r (ap is_void is_text) (ap is_unique is_text)
+    text_other = reached_other types f rest inputs S st k o r (ap is_void is_text) (ap has_buffer is_text)
 
     text_rewritten : (words : List ℕ) → IfGot (rewritten s (characters_type types) (record { object = r.region.object; index = r.index; word = r.region.word }) text_at.buffer words st.world.content) IsEdited
     text_rewritten words =
@@ -284,20 +288,20 @@ module _ (types : Types) (f : Function) (rest : ℕ → ℕ) (inputs : Root → 
 
     text_edit : (edit : Edit) (words : List ℕ) → edited s (Text (characters_type types)) (record { object = r.region.object; index = r.index; word = r.region.word }) text_at.buffer edit st.world.content
         ≡ rewritten s (characters_type types) (record { object = r.region.object; index = r.index; word = r.region.word }) text_at.buffer words st.world.content
-        → OnNext (edits s (Text (characters_type types)) (record { object = r.region.object; index = r.index; word = r.region.word }) edit st) (IsBehind types f inputs (MayLack types f inputs S st) no_local no_local st)
+        → OnNext (edits s (Text (characters_type types)) (record { object = r.region.object; index = r.index; word = r.region.word }) edit st) (IsBehind types f inputs (MayLack types f inputs S st) no_local no_location st)
     text_edit edit words is = edit_next own text_other text_at.buffer text_at.owned (Text (characters_type types)) edit (subst (λ (x : Attempt Content). IfGot x IsEdited) (sym is) (text_rewritten words))
 
-    text_changed : (change : Change) → ((x : ℕ) → change ≡ PushBack x → (m : ℕ) → cell st x ≡ Some (Named m) → ⊥) → OnNext (changed s types f (Text (characters_type types)) (record { object = r.region.object; index = r.index; word = r.region.word }) change st) (IsBehind types f inputs (MayLack types f inputs S st) no_local no_local st)
+    text_changed : (change : Change) → ((x : ℕ) → change ≡ PushBack x → (m : ℕ) → cell st x ≡ Some (Named m) → ⊥) → OnNext (changed s types f (Text (characters_type types)) (record { object = r.region.object; index = r.index; word = r.region.word }) change st) (IsBehind types f inputs (MayLack types f inputs S st) no_local no_location st)
     text_changed (PushBack x) free = by_number (Text (characters_type types)) x (free x refl) (λ z. text_edit (Push (λ c. (word_of_number z ∷ [], c))) (characters_of st.world.content text_at.buffer ++ (word_of_number z ∷ [])) refl)
     text_changed PopBack free = no_edit (Text (characters_type types)) Pop (λ b. refl)
     text_changed Clear free = text_edit ClearAll [] refl
-    text_changed (Reserve n) free = on_number_next (cell st n) (λ z. edits s (Text (characters_type types)) (record { object = r.region.object; index = r.index; word = r.region.word }) (Room (cast_unsigned w64 z)) st) (IsBehind types f inputs (MayLack types f inputs S st) no_local no_local st) (λ z. no_edit (Text (characters_type types)) (Room (cast_unsigned w64 z)) (λ b. refl))
-    text_changed (Erase from into) free = on_got_each (iterator st.world.content (location_cell types f from st)) (λ v. erases types f (Text (characters_type types)) (record { object = r.region.object; index = r.index; word = r.region.word }) v into st) (IsBehind types f inputs (MayLack types f inputs S st) no_local no_local st) (λ v. tt)
-    text_changed (Set given) free = given_next given (λ ws. edits s (Text (characters_type types)) (record { object = r.region.object; index = r.index; word = r.region.word }) (Put ws) st) (IsBehind types f inputs (MayLack types f inputs S st) no_local no_local st) (λ ws. text_edit (Put ws) ws refl)
+    text_changed (Reserve n) free = on_number_next (cell st n) (λ z. edits s (Text (characters_type types)) (record { object = r.region.object; index = r.index; word = r.region.word }) (Room (cast_unsigned w64 z)) st) (IsBehind types f inputs (MayLack types f inputs S st) no_local no_location st) (λ z. no_edit (Text (characters_type types)) (Room (cast_unsigned w64 z)) (λ b. refl))
+    text_changed (Erase from into) free = on_got_each (iterator st.world.content (location_cell types f from st)) (λ v. erases types f (Text (characters_type types)) (record { object = r.region.object; index = r.index; word = r.region.word }) v into st) (IsBehind types f inputs (MayLack types f inputs S st) no_local no_location st) (λ v. tt)
+    text_changed (Set given) free = given_next given (λ ws. edits s (Text (characters_type types)) (record { object = r.region.object; index = r.index; word = r.region.word }) (Put ws) st) (IsBehind types f inputs (MayLack types f inputs S st) no_local no_location st) (λ ws. text_edit (Put ws) ws refl)
     text_changed (Append given) free =
-        given_next given (λ ws. edits s (Text (characters_type types)) (record { object = r.region.object; index = r.index; word = r.region.word }) (Add ws) st) (IsBehind types f inputs (MayLack types f inputs S st) no_local no_local st) (λ ws. text_edit (Add ws) (characters_of st.world.content text_at.buffer ++ ws) refl)
+        given_next given (λ ws. edits s (Text (characters_type types)) (record { object = r.region.object; index = r.index; word = r.region.word }) (Add ws) st) (IsBehind types f inputs (MayLack types f inputs S st) no_local no_location st) (λ ws. text_edit (Add ws) (characters_of st.world.content text_at.buffer ++ ws) refl)
 
-    pub text_behind : (change : Change) → ((x : ℕ) → change ≡ PushBack x → (m : ℕ) → cell st x ≡ Some (Named m) → ⊥) → OnNext (does s types f (Changes o change) st) (IsBehind types f inputs (MayLack types f inputs S st) no_local no_local st)
+    pub text_behind : (change : Change) → ((x : ℕ) → change ≡ PushBack x → (m : ℕ) → cell st x ≡ Some (Named m) → ⊥) → OnNext (does s types f (Changes o change) st) (IsBehind types f inputs (MayLack types f inputs S st) no_local no_location st)
     text_behind change free = by_change no_local (Text (characters_type types)) (text_operand is_text) change (text_changed change free)
 
   -- ---- a vector
@@ -307,7 +311,7 @@ module _ (types : Types) (f : Function) (rest : ℕ → ℕ) (inputs : Root → 
     vector_at = vector_opened types f rest inputs S st k o r unmoved element is_vector
 
     vector_other : IsOther types r.region.ty
-    vector_other = reached_other types f rest inputs S st k o r (ap is_void is_vector) (ap is_unique is_vector)
+    vector_other = reached_other types f rest inputs S st k o r (ap is_void is_vector) (ap has_buffer is_vector)
 
     abbrev parts_are : parts_at types r.region.ty ≡ Vector element (parts_at types element)
     parts_are = vector_parts types f rest inputs S st k o r element is_vector
@@ -329,7 +333,7 @@ module _ (types : Types) (f : Function) (rest : ℕ → ℕ) (inputs : Root → 
         (reserve_touches types k.ordered (hand_of rest st) st.world.content (store_of types f rest inputs S st k) r.region.object r.index r.region.word r.region.ty r.holder r.there within r.small element (parts_at types element) parts_are vector_at.buffer vector_at.owned s count)
 
     module _ (single : parts_at types element ≡ Single) where
-      vector_pushed : (z : ℤ) → OnNext (edits s (Vector element Single) (record { object = r.region.object; index = r.index; word = r.region.word }) (Push (λ c. (word_of_number z ∷ [], c))) st) (IsBehind types f inputs (MayLack types f inputs S st) no_local no_local st)
+      vector_pushed : (z : ℤ) → OnNext (edits s (Vector element Single) (record { object = r.region.object; index = r.index; word = r.region.word }) (Push (λ c. (word_of_number z ∷ [], c))) st) (IsBehind types f inputs (MayLack types f inputs S st) no_local no_location st)
       vector_pushed z =
           edit_next own vector_other vector_at.buffer vector_at.owned (Vector element Single) (Push (λ c. (word_of_number z ∷ [], c)))
           (both_got (pushed s element Single (record { object = r.region.object; index = r.index; word = r.region.word }) vector_at.buffer (λ c. (word_of_number z ∷ [], c)) st.world.content) (AreBut types (MayLack types f inputs S st)) (Touches (kinds_of types) (foot_of types r.region) st.world.content)
@@ -337,27 +341,29 @@ module _ (types : Types) (f : Function) (rest : ℕ → ℕ) (inputs : Root → 
           (push_touches types k.ordered (hand_of rest st) st.world.content (store_of types f rest inputs S st k) r.region.object r.index r.region.word r.region.ty r.holder r.there within r.small element Single
           (parts_are ∙ ap (Vector element) single) vector_at.buffer vector_at.owned s (word_of_number z ∷ []) refl (λ j. refl)))
 
-    -- what is given the position of an erased element is a local, and to a vector of objects none is added
+    -- what is given the position of an erased element is a pointer, and to a vector of objects none is added
     abbrev pub IsKept : Change → Type 0
-    IsKept (Erase from into) = (whole into.local ≡ into) × (is_pointer (type_at types f into.local) ≡ true)
+    IsKept (Erase from into) = is_pointer (type_in types f into) ≡ true
     IsKept (PushBack x) = (parts_at types element ≡ Single) × ((m : ℕ) → cell st x ≡ Some (Named m) → ⊥)
     IsKept _ = Unit {0}
 
-    vector_erased : (v : Pointer) (into : Location) → (whole into.local ≡ into) × (is_pointer (type_at types f into.local) ≡ true) → OnNext (erases types f (Vector element (parts_at types element)) (record { object = r.region.object; index = r.index; word = r.region.word }) v into st) (IsBehind types f inputs (MayLack types f inputs S st) no_local no_local st)
-    vector_erased v into is =
-        subst (λ (l : Location). OnNext (erases types f (Vector element (parts_at types element)) (record { object = r.region.object; index = r.index; word = r.region.word }) v l st) (IsBehind types f inputs (MayLack types f inputs S st) no_local no_local st)) is.0
-        (subst (λ w. OnNext (on_got (got_or w (GotFault fault.Moved)) at_buffer) (IsBehind types f inputs (MayLack types f inputs S st) no_local no_local st)) (sym vector_at.owned)
-        (on_got_next (erasable st.world.content vector_at.buffer v) (λ i. at_element vector_at.buffer i) (λ i. i < size_of st.world.content vector_at.buffer) (IsBehind types f inputs (MayLack types f inputs S st) no_local no_local st) (erasable_below st.world.content vector_at.buffer v)
+    vector_erased : (v : Pointer) (into : Location) → is_pointer (type_in types f into) ≡ true → OnNext (erases types f (Vector element (parts_at types element)) (record { object = r.region.object; index = r.index; word = r.region.word }) v into st) (IsBehind types f inputs (MayLack types f inputs S st) no_local no_location st)
+    vector_erased v into pointer =
+        subst (λ w. OnNext (on_got (got_or w (GotFault fault.Moved)) at_buffer) (IsBehind types f inputs (MayLack types f inputs S st) no_local no_location st)) (sym vector_at.owned)
+        (on_got_next (erasable st.world.content vector_at.buffer v) (λ i. at_element vector_at.buffer i) (λ i. i < size_of st.world.content vector_at.buffer) (IsBehind types f inputs (MayLack types f inputs S st) no_local no_location st) (erasable_below st.world.content vector_at.buffer v)
         (λ i small.
-        behind_points types f inputs (MayLack types f inputs S st) no_local no_local st into.local (pointer_free types f rest inputs S st k into.local is.1) (pointer_to (erased (parts_at types element) vector_at.buffer i st.world.content) vector_at.buffer i 0) (erased (parts_at types element) vector_at.buffer i st.world.content)
-        (elements_shut types f rest inputs S st k o r element is_vector unmoved i small).buffers
-        (change_spares types f rest inputs S st k o r own (erased (parts_at types element) vector_at.buffer i st.world.content)
-        (erased_within types k.ordered (hand_of rest st) st.world.content (store_of types f rest inputs S st k) r.region.object r.index r.region.word r.region.ty r.holder r.there within r.small element parts_are vector_at.buffer vector_at.owned i small))
-        (λ x n e unique. inr (had_beside types f rest inputs S st k r.region (region_part types f rest inputs S st k o r) vector_other (erased (parts_at types element) vector_at.buffer i st.world.content)
-        (erased_within types k.ordered (hand_of rest st) st.world.content (store_of types f rest inputs S st k) r.region.object r.index r.region.word r.region.ty r.holder r.there within r.small element parts_are vector_at.buffer vector_at.owned i small) x n e unique)))))
+        pointed_behind types f rest inputs S st k (MayLack types f inputs S st) (erased (parts_at types element) vector_at.buffer i st.world.content) (elements_shut types f rest inputs S st k o r element is_vector unmoved i small).buffers
+        (change_spares types f rest inputs S st k o r own (erased (parts_at types element) vector_at.buffer i st.world.content) (inside i small))
+        (erased_store types k.ordered (hand_of rest st) st.world.content (store_of types f rest inputs S st k) r.region.object r.index r.region.word r.region.ty r.holder r.there within r.small element parts_are vector_at.buffer vector_at.owned i small)
+        (λ x n e. variable_on types f rest inputs S st k (foot_of types r.region) (spares_reached types f rest inputs S st k o r (owner_free types f rest inputs S st k r.region.ty element vector_at.type)) (erased (parts_at types element) vector_at.buffer i st.world.content) (inside i small) x n e)
+        (λ x n e unique. inr (had_beside types f rest inputs S st k r.region (region_part types f rest inputs S st k o r) vector_other (erased (parts_at types element) vector_at.buffer i st.world.content) (inside i small) x n e unique))
+        into pointer (pointer_to (erased (parts_at types element) vector_at.buffer i st.world.content) vector_at.buffer i 0)))
       where
+        inside : (i : ℕ) → i < size_of st.world.content vector_at.buffer → Touches (kinds_of types) (foot_of types r.region) st.world.content (erased (parts_at types element) vector_at.buffer i st.world.content)
+        inside i small = erased_within types k.ordered (hand_of rest st) st.world.content (store_of types f rest inputs S st k) r.region.object r.index r.region.word r.region.ty r.holder r.there within r.small element parts_are vector_at.buffer vector_at.owned i small
+
         at_element : (b i : ℕ) → Effect
-        at_element b i = pointed types f (whole into.local) (pointer_to (erased (parts_at types element) b i st.world.content) b i 0) (put_content (erased (parts_at types element) b i st.world.content) st)
+        at_element b i = pointed types f into (pointer_to (erased (parts_at types element) b i st.world.content) b i 0) (put_content (erased (parts_at types element) b i st.world.content) st)
 
         at_buffer : ℕ → Effect
         at_buffer b = on_got (erasable st.world.content b v) (λ i. at_element b i)
@@ -378,19 +384,19 @@ module _ (types : Types) (f : Function) (rest : ℕ → ℕ) (inputs : Root → 
       clear_touches types k.ordered (hand_of rest st) st.world.content (store_of types f rest inputs S st k) r.region.object r.index r.region.word r.region.ty r.holder r.there within r.small element (parts_at types element) parts_are vector_at.buffer vector_at.owned,
     )
 
-    vector_changed : (change : Change) → IsKept change → OnNext (changed s types f (Vector element (parts_at types element)) (record { object = r.region.object; index = r.index; word = r.region.word }) change st) (IsBehind types f inputs (MayLack types f inputs S st) no_local no_local st)
+    vector_changed : (change : Change) → IsKept change → OnNext (changed s types f (Vector element (parts_at types element)) (record { object = r.region.object; index = r.index; word = r.region.word }) change st) (IsBehind types f inputs (MayLack types f inputs S st) no_local no_location st)
     vector_changed (PushBack x) kept =
-        subst (λ (p : Parts). OnNext (pushes s types f (Vector element p) (record { object = r.region.object; index = r.index; word = r.region.word }) x (cell st x) st) (IsBehind types f inputs (MayLack types f inputs S st) no_local no_local st)) (sym kept.0) (by_number (Vector element Single) x kept.1 (vector_pushed kept.0))
+        subst (λ (p : Parts). OnNext (pushes s types f (Vector element p) (record { object = r.region.object; index = r.index; word = r.region.word }) x (cell st x) st) (IsBehind types f inputs (MayLack types f inputs S st) no_local no_location st)) (sym kept.0) (by_number (Vector element Single) x kept.1 (vector_pushed kept.0))
     vector_changed PopBack kept = edit_next own vector_other vector_at.buffer vector_at.owned (Vector element (parts_at types element)) Pop vector_popped
     vector_changed Clear kept = edit_next own vector_other vector_at.buffer vector_at.owned (Vector element (parts_at types element)) ClearAll vector_cleared
     vector_changed (Reserve n) kept =
-        on_number_next (cell st n) (λ z. edits s (Vector element (parts_at types element)) (record { object = r.region.object; index = r.index; word = r.region.word }) (Room (cast_unsigned w64 z)) st) (IsBehind types f inputs (MayLack types f inputs S st) no_local no_local st)
+        on_number_next (cell st n) (λ z. edits s (Vector element (parts_at types element)) (record { object = r.region.object; index = r.index; word = r.region.word }) (Room (cast_unsigned w64 z)) st) (IsBehind types f inputs (MayLack types f inputs S st) no_local no_location st)
         (λ z. edit_next own vector_other vector_at.buffer vector_at.owned (Vector element (parts_at types element)) (Room (cast_unsigned w64 z)) (vector_reserved (cast_unsigned w64 z)))
-    vector_changed (Erase from into) kept = on_got_each (iterator st.world.content (location_cell types f from st)) (λ v. erases types f (Vector element (parts_at types element)) (record { object = r.region.object; index = r.index; word = r.region.word }) v into st) (IsBehind types f inputs (MayLack types f inputs S st) no_local no_local st) (λ v. vector_erased v into kept)
+    vector_changed (Erase from into) kept = on_got_each (iterator st.world.content (location_cell types f from st)) (λ v. erases types f (Vector element (parts_at types element)) (record { object = r.region.object; index = r.index; word = r.region.word }) v into st) (IsBehind types f inputs (MayLack types f inputs S st) no_local no_location st) (λ v. vector_erased v into kept)
     vector_changed (Set given) kept =
-        given_next given (λ ws. edits s (Vector element (parts_at types element)) (record { object = r.region.object; index = r.index; word = r.region.word }) (Put ws) st) (IsBehind types f inputs (MayLack types f inputs S st) no_local no_local st) (λ ws. no_edit (Vector element (parts_at types element)) (Put ws) (λ b. refl))
+        given_next given (λ ws. edits s (Vector element (parts_at types element)) (record { object = r.region.object; index = r.index; word = r.region.word }) (Put ws) st) (IsBehind types f inputs (MayLack types f inputs S st) no_local no_location st) (λ ws. no_edit (Vector element (parts_at types element)) (Put ws) (λ b. refl))
     vector_changed (Append given) kept =
-        given_next given (λ ws. edits s (Vector element (parts_at types element)) (record { object = r.region.object; index = r.index; word = r.region.word }) (Add ws) st) (IsBehind types f inputs (MayLack types f inputs S st) no_local no_local st) (λ ws. no_edit (Vector element (parts_at types element)) (Add ws) (λ b. refl))
+        given_next given (λ ws. edits s (Vector element (parts_at types element)) (record { object = r.region.object; index = r.index; word = r.region.word }) (Add ws) st) (IsBehind types f inputs (MayLack types f inputs S st) no_local no_location st) (λ ws. no_edit (Vector element (parts_at types element)) (Add ws) (λ b. refl))
 
-    pub vector_behind : (change : Change) → IsKept change → OnNext (does s types f (Changes o change) st) (IsBehind types f inputs (MayLack types f inputs S st) no_local no_local st)
+    pub vector_behind : (change : Change) → IsKept change → OnNext (does s types f (Changes o change) st) (IsBehind types f inputs (MayLack types f inputs S st) no_local no_location st)
     vector_behind change kept = by_change no_local (Vector element (parts_at types element)) (vector_operand types f rest inputs S st k o r element is_vector) change (vector_changed change kept)

@@ -1,10 +1,10 @@
 -- Where a number is saved, a value is copied, or a local comes to life, in a frame, each vector and each string has its buffer; and what
 -- is touched lies beneath what the frame names.
-use Rattle.std.proofs.Common.{◌≡◌, inr, ℕ, zero, suc, ◌+◌, ◌*◌, Bool, true, false, List, [], ◌∷◌, Option, Some, None, refl, sym, ap, subst, ◌∙◌, ◌≤◌, arith, length, ◌≢◌, ◌<◌}
+use Rattle.std.proofs.Common.{◌≡◌, ⊎_elim, inr, ℕ, zero, suc, ◌+◌, ◌*◌, Bool, true, false, List, [], ◌∷◌, Option, Some, None, refl, sym, ap, subst, ◌∙◌, ◌≤◌, arith, length, ◌≢◌, ◌<◌}
 use Rattle.std.proofs.lemmas.Bool.{false≢true}
-use Rattle.std.specs.Prelude.{ℤ, cond, nat_lt, slice_get, if◌then◌else◌, slice_index}
-use Rattle.life_types.specs.TypeTests.{is_pointer, is_unique, is_value, is_void}
-use Rattle.life_types.specs.Trees.{holds_owner, IsOrdered}
+use Rattle.std.specs.Prelude.{ℤ, cond, nat_lt, not, slice_get, slice_index}
+use Rattle.life_types.specs.TypeTests.{is_value, is_void}
+use Rattle.life_types.specs.Trees.{IsOrdered, holds_unique}
 use Rattle.life_types.specs.Types.{Types, class}
 use Rattle.life_types.specs.declared.ty.Ty.{Ty}
 use Rattle.life_types.specs.declared.ty.Ty.TheVariants as ty
@@ -14,7 +14,7 @@ use Rattle.life_core.specs.declared.program.Local.{Local}
 use Rattle.life_core.specs.declared.program.LocalKind.{LocalKind}
 use Rattle.life_core.specs.Function.{Function}
 use Rattle.life_core.specs.Holdings.{Holding, Blank, AnObject, ANumber, APointer, AView, held_by, held_if, sort_of}
-use Rattle.life_core.specs.Operands.{Operand, whole}
+use Rattle.life_core.specs.Operands.{Location, Operand, whole}
 use Rattle.life_core.specs.Operands as named
 use Rattle.life_core.specs.Step.{Copy, Live, Save}
 use Rattle.life_pset.specs.Shapes as shapes
@@ -46,25 +46,25 @@ use Rattle.life_forest.proofs.Laying.{parts_made}
 use Rattle.life_forest.proofs.StandingChanges.{on_number_next}
 use Rattle.life_cover.specs.Buffered.{AreBut, is_buffer_at}
 use Rattle.life_cover.specs.Frames.{RootStands}
-use Rattle.life_cover.specs.Inputs.{may_change, StandsAt}
+use Rattle.life_cover.specs.Inputs.{may_change, owning, StandsAt}
 use Rattle.life_cover.specs.Lacking.{IsUnmoved, MayLack}
 use Rattle.life_cover.specs.Regions.{Lies, Region}
 use Rattle.life_cover.proofs.Buffering.{birth_but, set_but, single_have, Have, but_more, but_one}
-use Rattle.life_cover.proofs.CopyKinds.{IsCopyable, copy_right, into_parts, reached_holds, IsWritten, single_written, copied_single}
+use Rattle.life_cover.proofs.CopyKinds.{IsWritten, copy_right, into_parts, owned_or_single, single_written}
+use Rattle.life_cover.proofs.SingleParts.{AreSingle}
 use Rattle.life_cover.proofs.PutWords.{wrote_but}
 use Rattle.life_cover.proofs.Lacking.{local_whole}
 use Rattle.life_cover.proofs.Opening.{region_part}
-use Rattle.life_cover.proofs.UniquesStay.{had_beside, had_nothing, reached_other}
+use Rattle.life_cover.proofs.UniquesStay.{had_beside, had_nothing}
+use Rattle.life_cover.proofs.OtherTypes.{copied_other}
 use Rattle.life_cover.proofs.KnownFrames.{IsKnownFrame, IsRight, hand_of, store_of, solid_type, buffer_memberless}
 use Rattle.life_cover.proofs.Reaching.{IsReached, Reach, reached, fixed, outside, astray}
 use Rattle.life_cover.proofs.Recopying.{born_buffered, replaced_buffered, replaced_one}
 use Rattle.life_cover.proofs.SaveKinds.{value_there, saved_touches}
-use Rattle.life_cover.proofs.Behind.{IsBehind, behind_cell, behind_content, behind_pointer, both_got, right_next, no_local, behind_more}
+use Rattle.life_cover.proofs.Behind.{IsBehind, behind_cell, behind_content, behind_pointer, both_got, right_next, no_local, behind_more, no_location}
 use Rattle.life_cover.proofs.Sparing.{nothing_spares, change_spares}
 use Rattle.life_cover.proofs.Births.{IsNew, owner_new, value_touches}
 use Rattle.life_cover.proofs.Unkilled.{no_foot}
-use Rattle.life_cover.proofs.Unkept.{reached_owning}
-use Rattle.life_rules.specs.Keeping.{kept_through}
 use Rattle.life_contract.specs.Signatures.{Signature}
 use Rattle.life_contract.specs.Located.{located}
 use Rattle.life_types.specs.declared.place.Place.{Place}
@@ -96,19 +96,19 @@ module _ (types : Types) (f : Function) (rest : ℕ → ℕ) (inputs : Root → 
             absurd (false≢true (sym (part_words types k.ordered x.ty r.region.word r.region.ty (region_part types f rest inputs S st k o r x there) 0 (let one = ap width single in omega (arith, one)) ∙ ap (λ (q : Parts). is_buffer_at q 0) single) ∙ e))
         none x there (suc j) lt e = absurd (omega (arith, lt))
 
-    found_saved : Reach types f st (StandsAt inputs) (may_change types f) S o → (z : ℤ) → OnNext (on_found (locate types f o st) (λ n i object. Next (saved z n i (operand_word types f o st) object st))) (IsBehind types f inputs (MayLack types f inputs S st) no_local no_local st)
+    found_saved : Reach types f st (StandsAt inputs) (may_change types f) S o → (z : ℤ) → OnNext (on_found (locate types f o st) (λ n i object. Next (saved z n i (operand_word types f o st) object st))) (IsBehind types f inputs (MayLack types f inputs S st) no_local no_location st)
     found_saved (reached r) z =
-        subst (λ found. OnNext (on_found found (λ n i object. Next (saved z n i (operand_word types f o st) object st))) (IsBehind types f inputs (MayLack types f inputs S st) no_local no_local st)) (sym r.found)
-        (subst (λ w. IsBehind types f inputs (MayLack types f inputs S st) no_local no_local st (put_content (with_object r.region.object (with_word r.index w (word_of_number z) r.holder) st.world.content) st)) (sym r.word)
-        (behind_content types f inputs (MayLack types f inputs S st) no_local no_local st (with_object r.region.object (with_word r.index r.region.word (word_of_number z) r.holder) st.world.content) (saved_buffered r (word_of_number z))
+        subst (λ found. OnNext (on_found found (λ n i object. Next (saved z n i (operand_word types f o st) object st))) (IsBehind types f inputs (MayLack types f inputs S st) no_local no_location st)) (sym r.found)
+        (subst (λ w. IsBehind types f inputs (MayLack types f inputs S st) no_local no_location st (put_content (with_object r.region.object (with_word r.index w (word_of_number z) r.holder) st.world.content) st)) (sym r.word)
+        (behind_content types f inputs (MayLack types f inputs S st) no_local no_location st (with_object r.region.object (with_word r.index r.region.word (word_of_number z) r.holder) st.world.content) (saved_buffered r (word_of_number z))
         (nothing_spares types f rest inputs S st k (with_object r.region.object (with_word r.index r.region.word (word_of_number z) r.holder) st.world.content) (saved_touches types f rest inputs S st k o r value (word_of_number z)))
         (λ x n e unique. inr (had_nothing types f rest inputs S st k (with_object r.region.object (with_word r.index r.region.word (word_of_number z) r.holder) st.world.content) (saved_touches types f rest inputs S st k o r value (word_of_number z)) x n e unique))))
-    found_saved (fixed c e single) z = subst (λ found. OnNext (on_found found (λ n i object. Next (saved z n i (operand_word types f o st) object st))) (IsBehind types f inputs (MayLack types f inputs S st) no_local no_local st)) (sym e) tt
-    found_saved (outside e) z = subst (λ found. OnNext (on_found found (λ n i object. Next (saved z n i (operand_word types f o st) object st))) (IsBehind types f inputs (MayLack types f inputs S st) no_local no_local st)) (sym e) tt
-    found_saved (astray e) z = subst (λ found. OnNext (on_found found (λ n i object. Next (saved z n i (operand_word types f o st) object st))) (IsBehind types f inputs (MayLack types f inputs S st) no_local no_local st)) (sym e) tt
+    found_saved (fixed c e single) z = subst (λ found. OnNext (on_found found (λ n i object. Next (saved z n i (operand_word types f o st) object st))) (IsBehind types f inputs (MayLack types f inputs S st) no_local no_location st)) (sym e) tt
+    found_saved (outside e) z = subst (λ found. OnNext (on_found found (λ n i object. Next (saved z n i (operand_word types f o st) object st))) (IsBehind types f inputs (MayLack types f inputs S st) no_local no_location st)) (sym e) tt
+    found_saved (astray e) z = subst (λ found. OnNext (on_found found (λ n i object. Next (saved z n i (operand_word types f o st) object st))) (IsBehind types f inputs (MayLack types f inputs S st) no_local no_location st)) (sym e) tt
 
-    pub save_behind : Reach types f st (StandsAt inputs) (may_change types f) S o → (q : ℕ) → OnNext (does s types f (Save o q) st) (IsBehind types f inputs (MayLack types f inputs S st) no_local no_local st)
-    save_behind reach q = on_number_next (cell st q) (λ z. on_found (locate types f o st) (λ n i object. Next (saved z n i (operand_word types f o st) object st))) (IsBehind types f inputs (MayLack types f inputs S st) no_local no_local st) (found_saved reach)
+    pub save_behind : Reach types f st (StandsAt inputs) (may_change types f) S o → (q : ℕ) → OnNext (does s types f (Save o q) st) (IsBehind types f inputs (MayLack types f inputs S st) no_local no_location st)
+    save_behind reach q = on_number_next (cell st q) (λ z. on_found (locate types f o st) (λ n i object. Next (saved z n i (operand_word types f o st) object st))) (IsBehind types f inputs (MayLack types f inputs S st) no_local no_location st) (found_saved reach)
 
   -- a local that is written by its name isn't bare
   abbrev pub CopiedBare : Operand → ℕ → Type 0
@@ -152,10 +152,6 @@ module _ (types : Types) (f : Function) (rest : ℕ → ℕ) (inputs : Root → 
           but_more types (MayLack types f inputs S st) (CopiedBare (named.Name l)) after.world.content
           (λ j lacks. (lacks, λ named. local_whole types f rest inputs S st k l.local j named (never m ms e) lacks)) h
 
-pub copyable_other : (t : Ty) → IsCopyable t → is_unique t ≡ false
-copyable_other (ty.Unique target) can = absurd can
-copyable_other _ can = refl
-
 -- .. and what is touched is what is owned there
 module _ (types : Types) (f : Function) (rest : ℕ → ℕ) (inputs : Root → Option Region) (S : Fact → Type 0) (st : State) (k : IsKnownFrame types f rest inputs S st) (sigs : List Signature) (n : ℕ) (place : Place) (S' : Fact → Type 0) (s : Setting) (to from : Operand)
     (free : is_const_place types f to ≡ false) (right : IsRight sigs types n f place (Copy to from) S S') (solid_to : is_void (type_of types f to) ≡ false) (solid_from : is_void (type_of types f from) ≡ false) (alike : type_of types f to ≡ type_of types f from) where
@@ -195,24 +191,25 @@ module _ (types : Types) (f : Function) (rest : ℕ → ℕ) (inputs : Root → 
       first_wide w [] t h e = absurd (none_some e)
       first_wide w (x ∷ xs) t h e = subst (λ (y : Slot). length y.words ≡ w) (some_same e) h.0
 
-  pub copy_behind : is_pointer (type_of types f to) ≡ false → IsCopyable (type_of types f to) → OnNext (does s types f (Copy to from) st) (IsBehind types f inputs (CopiedBare types f rest inputs S st k to s to) no_local no_local st)
-  copy_behind pointer can =
-      right_next (does s types f (Copy to from) st) (IsBehind types f inputs (CopiedBare types f rest inputs S st k to s to) no_local no_local st)
-      (copy_right types f rest inputs S st k sigs n place S' s to from free right solid_to solid_from alike (IsBehind types f inputs (CopiedBare types f rest inputs S st k to s to) no_local no_local st)
-      (λ r v written. by_holds r v written (holds_owner (tree_if types (shapes.operand_type types f to))) refl))
+  pub copy_behind : not (holds_unique (tree_if types (shapes.operand_type types f to))) ≡ true → OnNext (does s types f (Copy to from) st) (IsBehind types f inputs (CopiedBare types f rest inputs S st k to s to) no_local no_location st)
+  copy_behind can =
+      right_next (does s types f (Copy to from) st) (IsBehind types f inputs (CopiedBare types f rest inputs S st k to s to) no_local no_location st)
+      (copy_right types f rest inputs S st k sigs n place S' s to from free right solid_to solid_from alike (IsBehind types f inputs (CopiedBare types f rest inputs S st k to s to) no_local no_location st)
+      (λ r v written. ⊎_elim (λ own. by_owner r v written own) (λ single. by_values r v written single) (owned_or_single types f rest inputs S st k sigs n place S' s to from free right solid_to solid_from alike r)))
     where
-      by_holds : (r : IsReached types f st (StandsAt inputs) (may_change types f) S to) (v : Words) → IsWritten types f rest inputs S st k sigs n place S' s to from free right solid_to solid_from alike r v → (b : Bool) → holds_owner (tree_if types (shapes.operand_type types f to)) ≡ b
-          → IsBehind types f inputs (CopiedBare types f rest inputs S st k to s to) no_local no_local st (put_content (replaced (operand_parts types f to) (record { object = r.region.object; index = r.index; word = r.region.word }) v) st)
-      by_holds r v written true owns =
-          behind_content types f inputs (CopiedBare types f rest inputs S st k to s to) no_local no_local st (replaced (operand_parts types f to) (record { object = r.region.object; index = r.index; word = r.region.word }) v) (copy_buffered r v written)
-          (change_spares types f rest inputs S st k to r
-          (reached_owning sigs types n f place (Copy to from) S right.clean to (λ x. ap (λ b. if b then kept_through types n f place x to else []) owns) k.ordered inputs st k.given.each r (r.change free) (reached_holds types f rest inputs S st k sigs n place S' s to from free right solid_to solid_from alike r owns))
-          (replaced (operand_parts types f to) (record { object = r.region.object; index = r.index; word = r.region.word }) v) written.touches)
-          (λ x j e unique. inr (had_beside types f rest inputs S st k r.region (region_part types f rest inputs S st k to r) (reached_other types f rest inputs S st k to r solid_to (copyable_other (type_of types f to) can))
+      by_owner : (r : IsReached types f st (StandsAt inputs) (may_change types f) S to) (v : Words) → IsWritten types f rest inputs S st k sigs n place S' s to from free right solid_to solid_from alike r v → owning types f r.place.root ≡ true
+          → IsBehind types f inputs (CopiedBare types f rest inputs S st k to s to) no_local no_location st (put_content (replaced (operand_parts types f to) (record { object = r.region.object; index = r.index; word = r.region.word }) v) st)
+      by_owner r v written own =
+          behind_content types f inputs (CopiedBare types f rest inputs S st k to s to) no_local no_location st (replaced (operand_parts types f to) (record { object = r.region.object; index = r.index; word = r.region.word }) v) (copy_buffered r v written)
+          (change_spares types f rest inputs S st k to r own (replaced (operand_parts types f to) (record { object = r.region.object; index = r.index; word = r.region.word }) v) written.touches)
+          (λ x j e unique. inr (had_beside types f rest inputs S st k r.region (region_part types f rest inputs S st k to r) (copied_other types f rest inputs S st k to r solid_to can)
           (replaced (operand_parts types f to) (record { object = r.region.object; index = r.index; word = r.region.word }) v) written.touches x j e unique))
-      by_holds r v written false owns =
-          let touch = single_written types f rest inputs S st k sigs n place S' s to from free right solid_to solid_from alike r v written (copied_single types f rest inputs S st k sigs n place S' s to from free right solid_to solid_from alike pointer can owns) in
-          behind_content types f inputs (CopiedBare types f rest inputs S st k to s to) no_local no_local st (replaced (operand_parts types f to) (record { object = r.region.object; index = r.index; word = r.region.word }) v) (copy_buffered r v written)
+
+      by_values : (r : IsReached types f st (StandsAt inputs) (may_change types f) S to) (v : Words) → IsWritten types f rest inputs S st k sigs n place S' s to from free right solid_to solid_from alike r v → AreSingle (operand_parts types f to)
+          → IsBehind types f inputs (CopiedBare types f rest inputs S st k to s to) no_local no_location st (put_content (replaced (operand_parts types f to) (record { object = r.region.object; index = r.index; word = r.region.word }) v) st)
+      by_values r v written single =
+          let touch = single_written types f rest inputs S st k sigs n place S' s to from free right solid_to solid_from alike r v written single in
+          behind_content types f inputs (CopiedBare types f rest inputs S st k to s to) no_local no_location st (replaced (operand_parts types f to) (record { object = r.region.object; index = r.index; word = r.region.word }) v) (copy_buffered r v written)
           (nothing_spares types f rest inputs S st k (replaced (operand_parts types f to) (record { object = r.region.object; index = r.index; word = r.region.word }) v) touch)
           (λ x j e unique. inr (had_nothing types f rest inputs S st k (replaced (operand_parts types f to) (record { object = r.region.object; index = r.index; word = r.region.word }) v) touch x j e unique))
 
@@ -252,24 +249,24 @@ object_parts types ordered f x l there object = parts_made types ordered l.ty �
 module _ (types : Types) (f : Function) (rest : ℕ → ℕ) (inputs : Root → Option Region) (S : Fact → Type 0) (st : State) (k : IsKnownFrame types f rest inputs S st) (s : Setting) (x : ℕ) (form : Form) where
   module _ (empty : (n : ℕ) → slice_get st.cells x ≡ Some (Named n) → ⊥) where
     -- where only a new object came
-    new_behind : (m : ℕ) (d : Content) → st.world.content.births ≤ m → AreBut types (MayLack types f inputs S st) d → Touches (kinds_of types) no_foot st.world.content d → IsBehind types f inputs (MayLack types f inputs S st) no_local (λ y. x ≡ y) st (put_cell x (Named m) (put_content d st))
-    new_behind m d new buffered touch = behind_cell types f inputs (MayLack types f inputs S st) no_local (λ y. x ≡ y) st x empty (Named m) d (λ n e. (subst (λ j. st.world.content.births ≤ j) (same e) new, λ unique. refl)) buffered (nothing_spares types f rest inputs S st k d touch)
+    new_behind : (m : ℕ) (d : Content) → st.world.content.births ≤ m → AreBut types (MayLack types f inputs S st) d → Touches (kinds_of types) no_foot st.world.content d → IsBehind types f inputs (MayLack types f inputs S st) no_local (λ (l : Location). x ≡ l.local) st (put_cell x (Named m) (put_content d st))
+    new_behind m d new buffered touch = behind_cell types f inputs (MayLack types f inputs S st) no_local (λ (l : Location). x ≡ l.local) st x empty (Named m) d (λ n e. (subst (λ j. st.world.content.births ≤ j) (same e) new, λ l here unique. here)) buffered (nothing_spares types f rest inputs S st k d touch)
         (λ y n ne e unique. inr (had_nothing types f rest inputs S st k d touch y n e unique))
       where
         same : {i j : ℕ} → Named i ≡ Named j → i ≡ j
         same e = cc
 
-    owner_born : (ty : TyId) → OnNext (born_owner s ty (parts_at types ty) form x st) (IsBehind types f inputs (MayLack types f inputs S st) no_local (λ y. x ≡ y) st)
+    owner_born : (ty : TyId) → OnNext (born_owner s ty (parts_at types ty) form x st) (IsBehind types f inputs (MayLack types f inputs S st) no_local (λ (l : Location). x ≡ l.local) st)
     owner_born ty =
-        on_got_next (object_with s ty (parts_at types ty) (fresh s form (parts_at types ty)) st.world.content) (λ b. Next (put_cell x (Named b.0) (put_content b.1 st))) (λ b. AreBut types (MayLack types f inputs S st) b.1 × IsNew types st.world.content b) (IsBehind types f inputs (MayLack types f inputs S st) no_local (λ y. x ≡ y) st)
+        on_got_next (object_with s ty (parts_at types ty) (fresh s form (parts_at types ty)) st.world.content) (λ b. Next (put_cell x (Named b.0) (put_content b.1 st))) (λ b. AreBut types (MayLack types f inputs S st) b.1 × IsNew types st.world.content b) (IsBehind types f inputs (MayLack types f inputs S st) no_local (λ (l : Location). x ≡ l.local) st)
         (both_got (object_with s ty (parts_at types ty) (fresh s form (parts_at types ty)) st.world.content) (λ b. AreBut types (MayLack types f inputs S st) b.1) (IsNew types st.world.content)
         (born_buffered types k.ordered s (MayLack types f inputs S st) form ty st.world.content k.buffered) (owner_new types k.ordered (hand_of rest st) st.world.content (store_of types f rest inputs S st k) ty s form))
         (λ b h. new_behind b.0 b.1 h.1.0 h.0 h.1.1)
 
-    value_born : (ty : TyId) → parts_at types ty ≡ Single → OnNext (born_object s ty x st) (IsBehind types f inputs (MayLack types f inputs S st) no_local (λ y. x ≡ y) st)
+    value_born : (ty : TyId) → parts_at types ty ≡ Single → OnNext (born_object s ty x st) (IsBehind types f inputs (MayLack types f inputs S st) no_local (λ (l : Location). x ≡ l.local) st)
     value_born ty single = if_room (nat_lt s.given.cells (live_words_of st.world.content + (2 + 1 * 1)))
       where
-        if_room : (b : Bool) → OnNext (cond b (Traps trap.Cells) (Next (put_cell x (Named st.world.content.births) (put_content (with_value_object ty st.world.content) st)))) (IsBehind types f inputs (MayLack types f inputs S st) no_local (λ y. x ≡ y) st)
+        if_room : (b : Bool) → OnNext (cond b (Traps trap.Cells) (Next (put_cell x (Named st.world.content.births) (put_content (with_value_object ty st.world.content) st)))) (IsBehind types f inputs (MayLack types f inputs S st) no_local (λ (l : Location). x ≡ l.local) st)
         if_room true = tt
         if_room false =
             new_behind st.world.content.births (with_value_object ty st.world.content) (omega arith)
@@ -277,29 +274,29 @@ module _ (types : Types) (f : Function) (rest : ℕ → ℕ) (inputs : Root → 
             (inr (single_have types (resized (st.world.content.clock + 1) 1 0 (newborn ty 1 1 st.world.content.clock)) single)) refl (birth_but types (MayLack types f inputs S st) ty 1 1 st.world.content k.buffered))
             (value_touches types k.ordered (hand_of rest st) st.world.content (store_of types f rest inputs S st k) ty)
 
-    of_parts : (ty : TyId) (p : Parts) → parts_at types ty ≡ p → OnNext (live_of s ty p form x st) (IsBehind types f inputs (MayLack types f inputs S st) no_local (λ y. x ≡ y) st)
+    of_parts : (ty : TyId) (p : Parts) → parts_at types ty ≡ p → OnNext (live_of s ty p form x st) (IsBehind types f inputs (MayLack types f inputs S st) no_local (λ (l : Location). x ≡ l.local) st)
     of_parts ty Single e = tt
     of_parts ty Raw e = tt
-    of_parts ty Iterates e = behind_pointer types f inputs (MayLack types f inputs S st) no_local (λ y. x ≡ y) st k.buffered x empty Wild
-    of_parts ty Views e = behind_pointer types f inputs (MayLack types f inputs S st) no_local (λ y. x ≡ y) st k.buffered x empty empty_view
-    of_parts ty (Text id) e = subst (λ (p : Parts). OnNext (born_owner s ty p form x st) (IsBehind types f inputs (MayLack types f inputs S st) no_local (λ y. x ≡ y) st)) e (owner_born ty)
-    of_parts ty (Vector id element) e = subst (λ (p : Parts). OnNext (born_owner s ty p form x st) (IsBehind types f inputs (MayLack types f inputs S st) no_local (λ y. x ≡ y) st)) e (owner_born ty)
-    of_parts ty (Unique id target) e = subst (λ (p : Parts). OnNext (born_owner s ty p form x st) (IsBehind types f inputs (MayLack types f inputs S st) no_local (λ y. x ≡ y) st)) e (owner_born ty)
-    of_parts ty (Member first others) e = subst (λ (p : Parts). OnNext (born_owner s ty p form x st) (IsBehind types f inputs (MayLack types f inputs S st) no_local (λ y. x ≡ y) st)) e (owner_born ty)
+    of_parts ty Iterates e = behind_pointer types f inputs (MayLack types f inputs S st) no_local (λ (l : Location). x ≡ l.local) st k.buffered x empty Wild
+    of_parts ty Views e = behind_pointer types f inputs (MayLack types f inputs S st) no_local (λ (l : Location). x ≡ l.local) st k.buffered x empty empty_view
+    of_parts ty (Text id) e = subst (λ (p : Parts). OnNext (born_owner s ty p form x st) (IsBehind types f inputs (MayLack types f inputs S st) no_local (λ (l : Location). x ≡ l.local) st)) e (owner_born ty)
+    of_parts ty (Vector id element) e = subst (λ (p : Parts). OnNext (born_owner s ty p form x st) (IsBehind types f inputs (MayLack types f inputs S st) no_local (λ (l : Location). x ≡ l.local) st)) e (owner_born ty)
+    of_parts ty (Unique id target) e = subst (λ (p : Parts). OnNext (born_owner s ty p form x st) (IsBehind types f inputs (MayLack types f inputs S st) no_local (λ (l : Location). x ≡ l.local) st)) e (owner_born ty)
+    of_parts ty (Member first others) e = subst (λ (p : Parts). OnNext (born_owner s ty p form x st) (IsBehind types f inputs (MayLack types f inputs S st) no_local (λ (l : Location). x ≡ l.local) st)) e (owner_born ty)
     of_parts ty NoMember e = tt
 
-    as_held : (h : Holding) (ty : TyId) → (h ≡ AnObject → parts_at types ty ≡ Single) → OnNext (live_as s types h ty form x st) (IsBehind types f inputs (MayLack types f inputs S st) no_local (λ y. x ≡ y) st)
+    as_held : (h : Holding) (ty : TyId) → (h ≡ AnObject → parts_at types ty ≡ Single) → OnNext (live_as s types h ty form x st) (IsBehind types f inputs (MayLack types f inputs S st) no_local (λ (l : Location). x ≡ l.local) st)
     as_held Blank ty single = of_parts ty (parts_at types ty) refl
     as_held AnObject ty single = value_born ty (single refl)
     as_held ANumber ty single = tt
-    as_held APointer ty single = behind_pointer types f inputs (MayLack types f inputs S st) no_local (λ y. x ≡ y) st k.buffered x empty (born_pointer form)
-    as_held AView ty single = behind_pointer types f inputs (MayLack types f inputs S st) no_local (λ y. x ≡ y) st k.buffered x empty empty_view
+    as_held APointer ty single = behind_pointer types f inputs (MayLack types f inputs S st) no_local (λ (l : Location). x ≡ l.local) st k.buffered x empty (born_pointer form)
+    as_held AView ty single = behind_pointer types f inputs (MayLack types f inputs S st) no_local (λ (l : Location). x ≡ l.local) st k.buffered x empty empty_view
 
-  over_cell : (v : Option Cell) → slice_get st.cells x ≡ v → (h : Holding) (ty : TyId) → (h ≡ AnObject → parts_at types ty ≡ Single) → OnNext (live_over s types v h ty form x st) (IsBehind types f inputs (ReplacedBare types f rest inputs S st x) no_local (λ y. x ≡ y) st)
+  over_cell : (v : Option Cell) → slice_get st.cells x ≡ v → (h : Holding) (ty : TyId) → (h ≡ AnObject → parts_at types ty ≡ Single) → OnNext (live_over s types v h ty form x st) (IsBehind types f inputs (ReplacedBare types f rest inputs S st x) no_local (λ (l : Location). x ≡ l.local) st)
   over_cell None e h ty single = tt
-  over_cell (Some Empty) e h ty single = next_more (live_as s types h ty form x st) (IsBehind types f inputs (MayLack types f inputs S st) no_local (λ y. x ≡ y) st) (IsBehind types f inputs (ReplacedBare types f rest inputs S st x) no_local (λ y. x ≡ y) st)
+  over_cell (Some Empty) e h ty single = next_more (live_as s types h ty form x st) (IsBehind types f inputs (MayLack types f inputs S st) no_local (λ (l : Location). x ≡ l.local) st) (IsBehind types f inputs (ReplacedBare types f rest inputs S st x) no_local (λ (l : Location). x ≡ l.local) st)
       (as_held (λ n named. unlike n (some_same (sym e ∙ named))) h ty single)
-      (λ after. behind_more types f inputs (MayLack types f inputs S st) no_local (λ y. x ≡ y) (ReplacedBare types f rest inputs S st x) no_local (λ y. x ≡ y) st after (λ n b. (b, λ named. unlike n (some_same (sym e ∙ named)))) (λ y none. none) (λ y same. same))
+      (λ after. behind_more types f inputs (MayLack types f inputs S st) no_local (λ (l : Location). x ≡ l.local) (ReplacedBare types f rest inputs S st x) no_local (λ (l : Location). x ≡ l.local) st after (λ n b. (b, λ named. unlike n (some_same (sym e ∙ named)))) (λ y none. none) (λ y same. same))
     where
       unlike : (n : ℕ) → Empty ≡ Named n → ⊥
       unlike n is = cc
@@ -307,11 +304,11 @@ module _ (types : Types) (f : Function) (rest : ℕ → ℕ) (inputs : Root → 
   over_cell (Some (Number z)) e h ty single = tt
   over_cell (Some (Points p)) e h ty single = tt
 
-  pub live_behind : OnNext (does s types f (Live x form) st) (IsBehind types f inputs (ReplacedBare types f rest inputs S st x) no_local (λ y. x ≡ y) st)
+  pub live_behind : OnNext (does s types f (Live x form) st) (IsBehind types f inputs (ReplacedBare types f rest inputs S st x) no_local (λ (l : Location). x ≡ l.local) st)
   live_behind = by_local (slice_get f.locals x) refl
     where
-      by_local : (o : Option Local) → slice_get f.locals x ≡ o → OnNext (live_local s types f (slice_get f.locals x) form x st) (IsBehind types f inputs (ReplacedBare types f rest inputs S st x) no_local (λ y. x ≡ y) st)
-      by_local None e = subst (λ (o : Option Local). OnNext (live_local s types f o form x st) (IsBehind types f inputs (ReplacedBare types f rest inputs S st x) no_local (λ y. x ≡ y) st)) (sym e) tt
+      by_local : (o : Option Local) → slice_get f.locals x ≡ o → OnNext (live_local s types f (slice_get f.locals x) form x st) (IsBehind types f inputs (ReplacedBare types f rest inputs S st x) no_local (λ (l : Location). x ≡ l.local) st)
+      by_local None e = subst (λ (o : Option Local). OnNext (live_local s types f o form x st) (IsBehind types f inputs (ReplacedBare types f rest inputs S st x) no_local (λ (l : Location). x ≡ l.local) st)) (sym e) tt
       by_local (Some l) e =
-          subst (λ (o : Option Local). OnNext (live_local s types f o form x st) (IsBehind types f inputs (ReplacedBare types f rest inputs S st x) no_local (λ y. x ≡ y) st)) (sym e)
+          subst (λ (o : Option Local). OnNext (live_local s types f o form x st) (IsBehind types f inputs (ReplacedBare types f rest inputs S st x) no_local (λ (l : Location). x ≡ l.local) st)) (sym e)
           (over_cell (cell st x) refl (sort_of types f x) l.ty (object_parts types k.ordered f x l e))

@@ -4,21 +4,20 @@ use Rattle.std.specs.Prelude.{ℤ, Contains, cond, not, slice_get}
 use Rattle.std.specs.List.{flat_map}
 use Rattle.std.proofs.lemmas.Bool.{and_parts, false≢true}
 use Rattle.std.proofs.lemmas.List.Elements.{Contains-append_left}
-use Rattle.life_types.specs.Pointees.{or_void, pointee}
-use Rattle.life_types.specs.Trees.{IsOrdered, members_at}
-use Rattle.life_types.specs.TypeTests.{is_pointer, is_value, is_void}
+use Rattle.life_types.specs.Pointees.{pointee}
+use Rattle.life_types.specs.Trees.{IsOrdered}
+use Rattle.life_types.specs.TypeTests.{is_pointer, is_unique, is_value, is_void}
 use Rattle.life_types.specs.Types.{HasEachOnce, Types}
 use Rattle.life_types.specs.declared.place.Place.{Place}
 use Rattle.life_types.specs.declared.ty.Ty.{Ty}
 use Rattle.life_types.specs.declared.ty.Ty.TheVariants as ty
 use Rattle.life_types.specs.declared.ty.TyId.{TyId}
 use Rattle.life_core.specs.Function.{Function}
-use Rattle.life_core.specs.Operands.{Location, Operand, whole}
+use Rattle.life_core.specs.Operands.{Location, Operand}
 use Rattle.life_core.specs.Operands as named
 use Rattle.life_core.specs.Step.{Step}
-use Rattle.life_pset.specs.Elements.{AreShort, elements_of, local_place}
-use Rattle.life_pset.specs.Shapes.{has_buffer, member_of, member_type, members_type, operand_type, ty_if}
-use Rattle.life_pset.specs.Shapes as shapes
+use Rattle.life_pset.specs.Elements.{AreShort, elements_of}
+use Rattle.life_pset.specs.Shapes.{has_buffer, member_of, members_type, operand_type, ty_if}
 use Rattle.life_pset.specs.Table.{IsOf, table_of}
 use Rattle.life_pset.specs.declared.element.Element.{Element}
 use Rattle.life_pset.specs.declared.element.Element.TheVariants as element
@@ -41,7 +40,8 @@ use Rattle.life_rules.specs.declared.diag.Why.{Why}
 use Rattle.life_rules.specs.declared.diag.Why.TheVariants as why
 use Rattle.life_rules.proofs.Giving.{at_head, flat_map_into}
 use Rattle.life_store.specs.Effects.{cell}
-use Rattle.life_store.specs.Parts.{local_type, members_if, operand_type as meant_type}
+use Rattle.life_store.specs.Parts.{location_type, operand_type as meant_type}
+use Rattle.life_store.specs.Places.{location_cell}
 use Rattle.life_store.specs.State.{Named, Number, State}
 use Rattle.life_forest.proofs.CopiedTypes.{LocalsStand}
 use Rattle.life_forest.specs.FrameTypes.{Stands}
@@ -54,35 +54,35 @@ use Rattle.life_forest.proofs.ReadyCells.{pointer_no_object}
 use Rattle.life_forest.proofs.SeenTypes.{pointee_points}
 use Rattle.life_forest.proofs.Shaped.{IsShaped}
 use Rattle.life_forest.proofs.Slots.{register_only}
-use Rattle.life_forest.proofs.TypedSteps.{if_there, operand_same}
+use Rattle.life_forest.proofs.TypedSteps.{PointersAim, if_there, operand_same}
 use Rattle.life_cover.specs.Buffered.{AreBut}
 use Rattle.life_cover.specs.Frames.{FrameCovered, RootStands}
 use Rattle.life_cover.specs.Inputs.{AreGiven, StandsAt, frame_foot, may_change, owning}
 use Rattle.life_cover.specs.Kills.{Closed, IsUnnamed}
 use Rattle.life_cover.specs.Uniques.{UniquesTold}
 use Rattle.life_cover.specs.Lacking.{IsUnmoved, MayLack}
-use Rattle.life_cover.specs.Members.{HaveUntoldMembers, is_untold}
 use Rattle.life_cover.specs.Regions.{Region}
 use Rattle.life_cover.specs.Roots.{AreRooted}
-use Rattle.life_cover.proofs.SingleParts.{pointer_alone}
 use Rattle.life_cover.proofs.Inputs.{frame_rooted}
 use Rattle.life_cover.proofs.Making.{fact_path}
 use Rattle.life_cover.proofs.MemberReach.{named_further, through_further}
+use Rattle.life_cover.proofs.MemberWords.{is_pointing}
 use Rattle.life_cover.proofs.PointerKinds.{IsClean, IsCleanOfTwo}
 use Rattle.life_cover.proofs.Reaching.{Reach, named_reach, through_reach, unranged_target}
 use Rattle.life_cover.proofs.Using.{NotInvalid}
 
--- the types of its locals may stand, the frame stands, each cell is of its local's sort, its inputs stand apart, the facts cover its pointers, and each vector and each string has its buffer, but for locals that
--- facts say were moved from, and what other frames name
+-- the types of its locals may stand, the frame stands, each cell is of its local's sort, its inputs stand apart, the facts
+-- cover its pointers, and each vector and each string has its buffer, but for locals that facts say were moved from, and
+-- what other frames name
 pub record IsKnownFrame (types : Types) (f : Function) (rest : ℕ → ℕ) (inputs : Root → Option Region) (S : Fact → Type 0) (st : State) : Type 0 where
   pub ordered : IsOrdered types
   pub once : HasEachOnce types
-  pub untold : HaveUntoldMembers types
   pub shaped : IsShaped types f
   pub stand : LocalsStand types ordered f
   pub short : AreShort (elements_of types f)
   pub stands : Stands types f rest st
   pub poised : IsPoised types f st
+  pub aims : PointersAim types f st
   pub given : AreGiven types f inputs (frame_foot types f inputs st.cells) st.world.content
   pub covered : FrameCovered types f inputs S st
   pub buffered : AreBut types (MayLack types f inputs S st) st.world.content
@@ -121,62 +121,41 @@ used_right sigs types n f place i S clean p used = record { valid = λ cause s. 
         x : Fact
         x = fact_at (located p) e
 
--- ---- what facts speak of is no member
+-- ---- what is no struct has no members
 
-module _ (types : Types) (untold : HaveUntoldMembers types) where
+module _ (types : Types) (is_sort : Ty → Bool) (unstructured : (number : ℕ) → is_sort (ty.Struct number) ≡ false) where
   void_members : (ms : List ℕ) → members_type types None ms ≡ None
   void_members [] = refl
   void_members (m ∷ ms) = void_members ms
 
-  member_untold : (id : Option TyId) (m : ℕ) → is_untold (ty_if types (member_type types id m)) ≡ true
-  member_untold None m = refl
-  member_untold (Some id) m = go (slice_get types.types id.0) refl
+  sort_memberless : (id : Option TyId) (ms : List ℕ) → is_sort (ty_if types id) ≡ true → is_void (ty_if types (members_type types id ms)) ≡ false → ms ≡ []
+  sort_memberless id [] sort solid = refl
+  sort_memberless id (m ∷ ms) sort solid = absurd (false≢true (sym solid ∙ ap (λ (i : Option TyId). is_void (ty_if types i)) (ap (λ (i : Option TyId). members_type types i ms) (none (ty_if types id) sort) ∙ void_members ms)))
     where
-      of_member : (number : ℕ) → slice_get types.types id.0 ≡ Some (ty.Struct number) → (o : Option TyId) → slice_get (members_at types number) m ≡ o → is_untold (ty_if types o) ≡ true
-      of_member number there None e = refl
-      of_member number there (Some part) e = untold id part m (ap (λ (t : Option Ty). slice_get (members_if types t) m) there ∙ e)
-
-      go : (t : Option Ty) → slice_get types.types id.0 ≡ t → is_untold (ty_if types (member_of types (or_void t) m)) ≡ true
-      go (Some (ty.Struct number)) there = of_member number there (slice_get (members_at types number) m) refl
-      go None there = refl
-      go (Some _) there = refl
-
-  members_untold : (ms : List ℕ) (id : Option TyId) (m : ℕ) → is_untold (ty_if types (members_type types id (m ∷ ms))) ≡ true
-  members_untold [] id m = member_untold id m
-  members_untold (n ∷ ms) id m = members_untold ms (member_type types id m) n
-
-  pub whole_type : (id : Option TyId) (ms : List ℕ) → is_untold (ty_if types (members_type types id ms)) ≡ false → ms ≡ []
-  whole_type id [] alone = refl
-  whole_type id (m ∷ ms) alone = absurd (false≢true (sym alone ∙ members_untold ms id m))
-
-  -- and it has none
-  pub memberless : (id : Option TyId) (ms : List ℕ) → is_untold (ty_if types id) ≡ false → is_void (ty_if types (members_type types id ms)) ≡ false → ms ≡ []
-  memberless id [] alone solid = refl
-  memberless id (m ∷ ms) alone solid = absurd (false≢true (sym solid ∙ ap (λ (i : Option TyId). is_void (ty_if types i)) (ap (λ (i : Option TyId). members_type types i ms) (none (ty_if types id) alone) ∙ void_members ms)))
-    where
-      none : (t : Ty) → is_untold t ≡ false → member_of types t m ≡ None
-      none (ty.Struct number) e = absurd (false≢true (sym e))
+      none : (t : Ty) → is_sort t ≡ true → member_of types t m ≡ None
+      none (ty.Struct number) e = absurd (false≢true (sym (unstructured number) ∙ e))
       none _ e = refl
 
-  -- a location of such a type is a local
-  pub whole_location : (f : Function) (l : Location) → is_untold (type_in types f l) ≡ false → whole l.local ≡ l
-  whole_location f l alone = whole_is l (whole_type (shapes.local_type types f l.local) l.members alone)
-    where
-      whole_is : (q : Location) → q.members ≡ [] → whole q.local ≡ q
-      whole_is q e = ap (λ (ms : List ℕ). record { local = q.local; members = ms }) (sym e)
+pub memberless : (types : Types) (id : Option TyId) (ms : List ℕ) → is_unique (ty_if types id) ≡ true → is_void (ty_if types (members_type types id ms)) ≡ false → ms ≡ []
+memberless types = sort_memberless types is_unique (λ number. refl)
 
--- what is no struct has no members
 pub buffer_memberless : (types : Types) (id : Option TyId) (ms : List ℕ) → has_buffer (ty_if types id) ≡ true → is_void (ty_if types (members_type types id ms)) ≡ false → ms ≡ []
-buffer_memberless types id [] buffer solid = refl
-buffer_memberless types id (m ∷ ms) buffer solid = absurd (false≢true (sym solid ∙ ap (λ (i : Option TyId). is_void (ty_if types i)) (ap (λ (i : Option TyId). members_type types i ms) (none (ty_if types id) buffer) ∙ nothing ms)))
-  where
-    none : (t : Ty) → has_buffer t ≡ true → member_of types t m ≡ None
-    none (ty.Struct number) e = absurd (false≢true e)
-    none _ e = refl
+buffer_memberless types = sort_memberless types has_buffer (λ number. refl)
 
-    nothing : (ns : List ℕ) → members_type types None ns ≡ None
-    nothing [] = refl
-    nothing (n ∷ ns) = nothing ns
+-- what names an object is a local that is one
+names_sort : (object pointer : Bool) → sort_if object pointer ≡ Names → object ≡ true
+names_sort true pointer e = refl
+names_sort false true e = absurd (unlike e)
+  where
+    unlike : Aims ≡ Names → ⊥
+    unlike h = cc
+names_sort false false e = absurd (unlike e)
+  where
+    unlike : Counts ≡ Names → ⊥
+    unlike h = cc
+
+pub names_object : (types : Types) (f : Function) (st : State) → IsPoised types f st → (x m : ℕ) → slice_get st.cells x ≡ Some (Named m) → object_at types f x ≡ true
+names_object types f st poised x m e = names_sort (object_at types f x) (is_pointer (type_at types f x)) (poised.sorted x (Named m) e)
 
 -- what is in the hand: what the cells name, and the rest
 abbrev pub hand_of : (rest : ℕ → ℕ) → State → ℕ → ℕ
@@ -191,19 +170,8 @@ module _ (types : Types) (f : Function) (rest : ℕ → ℕ) (inputs : Root → 
 
   -- ---- what names an object
 
-  names_sort : (object pointer : Bool) → sort_if object pointer ≡ Names → object ≡ true
-  names_sort true pointer e = refl
-  names_sort false true e = absurd (unlike e)
-    where
-      unlike : Aims ≡ Names → ⊥
-      unlike h = cc
-  names_sort false false e = absurd (unlike e)
-    where
-      unlike : Counts ≡ Names → ⊥
-      unlike h = cc
-
   pub object_named : (x m : ℕ) → slice_get st.cells x ≡ Some (Named m) → object_at types f x ≡ true
-  object_named x m e = names_sort (object_at types f x) (is_pointer (type_at types f x)) (k.poised.sorted x (Named m) e)
+  object_named = names_object types f st k.poised
 
   pub object_uncounted : (x : ℕ) (z : ℤ) → object_at types f x ≡ true → slice_get st.cells x ≡ Some (Number z) → ⊥
   object_uncounted x z object e = unlike (sym (k.poised.sorted x (Number z) e) ∙ ap (λ b. sort_if b (is_pointer (type_at types f x))) object)
@@ -243,10 +211,6 @@ module _ (types : Types) (f : Function) (rest : ℕ → ℕ) (inputs : Root → 
   not_false true e = absurd (false≢true e)
   not_false false e = refl
 
-  -- a location of a pointer is a local
-  pub at_pointer : (p : Location) → is_pointer (type_in types f p) ≡ true → (P : Location → Type 0) → ((x : ℕ) → P (whole x)) → P p
-  at_pointer p pointer P each = subst P (whole_location types k.untold f p (pointer_alone (type_in types f p) pointer)) (each p.local)
-
   abbrev Comes : Operand → Type 0
   Comes o = Reach types f st (StandsAt inputs) (may_change types f) S o
 
@@ -256,19 +220,13 @@ module _ (types : Types) (f : Function) (rest : ℕ → ℕ) (inputs : Root → 
       (named_reach types f st (StandsAt inputs) (may_change types f) S k.stands.frame l.local refl (cell st l.local) refl)
   reach_at of (named.Through p ms) solid usable =
       through_further types k.ordered f k.shaped k.short st (λ x n e. object_named x n e) inputs k.given.each S p ms (meant (named.Through p ms) solid)
-      (go p (whole_location types k.untold f p (pointer_alone (type_in types f p) pointer)) (usable p (at_head p [])) (placed (named.Through p ms) solid))
+      (through_reach types f st (StandsAt inputs) (may_change types f) S k.stands.frame k.covered p pointer (usable p (at_head p [])).valid (usable p (at_head p [])).some single
+      (unranged_target types (location_type types f p) (subst (λ (id : Option TyId). is_range (ty_if types id) ≡ false) (operand_same types k.ordered k.once 0 [] f k.shaped (named.Name p)) single))
+      (λ v held. let is = is_pointing types k.ordered k.once f k.shaped p pointer in k.aims p is.part is.typed is.points v held)
+      (λ a s. fact_path types k.ordered f k.shaped k.short st.world.content st.cells (λ y n named. object_named y n named) inputs k.given.each (located p) a (of (fact_at (located p) (element.At a)) s)) (location_cell types f p st) refl)
     where
       pointer : is_pointer (type_in types f p) ≡ true
       pointer = pointee_points types (type_in types f p) (placed (named.Through p ms) solid)
 
-      go : (q : Location) → whole q.local ≡ q → IsUsable S q → is_place types f (named.Through q []) ≡ true → Comes (named.Through q [])
-      go q e usable_q there =
-          subst (λ (z : Location). Comes (named.Through z [])) e
-          (at_local q.local (subst (IsUsable S) (sym e) usable_q) (subst (λ (z : Location). is_place types f (named.Through z []) ≡ true) (sym e) there))
-        where
-          at_local : (x : ℕ) → IsUsable S (whole x) → is_place types f (named.Through (whole x) []) ≡ true → Comes (named.Through (whole x) [])
-          at_local x u is =
-              let single = single_pointee (type_at types f x) (not_false (is_void (pointee types (type_at types f x))) is) in
-              through_reach types f st (StandsAt inputs) (may_change types f) S k.stands.frame k.covered x u.valid u.some single
-              (unranged_target types (local_type types f x) (subst (λ (id : Option TyId). is_range (ty_if types id) ≡ false) (k.shaped x) single))
-              (λ a s. fact_path types k.ordered f k.shaped k.short st.world.content st.cells (λ y n named. object_named y n named) inputs k.given.each (local_place x) a (of (fact_at (local_place x) (element.At a)) s)) (cell st x) refl
+      single : is_range (type_in types f p) ≡ false
+      single = single_pointee (type_in types f p) (not_false (is_void (pointee types (type_in types f p))) (placed (named.Through p ms) solid))

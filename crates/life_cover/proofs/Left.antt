@@ -40,7 +40,7 @@ caused_known types f e caused =
 pub caused_of : (types : Types) (f : Function) (l : AbsPlace) (e e' : Element) → IsOf (table_of types f) (fact_at l e) → Contains (caused_elements f) e' → IsOf (table_of types f) (fact_at l e')
 caused_of types f l e e' of caused = (is_of_iff types f (fact_at l e')).1 (((is_of_iff types f (fact_at l e)).0 of).0, caused_known types f e' caused)
 
-hit_under : (a : AbsPlace) (e : Element) → is_hit (under a) e ≡ points_under a e
+pub hit_under : (a : AbsPlace) (e : Element) → is_hit (under a) e ≡ points_under a e
 hit_under a element.Null = refl
 hit_under a (element.Invalid c) = refl
 hit_under a (element.Moved c) = refl

@@ -1,4 +1,5 @@
 pub mod AimKinds
+pub mod ApartLocations
 pub mod ApartPlaces
 pub mod Arguments
 pub mod Begun
@@ -15,6 +16,7 @@ pub mod CallCovers
 pub mod CallKinds
 pub mod CalledBuffers
 pub mod CalledElsewhere
+pub mod CalledPointers
 pub mod CalledRight
 pub mod CalledUniques
 pub mod CalmFacts
@@ -22,19 +24,28 @@ pub mod ChangeKinds
 pub mod ChangeSteps
 pub mod Changes
 pub mod Copied
+pub mod CopiedFacts
+mod CopiedKills
+mod CopiedPlaces
+mod CopiedPointers
+mod CopiedStructs
+mod CopiedWords
 pub mod Copies
 pub mod CopyKinds
-pub mod Copyable
 pub mod Edges
 pub mod Elsewhere
 pub mod EndKinds
 pub mod Entered
+mod EnteredMembers
 pub mod EraseKinds
 pub mod ErasedBuffers
+pub mod ExactLocations
 pub mod FootParts
 pub mod FramePoints
 pub mod FrameSteps
 pub mod Fresh
+pub mod FreshMembers
+pub mod FreshUniques
 pub mod Full
 pub mod GivenBack
 pub mod GivenBuffers
@@ -44,8 +55,10 @@ pub mod GivenOn
 pub mod GivenValues
 pub mod Guarding
 pub mod HandedLoose
+pub mod HeldCells
 pub mod HeldElements
 pub mod InputPlaces
+mod InputRoots
 pub mod Inputs
 pub mod Inside
 pub mod KeptBuffers
@@ -58,6 +71,7 @@ pub mod Left
 pub mod Listing
 pub mod LiveKinds
 pub mod Locals
+pub mod LocationsListed
 pub mod Looks
 pub mod LooseResults
 pub mod MadeOver
@@ -65,29 +79,37 @@ pub mod MakeKinds
 pub mod MakeSteps
 pub mod Making
 pub mod MemberReach
+pub mod MemberWords
 pub mod MoveKinds
 pub mod MoveSteps
 pub mod Moved
 pub mod MovedFacts
 pub mod MovedUniques
 pub mod Mutated
+pub mod NamedLocations
 pub mod NamedResults
 pub mod NumberKinds
 pub mod ObjectParts
 pub mod Opening
+pub mod OtherTypes
 pub mod Owned
 pub mod OwnedWords
 pub mod OwnerElements
 pub mod OwnerKinds
 pub mod OwnerMoves
 pub mod OwnerPointers
+mod OwnerlessParts
 pub mod OwnersStay
 pub mod Owning
 pub mod PartedPlaces
 pub mod PlacedMoveKinds
+pub mod PlainParts
 pub mod PlainTargets
+pub mod PointedBehind
+pub mod PointedPlaces
 pub mod PointerInputs
 pub mod PointerKinds
+mod PointerResults
 pub mod Pointers
 pub mod PromisedPlaces
 pub mod PromisedResults
@@ -97,18 +119,22 @@ pub mod PushedObjects
 pub mod PutWords
 pub mod Putting
 pub mod Reaching
-pub mod Reading
 pub mod Rebuffering
 pub mod Recopying
 pub mod Regrown
+pub mod RelatedPaths
 pub mod Remade
+mod ResultParts
 pub mod ResultTypes
+pub mod ResultUniques
 pub mod Returned
 pub mod SafeBodies
 pub mod SafeCalls
 pub mod SafeRuns
 pub mod SaveKinds
+pub mod ShortLocations
 pub mod SingleParts
+pub mod SparedPointers
 pub mod Sparing
 pub mod Stepping
 pub mod StillLacking
@@ -116,7 +142,8 @@ pub mod Takes
 pub mod TargetKinds
 pub mod Unaimed
 pub mod UniqueFacts
-pub mod UniqueLocals
+pub mod UniqueLocations
+pub mod UniquePlaces
 pub mod UniqueTests
 pub mod UniquesBorn
 pub mod UniquesGiven
@@ -128,5 +155,6 @@ pub mod Unnamed
 pub mod Using
 pub mod Walks
 pub mod WholeSteps
+pub mod WithinLocations
 mod Worked
 pub mod Writing

@@ -1,6 +1,6 @@
 -- What a pointer sees by its type, as it is asked of well-formed instructions: a pointer that is handed on, one to an element, and one to what
 -- an owner has.
-use Rattle.std.proofs.Common.{◌≡◌, inl, inr, ℕ, Bool, true, false, Option, Some, refl, sym, ap, subst, ◌∙◌}
+use Rattle.std.proofs.Common.{◌≡◌, inl, inr, ℕ, Bool, true, false, [], Option, Some, refl, sym, ap, subst, ◌∙◌}
 use Rattle.std.proofs.lemmas.Bool.{and_parts, false≢true}
 use Rattle.std.specs.Prelude.{slice_get}
 use Rattle.life_types.specs.Pointees.{ty_of}
@@ -11,17 +11,20 @@ use Rattle.life_types.specs.declared.ty.Ty.{Ty}
 use Rattle.life_types.specs.declared.ty.Ty.TheVariants as ty
 use Rattle.life_types.specs.declared.ty.TyId.{TyId}
 use Rattle.life_core.specs.Function.{Function}
+use Rattle.life_core.specs.Operands.{Location}
+use Rattle.life_pset.specs.Shapes as shapes
 use Rattle.life_pset.specs.Shapes.{has_buffer, ty_if}
 use Rattle.life_proper.specs.OperandTypes.{aims_at, are_alike, are_compared, is_range, keeps_const, owned_element, same, seen_element, spans, takes, walks}
-use Rattle.life_proper.specs.Placed.{type_at}
+use Rattle.life_proper.specs.Placed.{type_at, type_in}
 use Rattle.life_proper.proofs.HeldSorts.{same_is, same_void}
-use Rattle.life_store.specs.Parts.{Single, characters_type, local_type, parts_at, parts_of}
+use Rattle.life_store.specs.Parts.{Single, characters_type, local_type, location_type, parts_at, parts_of, type_within}
 use Rattle.life_forest.specs.FrameTypes.{seen_in, seen_type}
 use Rattle.life_forest.proofs.OneNumber.{also_solid, number_of_type, one_number, type_there, typed_at}
 use Rattle.life_forest.proofs.SeenTypes.{alike_seen, parts_typed, pointer_solid, value_parts}
-use Rattle.life_forest.proofs.Shaped.{IsShaped}
+use Rattle.life_forest.proofs.Shaped.{IsShaped, within_same}
+use Rattle.life_forest.proofs.TypedSteps.{location_of}
 use Rattle.life_cover.specs.Covers.{IsSeenAs, Look, Reseen}
-use Rattle.life_cover.specs.Frames.{look_at}
+use Rattle.life_cover.specs.Frames.{look_in, look_of}
 use Rattle.life_cover.specs.Regions.{owned_in_type}
 
 pub same_reseen : (types : Types) (a b : Option TyId) → a ≡ b → Reseen types a b
@@ -117,27 +120,27 @@ module _ (types : Types) (ordered : IsOrdered types) (once : HasEachOnce types) 
   -- ---- the pointers of a function
 
   module _ (f : Function) (shaped : IsShaped types f) where
-    pub seen_at : (x : ℕ) (t : Ty) → type_at types f x ≡ t → is_void t ≡ false → seen_type types (local_type types f x) ≡ seen_in types (Some t)
-    seen_at x t e some =
-        let of = typed_at types (local_type types f x) t (sym (ap (ty_if types) (shaped x)) ∙ e) some in
+    pub seen_at : (l : Location) (t : Ty) → type_in types f l ≡ t → is_void t ≡ false → seen_type types (location_type types f l) ≡ seen_in types (Some t)
+    seen_at l t e some =
+        let of = location_of types ordered once 0 [] f shaped l t e some in
         ap (seen_type types) of.is ∙ ap (seen_in types) of.there
 
     -- p takes what q is
-    pub record TakesLook (p q : ℕ) : Type 0 where
-      pub target : Reseen types (look_at types f q).target (look_at types f p).target
-      pub constant : (look_at types f p).constant ≡ false → (look_at types f q).constant ≡ false
-      pub ranged : (look_at types f q).ranged ≡ (look_at types f p).ranged
-      pub to : is_pointer (type_at types f p) ≡ true
-      pub from : is_pointer (type_at types f q) ≡ true
+    pub record TakesLook (p q : Location) : Type 0 where
+      pub target : Reseen types (look_in types f q).target (look_in types f p).target
+      pub constant : (look_in types f p).constant ≡ false → (look_in types f q).constant ≡ false
+      pub ranged : (look_in types f q).ranged ≡ (look_in types f p).ranged
+      pub to : is_pointer (type_in types f p) ≡ true
+      pub from : is_pointer (type_in types f q) ≡ true
 
-    pub takes_look : (p q : ℕ) → takes types (type_at types f p) (type_at types f q) ≡ true → TakesLook p q
+    pub takes_look : (p q : Location) → takes types (type_in types f p) (type_in types f q) ≡ true → TakesLook p q
     takes_look p q e =
-        let both = and_parts (are_alike types (type_at types f p) (type_at types f q)) (keeps_const (is_constant (type_at types f p)) (is_constant (type_at types f q))) e in
-        let alike = alike_seen types ordered once (type_at types f p) (type_at types f q) both.0 in record {
-          target = same_reseen types (look_at types f q).target (look_at types f p).target
-              (seen_at q (type_at types f q) refl (pointer_solid (type_at types f q) alike.from) ∙ alike.seen ∙ sym (seen_at p (type_at types f p) refl (pointer_solid (type_at types f p) alike.to)));
-          constant = const_kept (is_constant (type_at types f p)) (is_constant (type_at types f q)) both.1;
-          ranged = alike_ranged types (type_at types f p) (type_at types f q) both.0;
+        let both = and_parts (are_alike types (type_in types f p) (type_in types f q)) (keeps_const (is_constant (type_in types f p)) (is_constant (type_in types f q))) e in
+        let alike = alike_seen types ordered once (type_in types f p) (type_in types f q) both.0 in record {
+          target = same_reseen types (look_in types f q).target (look_in types f p).target
+              (seen_at q (type_in types f q) refl (pointer_solid (type_in types f q) alike.from) ∙ alike.seen ∙ sym (seen_at p (type_in types f p) refl (pointer_solid (type_in types f p) alike.to)));
+          constant = const_kept (is_constant (type_in types f p)) (is_constant (type_in types f q)) both.1;
+          ranged = alike_ranged types (type_in types f p) (type_in types f q) both.0;
           to = alike.to;
           from = alike.from;
         }
@@ -148,6 +151,16 @@ module _ (types : Types) (ordered : IsOrdered types) (once : HasEachOnce types) 
         let of = typed_at types (local_type types f x) (type_at types f x) (sym (ap (ty_if types) (shaped x))) (also_solid (ty_of types id) (type_at types f x) e) in
         of.is ∙ ap Some (sym (number_of_type types once id of.number (type_at types f x) e of.there))
 
+-- ---- the types of locations
+
+pub location_is : (types : Types) (f : Function) → IsShaped types f → (l : Location) → shapes.location_type types f l ≡ location_type types f l
+location_is types f shaped l = within_same types l.members (shapes.local_type types f l.local) ∙ ap (λ (id : Option TyId). type_within types id l.members) (shaped l.local)
+
+-- a pointer is seen as its type says
+pub look_same : (types : Types) (f : Function) → IsShaped types f → (l : Location) → look_in types f l ≡ look_of types (shapes.location_type types f l)
+look_same types f shaped l =
+    ap (λ (id : Option TyId). record { ranged = is_range (type_in types f l); target = seen_type types id; constant = is_constant (type_in types f l) }) (sym (location_is types f shaped l))
+
 -- ---- the pointers of two functions
 
 -- whatever the one pointer is, the other may be
@@ -156,12 +169,15 @@ pub record TakesAll (types : Types) (to from : Look) : Type 0 where
   pub constant : to.constant ≡ false → from.constant ≡ false
   pub ranged : from.ranged ≡ to.ranged
 
-pub takes_across : (types : Types) (ordered : IsOrdered types) (once : HasEachOnce types) (f : Function) (shaped_f : IsShaped types f) (g : Function) (shaped_g : IsShaped types g) (p q : ℕ) → takes types (type_at types g p) (type_at types f q) ≡ true → TakesAll types (look_at types g p) (look_at types f q)
+pub takes_itself : (types : Types) (look : Look) → TakesAll types look look
+takes_itself types look = record { target = λ id seen. seen; constant = λ free. free; ranged = refl }
+
+pub takes_across : (types : Types) (ordered : IsOrdered types) (once : HasEachOnce types) (f : Function) (shaped_f : IsShaped types f) (g : Function) (shaped_g : IsShaped types g) (p q : Location) → takes types (type_in types g p) (type_in types f q) ≡ true → TakesAll types (look_in types g p) (look_in types f q)
 takes_across types ordered once f shaped_f g shaped_g p q e =
-    let both = and_parts (are_alike types (type_at types g p) (type_at types f q)) (keeps_const (is_constant (type_at types g p)) (is_constant (type_at types f q))) e in
-    let alike = alike_seen types ordered once (type_at types g p) (type_at types f q) both.0 in record {
-      target = same_reseen types (look_at types f q).target (look_at types g p).target
-          (seen_at types ordered once f shaped_f q (type_at types f q) refl (pointer_solid (type_at types f q) alike.from) ∙ alike.seen ∙ sym (seen_at types ordered once g shaped_g p (type_at types g p) refl (pointer_solid (type_at types g p) alike.to)));
-      constant = const_kept (is_constant (type_at types g p)) (is_constant (type_at types f q)) both.1;
-      ranged = alike_ranged types (type_at types g p) (type_at types f q) both.0;
+    let both = and_parts (are_alike types (type_in types g p) (type_in types f q)) (keeps_const (is_constant (type_in types g p)) (is_constant (type_in types f q))) e in
+    let alike = alike_seen types ordered once (type_in types g p) (type_in types f q) both.0 in record {
+      target = same_reseen types (look_in types f q).target (look_in types g p).target
+          (seen_at types ordered once f shaped_f q (type_in types f q) refl (pointer_solid (type_in types f q) alike.from) ∙ alike.seen ∙ sym (seen_at types ordered once g shaped_g p (type_in types g p) refl (pointer_solid (type_in types g p) alike.to)));
+      constant = const_kept (is_constant (type_in types g p)) (is_constant (type_in types f q)) both.1;
+      ranged = alike_ranged types (type_in types g p) (type_in types f q) both.0;
     }

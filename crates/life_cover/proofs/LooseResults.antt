@@ -27,7 +27,6 @@ use Rattle.life_forest.proofs.Slots.{ArePointsFormed}
 use Rattle.life_forest.proofs.Steps.{alive_le}
 use Rattle.life_cover.specs.Inputs.{AreGiven, frame_foot}
 use Rattle.life_cover.specs.Lacking.{IsLoose, IsMovedFrom, MayLack}
-use Rattle.life_cover.specs.Members.{HaveUntoldMembers}
 use Rattle.life_cover.specs.Regions.{Region}
 use Rattle.life_cover.proofs.Edges.{FactsAt}
 use Rattle.life_cover.proofs.GivenBack.{IsNamingSlot, is_result, result_solid, slot_no_buffer, slots_name}
@@ -36,7 +35,7 @@ use Rattle.life_cover.proofs.Locals.{named_unowned, two_named}
 use Rattle.life_cover.proofs.NamedResults.{back_named, results_named}
 use Rattle.life_cover.proofs.Unmoved.{derived_unmoved, never_result}
 
-module _ (types : Types) (untold : HaveUntoldMembers types) (names texts : ℕ) (fs : List Function) (f : Function) (formed : is_well_formed_function types names texts fs f ≡ true) (points : ArePointsFormed types texts fs f) (shaped : IsShaped types f)
+module _ (types : Types) (names texts : ℕ) (fs : List Function) (f : Function) (formed : is_well_formed_function types names texts fs f ≡ true) (points : ArePointsFormed types texts fs f) (shaped : IsShaped types f)
     (rest : ℕ → ℕ) (inputs : Root → Option Region) (sigs : List Signature) (p : ℕ) (st : State) (sound : IsSound types f rest st) (given : AreGiven types f inputs (frame_foot types f inputs st.cells) st.world.content) (j : ℕ) where
   -- ---- a local that may have been moved from
 
@@ -54,7 +53,7 @@ module _ (types : Types) (untold : HaveUntoldMembers types) (names texts : ℕ) 
 
     no_result : (cell st f.parameters ≡ Some (Named j)) × (is_void (or_void (slice_get types.types f.result.0)) ≡ false) → ⊥
     no_result r =
-        derived_unmoved types untold sigs texts fs f points moved.local
+        derived_unmoved types sigs texts fs f points moved.local
         (never_result types texts fs f points moved.local (subst (λ z. result_at types f z ≡ true) (same_local f.parameters r.0) (is_result types f r.1))) p moved.cause moved.holds
 
     not_back : 0 < times (named_in (results types f st)) j → ⊥

@@ -229,7 +229,7 @@ stepped_its_path a s is le = made_path (stepped a s) (own_root a.root (stepped a
 
 -- ---- what the owner at a place has
 
-short_of : (es : List Element) → AreShort es → (e : Element) → Contains es e → IsShort e
+pub short_of : (es : List Element) → AreShort es → (e : Element) → Contains es e → IsShort e
 short_of [] all = each_none IsShort
 short_of (x ∷ xs) all = each_cons IsShort x xs all.0 (short_of xs all.1)
 

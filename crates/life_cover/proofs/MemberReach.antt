@@ -64,7 +64,7 @@ module _ (types : Types) where
   typed_item None solid = absurd (false≢true (sym solid))
   typed_item (Some item) solid = (item, refl)
 
-  not_single : (id : Option TyId) (m : ℕ) (ms : List ℕ) (item : TyId) → type_within types id (m ∷ ms) ≡ Some item → parts_if types id ≡ Single → ⊥
+  pub not_single : (id : Option TyId) (m : ℕ) (ms : List ℕ) (item : TyId) → type_within types id (m ∷ ms) ≡ Some item → parts_if types id ≡ Single → ⊥
   not_single id m ms item typed single = none_some (sym (single_within id m ms single) ∙ typed)
 
   -- so what has members isn't seen as a character
@@ -81,12 +81,12 @@ module _ (types : Types) (ordered : IsOrdered types) (f : Function) (shaped : Is
   -- ---- places
 
   -- there is room for the steps, none is the one to what is owned, and they lead to a place of the table
-  record IsReady (ms : List ℕ) (a : AbsPlace) : Type 0 where
+  pub record IsReady (ms : List ℕ) (a : AbsPlace) : Type 0 where
     pub small : AllSmall ms
     pub room : HasRoom (length ms) a
     pub path : IsItsPath (members_place a ms)
 
-  ready : (ms : List ℕ) (a : AbsPlace) (r : Region) (item : TyId) → IsItsPath a → IsAt types st.world.content Stands a r → type_within types (Some r.ty) ms ≡ Some item → IsReady ms a
+  pub ready : (ms : List ℕ) (a : AbsPlace) (r : Region) (item : TyId) → IsItsPath a → IsAt types st.world.content Stands a r → type_within types (Some r.ty) ms ≡ Some item → IsReady ms a
   ready [] a r item is at_r typed =
       let le = place_short types ordered f shaped short st.world.content st.cells objects inputs each a (known_at types ordered f shaped short st.world.content st.cells objects inputs each a r is at_r) in
       record { small = tt; room = record { steps = is.eight; fits = omega (arith, le) }; path = is }

@@ -1,7 +1,7 @@
--- An owner is moved, as it is asked of well-formed instructions: a unique_ptr, a vector or a string to another local, and a vector or a string to a
--- member of one, or to a place behind a pointer.
+-- An owner is moved, as it is asked of well-formed instructions: to another local or a member of one, and a vector or a string to a place behind a
+-- pointer as well.
 use Rattle.std.proofs.Common.{◌≡◌, ℕ, Bool, true, false, List, [], ◌∷◌, refl, sym, ap, subst, ◌∙◌, arith, ◌≢◌, ◌⊎◌, ⊎_elim, inl, inr, Option}
-use Rattle.std.specs.Prelude.{nat_eq, not}
+use Rattle.std.specs.Prelude.{◌&&◌, nat_eq, not}
 use Rattle.std.proofs.lemmas.Bool.{and_parts, false≢true}
 use Rattle.std.proofs.lemmas.Bool.Decides.{nat_tests}
 use Rattle.life_types.specs.TypeTests.{is_unique, is_void}
@@ -15,16 +15,16 @@ use Rattle.life_core.specs.Operands as named
 use Rattle.life_core.specs.Step.{Move}
 use Rattle.life_pset.specs.declared.element.Fact.{Fact}
 use Rattle.life_pset.specs.Shapes.{has_buffer}
+use Rattle.life_pset.specs.Shapes as shapes
 use Rattle.life_pset.specs.declared.element.Root.{Root}
 use Rattle.life_contract.specs.Signatures.{Signature}
 use Rattle.life_proper.specs.OperandTypes.{is_owner, same}
 use Rattle.life_proper.specs.Placed.{is_const_place, object_at, result_at, type_at, type_in, type_of}
-use Rattle.life_proper.specs.WellFormed.{is_itself, is_well_formed_step}
+use Rattle.life_proper.specs.WellFormed.{is_itself, is_well_formed_step, is_whole}
 use Rattle.life_proper.proofs.HeldSorts.{same_is}
 use Rattle.life_store.specs.State.{State}
 use Rattle.life_forest.proofs.OneNumber.{same_solid}
-use Rattle.life_cover.proofs.SingleParts.{unique_alone}
-use Rattle.life_cover.proofs.KnownFrames.{IsKnownFrame, IsRight, typed, whole_location}
+use Rattle.life_cover.proofs.KnownFrames.{IsKnownFrame, IsRight, memberless, solid_type, typed}
 use Rattle.life_cover.proofs.MovedFacts.{IsBeside, member_beside, through_beside}
 use Rattle.life_cover.proofs.PlainTargets.{through_other}
 use Rattle.life_cover.specs.Regions.{Region}
@@ -48,18 +48,22 @@ not_true true e = absurd (false≢true e)
 not_true false e = refl
 
 module _ (types : Types) (f : Function) (rest : ℕ → ℕ) (inputs : Root → Option Region) (S : Fact → Type 0) (st : State) (k : IsKnownFrame types f rest inputs S st) (sigs : List Signature) (number : ℕ) (place : Place) (S' : Fact → Type 0) (texts : ℕ) (fs : List Function) (y : ℕ) where
-  -- what is asked of whole locals
-  abbrev pub OfLocals : (is_sort : Ty → Bool) → (Operand → Type 0) → Type 0
-  OfLocals is_sort Q = (x : ℕ) → IsRight sigs types number f place (Move (named.Name (whole x)) y) S S' → is_sort (type_at types f x) ≡ true → type_at types f x ≡ type_at types f y → x ≢ y → Q (named.Name (whole x))
+  -- what is asked of unique_ptrs, which are locals or members of them
+  abbrev pub OfUniques : (Operand → Type 0) → Type 0
+  OfUniques Q = (to : Location) → IsRight sigs types number f place (Move (named.Name to) y) S S' → is_unique (type_in types f to) ≡ true → type_in types f to ≡ type_at types f y → to.local ≢ y → Q (named.Name to)
 
-  -- .. and of members, and of places behind pointers
+  -- .. of vectors and strings that are whole locals
+  abbrev pub OfLocals : (Operand → Type 0) → Type 0
+  OfLocals Q = (x : ℕ) → IsRight sigs types number f place (Move (named.Name (whole x)) y) S S' → has_buffer (type_at types f x) ≡ true → type_at types f x ≡ type_at types f y → x ≢ y → Q (named.Name (whole x))
+
+  -- .. and of those that are members, or behind pointers
   abbrev pub OfPlaces : (Operand → Type 0) → Type 0
   OfPlaces Q = (to : Operand) → IsBeside sigs types f place y S S' inputs st to → IsRight sigs types number f place (Move to y) S S' → has_buffer (type_at types f y) ≡ true → type_of types f to ≡ type_at types f y → is_const_place types f to ≡ false → Q to
 
-  module _ (Q : Operand → Type 0) (unique : OfLocals is_unique Q) (buffer : OfLocals has_buffer Q) (placed : OfPlaces Q) where
-    at_whole : (x : ℕ) → IsRight sigs types number f place (Move (named.Name (whole x)) y) S S' → (is_unique (type_at types f x) ≡ true) ⊎ (has_buffer (type_at types f x) ≡ true) → same (type_of types f (named.Name (whole x))) (type_at types f y) ≡ true
+  module _ (Q : Operand → Type 0) (unique : OfUniques Q) (buffer : OfLocals Q) (placed : OfPlaces Q) where
+    at_whole : (x : ℕ) → IsRight sigs types number f place (Move (named.Name (whole x)) y) S S' → has_buffer (type_at types f x) ≡ true → same (type_of types f (named.Name (whole x))) (type_at types f y) ≡ true
         → is_itself types texts fs f y (named.Name (whole x)) ≡ false → Q (named.Name (whole x))
-    at_whole x right sort alike other = ⊎_elim (λ is. unique x right is types_same apart) (λ is. buffer x right is types_same apart) sort
+    at_whole x right is alike other = buffer x right is types_same apart
       where
         types_same : type_at types f x ≡ type_at types f y
         types_same = typed types f rest inputs S st k (named.Name (whole x)) (same_solid (type_of types f (named.Name (whole x))) (type_at types f y) alike) ∙ same_is (type_of types f (named.Name (whole x))) (type_at types f y) alike
@@ -67,21 +71,34 @@ module _ (types : Types) (f : Function) (rest : ℕ → ℕ) (inputs : Root → 
         apart : x ≢ y
         apart h = false≢true (sym other ∙ subst (λ z. nat_eq x z ≡ true) h (eq_same x))
 
-    -- a location that is a local
-    at_local : (l : Location) → whole l.local ≡ l → IsRight sigs types number f place (Move (named.Name l) y) S S' → (is_unique (type_in types f l) ≡ true) ⊎ (has_buffer (type_in types f l) ≡ true) → same (type_of types f (named.Name l)) (type_at types f y) ≡ true
-        → is_itself types texts fs f y (named.Name l) ≡ false → Q (named.Name l)
-    at_local l is =
-        subst (λ (q : Location). IsRight sigs types number f place (Move (named.Name q) y) S S' → (is_unique (type_in types f q) ≡ true) ⊎ (has_buffer (type_in types f q) ≡ true) → same (type_of types f (named.Name q)) (type_at types f y) ≡ true
-        → is_itself types texts fs f y (named.Name q) ≡ false → Q (named.Name q)) is (at_whole l.local)
+    -- a unique_ptr, which isn't the local itself
+    at_unique : (l : Location) → IsRight sigs types number f place (Move (named.Name l) y) S S' → is_unique (type_in types f l) ≡ true → same (type_of types f (named.Name l)) (type_at types f y) ≡ true → is_itself types texts fs f y (named.Name l) ≡ false → Q (named.Name l)
+    at_unique l right is alike other = unique l right is types_same apart
+      where
+        solid : is_void (type_of types f (named.Name l)) ≡ false
+        solid = same_solid (type_of types f (named.Name l)) (type_at types f y) alike
 
-    -- .. or a member: that is no unique_ptr
+        types_same : type_in types f l ≡ type_at types f y
+        types_same = typed types f rest inputs S st k (named.Name l) solid ∙ same_is (type_of types f (named.Name l)) (type_at types f y) alike
+
+        apart : l.local ≢ y
+        apart h =
+            let none = memberless types (shapes.local_type types f l.local) l.members (subst (λ z. is_unique (type_at types f z) ≡ true) (sym h) (ap is_unique (sym types_same) ∙ is)) (solid_type types f rest inputs S st k (named.Name l) solid) in
+            false≢true (sym (subst (λ (ms : List ℕ). (is_whole (record { local = l.local; members = ms }) && nat_eq l.local y) ≡ false) none other) ∙ subst (λ z. nat_eq l.local z ≡ true) h (eq_same l.local))
+
+    -- a vector or a string that is a local
+    at_local : (l : Location) → whole l.local ≡ l → IsRight sigs types number f place (Move (named.Name l) y) S S' → has_buffer (type_in types f l) ≡ true → same (type_of types f (named.Name l)) (type_at types f y) ≡ true → is_itself types texts fs f y (named.Name l) ≡ false → Q (named.Name l)
+    at_local l is =
+        subst (λ (q : Location). IsRight sigs types number f place (Move (named.Name q) y) S S' → has_buffer (type_in types f q) ≡ true → same (type_of types f (named.Name q)) (type_at types f y) ≡ true → is_itself types texts fs f y (named.Name q) ≡ false → Q (named.Name q)) is (at_whole l.local)
+
+    -- .. or a member
     at_location : (l : Location) → IsRight sigs types number f place (Move (named.Name l) y) S S' → (is_unique (type_in types f l) ≡ true) ⊎ (has_buffer (type_in types f l) ≡ true) → same (type_of types f (named.Name l)) (type_at types f y) ≡ true
         → is_itself types texts fs f y (named.Name l) ≡ false → is_const_place types f (named.Name l) ≡ false → Q (named.Name l)
-    at_location l right (inl is) alike other free = at_local l (whole_location types k.untold f l (unique_alone (type_in types f l) is)) right (inl is) alike other
+    at_location l right (inl is) alike other free = at_unique l right is alike other
     at_location l right (inr is) alike other free = go l.members refl
       where
         go : (ms : List ℕ) → l.members ≡ ms → Q (named.Name l)
-        go [] e = at_local l (ap (λ (ms : List ℕ). record { local = l.local; members = ms }) (sym e)) right (inr is) alike other
+        go [] e = at_local l (ap (λ (ms : List ℕ). record { local = l.local; members = ms }) (sym e)) right is alike other
         go (m ∷ ms) e =
             let solid = same_solid (type_of types f (named.Name l)) (type_at types f y) alike in
             let types_same = same_is (type_of types f (named.Name l)) (type_at types f y) alike in

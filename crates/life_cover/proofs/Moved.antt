@@ -41,11 +41,11 @@ pub or_left : (a b : Bool) → a ≡ true → (a || b) ≡ true
 or_left true b e = refl
 or_left false b e = absurd (false≢true e)
 
-module _ (types : Types) (ordered : IsOrdered types) (hand : ℕ → ℕ) (c : Content) (store : IsStore types hand c) (id ty : TyId) (is_unique : parts_at types id ≡ Unique ty (parts_at types ty)) (n : ℕ) (o : Object) (there : at c.objects n ≡ Some o) (within : LiesWithin types o.ty 0 id)
+module _ (types : Types) (ordered : IsOrdered types) (hand : ℕ → ℕ) (c : Content) (store : IsStore types hand c) (id ty : TyId) (is_unique : parts_at types id ≡ Unique ty (parts_at types ty)) (n start : ℕ) (o : Object) (there : at c.objects n ≡ Some o) (within : LiesWithin types o.ty start id)
     (lt : 0 < length o.slots) (m : ℕ) (om : Object) (m_there : at c.objects m ≡ Some om) (m_within : LiesWithin types om.ty 0 id) (m_lt : 0 < length om.slots) (apart : m ≢ n) (owned : Option ℕ)
     (are : spot_words c (record { object = m; index = 0; word = 0 }) (width_at types id) ≡ owner_word owned ∷ []) where
   abbrev into : Region
-  into = record { object = n; word = 0; ty = id }
+  into = record { object = n; word = start; ty = id }
 
   abbrev from : Region
   from = record { object = m; word = 0; ty = id }
@@ -68,7 +68,7 @@ module _ (types : Types) (ordered : IsOrdered types) (hand : ℕ → ℕ) (c : C
   nothing_owned : (k : ℕ) → times (owned_of (parts_at types id) (owner_word None ∷ [])) k ≡ 0
   nothing_owned k = ap (λ r. times (owned_of r (owner_word None ∷ [])) k) is_unique
 
-  in_feet : (u : ℕ) → 0 ≤ u → u < 0 + width (parts_at types id) → (both_feet types into from).part n u ≡ true
+  in_feet : (u : ℕ) → start ≤ u → u < start + width (parts_at types id) → (both_feet types into from).part n u ≡ true
   in_feet u le less = or_left (is_in_region types into n u) (is_in_region types from n u) (in_region types into n u (record { object = refl; first = le; last = less }))
 
   -- what the one that gives had is beneath its word
@@ -93,29 +93,29 @@ module _ (types : Types) (ordered : IsOrdered types) (hand : ℕ → ℕ) (c : C
   kept = ap (λ (d : Content). at d.objects n) (wrote_is c m 0 0 (owner_word None ∷ []) om m_there) ∙ at-set_other c.objects m n _ apart ∙ there
 
   -- what it takes is put where it lies
-  put : (t : Foot) → ((u : ℕ) → 0 ≤ u → u < 0 + width (parts_at types id) → t.part n u ≡ true) → Touches (kinds_of types) (and_all t (owned_of (parts_at types id) (owner_word owned ∷ []))) (wrote m 0 0 (owner_word None ∷ []) c)
-      (replaced (parts_at types id) (record { object = n; index = 0; word = 0 }) (owner_word owned ∷ [], wrote m 0 0 (owner_word None ∷ []) c))
+  put : (t : Foot) → ((u : ℕ) → start ≤ u → u < start + width (parts_at types id) → t.part n u ≡ true) → Touches (kinds_of types) (and_all t (owned_of (parts_at types id) (owner_word owned ∷ []))) (wrote m 0 0 (owner_word None ∷ []) c)
+      (replaced (parts_at types id) (record { object = n; index = 0; word = start }) (owner_word owned ∷ [], wrote m 0 0 (owner_word None ∷ []) c))
   put t inside =
       let before : (ℕ → ℕ) = λ k. times (owned_of (parts_at types id) (owner_word owned ∷ [])) k + hand k in
-      let lies = lies_at types ordered before emptied out.0 n 0 0 id o kept within lt in
-      replaced_touches (kinds_of types) emptied (record { object = n; index = 0; word = 0 }) (parts_at types id) o lies (owner_word owned ∷ []) out.2 before hand out.0.forest (spot_known types ordered before emptied out.0 n 0 0 id o kept within lt)
-      (flat_lower types ordered emptied o.ty id 0 (owner_word owned ∷ []) within out.2 out.1) (λ k. omega arith)
+      let lies = lies_at types ordered before emptied out.0 n 0 start id o kept within lt in
+      replaced_touches (kinds_of types) emptied (record { object = n; index = 0; word = start }) (parts_at types id) o lies (owner_word owned ∷ []) out.2 before hand out.0.forest (spot_known types ordered before emptied out.0 n 0 start id o kept within lt)
+      (flat_lower types ordered emptied o.ty id start (owner_word owned ∷ []) within out.2 out.1) (λ k. omega arith)
       (and_all t (owned_of (parts_at types id) (owner_word owned ∷ []))) (λ u le less. or_right (is_value ((kinds_of types).word o.ty u)) (t.part n u) (inside u le less))
-      (λ k own. value_beneath (kinds_of types) emptied (record { object = n; index = 0; word = 0 }) (parts_at types id) o lies (and_all t (owned_of (parts_at types id) (owner_word owned ∷ []))) covers k own)
+      (λ k own. value_beneath (kinds_of types) emptied (record { object = n; index = 0; word = start }) (parts_at types id) o lies (and_all t (owned_of (parts_at types id) (owner_word owned ∷ []))) covers k own)
       (λ k born own. whole k (is_positive (times (owned_of (parts_at types id) (owner_word owned ∷ [])) k) own))
     where
-      covers : Covers (kinds_of types) (and_all t (owned_of (parts_at types id) (owner_word owned ∷ []))) (record { object = n; index = 0; word = 0 }) (parts_at types id)
-      covers u less = or_right (is_value (kind_in (parts_at types id) u)) (t.part n (0 + u)) (inside (0 + u) (omega arith) (omega (arith, less)))
+      covers : Covers (kinds_of types) (and_all t (owned_of (parts_at types id) (owner_word owned ∷ []))) (record { object = n; index = 0; word = start }) (parts_at types id)
+      covers u less = or_right (is_value (kind_in (parts_at types id) u)) (t.part n (start + u)) (inside (start + u) (omega arith) (omega (arith, less)))
 
   -- so nothing else is touched then
-  pub put_touches : Touches (kinds_of types) (and_all (foot_of types (record { object = n; word = 0; ty = id })) (owned_of (parts_at types id) (owner_word owned ∷ []))) (wrote m 0 0 (owner_word None ∷ []) c)
-      (replaced (parts_at types id) (record { object = n; index = 0; word = 0 }) (owner_word owned ∷ [], wrote m 0 0 (owner_word None ∷ []) c))
+  pub put_touches : Touches (kinds_of types) (and_all (foot_of types (record { object = n; word = start; ty = id })) (owned_of (parts_at types id) (owner_word owned ∷ []))) (wrote m 0 0 (owner_word None ∷ []) c)
+      (replaced (parts_at types id) (record { object = n; index = 0; word = start }) (owner_word owned ∷ [], wrote m 0 0 (owner_word None ∷ []) c))
   put_touches = put (foot_of types into) (λ u le less. in_region types into n u (record { object = refl; first = le; last = less }))
 
-  pub moved_touches : Touches (kinds_of types) (both_feet types (record { object = n; word = 0; ty = id }) (record { object = m; word = 0; ty = id })) c
-      (replaced (parts_at types id) (record { object = n; index = 0; word = 0 }) (owner_word owned ∷ [], wrote m 0 0 (owner_word None ∷ []) c))
+  pub moved_touches : Touches (kinds_of types) (both_feet types (record { object = n; word = start; ty = id }) (record { object = m; word = 0; ty = id })) c
+      (replaced (parts_at types id) (record { object = n; index = 0; word = start }) (owner_word owned ∷ [], wrote m 0 0 (owner_word None ∷ []) c))
   moved_touches =
       touches_then (kinds_of types) hand c store.forest (both_feet types into from) (and_all (both_feet types into from) (owned_of (parts_at types id) (owner_word owned ∷ []))) (both_feet types into from) emptied
-      (replaced (parts_at types id) (record { object = n; index = 0; word = 0 }) (owner_word owned ∷ [], emptied)) emptied_touches (put (both_feet types into from) in_feet) (within_self (kinds_of types) c (both_feet types into from))
+      (replaced (parts_at types id) (record { object = n; index = 0; word = start }) (owner_word owned ∷ [], emptied)) emptied_touches (put (both_feet types into from) in_feet) (within_self (kinds_of types) c (both_feet types into from))
       (within_all (kinds_of types) c (both_feet types into from) (owned_of (parts_at types id) (owner_word owned ∷ []))
       (λ k own born. given_low k (subst (λ (ws : List ℕ). 0 < times (owned_of (parts_at types id) ws) k) (sym are) own)))

@@ -1,9 +1,10 @@
 -- What the facts say behind a move of a whole local to another, to a member of one, or to a place behind a pointer: those on pointers into what either had are invalid, and
 -- what is touched lies beneath what the frame names.
-use Rattle.std.proofs.Common.{◌≡◌, ◌≢◌, inl, inr, ⊎_elim, ◌⊎◌, ℕ, Bool, true, false, List, [], ◌∷◌, ◌++◌, Option, Some, refl, sym, ap, subst, ◌∙◌, arith}
+use Rattle.std.proofs.Common.{◌≡◌, ◌≢◌, inl, inr, ⊎_elim, ◌⊎◌, ℕ, Bool, true, false, List, [], ◌∷◌, ◌++◌, Option, Some, None, refl, sym, ap, subst, ◌∙◌, arith}
 use Rattle.std.specs.Prelude.{◌||◌, ◌&&◌, Contains, cond, if◌then◌else◌, not}
 use Rattle.std.proofs.lemmas.Bool.{false≢true}
 use Rattle.std.proofs.lemmas.List.Elements.{Contains-append_left, Contains-append_right}
+use Rattle.life_types.specs.TypeTests.{is_pointer}
 use Rattle.life_types.specs.Types.{Types}
 use Rattle.life_types.specs.declared.place.Place.{Place}
 use Rattle.life_types.specs.declared.ty.TyId.{TyId}
@@ -22,23 +23,27 @@ use Rattle.life_pset.specs.declared.element.Root.{Root}
 use Rattle.life_pset.proofs.Numbers.{place_laws}
 use Rattle.life_contract.specs.Located.{is_location, located}
 use Rattle.life_contract.specs.Signatures.{Signature}
+use Rattle.life_proper.specs.Placed.{type_in}
 use Rattle.life_rules.specs.Carrying.{drops, is_gone, killed_facts, killed_fact, killed_through, kills, makes, writes}
 use Rattle.life_rules.specs.Matching.{fact_at, given_if, points_under, unless}
 use Rattle.life_rules.specs.declared.kill.Kill.{Kill}
 use Rattle.life_rules.proofs.Giving.{at_head, in_tail}
 use Rattle.life_store.specs.Cells.{at}
-use Rattle.life_store.specs.Content.{Content}
+use Rattle.life_store.specs.Content.{Content, Object}
 use Rattle.life_store.specs.Effects.{cell, put_content}
 use Rattle.life_store.specs.Parts.{local_type, width_at}
+use Rattle.life_store.specs.Places.{location_cell}
 use Rattle.life_store.specs.State.{Named, Pointer, Points, State}
-use Rattle.life_store.proofs.CellLemmas.{some_same}
+use Rattle.life_store.proofs.CellLemmas.{none_some, some_same}
 use Rattle.life_store.proofs.MapLemmas.{one_or_apart}
 use Rattle.life_forest.specs.Forest.{Beneath, Touches, part, under as further, whole as one}
 use Rattle.life_forest.specs.FrameTypes.{IsVariable}
 use Rattle.life_forest.specs.Kinds.{kinds_of}
 use Rattle.life_forest.proofs.Sparing.{owns_le}
 use Rattle.life_forest.proofs.Steps.{alive_le, touches_more}
-use Rattle.life_cover.specs.Frames.{FrameCovered, RootStands, look_at}
+use Rattle.life_cover.specs.Frames.{FrameCovered, RootStands, look_in}
+use Rattle.life_cover.proofs.MemberWords.{Spares}
+use Rattle.life_cover.proofs.SparedPointers.{HasNoPointer, content_held, named_other, spares_both, spares_local, spares_region}
 use Rattle.life_cover.specs.Inputs.{StandsAt, frame_foot, may_change, owning}
 use Rattle.life_cover.specs.Kills.{Closed, Guards, LeftBy, is_hit}
 use Rattle.life_cover.specs.Regions.{IsAt, Region, foot_of, is_in_region}
@@ -48,7 +53,7 @@ use Rattle.life_cover.proofs.Inside.{region_within}
 use Rattle.life_cover.proofs.Killing.{cover_on}
 use Rattle.life_cover.proofs.KnownFrames.{IsKnownFrame, IsRight, hand_of, rooted_of, store_of}
 use Rattle.life_cover.proofs.Left.{caused_of, kept_by}
-use Rattle.life_cover.proofs.Locals.{two_named}
+use Rattle.life_cover.proofs.Locals.{named_free, two_named}
 use Rattle.life_cover.proofs.Moved.{both_feet}
 use Rattle.life_cover.proofs.ObjectParts.{part_within}
 use Rattle.life_cover.proofs.Opening.{place_part}
@@ -252,11 +257,28 @@ module _ (types : Types) (f : Function) (rest : ℕ → ℕ) (inputs : Root → 
       (split types st.world.content into from alike r.object low)
 
   -- the facts that the rules leave cover all pointers
-  pub placed_covered : (written : AbsPlace → Bool) (S' : Fact → Type 0) → LeftBy (RootStands types f (StandsAt inputs) st.cells) (λ a. under (local_place y) a || under to a) written S S' → ((z : ℕ) (v : Pointer) → cell st z ≡ Some (Points v) → written (local_place z) ≡ false)
+  pub placed_covered : (written : AbsPlace → Bool) (S' : Fact → Type 0) → LeftBy (RootStands types f (StandsAt inputs) st.cells) (λ a. under (local_place y) a || under to a) written S S' → HasNoPointer types into.ty → ((l : Location) (v : Pointer) → is_pointer (type_in types f l) ≡ true → location_cell types f l st ≡ Some (Points v) → written (located l) ≡ false)
       → (d : Content) → Touches (kinds_of types) (both_feet types into (record { object = m; word = 0; ty = into.ty })) st.world.content d → FrameCovered types f inputs S' (put_content d st)
-  placed_covered written S' left free d touch z v e =
+  placed_covered written S' left owner free d touch l v pointer e =
+      let before = content_held types f rest inputs S st k (both_feet types into from) (spares_both types f rest inputs S st k into from spares_into (spares_local types f rest inputs S st k y m named_y into.ty typed_y owner)) d touch l v pointer e in
       cover_on types k.ordered (hand_of rest st) st.world.content d (store_of types f rest inputs S st k) (both_feet types into from) touch (RootStands types f (StandsAt inputs) st.cells) (RootStands types f (StandsAt inputs) st.cells) (may_change types f) (rooted_of types f rest inputs S st k).fits
-      (λ a. under (local_place y) a || under to a) written S S' left guards (λ a r names spared stands. stands) (local_place z) (look_at types f z) v (free z v e) (k.covered z v e)
+      (λ a. under (local_place y) a || under to a) written S S' left guards (λ a r names spared stands. stands) (located l) (look_in types f l) v (free l v pointer before) (k.covered l v pointer before)
+    where
+      -- what lies there lives, or nothing there is touched
+      spares_into : Spares types f st (foot_of types into)
+      spares_into = go (at st.world.content.objects into.object) refl
+        where
+          not_there : (b : Bool) → (b ≡ true → ⊥) → b ≡ false
+          not_there true h = absurd (h refl)
+          not_there false h = refl
+
+          go : (x : Option Object) → at st.world.content.objects into.object ≡ x → Spares types f st (foot_of types into)
+          go (Some o) there = spares_region types f rest inputs S st k into o there (part_within types k.ordered o.ty into.word into.ty (place_part types f rest inputs S st k to into at_to o there)) owner
+          go None gone = record {
+            apart = λ x j named low. named_free types f rest st k.stands.store k.stands.frame x j into named low;
+            words = λ x j id named typed u i pointing. not_there (is_in_region types into j u)
+                (λ inside. let w = k.stands.frame.objects x j named in none_some (sym gone ∙ ap (at st.world.content.objects) (sym (region_within types into j u inside).object) ∙ w.there));
+          }
 
   -- what both had lies beneath what is named, or behind a mutating input
   pub placed_spares : (d : Content) → Touches (kinds_of types) (both_feet types into (record { object = m; word = 0; ty = into.ty })) st.world.content d → Touches (kinds_of types) (frame_foot types f inputs st.cells) st.world.content d
@@ -289,16 +311,10 @@ module _ (types : Types) (f : Function) (rest : ℕ → ℕ) (inputs : Root → 
       let alive = alive_le (kinds_of types) st.world.content n in
       omega (arith, two, held, alive)
 
-  pub moved_covered : (d : Content) → Touches (kinds_of types) (both_feet types (record { object = n; word = 0; ty = id }) (record { object = m; word = 0; ty = id })) st.world.content d → FrameCovered types f inputs S' (put_content d st)
-  moved_covered =
-      placed_covered types f rest inputs S st k (local_place x) into_x refl at_x y m named_y typed_y (writes (Move (named.Name (whole x)) y)) S' (left_by_move sigs types f place (whole x) y S S' right.closed (RootStands types f (StandsAt inputs) st.cells))
-      (λ z v e. both_false (is_location (whole y) (local_place z)) (is_location (whole x) (local_place z)) (other_local y z (not_z z v e y m named_y)) (other_local x z (not_z z v e x n named_x)))
-    where
-      unlike : (j : ℕ) (v : Pointer) → Named j ≡ Points v → ⊥
-      unlike j v h = cc
-
-      not_z : (z : ℕ) (v : Pointer) → cell st z ≡ Some (Points v) → (q j : ℕ) → cell st q ≡ Some (Named j) → q ≢ z
-      not_z z v e q j named same = unlike j v (some_same (sym named ∙ ap (cell st) same ∙ e))
+  pub moved_covered : HasNoPointer types id → (d : Content) → Touches (kinds_of types) (both_feet types (record { object = n; word = 0; ty = id }) (record { object = m; word = 0; ty = id })) st.world.content d → FrameCovered types f inputs S' (put_content d st)
+  moved_covered owner =
+      placed_covered types f rest inputs S st k (local_place x) into_x refl at_x y m named_y typed_y (writes (Move (named.Name (whole x)) y)) S' (left_by_move sigs types f place (whole x) y S S' right.closed (RootStands types f (StandsAt inputs) st.cells)) owner
+      (λ l v pointer e. both_false (is_location (whole y) (located l)) (is_location (whole x) (located l)) (named_other types f rest inputs S st k y m named_y l v e) (named_other types f rest inputs S st k x n named_x l v e))
 
   pub moved_spares : (d : Content) → Touches (kinds_of types) (both_feet types (record { object = n; word = 0; ty = id }) (record { object = m; word = 0; ty = id })) st.world.content d → Touches (kinds_of types) (frame_foot types f inputs st.cells) st.world.content d
   moved_spares = placed_spares types f rest inputs S st k (local_place x) into_x refl at_x y m named_y typed_y

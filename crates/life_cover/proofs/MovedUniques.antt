@@ -21,19 +21,18 @@ use Rattle.life_forest.proofs.Feet.{and_all}
 use Rattle.life_forest.proofs.Puts.{wrote_is}
 use Rattle.life_forest.proofs.Steps.{alive_le}
 use Rattle.life_cover.specs.Regions.{Region, foot_of, is_in_region}
-use Rattle.life_cover.specs.Uniques.{had_by}
+use Rattle.life_cover.specs.Uniques.{had_at}
 use Rattle.life_cover.proofs.Inside.{region_within}
-use Rattle.life_cover.proofs.MakeKinds.{null_written}
 use Rattle.life_cover.proofs.Moved.{kept, out, put_touches}
-use Rattle.life_cover.proofs.OwnersStay.{owner_kept}
+use Rattle.life_cover.proofs.OwnersStay.{null_written, owner_kept}
 use Rattle.life_cover.proofs.Remade.{hand_apart, replaced_has}
 use Rattle.life_cover.proofs.UniquesStay.{not_true}
 
-module _ (types : Types) (ordered : IsOrdered types) (hand : ℕ → ℕ) (c : Content) (store : IsStore types hand c) (id ty : TyId) (is_unique : parts_at types id ≡ Unique ty (parts_at types ty)) (n : ℕ) (o : Object) (there : at c.objects n ≡ Some o) (within : LiesWithin types o.ty 0 id)
+module _ (types : Types) (ordered : IsOrdered types) (hand : ℕ → ℕ) (c : Content) (store : IsStore types hand c) (id ty : TyId) (is_unique : parts_at types id ≡ Unique ty (parts_at types ty)) (n start : ℕ) (o : Object) (there : at c.objects n ≡ Some o) (within : LiesWithin types o.ty start id)
     (lt : 0 < length o.slots) (m : ℕ) (om : Object) (m_there : at c.objects m ≡ Some om) (m_within : LiesWithin types om.ty 0 id) (m_lt : 0 < length om.slots) (apart : m ≢ n) (owned : Option ℕ)
     (are : spot_words c (record { object = m; index = 0; word = 0 }) (width_at types id) ≡ owner_word owned ∷ []) (n_hand : 0 < hand n) (m_hand : 0 < hand m) where
   abbrev into : Region
-  into = record { object = n; word = 0; ty = id }
+  into = record { object = n; word = start; ty = id }
 
   abbrev emptied : Content
   emptied = wrote m 0 0 (owner_word None ∷ []) c
@@ -43,7 +42,7 @@ module _ (types : Types) (ordered : IsOrdered types) (hand : ℕ → ℕ) (c : C
   before j = times (owned_of (parts_at types id) (owner_word owned ∷ [])) j + hand j
 
   emptied_store : IsStore types before emptied
-  emptied_store = (out types ordered hand c store id ty is_unique n o there within lt m om m_there m_within m_lt apart owned are).0
+  emptied_store = (out types ordered hand c store id ty is_unique n start o there within lt m om m_there m_within m_lt apart owned are).0
 
   abbrev foot : Foot
   foot = and_all (foot_of types into) (owned_of (parts_at types id) (owner_word owned ∷ []))
@@ -60,21 +59,21 @@ module _ (types : Types) (ordered : IsOrdered types) (hand : ℕ → ℕ) (c : C
       let one = alive_le (kinds_of types) emptied j in
       omega (arith, in_hand, taken, held, one))
 
-  pub taken_has : (slot : Slot) → o.slots ≡ slot ∷ [] → 0 < length slot.words → had_by (replaced (parts_at types id) (record { object = n; index = 0; word = 0 }) (owner_word owned ∷ [], wrote m 0 0 (owner_word None ∷ []) c)) n ≡ owned
+  pub taken_has : (slot : Slot) → o.slots ≡ slot ∷ [] → start < length slot.words → had_at (replaced (parts_at types id) (record { object = n; index = 0; word = start }) (owner_word owned ∷ [], wrote m 0 0 (owner_word None ∷ []) c)) n start ≡ owned
   taken_has slot one some =
-      replaced_has types foot emptied n o slot (parts_at types id) (owner_word owned) (kept types ordered hand c store id ty is_unique n o there within lt m om m_there m_within m_lt apart owned are) one some
+      replaced_has types foot emptied n start o slot (parts_at types id) (owner_word owned) (kept types ordered hand c store id ty is_unique n start o there within lt m om m_there m_within m_lt apart owned are) one some
       (let b = births in let born = store.forest.births n o there in omega (arith, b, born)) (free n n_hand)
-      (put_touches types ordered hand c store id ty is_unique n o there within lt m om m_there m_within m_lt apart owned are) ∙ word_of owned
+      (put_touches types ordered hand c store id ty is_unique n start o there within lt m om m_there m_within m_lt apart owned are) ∙ word_of owned
     where
       word_of : (w : Option ℕ) → owned_in (owner_word w) ≡ w
       word_of None = refl
       word_of (Some j) = refl
 
-  pub given_has : om.ty ≡ id → had_by (replaced (parts_at types id) (record { object = n; index = 0; word = 0 }) (owner_word owned ∷ [], wrote m 0 0 (owner_word None ∷ []) c)) m ≡ None
+  pub given_has : om.ty ≡ id → had_at (replaced (parts_at types id) (record { object = n; index = 0; word = start }) (owner_word owned ∷ [], wrote m 0 0 (owner_word None ∷ []) c)) m 0 ≡ None
   given_has typed =
-      owner_kept (kinds_of types) foot emptied (replaced (parts_at types id) (record { object = n; index = 0; word = 0 }) (owner_word owned ∷ [], emptied)) m 0 0 (with_words 0 0 (owner_word None ∷ []) om)
-      (put_touches types ordered hand c store id ty is_unique n o there within lt m om m_there m_within m_lt apart owned are) (let b = births in let born = store.forest.births m om m_there in omega (arith, b, born)) (free m m_hand)
+      owner_kept (kinds_of types) foot emptied (replaced (parts_at types id) (record { object = n; index = 0; word = start }) (owner_word owned ∷ [], emptied)) m 0 0 (with_words 0 0 (owner_word None ∷ []) om)
+      (put_touches types ordered hand c store id ty is_unique n start o there within lt m om m_there m_within m_lt apart owned are) (let b = births in let born = store.forest.births m om m_there in omega (arith, b, born)) (free m m_hand)
       (ap (λ (q : Option Object). at (wrote_if q m 0 0 (owner_word None ∷ []) c).objects m) m_there ∙ at-set_same c.objects m m (with_words 0 0 (owner_word None ∷ []) om) refl)
       (ap (λ (i : TyId). is_value (kind_in (parts_at types i) 0)) typed ∙ ap (λ (p : Parts). is_value (kind_in p 0)) is_unique)
       (not_true (is_in_region types into m 0) (λ e. apart (region_within types into m 0 e).object))
-      ∙ null_written m c
+      ∙ null_written m 0 c

@@ -1,9 +1,9 @@
 -- The kinds of instructions that give a register a number, or write one out, of a whole frame: there is no fault, and the facts behind them
 -- cover all pointers.
-use Rattle.std.proofs.Common.{◌≡◌, ℕ, Bool, true, false, List, [], ◌∷◌, Option, Some, None, refl, sym, ap, subst, ◌∙◌}
-use Rattle.std.specs.Prelude.{ℤ, pos, Ok, Err, cond, nat_eq, nat_lt, slice_get}
+use Rattle.std.proofs.Common.{◌≡◌, ⊎_elim, ℕ, Bool, true, false, List, [], ◌∷◌, Option, Some, None, refl, sym, ap, subst, ◌∙◌}
+use Rattle.std.specs.Prelude.{ℤ, pos, Ok, Err, cond, nat_eq, nat_lt, slice_get, slice_set}
 use Rattle.std.proofs.lemmas.Bool.{false≢true}
-use Rattle.life_types.specs.TypeTests.{is_void}
+use Rattle.life_types.specs.TypeTests.{is_pointer, is_void}
 use Rattle.life_types.specs.Types.{Types}
 use Rattle.life_types.specs.declared.place.Place.{Place}
 use Rattle.life_types.specs.declared.ty.Ty.{Ty}
@@ -12,18 +12,17 @@ use Rattle.life_types.specs.declared.ty.TyId.{TyId}
 use Rattle.life_core.specs.declared.operation.Operation.{Operation}
 use Rattle.life_core.specs.declared.operation.Operation.TheVariants as operation
 use Rattle.life_core.specs.Function.{Function}
-use Rattle.life_core.specs.Operands.{Location, Operand, whole}
+use Rattle.life_core.specs.Operands.{Location, Operand}
 use Rattle.life_core.specs.Operands as named
 use Rattle.life_core.specs.Step.{Eval, Load, Port, Ports, Same, Size, Step, Takes, Writes, WritesView}
-use Rattle.life_pset.specs.Elements.{local_place}
-use Rattle.life_pset.specs.Shapes.{ty_if}
 use Rattle.life_pset.specs.declared.element.AbsPlace.{AbsPlace}
 use Rattle.life_pset.specs.declared.element.Element.{Element}
 use Rattle.life_pset.specs.declared.element.Fact.{Fact}
 use Rattle.life_pset.specs.declared.element.Root.{Root}
+use Rattle.life_contract.specs.Located.{located}
 use Rattle.life_contract.specs.Signatures.{Signature}
 use Rattle.life_proper.specs.OperandTypes.{are_compared, is_range}
-use Rattle.life_proper.specs.Placed.{is_number, type_at, type_of}
+use Rattle.life_proper.specs.Placed.{is_number, type_in, type_of}
 use Rattle.life_rules.specs.Carrying.{is_gone, writes}
 use Rattle.life_rules.proofs.Giving.{at_head, in_tail}
 use Rattle.life_store.specs.Content.{word_at}
@@ -31,22 +30,23 @@ use Rattle.life_store.specs.Doing.{compared, computed_into, does, evaluated, inp
 use Rattle.life_store.specs.Effects.{Attempt, Got, GotTrap, GotFault, GotLost, Effect, Next, Traps, Setting, cell, converted, number_in_word, on_number, put_cell, then_get, type_of as number_type}
 use Rattle.life_store.specs.Iterators.{is_one_object, iterator, same_position, standing, start_of}
 use Rattle.life_store.specs.Numbers.{Computed, combined, is_zero, negated, truth}
-use Rattle.life_store.specs.Parts.{Iterates, Parts, Views, local_type, location_parts, parts_if}
-use Rattle.life_store.specs.Places.{operand_word}
+use Rattle.life_store.specs.Parts.{Iterates, Parts, Views, location_parts, parts_if}
+use Rattle.life_store.specs.Places.{location_cell, operand_word}
 use Rattle.life_store.specs.State.{Characters, Pointer, Cell, Empty, Named, Number, Points, State}
 use Rattle.life_store.specs.Views.{are_same, seen_bytes, seen_count, text_size, usable, used}
 use Rattle.life_store.specs.declared.run.TrapKind.TheVariants as trap
 use Rattle.life_forest.specs.Kinds.{kinds_of}
-use Rattle.life_forest.proofs.OneNumber.{typed_at}
 use Rattle.life_forest.proofs.SeenTypes.{parts_typed}
 use Rattle.life_forest.proofs.Steps.{touches_self}
-use Rattle.life_cover.specs.Frames.{FrameCovered, RootStands, look_at}
+use Rattle.life_forest.proofs.TypedSteps.{location_of}
+use Rattle.life_cover.specs.Frames.{FrameCovered, RootStands, look_in}
+use Rattle.life_cover.proofs.HeldCells.{put_held}
 use Rattle.life_cover.proofs.KnownFrames.{IsKnownFrame, IsRight, hand_of, number_free, reach_at, rooted_of, store_of, used_right}
 use Rattle.life_cover.proofs.Looks.{compared_ranged}
 use Rattle.life_cover.proofs.OwnerKinds.{number_right}
 use Rattle.life_cover.proofs.PointerKinds.{read_right}
 use Rattle.life_cover.proofs.Pointers.{IfRight, OnRight, right_then}
-use Rattle.life_cover.proofs.Putting.{put_covered}
+use Rattle.life_cover.proofs.Putting.{covered_more, roots_stay}
 use Rattle.life_cover.proofs.Reaching.{on_place_right}
 use Rattle.life_cover.proofs.Unkilled.{no_foot, unkilled_cover}
 use Rattle.life_cover.proofs.Using.{Faultless, NotInvalid, standing_right, usable_right}
@@ -71,46 +71,50 @@ module _ (types : Types) (f : Function) (rest : ℕ → ℕ) (inputs : Root → 
   -- ---- pointers that are read
 
   -- a view or a span
-  pub range_fit : (q : ℕ) → NotInvalid S (local_place q) → is_range (type_at types f q) ≡ true → (v : Option Cell) → cell st q ≡ v → IfRight (used st.world.content v) (λ u. Unit {0})
-  range_fit q valid is None e = tt
-  range_fit q valid is (Some Empty) e = tt
-  range_fit q valid is (Some (Named n)) e = tt
-  range_fit q valid is (Some (Number z)) e = tt
-  range_fit q valid is (Some (Points v)) e =
-      right_of (usable st.world.content v) (usable_right types st.world.content (RootStands types f (StandsAt inputs) st.cells) (may_change types f) S (local_place q) (look_at types f q) valid v is (k.covered q v e))
+  pub range_fit : (q : Location) → is_pointer (type_in types f q) ≡ true → NotInvalid S (located q) → is_range (type_in types f q) ≡ true → (v : Option Cell) → location_cell types f q st ≡ v → IfRight (used st.world.content v) (λ u. Unit {0})
+  range_fit q pointer valid is None e = tt
+  range_fit q pointer valid is (Some Empty) e = tt
+  range_fit q pointer valid is (Some (Named n)) e = tt
+  range_fit q pointer valid is (Some (Number z)) e = tt
+  range_fit q pointer valid is (Some (Points v)) e =
+      right_of (usable st.world.content v) (usable_right types st.world.content (RootStands types f (StandsAt inputs) st.cells) (may_change types f) S (located q) (look_in types f q) valid v is (k.covered q v pointer e))
 
   -- an iterator
-  pub place_fit : (q : ℕ) → NotInvalid S (local_place q) → is_range (type_at types f q) ≡ false → (v : Option Cell) → cell st q ≡ v → IfRight (iterator st.world.content v) (λ u. Unit {0})
-  place_fit q valid is None e = tt
-  place_fit q valid is (Some Empty) e = tt
-  place_fit q valid is (Some (Named n)) e = tt
-  place_fit q valid is (Some (Number z)) e = tt
-  place_fit q valid is (Some (Points v)) e =
-      right_of (standing st.world.content v) (standing_right types st.world.content (RootStands types f (StandsAt inputs) st.cells) (may_change types f) S (local_place q) (look_at types f q) valid v is (k.covered q v e))
+  pub place_fit : (q : Location) → is_pointer (type_in types f q) ≡ true → NotInvalid S (located q) → is_range (type_in types f q) ≡ false → (v : Option Cell) → location_cell types f q st ≡ v → IfRight (iterator st.world.content v) (λ u. Unit {0})
+  place_fit q pointer valid is None e = tt
+  place_fit q pointer valid is (Some Empty) e = tt
+  place_fit q pointer valid is (Some (Named n)) e = tt
+  place_fit q pointer valid is (Some (Number z)) e = tt
+  place_fit q pointer valid is (Some (Points v)) e =
+      right_of (standing st.world.content v) (standing_right types st.world.content (RootStands types f (StandsAt inputs) st.cells) (may_change types f) S (located q) (look_in types f q) valid v is (k.covered q v pointer e))
 
-  -- a view that is written is a local
+  -- what is written is a view
   abbrev pub IsPort : Port → Type 0
   IsPort (Writes r) = Unit {0}
-  IsPort (WritesView l) = (whole l.local ≡ l) × (is_range (type_at types f l.local) ≡ true)
+  IsPort (WritesView l) = (is_pointer (type_in types f l) ≡ true) × (is_range (type_in types f l) ≡ true)
   IsPort (Takes r) = is_number types f r ≡ true
 
   module _ (sigs : List Signature) (n : ℕ) (place : Place) (S' : Fact → Type 0) where
     -- ---- nothing is killed, and no pointer is written
 
     module _ (i : Step) (right : IsRight sigs types n f place i S S') (gone : (e : Element) → is_gone types f place i e ≡ false) (none : (l : AbsPlace) → writes i l ≡ false) where
-      pub register_covered : (r : ℕ) → is_number types f r ≡ true → (z : ℤ) → FrameCovered types f inputs S' (put_cell r (Number z) st)
-      register_covered r is z =
-          put_covered types k.ordered f (hand_of rest st) st (store_of types f rest inputs S st k) (StandsAt inputs) (may_change types f) (rooted_of types f rest inputs S st k).fits sigs place i S S' right.closed gone r (Number z)
-          (λ x ne. none (local_place x)) (number_free types f rest inputs S st k r is) (λ v e. absurd (unlike v e)) k.covered
-        where
-          unlike : (v : Pointer) → Number z ≡ Points v → ⊥
-          unlike v e = cc
-
       -- where content and cells are as they were
       pub still_covered : FrameCovered types f inputs S' st
-      still_covered x v e =
+      still_covered l v pointer held =
           unkilled_cover types k.ordered (hand_of rest st) st.world.content st.world.content (store_of types f rest inputs S st k) (touches_self (kinds_of types) no_foot st.world.content) (RootStands types f (StandsAt inputs) st.cells) (RootStands types f (StandsAt inputs) st.cells) (may_change types f)
-          (rooted_of types f rest inputs S st k).fits sigs f place i S S' right.closed gone (λ a r names free s. s) (local_place x) (look_at types f x) v (none (local_place x)) (k.covered x v e)
+          (rooted_of types f rest inputs S st k).fits sigs f place i S S' right.closed gone (λ a r names free s. s) (located l) (look_in types f l) v (none (located l)) (k.covered l v pointer held)
+
+      pub register_covered : (r : ℕ) → is_number types f r ≡ true → (z : ℤ) → FrameCovered types f inputs S' (put_cell r (Number z) st)
+      register_covered r is z l v pointer held =
+          covered_more types st.world.content (RootStands types f (StandsAt inputs) st.cells) (RootStands types f (StandsAt inputs) (slice_set st.cells r (Number z))) (may_change types f)
+          (roots_stay types f (StandsAt inputs) st r (Number z) (number_free types f rest inputs S st k r is)) S' (located l) (look_in types f l) v
+          (⊎_elim (λ h. absurd (unlike h.1)) (λ h. still_covered l v pointer h.1) (put_held types f st r (Number z) (λ m e. nameless m e) l v held))
+        where
+          unlike : Number z ≡ Points v → ⊥
+          unlike e = cc
+
+          nameless : (m : ℕ) → Number z ≡ Named m → ⊥
+          nameless m e = cc
 
     -- ---- values
 
@@ -149,42 +153,40 @@ module _ (types : Types) (f : Function) (rest : ℕ → ℕ) (inputs : Root → 
         taken [] = tt
         taken (z ∷ zs) = register_covered (Ports (Takes r)) right (λ e. refl) (λ l. refl) r is _
     port_kind s (WritesView l) right is =
-        subst (λ (q : Location). IsRight sigs types n f place (Ports (WritesView q)) S S' → OnRight (does s types f (Ports (WritesView q)) st) (FrameCovered types f inputs S')) is.0
-        (λ now. right_then (used st.world.content (cell st l.local)) (λ v. Next (with_output (seen_bytes s.texts st.world.content v) st)) (λ u. Unit {0}) (FrameCovered types f inputs S')
-        (range_fit l.local (read_right sigs types n f place (Ports (WritesView (whole l.local))) S now.clean (whole l.local) (at_head (whole l.local) [])) is.1 (cell st l.local) refl)
-        (λ v h. still_covered (Ports (WritesView (whole l.local))) now (λ e. refl) (λ a. refl)))
-        right
+        right_then (used st.world.content (location_cell types f l st)) (λ v. Next (with_output (seen_bytes s.texts st.world.content v) st)) (λ u. Unit {0}) (FrameCovered types f inputs S')
+        (range_fit l is.0 (read_right sigs types n f place (Ports (WritesView l)) S right.clean l (at_head l [])) is.1 (location_cell types f l st) refl)
+        (λ v h. still_covered (Ports (WritesView l)) right (λ e. refl) (λ a. refl))
 
     -- ---- sizes and comparisons of pointers
 
-    pub seen_size_kind : (s : Setting) (r q : ℕ) → IsRight sigs types n f place (Size r (named.Pointer (whole q))) S S' → is_number types f r ≡ true → is_range (type_at types f q) ≡ true → OnRight (does s types f (Size r (named.Pointer (whole q))) st) (FrameCovered types f inputs S')
-    seen_size_kind s r q right is ranged =
-        right_then (used st.world.content (cell st q)) (λ v. Next (put_cell r (Number (pos (seen_count v))) st)) (λ u. Unit {0}) (FrameCovered types f inputs S')
-        (range_fit q (read_right sigs types n f place (Size r (named.Pointer (whole q))) S right.clean (whole q) (at_head (whole q) [])) ranged (cell st q) refl)
-        (λ v h. register_covered (Size r (named.Pointer (whole q))) right (λ e. refl) (λ l. refl) r is (pos (seen_count v)))
+    pub seen_size_kind : (s : Setting) (r : ℕ) (q : Location) → is_pointer (type_in types f q) ≡ true → IsRight sigs types n f place (Size r (named.Pointer q)) S S' → is_number types f r ≡ true → is_range (type_in types f q) ≡ true → OnRight (does s types f (Size r (named.Pointer q)) st) (FrameCovered types f inputs S')
+    seen_size_kind s r q pointer right is ranged =
+        right_then (used st.world.content (location_cell types f q st)) (λ v. Next (put_cell r (Number (pos (seen_count v))) st)) (λ u. Unit {0}) (FrameCovered types f inputs S')
+        (range_fit q pointer (read_right sigs types n f place (Size r (named.Pointer q)) S right.clean q (at_head q [])) ranged (location_cell types f q st) refl)
+        (λ v h. register_covered (Size r (named.Pointer q)) right (λ e. refl) (λ l. refl) r is (pos (seen_count v)))
 
-    pub same_kind : (s : Setting) (r a b : ℕ) (equal : Bool) → IsRight sigs types n f place (Same r (whole a) (whole b) equal) S S' → is_number types f r ≡ true → are_compared types (type_at types f a) (type_at types f b) ≡ true
-        → OnRight (does s types f (Same r (whole a) (whole b) equal) st) (FrameCovered types f inputs S')
-    same_kind s r a b equal right is alike =
-        right_then (compared s types f (location_parts types f (whole a)) (whole a) (whole b) st) (λ same. Next (put_cell r (Number (told same equal)) st)) (λ same. Unit {0}) (FrameCovered types f inputs S')
-        (by_type (type_at types f a) refl alike)
+    pub same_kind : (s : Setting) (r : ℕ) (a b : Location) (equal : Bool) → is_pointer (type_in types f a) ≡ true → is_pointer (type_in types f b) ≡ true → IsRight sigs types n f place (Same r a b equal) S S' → is_number types f r ≡ true → are_compared types (type_in types f a) (type_in types f b) ≡ true
+        → OnRight (does s types f (Same r a b equal) st) (FrameCovered types f inputs S')
+    same_kind s r a b equal pointer_a pointer_b right is alike =
+        right_then (compared s types f (location_parts types f a) a b st) (λ same. Next (put_cell r (Number (told same equal)) st)) (λ same. Unit {0}) (FrameCovered types f inputs S')
+        (by_type (type_in types f a) refl alike)
         (λ same h. register_covered i right (λ e. refl) (λ l. refl) r is (told same equal))
       where
         i : Step
-        i = Same r (whole a) (whole b) equal
+        i = Same r a b equal
 
-        valid_a : NotInvalid S (local_place a)
-        valid_a = read_right sigs types n f place i S right.clean (whole a) (at_head (whole a) (whole b ∷ []))
+        valid_a : NotInvalid S (located a)
+        valid_a = read_right sigs types n f place i S right.clean a (at_head a (b ∷ []))
 
-        valid_b : NotInvalid S (local_place b)
-        valid_b = read_right sigs types n f place i S right.clean (whole b) (in_tail (whole a) (whole b ∷ []) (whole b) (at_head (whole b) []))
+        valid_b : NotInvalid S (located b)
+        valid_b = read_right sigs types n f place i S right.clean b (in_tail a (b ∷ []) b (at_head b []))
 
-        alike_ranged : is_range (type_at types f b) ≡ is_range (type_at types f a)
-        alike_ranged = compared_ranged types (type_at types f a) (type_at types f b) alike
+        alike_ranged : is_range (type_in types f b) ≡ is_range (type_in types f a)
+        alike_ranged = compared_ranged types (type_in types f a) (type_in types f b) alike
 
-        parts_are : (t : Ty) (p : Parts) → type_at types f a ≡ t → is_void t ≡ false → ((id : TyId) → slice_get types.types id.0 ≡ Some t → parts_if types (Some id) ≡ p) → location_parts types f (whole a) ≡ p
+        parts_are : (t : Ty) (p : Parts) → type_in types f a ≡ t → is_void t ≡ false → ((id : TyId) → slice_get types.types id.0 ≡ Some t → parts_if types (Some id) ≡ p) → location_parts types f a ≡ p
         parts_are t p e solid made =
-            let of = typed_at types (local_type types f a) t (sym (ap (ty_if types) (k.shaped a)) ∙ e) solid in
+            let of = location_of types k.ordered k.once 0 [] f k.shaped a t e solid in
             ap (parts_if types) of.is ∙ made of.number of.there
 
         position : (u t : Pointer) → IfRight (same_position u t) (λ same. Unit {0})
@@ -194,24 +196,24 @@ module _ (types : Types) (f : Function) (rest : ℕ → ℕ) (inputs : Root → 
             go true = tt
             go false = tt
 
-        views : is_range (type_at types f a) ≡ true → IfRight (compared s types f Views (whole a) (whole b) st) (λ same. Unit {0})
+        views : is_range (type_in types f a) ≡ true → IfRight (compared s types f Views a b st) (λ same. Unit {0})
         views ranged =
-            then_right (used st.world.content (cell st a)) (λ v. then_get (used st.world.content (cell st b)) (λ w. Got (are_same (seen_bytes s.texts st.world.content v) (seen_bytes s.texts st.world.content w)))) (λ u. Unit {0}) (λ same. Unit {0})
-            (range_fit a valid_a ranged (cell st a) refl)
-            (λ v h. then_right (used st.world.content (cell st b)) (λ w. Got (are_same (seen_bytes s.texts st.world.content v) (seen_bytes s.texts st.world.content w))) (λ u. Unit {0}) (λ same. Unit {0})
-            (range_fit b valid_b (alike_ranged ∙ ranged) (cell st b) refl) (λ w j. tt))
+            then_right (used st.world.content (location_cell types f a st)) (λ v. then_get (used st.world.content (location_cell types f b st)) (λ w. Got (are_same (seen_bytes s.texts st.world.content v) (seen_bytes s.texts st.world.content w)))) (λ u. Unit {0}) (λ same. Unit {0})
+            (range_fit a pointer_a valid_a ranged (location_cell types f a st) refl)
+            (λ v h. then_right (used st.world.content (location_cell types f b st)) (λ w. Got (are_same (seen_bytes s.texts st.world.content v) (seen_bytes s.texts st.world.content w))) (λ u. Unit {0}) (λ same. Unit {0})
+            (range_fit b pointer_b valid_b (alike_ranged ∙ ranged) (location_cell types f b st) refl) (λ w j. tt))
 
-        iterators : is_range (type_at types f a) ≡ false → IfRight (compared s types f Iterates (whole a) (whole b) st) (λ same. Unit {0})
+        iterators : is_range (type_in types f a) ≡ false → IfRight (compared s types f Iterates a b st) (λ same. Unit {0})
         iterators single =
-            then_right (iterator st.world.content (cell st a)) (λ v. then_get (iterator st.world.content (cell st b)) (λ w. same_position v w)) (λ u. Unit {0}) (λ same. Unit {0})
-            (place_fit a valid_a single (cell st a) refl)
-            (λ v h. then_right (iterator st.world.content (cell st b)) (λ w. same_position v w) (λ u. Unit {0}) (λ same. Unit {0})
-            (place_fit b valid_b (alike_ranged ∙ single) (cell st b) refl) (λ w j. position v w))
+            then_right (iterator st.world.content (location_cell types f a st)) (λ v. then_get (iterator st.world.content (location_cell types f b st)) (λ w. same_position v w)) (λ u. Unit {0}) (λ same. Unit {0})
+            (place_fit a pointer_a valid_a single (location_cell types f a st) refl)
+            (λ v h. then_right (iterator st.world.content (location_cell types f b st)) (λ w. same_position v w) (λ u. Unit {0}) (λ same. Unit {0})
+            (place_fit b pointer_b valid_b (alike_ranged ∙ single) (location_cell types f b st) refl) (λ w j. position v w))
 
-        by_type : (t : Ty) → type_at types f a ≡ t → are_compared types t (type_at types f b) ≡ true → IfRight (compared s types f (location_parts types f (whole a)) (whole a) (whole b) st) (λ same. Unit {0})
+        by_type : (t : Ty) → type_in types f a ≡ t → are_compared types t (type_in types f b) ≡ true → IfRight (compared s types f (location_parts types f a) a b st) (λ same. Unit {0})
         by_type (ty.Iterator target constant) e h =
-            subst (λ (p : Parts). IfRight (compared s types f p (whole a) (whole b) st) (λ same. Unit {0})) (sym (parts_are (ty.Iterator target constant) Iterates e refl (λ id there. parts_typed types k.ordered id (ty.Iterator target constant) there)))
+            subst (λ (p : Parts). IfRight (compared s types f p a b st) (λ same. Unit {0})) (sym (parts_are (ty.Iterator target constant) Iterates e refl (λ id there. parts_typed types k.ordered id (ty.Iterator target constant) there)))
             (iterators (ap is_range e))
         by_type ty.View e h =
-            subst (λ (p : Parts). IfRight (compared s types f p (whole a) (whole b) st) (λ same. Unit {0})) (sym (parts_are ty.View Views e refl (λ id there. parts_typed types k.ordered id ty.View there))) (views (ap is_range e))
+            subst (λ (p : Parts). IfRight (compared s types f p a b st) (λ same. Unit {0})) (sym (parts_are ty.View Views e refl (λ id there. parts_typed types k.ordered id ty.View there))) (views (ap is_range e))
         by_type _ e h = absurd (false≢true h)

@@ -1,5 +1,5 @@
 -- A part of an object has its words there, and what has no members has no part but itself; so what a pointer sees in an object is the part to which it points.
-use Rattle.std.proofs.Common.{◌≡◌, inl, inr, ℕ, zero, suc, ◌<◌, ◌≤◌, Bool, true, false, List, [], ◌∷◌, take, Option, Some, None, refl, sym, ap, subst, ◌∙◌, arith}
+use Rattle.std.proofs.Common.{◌≡◌, inl, inr, ℕ, zero, suc, ◌+◌, ◌<◌, ◌≤◌, Bool, true, false, List, [], ◌∷◌, take, Option, Some, None, refl, sym, ap, subst, ◌∙◌, arith}
 use Rattle.std.specs.Prelude.{cond, length, nat_eq, slice_get, sum_by, unwrap_or}
 use Rattle.std.proofs.lemmas.Bool.{eqb-true, false≢true}
 use Rattle.life_types.specs.Trees.{AllBelow, IsOrdered}
@@ -7,7 +7,7 @@ use Rattle.life_types.specs.Types.{Types}
 use Rattle.life_types.specs.declared.ty.Ty.{Ty}
 use Rattle.life_types.specs.declared.ty.Ty.TheVariants as ty
 use Rattle.life_types.specs.declared.ty.TyId.{TyId}
-use Rattle.life_store.specs.Parts.{characters_type, members_if, members_of, width_at}
+use Rattle.life_store.specs.Parts.{characters_type, members_if, members_of, type_within, width_at, word_within}
 use Rattle.life_store.proofs.CellLemmas.{none_some, some_same}
 use Rattle.life_forest.specs.Kinds.{rank_if, rank_of}
 use Rattle.life_forest.specs.Within.{LiesWithin}
@@ -29,6 +29,28 @@ module _ (types : Types) where
   only_part whole w part none (member_part v _ m id _ has there word) =
       let h = only_part whole v id none has in
       absurd (none_some (sym (none m) ∙ ap (λ (i : TyId). slice_get (members_of types i) m) h.same ∙ there))
+
+  -- what a path leads to is one
+  pub path_part : (whole id part : TyId) (v : ℕ) (ms : List ℕ) → HasPart types whole v id → type_within types (Some id) ms ≡ Some part → HasPart types whole (v + word_within types (Some id) ms) part
+  path_part whole id part v [] has typed = subst (λ w. HasPart types whole w part) (nothing v) (subst (HasPart types whole v) (some_same typed) has)
+    where
+      nothing : (w : ℕ) → w ≡ w + 0
+      nothing w = omega arith
+  path_part whole id part v (m ∷ ms) has typed = go (λ x w h k. path_part whole x part w ms h k) (slice_get (members_of types id) m) refl typed
+    where
+      nowhere : (ns : List ℕ) → type_within types None ns ≡ Some part → ⊥
+      nowhere [] h = none_some h
+      nowhere (n ∷ ns) h = none_some h
+
+      behind : (a b c : ℕ) → (a + b) + c ≡ a + (b + c)
+      behind a b c = omega arith
+
+      go : ((x : TyId) (w : ℕ) → HasPart types whole w x → type_within types (Some x) ms ≡ Some part → HasPart types whole (w + word_within types (Some x) ms) part) → (o : Option TyId) → slice_get (members_of types id) m ≡ o → type_within types o ms ≡ Some part
+          → HasPart types whole (v + (sum_by (width_at types) (take m (members_of types id)) + word_within types o ms)) part
+      go again None there h = absurd (nowhere ms h)
+      go again (Some x) there h =
+          subst (λ w. HasPart types whole w part) (behind v (sum_by (width_at types) (take m (members_of types id))) (word_within types (Some x) ms))
+          (again x (v + sum_by (width_at types) (take m (members_of types id))) (member_part v (v + sum_by (width_at types) (take m (members_of types id))) m id x has there refl) h)
 
   -- its words are there
   pub part_within : (ordered : IsOrdered types) (whole : TyId) (w : ℕ) (part : TyId) → HasPart types whole w part → LiesWithin types whole w part

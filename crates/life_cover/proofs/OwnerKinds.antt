@@ -5,14 +5,15 @@ use Rattle.std.specs.Prelude.{ℤ, cond, nat_lt}
 use Rattle.std.specs.Int.{cast_unsigned, w64}
 use Rattle.std.proofs.lemmas.Bool.Decides.{nat_tests}
 use Rattle.life_types.specs.Trees.{IsOrdered}
+use Rattle.life_types.specs.TypeTests.{is_pointer}
 use Rattle.life_types.specs.Types.{Types}
 use Rattle.life_types.specs.declared.place.Place.{Place}
 use Rattle.life_types.specs.declared.ty.TyId.{TyId}
 use Rattle.life_core.specs.Function.{Function}
-use Rattle.life_core.specs.Operands.{Operand}
+use Rattle.life_core.specs.Operands.{Location, Operand}
 use Rattle.life_core.specs.Operands as named
 use Rattle.life_core.specs.Step.{Append, Change, Changes, Clear, PopBack, PushBack, Reserve, Set}
-use Rattle.life_pset.specs.Elements.{changed as owner_named, local_place, owner_changed}
+use Rattle.life_pset.specs.Elements.{changed as owner_named, owner_changed}
 use Rattle.life_pset.specs.Places.{path, under}
 use Rattle.life_pset.specs.declared.element.AbsPlace.{AbsPlace}
 use Rattle.life_pset.specs.declared.element.Element.TheVariants as element
@@ -20,6 +21,7 @@ use Rattle.life_pset.specs.declared.element.Fact.{Fact}
 use Rattle.life_pset.specs.declared.element.Root.{Root}
 use Rattle.life_contract.specs.Located.{located}
 use Rattle.life_contract.specs.Signatures.{Signature}
+use Rattle.life_proper.specs.Placed.{type_in}
 use Rattle.life_rules.specs.Carrying.{writes}
 use Rattle.life_rules.proofs.Giving.{at_head}
 use Rattle.life_store.specs.Content.{Content, live_words_of, with_birth}
@@ -29,7 +31,7 @@ use Rattle.life_store.specs.Effects.{Attempt, Got, GotTrap, GotFault, GotLost, E
 use Rattle.life_store.specs.Held.{resized_at}
 use Rattle.life_store.specs.Owners.{Words, birth, sized_birth}
 use Rattle.life_store.specs.Parts.{Parts, Single, Text, Vector, operand_parts, operand_type, parts_at, parts_if, width}
-use Rattle.life_store.specs.Places.{Spot}
+use Rattle.life_store.specs.Places.{Spot, location_cell}
 use Rattle.life_store.specs.State.{Cell, Empty, Named, Number, Pointer, Points, State}
 use Rattle.life_store.specs.declared.run.FaultKind.TheVariants as fault
 use Rattle.life_store.specs.declared.run.TrapKind.TheVariants as trap
@@ -39,7 +41,7 @@ use Rattle.life_forest.specs.Typed.{IsStore}
 use Rattle.life_forest.specs.Within.{LiesWithin}
 use Rattle.life_forest.proofs.Coming.{IfGot}
 use Rattle.life_cover.specs.Covers.{IsCovered, Look}
-use Rattle.life_cover.specs.Frames.{LocalsCovered, RootStands, look_at}
+use Rattle.life_cover.specs.Frames.{LocationsCovered, RootStands, look_in}
 use Rattle.life_cover.specs.Kills.{Closed, LeftBy}
 use Rattle.life_cover.specs.Regions.{Region, foot_of}
 use Rattle.life_cover.specs.Roots.{AreRooted}
@@ -125,8 +127,9 @@ operand_changed types ordered f hand st store Input may_change owning rooted sig
     (operand_left types f st Input may_change sigs place change S S' o r closed (RootStands types f Input st.cells))
 
 module _ (types : Types) (ordered : IsOrdered types) (f : Function) (hand : ℕ → ℕ) (st : State) (store : IsStore types hand st.world.content) (Input : Root → Region → Type 0) (may_change owning : Root → Bool)
-    (rooted : AreRooted types st.world.content (RootStands types f Input st.cells) owning) (sigs : List Signature) (place : Place) (S S' : Fact → Type 0) (old : LocalsCovered types f Input may_change S st)
-    (o : Operand) (r : IsReached types f st Input may_change S o) (own : owning r.place.root ≡ true) (typed : operand_type types f o ≡ Some r.region.ty) (b : ℕ)
+    (rooted : AreRooted types st.world.content (RootStands types f Input st.cells) owning) (sigs : List Signature) (place : Place) (S S' : Fact → Type 0) (old : LocationsCovered types f Input may_change S st)
+    (o : Operand) (r : IsReached types f st Input may_change S o) (own : owning r.place.root ≡ true)
+    (held : (d : Content) → Touches (kinds_of types) (foot_of types r.region) st.world.content d → (l : Location) (v : Pointer) → is_pointer (type_in types f l) ≡ true → location_cell types f l (put_content d st) ≡ Some (Points v) → location_cell types f l st ≡ Some (Points v)) (typed : operand_type types f o ≡ Some r.region.ty) (b : ℕ)
     (owned : owned_at st.world.content (record { object = r.region.object; index = r.index; word = r.region.word }) ≡ Some b) (s : Setting) where
   abbrev c : Content
   c = st.world.content
@@ -141,10 +144,10 @@ module _ (types : Types) (ordered : IsOrdered types) (f : Function) (hand : ℕ 
   within = lies_true types ordered hand st.world.content store (path r.place) r.lies.start r.region (rooted.fits r.place.root r.lies.start r.lies.stands) r.lies.lies r.holder r.there
 
   -- what touches only what it owns leaves all covered
-  pub touched_covered : (change : Change) → Closed sigs types f place (Changes o change) S S' → ((y : ℕ) → writes (Changes o change) (local_place y) ≡ false) → (d : Content)
-      → Touches (kinds_of types) (foot_of types r.region) st.world.content d → LocalsCovered types f Input may_change S' (put_content d st)
-  touched_covered change closed none d touch y v e =
-      operand_changed types ordered f hand st store Input may_change owning rooted sigs place change S S' o r own closed d touch (local_place y) (look_at types f y) v (none y) (old y v e)
+  pub touched_covered : (change : Change) → Closed sigs types f place (Changes o change) S S' → ((a : AbsPlace) → writes (Changes o change) a ≡ false) → (d : Content)
+      → Touches (kinds_of types) (foot_of types r.region) st.world.content d → LocationsCovered types f Input may_change S' (put_content d st)
+  touched_covered change closed none d touch l v pointer e =
+      operand_changed types ordered f hand st store Input may_change owning rooted sigs place change S S' o r own closed d touch (located l) (look_in types f l) v (none (located l)) (old l v pointer (held d touch l v pointer e))
 
   edit_right : (p : Parts) (edit : Edit) (Q : State → Type 0) → IfRight (edited s p (record { object = r.region.object; index = r.index; word = r.region.word }) b edit st.world.content) (λ d. Q (put_content d st)) → OnRight (edits s p (record { object = r.region.object; index = r.index; word = r.region.word }) edit st) Q
   edit_right p edit Q h =
@@ -163,39 +166,39 @@ module _ (types : Types) (ordered : IsOrdered types) (f : Function) (hand : ℕ 
   -- ---- vectors
 
   module _ (ty : TyId) (element : Parts) (is_vector : parts_at types r.region.ty ≡ Vector ty element) where
-    pub pop_kind : Closed sigs types f place (Changes o PopBack) S S' → OnRight (does s types f (Changes o PopBack) st) (LocalsCovered types f Input may_change S')
+    pub pop_kind : Closed sigs types f place (Changes o PopBack) S S' → OnRight (does s types f (Changes o PopBack) st) (LocationsCovered types f Input may_change S')
     pop_kind closed =
-        by_edit (Vector ty element) is_vector PopBack (LocalsCovered types f Input may_change S')
-        (edit_right (Vector ty element) Pop (LocalsCovered types f Input may_change S') (sizes (size_of st.world.content b)))
+        by_edit (Vector ty element) is_vector PopBack (LocationsCovered types f Input may_change S')
+        (edit_right (Vector ty element) Pop (LocationsCovered types f Input may_change S') (sizes (size_of st.world.content b)))
       where
-        sizes : (size : ℕ) → IfRight (popped element b size st.world.content) (λ d. LocalsCovered types f Input may_change S' (put_content d st))
+        sizes : (size : ℕ) → IfRight (popped element b size st.world.content) (λ d. LocationsCovered types f Input may_change S' (put_content d st))
         sizes zero = tt
         sizes (suc k) = touched_covered PopBack closed (λ y. refl) _ (pop_touches types ordered hand st.world.content store r.region.object r.index r.region.word r.region.ty r.holder r.there within r.small ty element is_vector b owned k)
 
-    pub clear_kind : Closed sigs types f place (Changes o Clear) S S' → OnRight (does s types f (Changes o Clear) st) (LocalsCovered types f Input may_change S')
+    pub clear_kind : Closed sigs types f place (Changes o Clear) S S' → OnRight (does s types f (Changes o Clear) st) (LocationsCovered types f Input may_change S')
     clear_kind closed =
-        by_edit (Vector ty element) is_vector Clear (LocalsCovered types f Input may_change S')
-        (edit_right (Vector ty element) ClearAll (LocalsCovered types f Input may_change S')
+        by_edit (Vector ty element) is_vector Clear (LocationsCovered types f Input may_change S')
+        (edit_right (Vector ty element) ClearAll (LocationsCovered types f Input may_change S')
         (touched_covered Clear closed (λ y. refl) _ (clear_touches types ordered hand st.world.content store r.region.object r.index r.region.word r.region.ty r.holder r.there within r.small ty element is_vector b owned)))
 
-    pub reserve_kind : (count : ℕ) → Closed sigs types f place (Changes o (Reserve count)) S S' → OnRight (does s types f (Changes o (Reserve count)) st) (LocalsCovered types f Input may_change S')
+    pub reserve_kind : (count : ℕ) → Closed sigs types f place (Changes o (Reserve count)) S S' → OnRight (does s types f (Changes o (Reserve count)) st) (LocationsCovered types f Input may_change S')
     reserve_kind count closed =
-        by_edit (Vector ty element) is_vector (Reserve count) (LocalsCovered types f Input may_change S')
-        (number_right (cell st count) (λ z. edits s (Vector ty element) spot (Room (cast_unsigned w64 z)) st) (LocalsCovered types f Input may_change S')
-        (λ z. edit_right (Vector ty element) (Room (cast_unsigned w64 z)) (LocalsCovered types f Input may_change S')
-        (right_more (reserved s ty element spot b (cast_unsigned w64 z) st.world.content) (Touches (kinds_of types) (foot_of types r.region) st.world.content) (λ d. LocalsCovered types f Input may_change S' (put_content d st))
+        by_edit (Vector ty element) is_vector (Reserve count) (LocationsCovered types f Input may_change S')
+        (number_right (cell st count) (λ z. edits s (Vector ty element) spot (Room (cast_unsigned w64 z)) st) (LocationsCovered types f Input may_change S')
+        (λ z. edit_right (Vector ty element) (Room (cast_unsigned w64 z)) (LocationsCovered types f Input may_change S')
+        (right_more (reserved s ty element spot b (cast_unsigned w64 z) st.world.content) (Touches (kinds_of types) (foot_of types r.region) st.world.content) (λ d. LocationsCovered types f Input may_change S' (put_content d st))
         (right_got (reserved s ty element spot b (cast_unsigned w64 z) st.world.content) (Touches (kinds_of types) (foot_of types r.region) st.world.content)
         (reserve_touches types ordered hand st.world.content store r.region.object r.index r.region.word r.region.ty r.holder r.there within r.small ty element is_vector b owned s (cast_unsigned w64 z)) (reserved_faultless s ty element spot b (cast_unsigned w64 z) st.world.content))
         (λ d touch. touched_covered (Reserve count) closed (λ y. refl) d touch))))
 
   -- a number is added
   pub push_kind : (ty : TyId) → parts_at types r.region.ty ≡ Vector ty Single → (y : ℕ) (z : ℤ) → cell st y ≡ Some (Number z) → Closed sigs types f place (Changes o (PushBack y)) S S'
-      → OnRight (does s types f (Changes o (PushBack y)) st) (LocalsCovered types f Input may_change S')
+      → OnRight (does s types f (Changes o (PushBack y)) st) (LocationsCovered types f Input may_change S')
   push_kind ty is_vector y z number closed =
-      by_edit (Vector ty Single) is_vector (PushBack y) (LocalsCovered types f Input may_change S')
-      (subst (λ v. OnRight (pushes s types f (Vector ty Single) spot y v st) (LocalsCovered types f Input may_change S')) (sym number)
-      (edit_right (Vector ty Single) (Push (λ d. (word_of_number z ∷ [], d))) (LocalsCovered types f Input may_change S')
-      (right_more (pushed s ty Single spot b (λ d. (word_of_number z ∷ [], d)) st.world.content) (Touches (kinds_of types) (foot_of types r.region) st.world.content) (λ d. LocalsCovered types f Input may_change S' (put_content d st))
+      by_edit (Vector ty Single) is_vector (PushBack y) (LocationsCovered types f Input may_change S')
+      (subst (λ v. OnRight (pushes s types f (Vector ty Single) spot y v st) (LocationsCovered types f Input may_change S')) (sym number)
+      (edit_right (Vector ty Single) (Push (λ d. (word_of_number z ∷ [], d))) (LocationsCovered types f Input may_change S')
+      (right_more (pushed s ty Single spot b (λ d. (word_of_number z ∷ [], d)) st.world.content) (Touches (kinds_of types) (foot_of types r.region) st.world.content) (λ d. LocationsCovered types f Input may_change S' (put_content d st))
       (right_got (pushed s ty Single spot b (λ d. (word_of_number z ∷ [], d)) st.world.content) (Touches (kinds_of types) (foot_of types r.region) st.world.content)
       (push_touches types ordered hand st.world.content store r.region.object r.index r.region.word r.region.ty r.holder r.there within r.small ty Single is_vector b owned s (word_of_number z ∷ []) refl (λ k. refl))
       (pushed_faultless s ty Single spot b (λ d. (word_of_number z ∷ [], d)) st.world.content))
@@ -204,37 +207,37 @@ module _ (types : Types) (ordered : IsOrdered types) (f : Function) (hand : ℕ 
   -- ---- strings
 
   module _ (ty : TyId) (is_text : parts_at types r.region.ty ≡ Text ty) where
-    rewrite_right : (change : Change) → Closed sigs types f place (Changes o change) S S' → ((y : ℕ) → writes (Changes o change) (local_place y) ≡ false) → (words : List ℕ)
-        → IfRight (rewritten s ty (record { object = r.region.object; index = r.index; word = r.region.word }) b words st.world.content) (λ d. LocalsCovered types f Input may_change S' (put_content d st))
+    rewrite_right : (change : Change) → Closed sigs types f place (Changes o change) S S' → ((a : AbsPlace) → writes (Changes o change) a ≡ false) → (words : List ℕ)
+        → IfRight (rewritten s ty (record { object = r.region.object; index = r.index; word = r.region.word }) b words st.world.content) (λ d. LocationsCovered types f Input may_change S' (put_content d st))
     rewrite_right change closed none words =
-        right_more (rewritten s ty spot b words st.world.content) (Touches (kinds_of types) (foot_of types r.region) st.world.content) (λ d. LocalsCovered types f Input may_change S' (put_content d st))
+        right_more (rewritten s ty spot b words st.world.content) (Touches (kinds_of types) (foot_of types r.region) st.world.content) (λ d. LocationsCovered types f Input may_change S' (put_content d st))
         (right_got (rewritten s ty spot b words st.world.content) (Touches (kinds_of types) (foot_of types r.region) st.world.content)
         (rewrite_touches types ordered hand st.world.content store r.region.object r.index r.region.word r.region.ty r.holder r.there within r.small ty is_text b owned s words) (rewritten_faultless s ty spot b words st.world.content))
         (λ d touch. touched_covered change closed none d touch)
 
-    pub clear_text_kind : Closed sigs types f place (Changes o Clear) S S' → OnRight (does s types f (Changes o Clear) st) (LocalsCovered types f Input may_change S')
+    pub clear_text_kind : Closed sigs types f place (Changes o Clear) S S' → OnRight (does s types f (Changes o Clear) st) (LocationsCovered types f Input may_change S')
     clear_text_kind closed =
-        by_edit (Text ty) is_text Clear (LocalsCovered types f Input may_change S')
-        (edit_right (Text ty) ClearAll (LocalsCovered types f Input may_change S') (rewrite_right Clear closed (λ y. refl) []))
+        by_edit (Text ty) is_text Clear (LocationsCovered types f Input may_change S')
+        (edit_right (Text ty) ClearAll (LocationsCovered types f Input may_change S') (rewrite_right Clear closed (λ y. refl) []))
 
     -- a character is added
     pub push_character_kind : (y : ℕ) (z : ℤ) → cell st y ≡ Some (Number z) → Closed sigs types f place (Changes o (PushBack y)) S S'
-        → OnRight (does s types f (Changes o (PushBack y)) st) (LocalsCovered types f Input may_change S')
+        → OnRight (does s types f (Changes o (PushBack y)) st) (LocationsCovered types f Input may_change S')
     push_character_kind y z number closed =
-        by_edit (Text ty) is_text (PushBack y) (LocalsCovered types f Input may_change S')
-        (subst (λ v. OnRight (pushes s types f (Text ty) spot y v st) (LocalsCovered types f Input may_change S')) (sym number)
-        (edit_right (Text ty) (Push (λ d. (word_of_number z ∷ [], d))) (LocalsCovered types f Input may_change S') (rewrite_right (PushBack y) closed (λ w. refl) (characters_of st.world.content b ++ (word_of_number z ∷ [])))))
+        by_edit (Text ty) is_text (PushBack y) (LocationsCovered types f Input may_change S')
+        (subst (λ v. OnRight (pushes s types f (Text ty) spot y v st) (LocationsCovered types f Input may_change S')) (sym number)
+        (edit_right (Text ty) (Push (λ d. (word_of_number z ∷ [], d))) (LocationsCovered types f Input may_change S') (rewrite_right (PushBack y) closed (λ w. refl) (characters_of st.world.content b ++ (word_of_number z ∷ [])))))
 
     -- set to characters, or appended to, where these are those of a view that may be used, or one character
     module _ (given : named.Characters) (can : (go : List ℕ → Effect) (Q : State → Type 0) → ((ws : List ℕ) → OnRight (go ws) Q) → OnRight (on_given s types f given st go) Q) where
-      pub set_kind : Closed sigs types f place (Changes o (Set given)) S S' → OnRight (does s types f (Changes o (Set given)) st) (LocalsCovered types f Input may_change S')
+      pub set_kind : Closed sigs types f place (Changes o (Set given)) S S' → OnRight (does s types f (Changes o (Set given)) st) (LocationsCovered types f Input may_change S')
       set_kind closed =
-          by_edit (Text ty) is_text (Set given) (LocalsCovered types f Input may_change S')
-          (can (λ ws. edits s (Text ty) spot (Put ws) st) (LocalsCovered types f Input may_change S')
-          (λ ws. edit_right (Text ty) (Put ws) (LocalsCovered types f Input may_change S') (rewrite_right (Set given) closed (λ y. refl) ws)))
+          by_edit (Text ty) is_text (Set given) (LocationsCovered types f Input may_change S')
+          (can (λ ws. edits s (Text ty) spot (Put ws) st) (LocationsCovered types f Input may_change S')
+          (λ ws. edit_right (Text ty) (Put ws) (LocationsCovered types f Input may_change S') (rewrite_right (Set given) closed (λ y. refl) ws)))
 
-      pub append_kind : Closed sigs types f place (Changes o (Append given)) S S' → OnRight (does s types f (Changes o (Append given)) st) (LocalsCovered types f Input may_change S')
+      pub append_kind : Closed sigs types f place (Changes o (Append given)) S S' → OnRight (does s types f (Changes o (Append given)) st) (LocationsCovered types f Input may_change S')
       append_kind closed =
-          by_edit (Text ty) is_text (Append given) (LocalsCovered types f Input may_change S')
-          (can (λ ws. edits s (Text ty) spot (Add ws) st) (LocalsCovered types f Input may_change S')
-          (λ ws. edit_right (Text ty) (Add ws) (LocalsCovered types f Input may_change S') (rewrite_right (Append given) closed (λ y. refl) (characters_of st.world.content b ++ ws))))
+          by_edit (Text ty) is_text (Append given) (LocationsCovered types f Input may_change S')
+          (can (λ ws. edits s (Text ty) spot (Add ws) st) (LocationsCovered types f Input may_change S')
+          (λ ws. edit_right (Text ty) (Add ws) (LocationsCovered types f Input may_change S') (rewrite_right (Append given) closed (λ y. refl) (characters_of st.world.content b ++ ws))))

@@ -1,15 +1,16 @@
 -- An owner has what it had where nothing of it is touched, and what was written to it.
-use Rattle.std.proofs.Common.{◌≡◌, ℕ, zero, suc, ◌<◌, false, List, [], ◌∷◌, length, Option, Some, refl, sym, ap, ◌∙◌, arith}
+use Rattle.std.proofs.Common.{◌≡◌, ℕ, zero, suc, ◌<◌, false, List, [], ◌∷◌, length, Option, Some, None, refl, sym, ap, ◌∙◌, arith}
 use Rattle.std.specs.Prelude.{drop, option_map, slice_get, slice_index, slice_set, take}
 use Rattle.life_store.specs.Cells.{at, at-set_same}
 use Rattle.life_store.specs.Content.{Slot, Object, Content, set_slot, with_word, word_at, word_in, written}
 use Rattle.life_store.specs.Edits.{owned_at}
-use Rattle.life_store.specs.Held.{owned_in, owner_word, slots_if, words_if, wrote_if}
+use Rattle.life_store.specs.Held.{owned_in, owner_word, slots_if, words_if, wrote, wrote_if}
 use Rattle.life_store.specs.Kinds.{is_value}
 use Rattle.life_store.specs.Places.{wrote_spot}
 use Rattle.life_store.proofs.CellLemmas.{none_some}
 use Rattle.life_forest.specs.Forest.{Beneath, Foot, Touches}
 use Rattle.life_forest.specs.Kinds.{Kinds}
+use Rattle.life_cover.specs.Uniques.{had_at}
 use Rattle.life_cover.proofs.Beside.{kept_object}
 use Rattle.life_cover.proofs.OwnerElements.{first_of, word_there}
 
@@ -49,3 +50,26 @@ word_written c n i w v o s there has lt =
 pub owner_written : (c : Content) (n i w m : ℕ) (o : Object) (s : Slot) → at c.objects n ≡ Some o → slice_get o.slots i ≡ Some s → w < length s.words
     → owned_at (wrote_spot (record { object = n; index = i; word = w }) (owner_word (Some m) ∷ []) c) (record { object = n; index = i; word = w }) ≡ Some m
 owner_written c n i w m o s there has lt = word_written c n i w (suc m) o s there has lt
+
+-- ---- nothing that is written owns nothing
+
+zero_set : (ws : List ℕ) (w : ℕ) → slice_index (slice_set ws w 0) w ≡ 0
+zero_set [] zero = refl
+zero_set [] (suc w) = refl
+zero_set (x ∷ xs) zero = refl
+zero_set (x ∷ xs) (suc w) = zero_set xs w
+
+zero_slot : (ss : List Slot) (w : ℕ) → word_in (slice_get (set_slot ss 0 (option_map (written w 0) (slice_get ss 0))) 0) w ≡ 0
+zero_slot [] w = refl
+zero_slot (s ∷ ss) w = zero_set s.words w
+
+pub null_written : (n w : ℕ) (c : Content) → had_at (wrote n 0 w (owner_word None ∷ []) c) n w ≡ None
+null_written n w c = go (at c.objects n) refl
+  where
+    nothing : (u : ℕ) → owned_in (slice_index (take 1 (drop u [])) 0) ≡ None
+    nothing zero = refl
+    nothing (suc u) = refl
+
+    go : (o : Option Object) → at c.objects n ≡ o → had_at (wrote_if o n 0 w (owner_word None ∷ []) c) n w ≡ None
+    go None e = ap (λ (x : Option Object). owned_in (slice_index (take 1 (drop w (words_if (slice_get (slots_if x) 0)))) 0)) e ∙ nothing w
+    go (Some o) e = owned_is (wrote_if (Some o) n 0 w (owner_word None ∷ []) c) n 0 w (with_word 0 w 0 o) (at-set_same c.objects n n (with_word 0 w 0 o) refl) ∙ ap owned_in (zero_slot o.slots w)

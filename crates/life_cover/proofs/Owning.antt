@@ -20,7 +20,7 @@ use Rattle.life_forest.proofs.Frames.{first_named}
 use Rattle.life_forest.proofs.Steps.{touches_then}
 use Rattle.life_cover.specs.Inputs.{foot_with, frame_foot, mutated}
 use Rattle.life_cover.specs.Regions.{Region}
-use Rattle.life_cover.proofs.Behind.{IsBehind, any_local}
+use Rattle.life_cover.proofs.Behind.{IsBehind, any_local, any_location}
 
 pub record IsOwn (types : Types) (f : Function) (inputs : Root → Option Region) (given : List ℕ) (before : Content) (st : State) : Type 0 where
   pub touch : Touches (kinds_of types) (foot_with types (mutated types f inputs) given) before st.world.content
@@ -48,7 +48,7 @@ module _ (types : Types) (f : Function) (inputs : Root → Option Region) (given
   }
 
   -- so an instruction more keeps to it
-  pub own_behind : (st after : State) → IsOwn types f inputs given before st → IsBehind types f inputs any_local any_local any_local st after → IsOwn types f inputs given before after
+  pub own_behind : (st after : State) → IsOwn types f inputs given before st → IsBehind types f inputs any_local any_local any_location st after → IsOwn types f inputs given before after
   own_behind st after own behind = record {
     touch =
         touches_then (kinds_of types) hand before store.forest (foot_with types (mutated types f inputs) given) (frame_foot types f inputs st.cells) (foot_with types (mutated types f inputs) given) st.world.content after.world.content own.touch behind.touch

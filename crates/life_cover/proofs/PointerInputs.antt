@@ -1,13 +1,13 @@
--- A parameter that is a pointer is one input, of the function and of its signature, and has its facts at the entry.
-use Rattle.std.proofs.Common.{◌≡◌, ⊎_elim, ℕ, zero, suc, ◌+◌, Bool, true, false, List, [], ◌∷◌, ◌++◌, map, take, length, Option, Some, None, refl, sym, ap, subst, ◌∙◌, arith}
-use Rattle.std.specs.Prelude.{Contains, if◌then◌else◌, ◌<◌, nat_lt, slice_get}
+-- The inputs of a function are those of its signature, one before the other, and have their facts at the entry.
+use Rattle.std.proofs.Common.{◌≡◌, ◌≢◌, ◌⊎◌, inl, inr, ⊎_elim, ℕ, zero, suc, ◌+◌, ◌≤◌, ◌<◌, Bool, true, false, List, [], ◌∷◌, ◌++◌, map, take, length, Option, Some, None, refl, sym, ap, subst, ◌∙◌, arith}
+use Rattle.std.specs.Prelude.{Contains, if◌then◌else◌, nat_lt, not, slice_get}
 use Rattle.std.specs.List.{flat_map}
 use Rattle.std.proofs.lemmas.Bool.{false≢true}
 use Rattle.std.proofs.lemmas.Bool.Decides.{nat_tests}
 use Rattle.std.proofs.lemmas.List.Elements.{Contains-append_left, Contains-append_right}
 use Rattle.life_types.specs.Pointees.{or_void, ty_of}
 use Rattle.life_types.specs.Trees.{IsOrdered, tree_at, tree_of}
-use Rattle.life_types.specs.TypeTests.{is_pointer}
+use Rattle.life_types.specs.TypeTests.{is_constant, is_pointer}
 use Rattle.life_types.specs.Types.{Types}
 use Rattle.life_types.specs.declared.place.Place.{Place}
 use Rattle.life_types.specs.declared.ty.Ty.{Ty}
@@ -18,105 +18,147 @@ use Rattle.life_core.specs.declared.program.Local.{Local}
 use Rattle.life_core.specs.declared.program.LocalKind.{LocalKind}
 use Rattle.life_core.specs.declared.program.LocalKind.TheVariants.{Object, Register, Range}
 use Rattle.life_core.specs.Function.{Function}
-use Rattle.life_pset.specs.Elements.{Input, elements_of, input_if, inputs_among, inputs_from, inputs_of, local_inputs, local_locations, local_place, locations_in, pointers_in}
+use Rattle.life_pset.specs.Elements.{Input, elements_of, input_at, input_if, inputs_among, inputs_from, inputs_of, local_inputs, local_locations, local_place, locations_in, pointers_in}
 use Rattle.life_pset.specs.Places.{root_place}
-use Rattle.life_pset.specs.Shapes.{has_buffer, is_variable, shape, shape_if, target_type, tree_if}
+use Rattle.life_pset.specs.Shapes.{has_buffer, shape, shape_if, target_type, tree_if, ty_if}
 use Rattle.life_pset.specs.declared.element.AbsPlace.{AbsPlace}
 use Rattle.life_pset.specs.declared.element.Element.TheVariants as element
 use Rattle.life_pset.specs.declared.element.Fact.{Fact}
+use Rattle.life_pset.specs.declared.element.Root.{Root}
 use Rattle.life_pset.specs.declared.element.Root.TheVariants as root
 use Rattle.life_contract.specs.Breaking.{of_pairs}
-use Rattle.life_contract.specs.Inputs.{inputs_of_signature, may_be_null, parameter_local}
+use Rattle.life_contract.specs.Inputs.{inputs_of_signature, is_mutating, may_be_null, parameter_local, parameter_number}
 use Rattle.life_contract.specs.Signatures.{parameter_of, signature_of}
 use Rattle.life_rules.specs.Deriving.{entry_facts, entry_facts_from, input_facts, owner_facts, parameter_facts}
 use Rattle.life_rules.specs.Matching.{fact_at, given_if}
-use Rattle.life_rules.specs.Texts.{input_of, inputs_at}
 use Rattle.life_rules.proofs.Giving.{at_head, cons_cases, flat_map_into, in_tail, none_in_empty}
 use Rattle.life_store.proofs.CellLemmas.{none_some, some_same}
-use Rattle.life_cover.specs.Passed.{parameter_input}
+use Rattle.life_cover.specs.Inputs as given
+use Rattle.life_cover.specs.Inputs.{may_change, owning, test_input}
 use Rattle.life_cover.proofs.InputPlaces.{input_known}
-use Rattle.life_cover.proofs.Listing.{one_pointer, place_itself}
+use Rattle.life_cover.proofs.InputRoots.{IsOwnInput, got_among, lt_true, own_input}
+use Rattle.life_cover.proofs.Listing.{place_itself}
 
-pub lt_true : (a b : ℕ) → a < b → nat_lt a b ≡ true
-lt_true a b h = grind (arith, nat_tests)
+-- ---- two of a list
 
--- ---- pairs of a list
-
--- one of the first list, and one of the second that stands behind it
-pub pairs_of : {A B : Type 0} (g : A → A → List B) (xs ys : List A) (x y : A) (d : B) → Contains xs x → Contains ys y → Contains (g x y) d → Contains (of_pairs g (xs ++ ys)) d
-pairs_of g [] ys x y d has_x has_y told = absurd (none_in_empty x has_x)
-pairs_of g (z ∷ zs) ys x y d has_x has_y told =
-    ⊎_elim
-    (λ same.
-    Contains-append_left (flat_map (g z) (zs ++ ys)) (of_pairs g (zs ++ ys)) d
-    (flat_map_into (g z) (zs ++ ys) y d (Contains-append_right zs ys y has_y) (subst (λ u. Contains (g u y) d) (sym same) told)))
-    (λ more. Contains-append_right (flat_map (g z) (zs ++ ys)) (of_pairs g (zs ++ ys)) d (pairs_of g zs ys x y d more has_y told))
+-- one of them stands before the other
+pub in_order : {A B : Type 0} (xs : List A) (x y : A) → x ≢ y → Contains xs x → Contains xs y
+    → ((g : A → A → List B) (d : B) → Contains (g x y) d → Contains (of_pairs g xs) d) ⊎ ((g : A → A → List B) (d : B) → Contains (g y x) d → Contains (of_pairs g xs) d)
+in_order [] x y ne has_x has_y = absurd (none_in_empty x has_x)
+in_order (z ∷ zs) x y ne has_x has_y = ⊎_elim
+    (λ x_here. ⊎_elim
+    (λ y_here. absurd (ne (sym x_here ∙ y_here)))
+    (λ y_more. inl (λ g d told. Contains-append_left (flat_map (g z) zs) (of_pairs g zs) d (flat_map_into (g z) zs y d y_more (subst (λ u. Contains (g u y) d) (sym x_here) told))))
+    (cons_cases z zs y has_y))
+    (λ x_more. ⊎_elim
+    (λ y_here. inr (λ g d told. Contains-append_left (flat_map (g z) zs) (of_pairs g zs) d (flat_map_into (g z) zs x d x_more (subst (λ u. Contains (g u x) d) (sym y_here) told))))
+    (λ y_more. ⊎_elim
+    (λ first. inl (λ g d told. Contains-append_right (flat_map (g z) zs) (of_pairs g zs) d (first g d told)))
+    (λ second. inr (λ g d told. Contains-append_right (flat_map (g z) zs) (of_pairs g zs) d (second g d told)))
+    (in_order zs x y ne x_more y_more))
+    (cons_cases z zs y has_y))
     (cons_cases z zs x has_x)
 
--- .. among more
-pub pairs_behind : {A B : Type 0} (g : A → A → List B) (xs ys : List A) (d : B) → Contains (of_pairs g ys) d → Contains (of_pairs g (xs ++ ys)) d
-pairs_behind g [] ys d h = h
-pairs_behind g (x ∷ xs) ys d h = Contains-append_right (flat_map (g x) (xs ++ ys)) (of_pairs g (xs ++ ys)) d (pairs_behind g xs ys d h)
+-- ---- those of a signature
 
--- ---- its locations
+lt_false : (a b : ℕ) → b ≤ a → nat_lt a b ≡ false
+lt_false a b h = grind (arith, nat_tests)
 
-unbuffered : (t : Ty) → is_pointer t ≡ true → has_buffer t ≡ false
-unbuffered variant.Text p = absurd (false≢true p)
-unbuffered (variant.Vector item) p = absurd (false≢true p)
-unbuffered _ p = refl
+module _ (types : Types) (ordered : IsOrdered types) where
+  -- a vector and a string have no pointers, whatever the kind of their local
+  no_pointer : (t : Ty) → has_buffer t ≡ true → is_pointer t ≡ false
+  no_pointer variant.Text h = refl
+  no_pointer (variant.Vector item) h = refl
+  no_pointer _ h = absurd (false≢true h)
 
-no_variable : (k : LocalKind) (t : Ty) → is_pointer t ≡ true → is_variable k t ≡ false
-no_variable Object t p = unbuffered t p
-no_variable Register t p = refl
-no_variable Range t p = refl
+  none_in_buffer : (a : AbsPlace) (id : TyId) → has_buffer (ty_of types id) ≡ true → pointers_in a (tree_at types id) ≡ []
+  none_in_buffer a id h = ap (pointers_in a) (tree_made types ordered id) ∙ go (slice_get types.types id.0) h
+    where
+      go : (o : Option Ty) → has_buffer (or_void o) ≡ true → pointers_in a (tree_of types (tree_at types) o) ≡ []
+      go None k = absurd (false≢true k)
+      go (Some variant.Text) k = refl
+      go (Some (variant.Vector item)) k = refl
+      go (Some _) k = absurd (false≢true k)
 
--- a pointer is one location
-pub pointer_location : (types : Types) (ordered : IsOrdered types) (k : LocalKind) (id : TyId) (a : AbsPlace) → is_pointer (ty_of types id) ≡ true → locations_in types k id a ≡ a ∷ []
-pointer_location types ordered k id a pointer =
-    ap (λ (b : Bool). if b then a ∷ [] else pointers_in a (tree_at types id)) (no_variable k (ty_of types id) pointer) ∙ ap (pointers_in a) (tree_made types ordered id) ∙ go (slice_get types.types id.0) pointer
+  -- an object has the inputs that a register has
+  object_inputs : (x : ℕ) (id : TyId) → inputs_among types x id 0 (locations_in types Object id (local_place x)) ≡ inputs_among types x id 0 (pointers_in (local_place x) (tree_at types id))
+  object_inputs x id = go (has_buffer (ty_of types id)) refl
+    where
+      go : (b : Bool) → has_buffer (ty_of types id) ≡ b → inputs_among types x id 0 (if b then local_place x ∷ [] else pointers_in (local_place x) (tree_at types id)) ≡ inputs_among types x id 0 (pointers_in (local_place x) (tree_at types id))
+      go false e = refl
+      go true e =
+          ap (λ (b : Bool). input_if b (input_at x 0 (local_place x) (Some id)) ++ []) (no_pointer (ty_of types id) e)
+          ∙ ap (inputs_among types x id 0) (sym (none_in_buffer (local_place x) id e))
+
+  kind_inputs : (k : LocalKind) (x : ℕ) (id : TyId) → inputs_among types x id 0 (locations_in types Object id (local_place x)) ≡ inputs_among types x id 0 (locations_in types k id (local_place x))
+  kind_inputs Object x id = refl
+  kind_inputs Register x id = object_inputs x id
+  kind_inputs Range x id = object_inputs x id
+
+  -- a parameter has the same ones in a function and in its signature
+  same_inputs : (place : Place) (m n x : ℕ) (l : Local) → x < m → x < n → local_inputs types m x (parameter_local place (parameter_of l)) ≡ local_inputs types n x l
+  same_inputs place m n x l lt_m lt_n =
+      ap (λ (b : Bool). if b then inputs_among types x (shape types m x (parameter_local place (parameter_of l))) 0 (local_locations types m x (parameter_local place (parameter_of l))) else []) (lt_true x m lt_m)
+      ∙ ap (λ (id : TyId). inputs_among types x id 0 (locations_in types Object id (local_place x))) (ap (λ (b : Bool). shape_if types b l.ty) (lt_true x m lt_m ∙ sym (lt_true x n lt_n)))
+      ∙ kind_inputs l.kind x (shape types n x l)
+      ∙ ap (λ (b : Bool). if b then inputs_among types x (shape types n x l) 0 (local_locations types n x l) else []) (sym (lt_true x n lt_n))
+
+  -- no other local has one
+  none_behind : (n : ℕ) (ls : List Local) (first : ℕ) → n ≤ first → inputs_from types n first ls ≡ []
+  none_behind n [] first le = refl
+  none_behind n (l ∷ ls) first le =
+      ap (λ (b : Bool). (if b then inputs_among types first (shape types n first l) 0 (local_locations types n first l) else []) ++ inputs_from types n (first + 1) ls) (lt_false first n le)
+      ∙ none_behind n ls (first + 1) (omega (arith, le))
+
+  signature_from : (place : Place) (m n k first : ℕ) (ls : List Local) → first + k ≡ n → first + length (map parameter_of (take k ls)) ≡ m → inputs_from types m first (map (parameter_local place) (map parameter_of (take k ls))) ≡ inputs_from types n first ls
+  signature_from place m n zero first ls at_n at_m = sym (none_behind n ls first (omega (arith, at_n)))
+  signature_from place m n (suc k) first [] at_n at_m = refl
+  signature_from place m n (suc k) first (l ∷ ls) at_n at_m =
+      ap (λ (is : List Input). is ++ inputs_from types m (first + 1) (map (parameter_local place) (map parameter_of (take k ls)))) (same_inputs place m n first l (omega (arith, at_m)) (omega (arith, at_n)))
+      ∙ ap (λ (is : List Input). local_inputs types n first l ++ is) (signature_from place m n k (first + 1) ls (omega (arith, at_n)) (omega (arith, at_m)))
+
+  pub signature_inputs : (f : Function) → inputs_of_signature types (signature_of f) ≡ inputs_of types f
+  signature_inputs f = signature_from f.place (length (map parameter_of (take f.parameters f.locals))) f.parameters f.parameters 0 f.locals (omega arith) (omega arith)
+
+  pub in_signature : (f : Function) (i : Input) → Contains (inputs_of types f) i → Contains (inputs_of_signature types (signature_of f)) i
+  in_signature f i h = subst (λ (is : List Input). Contains is i) (sym (signature_inputs f)) h
+
+  pub from_signature : (f : Function) (i : Input) → Contains (inputs_of_signature types (signature_of f)) i → Contains (inputs_of types f) i
+  from_signature f i h = subst (λ (is : List Input). Contains is i) (signature_inputs f) h
+
+pub signature_parameter : (f : Function) (x : ℕ) (l : Local) → slice_get f.locals x ≡ Some l → x < f.parameters → slice_get (signature_of f).parameters x ≡ Some (parameter_of l)
+signature_parameter f x l there lt = go f.parameters f.locals x lt there
   where
-    go : (o : Option Ty) → is_pointer (or_void o) ≡ true → pointers_in a (tree_of types (tree_at types) o) ≡ a ∷ []
-    go None h = absurd (false≢true h)
-    go (Some t) h = one_pointer a types (tree_at types) t h
+    go : (n : ℕ) (ls : List Local) (y : ℕ) → y < n → slice_get ls y ≡ Some l → slice_get (map parameter_of (take n ls)) y ≡ Some (parameter_of l)
+    go zero ls y less e = absurd (omega (arith, less))
+    go (suc n) [] y less e = absurd (none_some e)
+    go (suc n) (u ∷ ls) zero less e = ap (λ (w : Local). Some (parameter_of w)) (some_same e)
+    go (suc n) (u ∷ ls) (suc y) less e = go n ls y (omega (arith, less)) e
 
-module _ (types : Types) (ordered : IsOrdered types) (n x : ℕ) (l : Local) (pointer : is_pointer (ty_of types (shape types n x l)) ≡ true) where
-  one_location : local_locations types n x l ≡ local_place x ∷ []
-  one_location = pointer_location types ordered l.kind (shape types n x l) (local_place x) pointer
+-- ---- what a root says of its input
 
-  -- ---- its inputs
+module _ (types : Types) (f : Function) (i : Input) where
+  pub root_owning : (r : Root) → given.input_at types f r ≡ Some i → owning types f r ≡ true → is_mutating types (signature_of f) i ≡ true
+  root_owning (root.Local x) is own = absurd (none_some is)
+  root_owning (root.Input q member) is own = ap (test_input (is_mutating types (signature_of f))) (sym is) ∙ own
 
-  module _ (lt : x < n) where
-    pub one_input : local_inputs types n x l ≡ parameter_input types n x l ∷ []
-    one_input =
-        ap (λ (b : Bool). if b then inputs_among types x (shape types n x l) 0 (local_locations types n x l) else []) (lt_true x n lt)
-        ∙ ap (inputs_among types x (shape types n x l) 0) one_location
-        ∙ ap (λ (b : Bool). input_if b (parameter_input types n x l) ++ []) pointer
+  -- what may be changed through it has no const
+  pub root_free : (r : Root) → given.input_at types f r ≡ Some i → may_change types f r ≡ true → is_constant (ty_if types i.ty) ≡ false
+  root_free (root.Local x) is may = absurd (none_some is)
+  root_free (root.Input q member) is may = go (is_constant (ty_if types i.ty)) (ap (λ (o : Option Input). test_input (λ (j : Input). not (is_constant (ty_if types j.ty))) o) (sym is) ∙ may)
+    where
+      go : (b : Bool) → not b ≡ true → b ≡ false
+      go true h = absurd (false≢true h)
+      go false h = refl
 
--- ---- among those of all locals
+  -- .. and what has no const may be
+  pub root_changes : (r : Root) → given.input_at types f r ≡ Some i → is_constant (ty_if types i.ty) ≡ false → may_change types f r ≡ true
+  root_changes (root.Local x) is free = refl
+  root_changes (root.Input q member) is free = ap (test_input (λ (j : Input). not (is_constant (ty_if types j.ty)))) is ∙ ap not free
+
+-- ---- the facts at the entry
 
 module _ (types : Types) (n : ℕ) where
-  pub input_among : (ls : List Local) (first k x : ℕ) (l : Local) (i : Input) → first + k ≡ x → slice_get ls k ≡ Some l → Contains (local_inputs types n x l) i → Contains (inputs_from types n first ls) i
-  input_among [] first k x l i is e has = absurd (none_some e)
-  input_among (m ∷ ls) first zero x l i is e has =
-      let here : x ≡ first = omega (arith, is) in
-      Contains-append_left (local_inputs types n first m) (inputs_from types n (first + 1) ls) i
-      (subst (λ (u : Local). Contains (local_inputs types n first u) i) (sym (some_same e)) (subst (λ y. Contains (local_inputs types n y l) i) here has))
-  input_among (m ∷ ls) first (suc k) x l i is e has =
-      Contains-append_right (local_inputs types n first m) (inputs_from types n (first + 1) ls) i (input_among ls (first + 1) k x l i (omega (arith, is)) e has)
-
-  -- one stands before one of a later parameter
-  pub pairs_from : {B : Type 0} (g : Input → Input → List B) (d : B) (ls : List Local) (first k m x y : ℕ) (l u : Local) (i j : Input) → first + k ≡ x → first + m ≡ y → k < m → slice_get ls k ≡ Some l → slice_get ls m ≡ Some u → Contains (local_inputs types n x l) i → Contains (local_inputs types n y u) j → Contains (g i j) d → Contains (of_pairs g (inputs_from types n first ls)) d
-  pairs_from g d [] first k m x y l u i j is_x is_y lt e h has_i has_j told = absurd (none_some e)
-  pairs_from g d (z ∷ zs) first zero zero x y l u i j is_x is_y lt e h has_i has_j told = absurd (omega (arith, lt))
-  pairs_from g d (z ∷ zs) first zero (suc m) x y l u i j is_x is_y lt e h has_i has_j told =
-      let here : x ≡ first = omega (arith, is_x) in
-      pairs_of g (local_inputs types n first z) (inputs_from types n (first + 1) zs) i j d
-      (subst (λ (v : Local). Contains (local_inputs types n first v) i) (sym (some_same e)) (subst (λ w. Contains (local_inputs types n w l) i) here has_i))
-      (input_among zs (first + 1) m y u j (omega (arith, is_y)) h has_j) told
-  pairs_from g d (z ∷ zs) first (suc k) zero x y l u i j is_x is_y lt e h has_i has_j told = absurd (omega (arith, lt))
-  pairs_from g d (z ∷ zs) first (suc k) (suc m) x y l u i j is_x is_y lt e h has_i has_j told =
-      pairs_behind g (local_inputs types n first z) (inputs_from types n (first + 1) zs) d (pairs_from g d zs (first + 1) k m x y l u i j (omega (arith, is_x)) (omega (arith, is_y)) (omega (arith, lt)) e h has_i has_j told)
-
   pub facts_among : (ls : List Local) (first k x : ℕ) (l : Local) (a : Fact) → first + k ≡ x → slice_get ls k ≡ Some l → Contains (parameter_facts types n x l) a → Contains (entry_facts_from types n first ls) a
   facts_among [] first k x l a is e has = absurd (none_some e)
   facts_among (m ∷ ls) first zero x l a is e has =
@@ -126,97 +168,25 @@ module _ (types : Types) (n : ℕ) where
   facts_among (m ∷ ls) first (suc k) x l a is e has =
       Contains-append_right (parameter_facts types n first m) (entry_facts_from types n (first + 1) ls) a (facts_among ls (first + 1) k x l a (omega (arith, is)) e has)
 
--- ---- of a function
-
-module _ (types : Types) (ordered : IsOrdered types) (f : Function) (x : ℕ) (l : Local) (there : slice_get f.locals x ≡ Some l) (lt : x < f.parameters) (pointer : is_pointer (ty_of types (shape types f.parameters x l)) ≡ true) where
-  abbrev i : Input
-  i = parameter_input types f.parameters x l
-
-  own_input : Contains (local_inputs types f.parameters x l) i
-  own_input = subst (λ (is : List Input). Contains is i) (sym (one_input types ordered f.parameters x l pointer lt)) (at_head i [])
-
-  pub is_input : Contains (inputs_of types f) (parameter_input types f.parameters x l)
-  is_input = input_among types f.parameters f.locals 0 x x l i (omega arith) there own_input
-
-  pub found_input : input_of types f x None ≡ Some (parameter_input types f.parameters x l)
-  found_input =
-      ap (λ (o : Option Local). slice_get (inputs_at types f.parameters x o) 0) there
-      ∙ ap (λ (is : List Input). slice_get is 0) (one_input types ordered f.parameters x l pointer lt)
+module _ (types : Types) (f : Function) (i : Input) (among : Contains (inputs_of types f) i) where
+  abbrev o : IsOwnInput types f i
+  o = own_input types f i among
 
   -- what it stands for is among the elements
-  pub input_element : Contains (elements_of types f) (element.At (root_place (root.Input x None)))
-  input_element = input_known types f i is_input (root_place (root.Input x None)) (place_itself (root_place (root.Input x None)) (tree_if types (target_type types i.ty)))
+  pub input_element : Contains (elements_of types f) (element.At (root_place i.root))
+  input_element = input_known types f i among (root_place i.root) (place_itself (root_place i.root) (tree_if types (target_type types i.ty)))
 
-  -- ---- its facts at the entry
-
-  entry_given : (a : Fact) → Contains (input_facts types l.nonnull i) a → Contains (entry_facts types f) a
+  entry_given : (a : Fact) → Contains (input_facts types (own_input types f i among).local.nonnull i) a → Contains (entry_facts types f) a
   entry_given a has =
-      facts_among types f.parameters f.locals 0 x x l a (omega arith) there
-      (Contains-append_left (flat_map (input_facts types l.nonnull) (local_inputs types f.parameters x l)) (if nat_lt x f.parameters then flat_map (owner_facts types (shape types f.parameters x l)) (local_locations types f.parameters x l) else []) a
-      (flat_map_into (input_facts types l.nonnull) (local_inputs types f.parameters x l) i a own_input has))
+      facts_among types f.parameters f.locals 0 (parameter_number i) (parameter_number i) o.local a (omega arith) o.there
+      (Contains-append_left (flat_map (input_facts types o.local.nonnull) (local_inputs types f.parameters (parameter_number i) o.local)) (if nat_lt (parameter_number i) f.parameters then flat_map (owner_facts types (shape types f.parameters (parameter_number i) o.local)) (local_locations types f.parameters (parameter_number i) o.local) else []) a
+      (flat_map_into (input_facts types o.local.nonnull) (local_inputs types f.parameters (parameter_number i) o.local) i a (got_among (local_inputs types f.parameters (parameter_number i) o.local) o.number i o.listed) has))
 
-  pub points_at_entry : Contains (entry_facts types f) (fact_at (local_place x) (element.At (root_place (root.Input x None))))
-  points_at_entry = entry_given (fact_at (local_place x) (element.At (root_place (root.Input x None)))) (at_head (fact_at (local_place x) (element.At (root_place (root.Input x None)))) (given_if (may_be_null types l.nonnull i) (fact_at (local_place x) element.Null)))
+  pub points_at_entry : Contains (entry_facts types f) (fact_at i.pointer (element.At (root_place i.root)))
+  points_at_entry = entry_given (fact_at i.pointer (element.At (root_place i.root))) (at_head (fact_at i.pointer (element.At (root_place i.root))) (given_if (may_be_null types o.local.nonnull i) (fact_at i.pointer element.Null)))
 
-  pub null_at_entry : may_be_null types l.nonnull (parameter_input types f.parameters x l) ≡ true → Contains (entry_facts types f) (fact_at (local_place x) element.Null)
+  pub null_at_entry : may_be_null types (own_input types f i among).local.nonnull i ≡ true → Contains (entry_facts types f) (fact_at i.pointer element.Null)
   null_at_entry null =
-      entry_given (fact_at (local_place x) element.Null)
-      (in_tail (fact_at (local_place x) (element.At (root_place (root.Input x None)))) (given_if (may_be_null types l.nonnull i) (fact_at (local_place x) element.Null)) (fact_at (local_place x) element.Null)
-      (subst (λ b. Contains (given_if b (fact_at (local_place x) element.Null)) (fact_at (local_place x) element.Null)) (sym null) (at_head (fact_at (local_place x) element.Null) [])))
-
--- ---- of its signature
-
-taken_local : (place : Place) (n : ℕ) (ls : List Local) (x : ℕ) (l : Local) → x < n → slice_get ls x ≡ Some l → slice_get (map (parameter_local place) (map parameter_of (take n ls))) x ≡ Some (parameter_local place (parameter_of l))
-taken_local place zero ls x l lt e = absurd (omega (arith, lt))
-taken_local place (suc n) [] x l lt e = absurd (none_some e)
-taken_local place (suc n) (m ∷ ls) zero l lt e = ap (λ (u : Local). Some (parameter_local place (parameter_of u))) (some_same e)
-taken_local place (suc n) (m ∷ ls) (suc x) l lt e = taken_local place n ls x l (omega (arith, lt)) e
-
-taken_length : (n : ℕ) (ls : List Local) (x : ℕ) (l : Local) → x < n → slice_get ls x ≡ Some l → x < length (map parameter_of (take n ls))
-taken_length zero ls x l lt e = absurd (omega (arith, lt))
-taken_length (suc n) [] x l lt e = absurd (none_some e)
-taken_length (suc n) (m ∷ ls) zero l lt e = omega arith
-taken_length (suc n) (m ∷ ls) (suc x) l lt e = let r = taken_length n ls x l (omega (arith, lt)) e in omega (arith, r)
-
-module _ (types : Types) (ordered : IsOrdered types) (f : Function) (x : ℕ) (l : Local) (there : slice_get f.locals x ≡ Some l) (lt : x < f.parameters) (pointer : is_pointer (ty_of types (shape types f.parameters x l)) ≡ true) where
-  abbrev m : ℕ
-  m = length (map parameter_of (take f.parameters f.locals))
-
-  within : x < m
-  within = taken_length f.parameters f.locals x l lt there
-
-  -- a parameter has its shape among so many, too
-  same_shape : shape types m x (parameter_local f.place (parameter_of l)) ≡ shape types f.parameters x l
-  same_shape = ap (λ (b : Bool). shape_if types b l.ty) (lt_true x m within ∙ sym (lt_true x f.parameters lt))
-
-  same_input : parameter_input types m x (parameter_local f.place (parameter_of l)) ≡ parameter_input types f.parameters x l
-  same_input = ap (λ (id : TyId). record { pointer = local_place x; ty = Some id; root = root.Input x None }) same_shape
-
-  signature_input : Contains (local_inputs types m x (parameter_local f.place (parameter_of l))) (parameter_input types f.parameters x l)
-  signature_input =
-      subst (λ (is : List Input). Contains is (parameter_input types f.parameters x l)) (sym (one_input types ordered m x (parameter_local f.place (parameter_of l)) (subst (λ (id : TyId). is_pointer (ty_of types id) ≡ true) (sym same_shape) pointer) within ∙ ap (λ (i : Input). i ∷ []) same_input))
-      (at_head (parameter_input types f.parameters x l) [])
-
-  signature_local : slice_get (map (parameter_local f.place) (map parameter_of (take f.parameters f.locals))) x ≡ Some (parameter_local f.place (parameter_of l))
-  signature_local = taken_local f.place f.parameters f.locals x l lt there
-
-  pub in_signature : Contains (inputs_of_signature types (signature_of f)) (parameter_input types f.parameters x l)
-  in_signature = input_among types m (map (parameter_local f.place) (map parameter_of (take f.parameters f.locals))) 0 x x (parameter_local f.place (parameter_of l)) (parameter_input types f.parameters x l) (omega arith) signature_local signature_input
-
-  pub signature_parameter : slice_get (signature_of f).parameters x ≡ Some (parameter_of l)
-  signature_parameter = go f.parameters f.locals x lt there
-    where
-      go : (n : ℕ) (ls : List Local) (y : ℕ) → y < n → slice_get ls y ≡ Some l → slice_get (map parameter_of (take n ls)) y ≡ Some (parameter_of l)
-      go zero ls y lt e = absurd (omega (arith, lt))
-      go (suc n) [] y lt e = absurd (none_some e)
-      go (suc n) (u ∷ ls) zero lt e = ap (λ (w : Local). Some (parameter_of w)) (some_same e)
-      go (suc n) (u ∷ ls) (suc y) lt e = go n ls y (omega (arith, lt)) e
-
--- two parameters stand in their order
-pub pairs_in_signature : (types : Types) (ordered : IsOrdered types) (f : Function) (x y : ℕ) (l u : Local) (there : slice_get f.locals x ≡ Some l) (lt : x < f.parameters) (pointer : is_pointer (ty_of types (shape types f.parameters x l)) ≡ true)
-    (also : slice_get f.locals y ≡ Some u) (less : y < f.parameters) (points : is_pointer (ty_of types (shape types f.parameters y u)) ≡ true) → x < y → {B : Type 0} (g : Input → Input → List B) (d : B)
-    → Contains (g (parameter_input types f.parameters x l) (parameter_input types f.parameters y u)) d → Contains (of_pairs g (inputs_of_signature types (signature_of f))) d
-pairs_in_signature types ordered f x y l u there lt pointer also less points before g d told =
-    pairs_from types (length (map parameter_of (take f.parameters f.locals))) g d (map (parameter_local f.place) (map parameter_of (take f.parameters f.locals))) 0 x y x y (parameter_local f.place (parameter_of l)) (parameter_local f.place (parameter_of u))
-    (parameter_input types f.parameters x l) (parameter_input types f.parameters y u) (omega arith) (omega arith) before (signature_local types ordered f x l there lt pointer) (signature_local types ordered f y u also less points)
-    (signature_input types ordered f x l there lt pointer) (signature_input types ordered f y u also less points) told
+      entry_given (fact_at i.pointer element.Null)
+      (in_tail (fact_at i.pointer (element.At (root_place i.root))) (given_if (may_be_null types o.local.nonnull i) (fact_at i.pointer element.Null)) (fact_at i.pointer element.Null)
+      (subst (λ b. Contains (given_if b (fact_at i.pointer element.Null)) (fact_at i.pointer element.Null)) (sym null) (at_head (fact_at i.pointer element.Null) [])))

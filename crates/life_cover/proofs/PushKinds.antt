@@ -1,24 +1,24 @@
 -- An object is pushed to a vector, by the vector's name or through a pointer, and gives its value over: there is no fault, and as no fact points
 -- into what is given over, the facts behind it cover all pointers of the frame.
-use Rattle.std.proofs.Common.{◌≡◌, ◌≢◌, inl, inr, ⊎_elim, ℕ, ◌<◌, false, List, [], ◌∷◌, Option, Some, refl, sym, ap, subst, ◌∙◌, arith, ◌⊎◌}
+use Rattle.std.proofs.Common.{◌≡◌, ◌≢◌, inl, inr, ⊎_elim, ℕ, ◌<◌, false, List, [], ◌∷◌, Option, Some, refl, sym, ap, subst, ◌∙◌, arith, ◌⊎◌, true}
 use Rattle.std.specs.Prelude.{slice_get, slice_set}
 use Rattle.std.proofs.lemmas.Bool.{false≢true}
-use Rattle.life_types.specs.TypeTests.{is_void}
+use Rattle.life_types.specs.TypeTests.{is_pointer, is_void}
 use Rattle.life_types.specs.Types.{Types}
 use Rattle.life_types.specs.declared.place.Place.{Place}
 use Rattle.life_types.specs.declared.ty.Ty.TheVariants as ty
 use Rattle.life_types.specs.declared.ty.TyId.{TyId}
 use Rattle.life_core.specs.Function.{Function}
-use Rattle.life_core.specs.Operands.{Operand}
+use Rattle.life_core.specs.Operands.{Location, Operand}
 use Rattle.life_core.specs.Step.{Changes, PushBack}
-use Rattle.life_pset.specs.Elements.{local_place}
 use Rattle.life_pset.specs.Places.{path, under}
 use Rattle.life_pset.specs.declared.element.AbsPlace.{AbsPlace}
 use Rattle.life_pset.specs.declared.element.Fact.{Fact}
 use Rattle.life_pset.specs.declared.element.Root.{Root}
 use Rattle.life_pset.specs.declared.element.Root.TheVariants as root
+use Rattle.life_contract.specs.Located.{located}
 use Rattle.life_contract.specs.Signatures.{Signature}
-use Rattle.life_proper.specs.Placed.{is_const_place, type_of}
+use Rattle.life_proper.specs.Placed.{is_const_place, type_in, type_of}
 use Rattle.life_rules.specs.Carrying.{writes}
 use Rattle.life_store.specs.Cells.{at}
 use Rattle.life_store.specs.Content.{Content}
@@ -27,9 +27,9 @@ use Rattle.life_store.specs.Edits.{Push, edited, pushed}
 use Rattle.life_store.specs.Effects.{Attempt, Got, GotTrap, GotFault, GotLost, Effect, Next, Setting, cell, got_or, on_got, on_next, put_cell, put_content}
 use Rattle.life_store.specs.Owners.{consumed}
 use Rattle.life_store.specs.Parts.{Parts, Vector, local_type, operand_parts, parts_at, parts_if}
-use Rattle.life_store.specs.State.{Cell, Empty, Named, Points, State}
+use Rattle.life_store.specs.Places.{location_cell}
+use Rattle.life_store.specs.State.{Cell, Empty, Named, Pointer, Points, State}
 use Rattle.life_store.specs.declared.run.FaultKind.TheVariants as fault
-use Rattle.life_store.proofs.CellLemmas.{cell_cases}
 use Rattle.life_store.proofs.MapLemmas.{one_or_apart}
 use Rattle.life_forest.specs.Forest.{Beneath, Touches, all_of, part, under as further, whole}
 use Rattle.life_forest.specs.Kinds.{kinds_of}
@@ -40,7 +40,10 @@ use Rattle.life_forest.proofs.Counting.{one_there}
 use Rattle.life_forest.proofs.Steps.{alive_le, beneath_more}
 use Rattle.life_cover.proofs.Sparing.{local_low}
 use Rattle.life_cover.proofs.Writing.{change_owning}
-use Rattle.life_cover.specs.Frames.{FrameCovered, RootStands, look_at}
+use Rattle.life_cover.specs.Frames.{FrameCovered, RootStands, look_in}
+use Rattle.life_cover.proofs.HeldCells.{put_held}
+use Rattle.life_cover.proofs.MemberWords.{Spares, held_before, spares_at}
+use Rattle.life_cover.proofs.SparedPointers.{owner_free, spares_reached}
 use Rattle.life_cover.specs.Inputs.{frame_foot, may_change, owning, StandsAt}
 use Rattle.life_cover.specs.Kills.{Guards, IsUnnamed, Names}
 use Rattle.life_cover.specs.Regions.{IsAt, Region, foot_of}
@@ -141,6 +144,16 @@ module _ (types : Types) (f : Function) (rest : ℕ → ℕ) (inputs : Root → 
       go (root.Input q member) e h = h
       go (root.Local y) e h = one_or_apart x y (λ same. absurd (unnamed a names (e ∙ ap (λ z. root.Local z) (sym same)))) (λ ne. (set_other st.cells x y Empty ne ∙ h.0, h.1, h.2))
 
+  -- what other locals hold isn't touched with a value in which there is no pointer
+  pub others_held : (a : Region) → Spares types f st (foot_of types a) → (d : Content) → Touches (kinds_of types) (pushed_foot types a m) st.world.content d → (l : Location) (v : Pointer) → is_pointer (type_in types f l) ≡ true → x ≢ l.local
+      → location_cell types f l (put_content d st) ≡ Some (Points v) → location_cell types f l st ≡ Some (Points v)
+  others_held a spares d touch l v pointer ne held =
+      held_before types k.ordered k.once f k.shaped st (λ y n e. k.stands.frame.objects y n e) l pointer (hand_of rest st) (store_of types f rest inputs S st k) (pushed_foot types a m)
+      (record {
+        apart = λ n named_l low. ⊎_elim (λ inner. spares.apart l.local n named_l inner) (λ over. other_free l.local n ne named_l over) (split types st.world.content a m n low);
+        words = (spares_at types k.ordered k.once f k.shaped st (λ y n e. k.stands.frame.objects y n e) l pointer (foot_of types a) spares).words;
+      }) d touch v held
+
   module _ (sigs : List Signature) (number : ℕ) (place : Place) (S' : Fact → Type 0) (s : Setting) (o : Operand) (item : TyId) (is_vector : type_of types f o ≡ ty.Vector item) (typed : local_type types f x ≡ Some item) (right : IsRight sigs types number f place (Changes o (PushBack x)) S S') (free : is_const_place types f o ≡ false) where
     module _ (r : IsReached types f st (StandsAt inputs) (may_change types f) S o) where
       unmoved : MayLack types f inputs S st r.region.object → ⊥
@@ -151,15 +164,18 @@ module _ (types : Types) (f : Function) (rest : ℕ → ℕ) (inputs : Root → 
 
       -- what is left is covered
       left_covered : (d : Content) → Touches (kinds_of types) (pushed_foot types r.region m) st.world.content d → FrameCovered types f inputs S' (put_cell x Empty (put_content d st))
-      left_covered d touch z v e =
+      left_covered d touch l v pointer e =
           ⊎_elim (λ same. absurd (empty same.1))
           (λ other. cover_on types k.ordered (hand_of rest st) st.world.content d (store_of types f rest inputs S st k) (pushed_foot types r.region m) touch (RootStands types f (StandsAt inputs) st.cells) (RootStands types f (StandsAt inputs) (slice_set st.cells x Empty)) (may_change types f) (rooted_of types f rest inputs S st k).fits
           (under r.place) (writes (Changes o (PushBack x))) S S' (operand_left types f st (StandsAt inputs) (may_change types f) sigs place (PushBack x) S S' o r right.closed (RootStands types f (StandsAt inputs) st.cells)) guards (λ a b names free stands. roots_left a b names stands)
-          (local_place z) (look_at types f z) v refl (k.covered z v other.1))
-          (cell_cases st.cells x z Empty (Points v) e)
+          (located l) (look_in types f l) v refl (k.covered l v pointer (others_held r.region (spares_reached types f rest inputs S st k o r (owner_free types f rest inputs S st k r.region.ty item h.type)) d touch l v pointer other.0 other.1)))
+          (put_held types f (put_content d st) x Empty (λ n h. nameless n h) l v e)
         where
           empty : Empty ≡ Points v → ⊥
           empty e = cc
+
+          nameless : (n : ℕ) → Empty ≡ Named n → ⊥
+          nameless n e = cc
 
           guards : Guards types st.world.content (RootStands types f (StandsAt inputs) st.cells) S (under r.place) (pushed_foot types r.region m)
           guards a b names at_b low =

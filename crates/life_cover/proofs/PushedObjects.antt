@@ -7,7 +7,7 @@ use Rattle.life_types.specs.declared.ty.Ty.TheVariants as ty
 use Rattle.life_types.specs.declared.ty.TyId.{TyId}
 use Rattle.life_types.specs.Trees.{IsOrdered}
 use Rattle.life_core.specs.Function.{Function}
-use Rattle.life_types.specs.TypeTests.{is_unique, is_void}
+use Rattle.life_types.specs.TypeTests.{is_void}
 use Rattle.life_core.specs.Operands.{Operand}
 use Rattle.life_core.specs.Step.{Changes, PushBack}
 use Rattle.life_pset.specs.declared.element.Fact.{Fact}
@@ -53,12 +53,13 @@ use Rattle.life_cover.proofs.KnownFrames.{IsKnownFrame, hand_of, store_of}
 use Rattle.life_cover.proofs.Locals.{named_free}
 use Rattle.life_cover.proofs.Opening.{IsOpened, region_part, vector_opened}
 use Rattle.life_cover.proofs.OwnedWords.{word_beneath, word_lives}
-use Rattle.life_cover.proofs.UniquesStay.{had_beside_given, reached_other}
+use Rattle.life_cover.proofs.UniquesStay.{had_beside_given}
+use Rattle.life_cover.proofs.OtherTypes.{reached_other}
 use Rattle.life_cover.proofs.PushedBuffers.{object_buffered}
 use Rattle.life_cover.proofs.Reaching.{IsReached}
 use Rattle.life_cover.proofs.Rebuffering.{IsFree}
 use Rattle.life_cover.proofs.SaveKinds.{region_within}
-use Rattle.life_cover.proofs.Behind.{behind_empty, both_got, IsBehind, no_local}
+use Rattle.life_cover.proofs.Behind.{behind_empty, both_got, IsBehind, no_location}
 use Rattle.life_cover.proofs.Sparing.{pushed_spares}
 use Rattle.life_cover.proofs.Lacking.{low_whole, local_whole}
 use Rattle.life_rules.proofs.Giving.{at_head}
@@ -187,19 +188,19 @@ module _ (types : Types) (f : Function) (rest : ℕ → ℕ) (inputs : Root → 
         variable.object variable.slot variable.there variable.one m_has m_wide (subst (λ (id : TyId). IsFree types (parts_at types id) (λ j. MayLack types f inputs S st j ⊎ ((j ≡ h.buffer) ⊎ (j ≡ st.world.content.births))) variable.slot.words) m_type free_of)
         r.region.object r.index r.region.word (holder_born types f rest inputs S st k o r s) holder_apart
 
-    after_edit : (a : Attempt Content) → IfGot a (λ d. AreBut types (MayLack types f inputs S st) d × Touches (kinds_of types) (pushed_foot types r.region m) st.world.content d) → OnNext (on_next (on_got a (λ d. Next (put_content d st))) (λ after. Next (put_cell x Empty after))) (IsBehind types f inputs (MayLack types f inputs S st) (λ y. x ≡ y) no_local st)
-    after_edit (Got d) e = behind_empty types f inputs (MayLack types f inputs S st) (λ y. x ≡ y) no_local st x (λ n is. refl) d e.0 (pushed_spares types f rest inputs S st k o r own m (in_hand st.cells x m named) d e.1)
-        (λ y j ne at is. inr (had_beside_given types f rest inputs S st k r.region (region_part types f rest inputs S st k o r) (reached_other types f rest inputs S st k o r (ap is_void is_vector) (ap is_unique is_vector)) x m named d e.1 y j ne at is))
+    after_edit : (a : Attempt Content) → IfGot a (λ d. AreBut types (MayLack types f inputs S st) d × Touches (kinds_of types) (pushed_foot types r.region m) st.world.content d) → OnNext (on_next (on_got a (λ d. Next (put_content d st))) (λ after. Next (put_cell x Empty after))) (IsBehind types f inputs (MayLack types f inputs S st) (λ y. x ≡ y) no_location st)
+    after_edit (Got d) e = behind_empty types f inputs (MayLack types f inputs S st) (λ y. x ≡ y) no_location st x (λ n is. refl) d e.0 (pushed_spares types f rest inputs S st k o r own m (in_hand st.cells x m named) d e.1)
+        (λ y j ne at is. inr (had_beside_given types f rest inputs S st k r.region (region_part types f rest inputs S st k o r) (reached_other types f rest inputs S st k o r (ap is_void is_vector) (ap has_buffer is_vector)) x m named d e.1 y j ne at is))
     after_edit (GotTrap kind) e = tt
     after_edit (GotFault kind) e = tt
     after_edit GotLost e = tt
 
-    pub object_pushed : OnNext (does s types f (Changes o (PushBack x)) st) (IsBehind types f inputs (MayLack types f inputs S st) (λ y. x ≡ y) no_local st)
+    pub object_pushed : OnNext (does s types f (Changes o (PushBack x)) st) (IsBehind types f inputs (MayLack types f inputs S st) (λ y. x ≡ y) no_location st)
     object_pushed =
         by_change types f rest inputs S st k o r s (λ y. x ≡ y) (Vector item (parts_at types item)) (vector_operand types f rest inputs S st k o r item is_vector) (PushBack x)
-        (subst (λ (v : Option Cell). OnNext (pushes s types f (Vector item (parts_at types item)) (record { object = r.region.object; index = r.index; word = r.region.word }) x v st) (IsBehind types f inputs (MayLack types f inputs S st) (λ y. x ≡ y) no_local st)) (sym named)
-        (subst (λ (p : Parts). OnNext (on_next (edits s (Vector item (parts_at types item)) (record { object = r.region.object; index = r.index; word = r.region.word }) (Push (consumed p m)) st) (λ after. Next (put_cell x Empty after))) (IsBehind types f inputs (MayLack types f inputs S st) (λ y. x ≡ y) no_local st)) (sym (ap (parts_if types) typed))
-        (subst (λ w. OnNext (on_next (on_got (got_or w (GotFault fault.Moved)) go) (λ after. Next (put_cell x Empty after))) (IsBehind types f inputs (MayLack types f inputs S st) (λ y. x ≡ y) no_local st)) (sym h.owned)
+        (subst (λ (v : Option Cell). OnNext (pushes s types f (Vector item (parts_at types item)) (record { object = r.region.object; index = r.index; word = r.region.word }) x v st) (IsBehind types f inputs (MayLack types f inputs S st) (λ y. x ≡ y) no_location st)) (sym named)
+        (subst (λ (p : Parts). OnNext (on_next (edits s (Vector item (parts_at types item)) (record { object = r.region.object; index = r.index; word = r.region.word }) (Push (consumed p m)) st) (λ after. Next (put_cell x Empty after))) (IsBehind types f inputs (MayLack types f inputs S st) (λ y. x ≡ y) no_location st)) (sym (ap (parts_if types) typed))
+        (subst (λ w. OnNext (on_next (on_got (got_or w (GotFault fault.Moved)) go) (λ after. Next (put_cell x Empty after))) (IsBehind types f inputs (MayLack types f inputs S st) (λ y. x ≡ y) no_location st)) (sym h.owned)
         (after_edit (pushed s item (parts_at types item) (record { object = r.region.object; index = r.index; word = r.region.word }) h.buffer (consumed (parts_at types item) m) st.world.content)
         (both_got (pushed s item (parts_at types item) (record { object = r.region.object; index = r.index; word = r.region.word }) h.buffer (consumed (parts_at types item) m) st.world.content) (AreBut types (MayLack types f inputs S st)) (Touches (kinds_of types) (pushed_foot types r.region m) st.world.content)
         pushed_one pushed_touches)))))

@@ -1,12 +1,9 @@
--- Where a pointer that is a local is given what is covered, and nothing is killed, all pointers of the frame are covered.
-use Rattle.std.proofs.Common.{◌≡◌, ◌≢◌, ⊎_elim, ℕ, zero, suc, ◌<◌, Bool, true, false, List, [], ◌∷◌, Some, refl, sym, ap, subst, ◌∙◌, arith}
+-- What is covered stays so where roots stand more often, and roots stand where a cell is written that names nothing.
+use Rattle.std.proofs.Common.{◌≡◌, ◌≢◌, ℕ, zero, suc, ◌<◌, Bool, true, false, List, [], ◌∷◌, Some, refl, sym, ap, subst, ◌∙◌, arith}
 use Rattle.std.specs.Prelude.{if◌then◌else◌, nat_lt, slice_get, slice_set}
-use Rattle.life_types.specs.Trees.{IsOrdered}
 use Rattle.life_types.specs.Types.{Types}
-use Rattle.life_types.specs.declared.place.Place.{Place}
 use Rattle.life_core.specs.Function.{Function}
 use Rattle.life_core.specs.Operands.{Location, whole}
-use Rattle.life_core.specs.Step.{Step}
 use Rattle.life_pset.specs.Elements.{local_place}
 use Rattle.life_pset.specs.Places.{longer, member_place, members_place, owned_step, stepped, too_long}
 use Rattle.life_pset.specs.declared.element.AbsPlace.{AbsPlace}
@@ -17,21 +14,14 @@ use Rattle.life_pset.specs.declared.element.Root.{Root}
 use Rattle.life_pset.specs.declared.element.Root.TheVariants as root
 use Rattle.life_pset.proofs.Numbers.{exact_place}
 use Rattle.life_contract.specs.Located.{is_location, located}
-use Rattle.life_contract.specs.Signatures.{Signature}
-use Rattle.life_rules.specs.Carrying.{is_gone, writes}
 use Rattle.life_store.specs.Content.{Content}
-use Rattle.life_store.specs.Effects.{cell, put_cell}
-use Rattle.life_store.specs.State.{Target, Cell, Named, Pointer, Null, Wild, To, Static, Points, State}
-use Rattle.life_store.proofs.CellLemmas.{cell_cases}
+use Rattle.life_store.specs.Effects.{cell}
+use Rattle.life_store.specs.State.{Target, Cell, Named, Pointer, Null, Wild, To, Static, State}
+use Rattle.life_store.proofs.CellLemmas.{none_some}
 use Rattle.life_store.proofs.MapLemmas.{one_or_apart}
-use Rattle.life_forest.specs.Kinds.{kinds_of}
-use Rattle.life_forest.specs.Typed.{IsStore}
-use Rattle.life_forest.proofs.Steps.{touches_self}
 use Rattle.life_cover.specs.Covers.{Covers, IsCovered, Look, PointsTo}
-use Rattle.life_cover.specs.Frames.{LocalsCovered, RootStands, look_at}
-use Rattle.life_cover.specs.Kills.{Closed}
-use Rattle.life_cover.specs.Regions.{IsTrue, Region}
-use Rattle.life_cover.proofs.Unkilled.{no_foot, unkilled_cover}
+use Rattle.life_cover.specs.Frames.{RootStands}
+use Rattle.life_cover.specs.Regions.{Region}
 
 -- another cell is as it was
 pub set_other : {A : Type 0} (xs : List A) (x y : ℕ) (v : A) → x ≢ y → slice_get (slice_set xs x v) y ≡ slice_get xs y
@@ -40,6 +30,11 @@ set_other (c ∷ cs) zero zero v ne = absurd (ne refl)
 set_other (c ∷ cs) zero (suc y) v ne = refl
 set_other (c ∷ cs) (suc x) zero v ne = refl
 set_other (c ∷ cs) (suc x) (suc y) v ne = set_other cs x y v (λ e. ne (ap suc e))
+
+pub set_same : {A : Type 0} (xs : List A) (x : ℕ) (v u : A) → slice_get xs x ≡ Some u → slice_get (slice_set xs x v) x ≡ Some v
+set_same [] x v u e = absurd (none_some e)
+set_same (c ∷ cs) zero v u e = refl
+set_same (c ∷ cs) (suc x) v u e = set_same cs x v u e
 
 pub other_local : (p x : ℕ) → p ≢ x → is_location (whole p) (local_place x) ≡ false
 other_local p x ne = go (is_location (whole p) (local_place x)) refl
@@ -122,26 +117,3 @@ roots_stay types f Input st p new no_object (root.Local x) a s = one_or_apart p 
     (λ e. absurd (no_object a.object (ap (slice_get st.cells) e ∙ s.0)))
     (λ ne. (set_other st.cells p x new ne ∙ s.0, s.1, s.2))
 roots_stay types f Input st p new no_object (root.Input q member) a s = s
-
--- a cell that names nothing is written: what it is given is covered, and so are all other pointers
-pub put_over : (types : Types) (f : Function) (st : State) (Input : Root → Region → Type 0) (may_change : Root → Bool) (S : Fact → Type 0) (p : ℕ) (new : Cell) → ((n : ℕ) → cell st p ≡ Some (Named n) → ⊥)
-    → ((v : Pointer) → new ≡ Points v → IsCovered types st.world.content (RootStands types f Input st.cells) may_change S (local_place p) (look_at types f p) v)
-    → ((x : ℕ) (v : Pointer) → p ≢ x → slice_get st.cells x ≡ Some (Points v) → IsCovered types st.world.content (RootStands types f Input st.cells) may_change S (local_place x) (look_at types f x) v)
-    → LocalsCovered types f Input may_change S (put_cell p new st)
-put_over types f st Input may_change S p new no_object covers others x v e =
-    covered_more types st.world.content (RootStands types f Input st.cells) (RootStands types f Input (slice_set st.cells p new)) may_change (roots_stay types f Input st p new no_object) S (local_place x) (look_at types f x) v
-    (⊎_elim
-    (λ h. subst (λ y. IsCovered types st.world.content (RootStands types f Input st.cells) may_change S (local_place y) (look_at types f y) v) h.0 (covers v h.1))
-    (λ h. others x v h.0 h.1)
-    (cell_cases st.cells p x new (Points v) e))
-
-module _ (types : Types) (ordered : IsOrdered types) (f : Function) (hand : ℕ → ℕ) (st : State) (store : IsStore types hand st.world.content) (Input : Root → Region → Type 0) (may_change : Root → Bool)
-    (fits : (r : Root) (a : Region) → RootStands types f Input st.cells r a → IsTrue types st.world.content a) (sigs : List Signature) (place : Place) (i : Step) (S S' : Fact → Type 0) (closed : Closed sigs types f place i S S')
-    (gone : (e : Element) → is_gone types f place i e ≡ false) (p : ℕ) (new : Cell) (writes_p : (x : ℕ) → p ≢ x → writes i (local_place x) ≡ false) (no_object : (n : ℕ) → cell st p ≡ Some (Named n) → ⊥) where
-  -- so where what it is given is a pointer that is covered, or no pointer at all
-  pub put_covered : ((v : Pointer) → new ≡ Points v → IsCovered types st.world.content (RootStands types f Input st.cells) may_change S' (local_place p) (look_at types f p) v) → LocalsCovered types f Input may_change S st
-      → LocalsCovered types f Input may_change S' (put_cell p new st)
-  put_covered covers old =
-      put_over types f st Input may_change S' p new no_object covers
-      (λ x v ne e. unkilled_cover types ordered hand st.world.content st.world.content store (touches_self (kinds_of types) no_foot st.world.content) (RootStands types f Input st.cells) (RootStands types f Input st.cells) may_change fits
-      sigs f place i S S' closed gone (λ a r names free s. s) (local_place x) (look_at types f x) v (writes_p x ne) (old x v e))

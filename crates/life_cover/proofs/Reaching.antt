@@ -1,16 +1,17 @@
--- What an operand is, a local by its name or what is behind a pointer that is a local, where nothing is wrong with the pointer: a place of the
+-- What an operand is, a local by its name or what is behind a pointer that is a local or a member of one, where nothing is wrong with the pointer: a place of the
 -- rules, characters of a text, or no position at all.
 use Rattle.std.proofs.Common.{◌≡◌, inl, ℕ, ◌+◌, ◌<◌, Bool, true, false, [], length, Option, Some, None, refl, sym, ap, subst, ◌∙◌, arith}
 use Rattle.std.specs.Prelude.{nat_lt, slice_get}
 use Rattle.std.proofs.lemmas.Bool.{false≢true}
 use Rattle.std.proofs.lemmas.Bool.Decides.{nat_tests}
 use Rattle.life_types.specs.Pointees.{or_void}
+use Rattle.life_types.specs.TypeTests.{is_pointer}
 use Rattle.life_types.specs.Types.{Types}
 use Rattle.life_types.specs.declared.ty.Ty.{Ty}
 use Rattle.life_types.specs.declared.ty.Ty.TheVariants as variant
 use Rattle.life_types.specs.declared.ty.TyId.{TyId}
 use Rattle.life_core.specs.Function.{Function}
-use Rattle.life_core.specs.Operands.{Operand, whole}
+use Rattle.life_core.specs.Operands.{Location, Operand, whole}
 use Rattle.life_core.specs.Operands as named
 use Rattle.life_pset.specs.Elements.{local_place}
 use Rattle.life_pset.specs.Places.{members_place}
@@ -22,17 +23,17 @@ use Rattle.life_pset.specs.declared.element.Root.{Root}
 use Rattle.life_pset.specs.declared.element.Root.TheVariants as root
 use Rattle.life_contract.specs.Located.{located}
 use Rattle.life_proper.specs.OperandTypes.{is_range}
-use Rattle.life_proper.specs.Placed.{is_const_place}
+use Rattle.life_proper.specs.Placed.{is_const_place, type_in}
 use Rattle.life_rules.specs.Matching.{fact_at}
 use Rattle.life_store.specs.Cells.{at}
 use Rattle.life_store.specs.Content.{Object}
 use Rattle.life_store.specs.Effects.{Effect, cell}
-use Rattle.life_store.specs.Parts.{Single, local_type, operand_type, parts_if, target_in, target_type}
-use Rattle.life_store.specs.Places.{Here, Fixed, Outside, Astray, Spot, behind_cell, found_if, found_in, found_text, here_if, locate, named_by, on_found, on_place, on_spot, operand_word, pointer_word, reached_if, reached_in}
+use Rattle.life_store.specs.Parts.{Single, local_type, location_type, operand_type, parts_if, target_in, target_type}
+use Rattle.life_store.specs.Places.{Here, Fixed, Outside, Astray, Spot, behind_cell, found_if, found_in, found_text, here_if, locate, location_cell, named_by, on_found, on_place, on_spot, operand_word, pointer_word, reached_if, reached_in}
 use Rattle.life_store.specs.State.{Characters, Target, Pointer, Null, Wild, To, Static, Cell, Empty, Named, Number, Points, State}
-use Rattle.life_forest.specs.FrameTypes.{IsFrame, IsOfText, IsVariable, seen_in, seen_type}
+use Rattle.life_forest.specs.FrameTypes.{IsFrame, IsOfText, IsVariable, PointsWell, seen_in, seen_type}
 use Rattle.life_cover.specs.Covers.{Holds, IsCovered, IsSeenAs}
-use Rattle.life_cover.specs.Frames.{LocalsCovered, RootStands, look_at}
+use Rattle.life_cover.specs.Frames.{LocationsCovered, RootStands, look_in}
 use Rattle.life_cover.specs.Regions.{IsAt, Region}
 use Rattle.life_cover.proofs.Fresh.{holds_lives, position_valid}
 use Rattle.life_cover.proofs.Making.{IsItsPath}
@@ -134,23 +135,23 @@ module _ (types : Types) (f : Function) (st : State) (Input : Root → Region �
 
     -- ---- behind a pointer
 
-    module _ (old : LocalsCovered types f Input may_change S st) (p : ℕ) (right : NotInvalid S (local_place p)) (some : S (fact_at (local_place p) element.Null) → ⊥) (single : (look_at types f p).ranged ≡ false)
-        (sees : (look_at types f p).target ≡ target_type types (local_type types f p)) (path : (a : AbsPlace) → S (fact_at (local_place p) (element.At a)) → IsItsPath a) where
-      target_reach : (t : Target) → cell st p ≡ Some (Points (To t)) → IsTo types st.world.content (RootStands types f Input st.cells) may_change S (local_place p) (look_at types f p) right t → Reach (named.Through (whole p) [])
+    module _ (old : LocationsCovered types f Input may_change S st) (p : Location) (pointer : is_pointer (type_in types f p) ≡ true) (right : NotInvalid S (located p)) (some : S (fact_at (located p) element.Null) → ⊥) (single : (look_in types f p).ranged ≡ false)
+        (sees : (look_in types f p).target ≡ target_type types (location_type types f p)) (well : (v : Pointer) → location_cell types f p st ≡ Some (Points v) → PointsWell types st.world.content (look_in types f p).target v) (path : (a : AbsPlace) → S (fact_at (located p) (element.At a)) → IsItsPath a) where
+      target_reach : (t : Target) → location_cell types f p st ≡ Some (Points (To t)) → IsTo types st.world.content (RootStands types f Input st.cells) may_change S (located p) (look_in types f p) right t → Reach (named.Through p [])
       target_reach t e to = go (holds_lives st.world.content false t holds)
         where
           holds : Holds st.world.content false t
           holds = subst (λ b. Holds st.world.content b t) single to.points.holds
 
-          go : (o : Object) × (at st.world.content.objects t.object ≡ Some o) → Reach (named.Through (whole p) [])
+          go : (o : Object) × (at st.world.content.objects t.object ≡ Some o) → Reach (named.Through p [])
           go l = by_test (nat_lt t.index (length l.0.slots)) refl
             where
-              is : locate types f (named.Through (whole p) []) st ≡ reached_if (nat_lt t.index (length l.0.slots)) t.object t.index l.0
+              is : locate types f (named.Through p []) st ≡ reached_if (nat_lt t.index (length l.0.slots)) t.object t.index l.0
               is =
                   ap (behind_cell st.world.content) e ∙ ap (λ b. found_if b st.world.content t) (position_valid st.world.content t holds)
                   ∙ ap (λ (ob : Option Object). reached_in ob t.object t.index) l.1
 
-              by_test : (b : Bool) → nat_lt t.index (length l.0.slots) ≡ b → Reach (named.Through (whole p) [])
+              by_test : (b : Bool) → nat_lt t.index (length l.0.slots) ≡ b → Reach (named.Through p [])
               by_test false lt = outside (is ∙ ap (λ b. reached_if b t.object t.index l.0) lt)
               by_test true lt = reached (record {
                 region = to.points.region;
@@ -171,19 +172,19 @@ module _ (types : Types) (f : Function) (st : State) (Input : Root → Region �
                   nothing : (w : ℕ) → w + 0 ≡ w
                   nothing w = omega arith
 
-      pointer_reach : (v : Pointer) → cell st p ≡ Some (Points v) → IsCovered types st.world.content (RootStands types f Input st.cells) may_change S (local_place p) (look_at types f p) v → Reach (named.Through (whole p) [])
-      pointer_reach Null e h = absurd (not_null types st.world.content (RootStands types f Input st.cells) may_change S (local_place p) (look_at types f p) right some h)
-      pointer_reach Wild e h = absurd (not_wild types st.world.content (RootStands types f Input st.cells) may_change S (local_place p) (look_at types f p) right h)
-      pointer_reach (To t) e h = target_reach t e (to_place types st.world.content (RootStands types f Input st.cells) may_change S (local_place p) (look_at types f p) right t h)
-      pointer_reach (Static k) e h = text k.text (ap (behind_cell st.world.content) e) (frame.pointers p (Static k) e)
+      pointer_reach : (v : Pointer) → location_cell types f p st ≡ Some (Points v) → IsCovered types st.world.content (RootStands types f Input st.cells) may_change S (located p) (look_in types f p) v → Reach (named.Through p [])
+      pointer_reach Null e h = absurd (not_null types st.world.content (RootStands types f Input st.cells) may_change S (located p) (look_in types f p) right some h)
+      pointer_reach Wild e h = absurd (not_wild types st.world.content (RootStands types f Input st.cells) may_change S (located p) (look_in types f p) right h)
+      pointer_reach (To t) e h = target_reach t e (to_place types st.world.content (RootStands types f Input st.cells) may_change S (located p) (look_in types f p) right t h)
+      pointer_reach (Static k) e h = text k.text (ap (behind_cell st.world.content) e) (well (Static k) e)
         where
-          text : (n : Option ℕ) → locate types f (named.Through (whole p) []) st ≡ found_text n k → IsOfText types (seen_type types (local_type types f p)) n → Reach (named.Through (whole p) [])
+          text : (n : Option ℕ) → locate types f (named.Through p []) st ≡ found_text n k → IsOfText types (look_in types f p).target n → Reach (named.Through p [])
           text None is of = outside is
           text (Some n) is of = fixed k is (ap (parts_if types) (sym sees) ∙ of)
 
-      pub through_reach : (v : Option Cell) → cell st p ≡ v → Reach (named.Through (whole p) [])
+      pub through_reach : (v : Option Cell) → location_cell types f p st ≡ v → Reach (named.Through p [])
       through_reach None e = astray (ap (behind_cell st.world.content) e)
       through_reach (Some Empty) e = astray (ap (behind_cell st.world.content) e)
       through_reach (Some (Named n)) e = astray (ap (behind_cell st.world.content) e)
       through_reach (Some (Number z)) e = astray (ap (behind_cell st.world.content) e)
-      through_reach (Some (Points v)) e = pointer_reach v e (old p v e)
+      through_reach (Some (Points v)) e = pointer_reach v e (old p v pointer e)

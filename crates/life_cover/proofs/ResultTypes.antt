@@ -1,11 +1,11 @@
--- A result that is a pointer is of the type that the function's head says, and what is promised of it lies behind its inputs.
+-- A result is of the type that the function's head says, and what is promised of it lies behind its inputs.
 use Rattle.std.proofs.Common.{◌≡◌, ⊎_elim, ℕ, ◌+◌, Bool, true, false, List, [], ◌∷◌, ◌++◌, map, length, Option, Some, None, refl, sym, ap, subst, ◌∙◌, arith}
 use Rattle.std.specs.Prelude.{Contains, if◌then◌else◌, cond, nat_eq, nat_lt, slice_get, ◌&&◌}
 use Rattle.std.proofs.lemmas.Bool.{and_parts, false≢true}
 use Rattle.std.proofs.lemmas.Bool.Decides.{nat_tests}
 use Rattle.std.proofs.lemmas.List.Elements.{Contains-append_cases}
 use Rattle.life_types.specs.Pointees.{or_void, ty_of}
-use Rattle.life_types.specs.TypeTests.{is_pointer}
+use Rattle.life_types.specs.TypeTests.{is_pointer, is_void}
 use Rattle.life_types.specs.Types.{Types}
 use Rattle.life_types.specs.declared.ty.Ty.{Ty}
 use Rattle.life_types.specs.declared.ty.Ty.TheVariants as ty
@@ -14,14 +14,15 @@ use Rattle.life_core.specs.declared.program.Local.{Local}
 use Rattle.life_core.specs.Function.{Function}
 use Rattle.life_pset.specs.Elements.{Input, input_at, input_if, input_places, inputs_among, inputs_from, local_inputs, local_locations, number_after}
 use Rattle.life_pset.specs.Places.{path, root_place}
-use Rattle.life_pset.specs.Shapes.{members_type, shape, shape_if, shape_of, target_type, tree_if, ty_if}
+use Rattle.life_pset.specs.Shapes as shapes
+use Rattle.life_pset.specs.Shapes.{member_of, members_type, shape, shape_if, shape_of, target_type, tree_if, ty_if}
 use Rattle.life_pset.specs.declared.element.AbsPlace.{AbsPlace}
 use Rattle.life_pset.specs.declared.element.Root.{Root}
 use Rattle.life_pset.specs.declared.element.Root.TheVariants as root
 use Rattle.life_contract.specs.Inputs.{inputs_of_signature, parameter_local, parameter_number}
 use Rattle.life_contract.specs.Promises.{fits, fitting, is_listed, place_if, promised_behind, promised_places}
 use Rattle.life_contract.specs.Signatures.{Signature}
-use Rattle.life_proper.specs.Placed.{type_at}
+use Rattle.life_proper.specs.OperandTypes.{is_composed}
 use Rattle.life_proper.specs.WellFormedPrograms.{is_result_local, is_result_of}
 use Rattle.life_rules.proofs.Giving.{cons_cases, flat_map_from, none_in_empty}
 use Rattle.life_cover.proofs.Making.{root_made, tree_made_of}
@@ -37,28 +38,55 @@ not_less n = grind (arith, nat_tests)
 number_same : (a b : TyId) → a.0 ≡ b.0 → a ≡ b
 number_same a b e = ap (λ n. record { 0 = n }) e
 
--- the local of a result that is a pointer
+-- what has a pointer at a member, or is one, isn't void
+none_within : (types : Types) (ms : List ℕ) → members_type types None ms ≡ None
+none_within types [] = refl
+none_within types (m ∷ ms) = none_within types ms
+
+memberless : (types : Types) (ms : List ℕ) → is_pointer (ty_if types (members_type types None ms)) ≡ true → ⊥
+memberless types ms h = false≢true (ap (λ (id : Option TyId). is_pointer (ty_if types id)) (sym (none_within types ms)) ∙ h)
+
+pub part_composed : (types : Types) (id : TyId) (m : ℕ) (ms : List ℕ) → is_pointer (ty_if types (members_type types (Some id) (m ∷ ms))) ≡ true → is_composed (ty_of types id) ≡ true
+part_composed types id m ms pointer = go (ty_of types id) pointer
+  where
+    go : (t : Ty) → is_pointer (ty_if types (members_type types (member_of types t m) ms)) ≡ true → is_composed t ≡ true
+    go (ty.Struct number) h = refl
+    go _ h = absurd (memberless types ms h)
+
+pub part_solid : (types : Types) (id : TyId) (ms : List ℕ) → is_pointer (ty_if types (members_type types (Some id) ms)) ≡ true → is_void (ty_of types id) ≡ false
+part_solid types id [] pointer = go (ty_of types id) pointer
+  where
+    go : (t : Ty) → is_pointer t ≡ true → is_void t ≡ false
+    go ty.Void h = absurd (false≢true h)
+    go _ h = refl
+part_solid types id (m ∷ ms) pointer = go (ty_of types id) (part_composed types id m ms pointer)
+  where
+    go : (t : Ty) → is_composed t ≡ true → is_void t ≡ false
+    go ty.Void h = absurd (false≢true h)
+    go _ h = refl
+
+-- the local of a result
 pub record IsResultLocal (f : Function) : Type 0 where
   pub local : Local
   pub there : slice_get f.locals f.parameters ≡ Some local
   pub type : local.ty ≡ f.result
 
-pub result_local : (types : Types) (f : Function) → is_result_of types f.result (slice_get types.types f.result.0) (slice_get f.locals f.parameters) ≡ true → is_pointer (ty_of types f.result) ≡ true → IsResultLocal f
-result_local types f formed pointer = by_type (slice_get types.types f.result.0) formed pointer
+pub result_local : (types : Types) (f : Function) → is_result_of types f.result (slice_get types.types f.result.0) (slice_get f.locals f.parameters) ≡ true → is_void (ty_of types f.result) ≡ false → IsResultLocal f
+result_local types f formed solid = by_type (slice_get types.types f.result.0) formed solid
   where
     by_local : (o : Option Local) → slice_get f.locals f.parameters ≡ o → is_result_local types f.result o ≡ true → IsResultLocal f
     by_local None there h = absurd (false≢true h)
     by_local (Some l) there h = record { local = l; there = there; type = number_same l.ty f.result (eqb_same l.ty.0 f.result.0 (and_parts (nat_eq l.ty.0 f.result.0) _ h).0) }
 
-    by_type : (o : Option Ty) → is_result_of types f.result o (slice_get f.locals f.parameters) ≡ true → is_pointer (or_void o) ≡ true → IsResultLocal f
+    by_type : (o : Option Ty) → is_result_of types f.result o (slice_get f.locals f.parameters) ≡ true → is_void (or_void o) ≡ false → IsResultLocal f
     by_type None h p = absurd (false≢true h)
-    by_type (Some ty.Void) h p = absurd (false≢true p)
+    by_type (Some ty.Void) h p = absurd (false≢true (sym p))
     by_type (Some _) h p = by_local (slice_get f.locals f.parameters) refl h
 
-pub result_typed : (types : Types) (f : Function) → is_result_of types f.result (slice_get types.types f.result.0) (slice_get f.locals f.parameters) ≡ true → is_pointer (ty_of types f.result) ≡ true → type_at types f f.parameters ≡ ty_of types f.result
-result_typed types f formed pointer =
-    let r = result_local types f formed pointer in
-    ap (λ (o : Option Local). ty_if types (shape_of types f.parameters f.parameters o)) r.there ∙ ap (λ b. ty_of types (shape_if types b r.local.ty)) (not_less f.parameters) ∙ ap (ty_of types) r.type
+pub result_typed : (types : Types) (f : Function) → is_result_of types f.result (slice_get types.types f.result.0) (slice_get f.locals f.parameters) ≡ true → is_void (ty_of types f.result) ≡ false → shapes.local_type types f f.parameters ≡ Some f.result
+result_typed types f formed solid =
+    let r = result_local types f formed solid in
+    ap (shape_of types f.parameters f.parameters) r.there ∙ ap (λ b. Some (shape_if types b r.local.ty)) (not_less f.parameters) ∙ ap Some r.type
 
 -- ---- inputs are no locals
 

@@ -1,4 +1,4 @@
--- The body of a proper function whose structs hold no pointers and no unique_ptrs, of which nothing is diagnosed, makes no fault, if no call in it does.
+-- The body of a proper function of which nothing is diagnosed, makes no fault, if no call in it does.
 use Rattle.std.proofs.Common.{◌≡◌, ℕ, Bool, List, [], Option, Some, None, refl, sym, subst, ◌∙◌, true, false, arith}
 use Rattle.std.specs.Prelude.{Contains, IsSome}
 use Rattle.std.proofs.lemmas.Bool.{false≢true}
@@ -38,11 +38,10 @@ use Rattle.life_forest.proofs.Holding.{KeepsWaiting}
 use Rattle.life_forest.proofs.Keeping.{keeps_then}
 use Rattle.life_cover.specs.Frames.{FrameCovered}
 use Rattle.life_cover.specs.Lacking.{MayLack}
-use Rattle.life_cover.specs.Members.{HaveUntoldMembers}
 use Rattle.life_cover.specs.Regions.{Region}
 use Rattle.life_cover.proofs.Branches.{IsCoveredBy, test_covered}
 use Rattle.life_cover.proofs.Edges.{FactsAt, Passes, clean_at, clean_of_two_at, closed_at, failed_passes, held_passes}
-use Rattle.life_cover.proofs.FramePoints.{GoesSafe, IsSafe, point_safe}
+use Rattle.life_cover.proofs.FramePoints.{GoesSafe, IsSafe, known, point_safe}
 use Rattle.life_cover.proofs.FrameSteps.{IsSpoken}
 use Rattle.life_cover.proofs.KnownFrames.{IsRight}
 use Rattle.life_cover.proofs.Unnamed.{derived_unnamed, given_away}
@@ -104,7 +103,7 @@ CallsAreSafe sigs types f rest inputs before given s call = (b : ℕ) (place : P
     → (n : ℕ) (st : State) → IsSafeAt sigs types f rest inputs before given b st → SafeAnswer sigs types f rest inputs before given x (act s types f call place (Call target g xs) n st)
 
 module _ (types : Types) (ordered : IsOrdered types) (once : HasEachOnce types) (some : HaveMembers types) (names texts : ℕ) (fs : List Function) (f : Function) (formed : is_well_formed_function types names texts fs f ≡ true) (points : ArePointsFormed types texts fs f)
-    (ready : HasReadyWays types f) (untold : HaveUntoldMembers types) (short : AreShort (elements_of types f)) (kept : all_keep_given types f ≡ true) (spoken : IsSpokenBody types f) (sigs : List Signature) (number : ℕ) (none : (d : Diag) → IsDiagnosed sigs types number f d → ⊥)
+    (ready : HasReadyWays types f) (short : AreShort (elements_of types f)) (kept : all_keep_given types f ≡ true) (spoken : IsSpokenBody types f) (sigs : List Signature) (number : ℕ) (none : (d : Diag) → IsDiagnosed sigs types number f d → ⊥)
     (rest : ℕ → ℕ) (inputs : Root → Option Region) (before : Content) (given : List ℕ) (hand : ℕ → ℕ) (store : IsStore types hand before) (s : Setting) where
   -- ---- instructions
 
@@ -112,7 +111,7 @@ module _ (types : Types) (ordered : IsOrdered types) (once : HasEachOnce types) 
   right_at b q place i here = record {
     clean = clean_at sigs types f number none i b place (goes (Some q)) here;
     clean_of_two = clean_of_two_at sigs types f number none i b place (goes (Some q)) here;
-    unmoved = λ x buffer has. derived_unmoved types untold sigs texts fs f points x (given_never types texts fs f points x kept b (record { spot = spot_at place (Action i); leads = goes (Some q) }) here has) b;
+    unmoved = λ x buffer has. derived_unmoved types sigs texts fs f points x (given_never types texts fs f points x kept b (record { spot = spot_at place (Action i); leads = goes (Some q) }) here has) b;
     given = λ x object has. derived_unnamed sigs types f kept x (given_away types f b (record { spot = spot_at place (Action i); leads = goes (Some q) }) x here object has) b;
     closed = closed_at sigs types f i b q place here;
   }
@@ -137,7 +136,7 @@ module _ (types : Types) (ordered : IsOrdered types) (once : HasEachOnce types) 
   acts_to b place i (Some q) here is st inv =
       let l : Linked = record { spot = spot_at place (Action i); leads = goes (Some q) } in
       effect_good b q place i st here inv (does s types f i st)
-      (point_safe types ordered once some names texts fs f formed points ready untold short rest inputs s sigs number place (FactsAt sigs types f b) (FactsAt sigs types f q) b st l i inv.reached here refl is (right_at b q place i here) inv.safe)
+      (point_safe types ordered once some names texts fs f formed points ready short rest inputs s sigs number place (FactsAt sigs types f b) (FactsAt sigs types f q) b st l i inv.reached here refl is (right_at b q place i here) inv.safe)
 
   -- ---- tests
 
@@ -178,13 +177,13 @@ module _ (types : Types) (ordered : IsOrdered types) (once : HasEachOnce types) 
       let l : Linked = record { spot = spot_at place (Question t); leads = parts held failed } in
       let on = ready.leads_on b (ready_of st) l inv.reached here in
       verdict_good held failed st (test_at types f t n st) (held_answers types ordered once some names texts fs f formed points ready rest b st l t n inv.reached here refl inv.safe.sound)
-      (test_covered types f inputs (FactsAt sigs types f b) st (LeadFacts held) (LeadFacts failed) inv.safe.covered untold texts fs t n (points b l here) (held_facts b place t held failed here) (failed_facts b place t held failed here))
-      (test_told types f (FactsAt sigs types f b) (LeadFacts held) (LeadFacts failed) st inv.safe.told untold texts fs t n (points b l here) (held_facts b place t held failed here) (failed_facts b place t held failed here))
+      (test_covered types f rest inputs (FactsAt sigs types f b) st (known types ordered once some names texts fs f formed points ready short rest inputs (FactsAt sigs types f b) st inv.safe) (LeadFacts held) (LeadFacts failed) t n (held_facts b place t held failed here) (failed_facts b place t held failed here))
+      (test_told types f rest inputs (FactsAt sigs types f b) st (known types ordered once some names texts fs f formed points ready short rest inputs (FactsAt sigs types f b) st inv.safe) (LeadFacts held) (LeadFacts failed) t n (held_facts b place t held failed here) (failed_facts b place t held failed here))
       (λ covered told. branch_safe b place t held failed (Some true) held st here (0, omega arith, refl) on.0 inv (lacking (LeadFacts held) true (held_facts b place t held failed here)) covered told)
       (λ covered told. branch_safe b place t held failed (Some false) failed st here (1, omega arith, refl) on.1.0 inv (lacking (LeadFacts failed) false (failed_facts b place t held failed here)) covered told)
     where
       lacking : (S' : Fact → Type 0) (branch : Bool) → Passes t branch (FactsAt sigs types f b) S' → (m : ℕ) → MayLack types f inputs (FactsAt sigs types f b) st m → MayLack types f inputs S' st m
-      lacking S' branch passes = passed_lacking types f rest inputs untold texts fs (FactsAt sigs types f b) S' st t branch (points b (record { spot = spot_at place (Question t); leads = parts held failed }) here) passes
+      lacking S' branch passes = passed_lacking types f rest inputs texts fs (FactsAt sigs types f b) S' st t branch (points b (record { spot = spot_at place (Question t); leads = parts held failed }) here) passes
 
   -- ---- the whole
 

@@ -1,5 +1,5 @@
--- A run of an admitted entry, of a program whose structs hold no pointers and no unique_ptrs and whose calls hand over no slot and of which nothing is diagnosed, ends in no fault.
-use Rattle.std.proofs.Common.{◌≡◌, inr, ⊎_elim, ℕ, zero, suc, ◌+◌, Bool, true, false, List, [], ◌∷◌, length, Option, Some, refl, sym, ap, subst, ◌∙◌, arith}
+-- A run of an admitted entry, of a program whose calls hand over no slot and of which nothing is diagnosed, ends in no fault.
+use Rattle.std.proofs.Common.{◌≡◌, inr, ⊎_elim, ℕ, zero, suc, ◌+◌, ◌≤◌, Bool, true, false, List, [], ◌∷◌, length, Option, Some, None, refl, sym, ap, subst, ◌∙◌, arith}
 use Rattle.std.specs.Prelude.{ℤ, not, option_map, slice_get}
 use Rattle.std.proofs.lemmas.Bool.{and_parts, false≢true}
 use Rattle.std.proofs.lemmas.Option.{slice_get-map}
@@ -8,7 +8,7 @@ use Rattle.life_types.specs.Trees.{IsOrdered}
 use Rattle.life_types.specs.TypeTests.{is_pointer, is_void}
 use Rattle.life_types.specs.Types.{HasEachOnce, Types, class_at}
 use Rattle.life_types.specs.declared.place.Place.{Place}
-use Rattle.life_types.specs.declared.ty.Ty.{Ty}
+use Rattle.life_types.specs.declared.ty.TyId.{TyId}
 use Rattle.life_core.specs.declared.program.Local.{Local}
 use Rattle.life_core.specs.Function.{Function, Program}
 use Rattle.life_core.specs.Linked.{no_exits}
@@ -17,12 +17,17 @@ use Rattle.life_core.specs.Linked.{spot_at}
 use Rattle.life_core.specs.Ready.{AreBits, entry_ready}
 use Rattle.life_core.specs.Touched.{result_uses}
 use Rattle.life_core.specs.Tree.{Return}
-use Rattle.life_pset.specs.Elements.{AreShort, elements_of}
+use Rattle.life_core.specs.Operands.{Location}
+use Rattle.life_pset.specs.Elements.{AreShort, Input, elements_of, locations_of}
+use Rattle.life_pset.specs.Places.{path}
+use Rattle.life_pset.specs.Shapes as shapes
+use Rattle.life_pset.specs.Shapes.{members_type, ty_if}
+use Rattle.life_contract.specs.Inputs.{parameter_number}
 use Rattle.life_contract.specs.Signatures.{signature_of, signatures_of}
 use Rattle.life_pset.specs.declared.element.Root.{Root}
 use Rattle.life_proper.specs.GivenOver.{all_keep_given, keeps_all_given}
 use Rattle.life_proper.specs.WellFormed.{types_taken}
-use Rattle.life_proper.specs.WellFormedPrograms.{IsWellFormedProgram, is_well_formed_function}
+use Rattle.life_proper.specs.WellFormedPrograms.{IsWellFormedProgram, is_result_of, is_well_formed_function}
 use Rattle.life_proper.proofs.SortedNodes.{formed_parts}
 use Rattle.life_proper.proofs.SpotTests.{all_at}
 use Rattle.life_rules.specs.Diagnosing.{IsDiagnosed}
@@ -35,7 +40,7 @@ use Rattle.life_store.specs.Content.{Content, empty_content}
 use Rattle.life_store.specs.Effects.{Given, Setting, Effect, Next, Traps, Faults, Strays}
 use Rattle.life_store.specs.Meaning.{Answer, Normal, Broke, Continued, Returned, Stopped, Back, Barred, Called, Callee, Exhausted, Faulted, IsAdmitted, Quit, Stray, Trapped, begun, calls, entered, exec, finish, first_called, first_world, frame, run_from, run_of, setting_of}
 use Rattle.life_store.specs.NoFault.{IsNoFault}
-use Rattle.life_store.specs.State.{Cell, Number, Pointer, Points, State, To, World, ready_of}
+use Rattle.life_store.specs.State.{Cell, Empty, Named, Number, Pointer, Points, State, To, World, ready_of}
 use Rattle.life_store.proofs.CellLemmas.{none_some, some_same}
 use Rattle.life_forest.specs.Frames.{OnNext, named_in}
 use Rattle.life_forest.specs.Owned.{times}
@@ -65,34 +70,61 @@ use Rattle.life_cover.proofs.StillLacking.{loose_apart, loose_on}
 use Rattle.life_cover.proofs.SafeBodies.{IsSpokenBody, SafeAnswer, body_safe}
 use Rattle.life_cover.proofs.Edges.{FactsAt, clean_return}
 use Rattle.life_cover.proofs.Entered.{entered_covered}
+use Rattle.life_cover.proofs.EnteredMembers.{member_handed}
 use Rattle.life_cover.proofs.FramePoints.{IsSafe}
 use Rattle.life_cover.proofs.GivenInputs.{is_entered}
 use Rattle.life_cover.proofs.Begun.{IsBegun, frame_begun, parameters_begun}
 use Rattle.life_cover.proofs.NamedResults.{results_named}
 use Rattle.life_cover.proofs.Owning.{named_at, named_within}
-use Rattle.life_cover.proofs.ResultTypes.{promised_input, result_typed}
-use Rattle.life_cover.proofs.Returned.{result_cell, result_promised}
+use Rattle.life_cover.proofs.ResultTypes.{part_solid, promised_input, result_typed}
+use Rattle.life_cover.proofs.Returned.{result_held, result_promised}
 use Rattle.life_cover.proofs.SafeCalls.{SafeCalled, SafeCallee, calls_safe}
-use Rattle.life_cover.specs.Inputs.{AreGiven, StandsAt, entry_inputs, foot_with, frame_foot, mutated}
-use Rattle.life_cover.specs.Members.{HaveUntoldMembers}
-use Rattle.life_cover.specs.Passed.{ArePassed, IsPromised}
+use Rattle.life_cover.specs.Inputs.{AreGiven, StandsAt, entry_inputs, foot_with, frame_foot, input_cell, mutated, may_change}
+use Rattle.life_cover.specs.Passed.{ArePassed, ArePromised, result_part}
 use Rattle.life_cover.specs.Regions.{Region}
+use Rattle.life_cover.proofs.KnownFrames.{names_object}
 use Rattle.life_cover.proofs.UniquesGiven.{entry_uniques}
+use Rattle.life_contract.specs.Located.{located}
+use Rattle.life_proper.specs.Placed.{type_in}
+use Rattle.life_store.specs.Places.{member_cell}
+use Rattle.life_cover.specs.Covers.{IsCovered, Look}
+use Rattle.life_cover.specs.Frames.{FrameCovered, RootStands, look_of}
+use Rattle.life_cover.proofs.Looks.{look_same}
+use Rattle.life_cover.proofs.PointedPlaces.{held_short}
 
 -- ---- the entry is given numbers
 
-entry_pointless : (types : Types) (f : Function) (x n : ℕ) (input : List ℤ) (q : ℕ) (p : Pointer) → slice_get (entry_arguments types f x n input) q ≡ Some (Points p) → ⊥
-entry_pointless types f x zero input q p e = none_some e
-entry_pointless types f x (suc n) [] q p e = none_some e
-entry_pointless types f x (suc n) (z ∷ zs) zero p e = unlike (some_same e)
-  where
-    unlike : {i : ℤ} → Number i ≡ Points p → ⊥
-    unlike h = cc
-entry_pointless types f x (suc n) (z ∷ zs) (suc q) p e = entry_pointless types f (x + 1) n zs q p e
+a_number : {z : ℤ} (v : Cell) → Some (Number z) ≡ Some v → (y : ℤ) × (v ≡ Number y)
+a_number {z} v e = (z, sym (some_same e))
 
--- so nothing stands at an input
-nothing_entered : (types : Types) (f : Function) (foot : Foot) (c : Content) (vs : List Cell) → ((q : ℕ) (p : Pointer) → slice_get vs q ≡ Some (Points p) → ⊥) → AreGiven types f (entry_inputs types f c vs) foot c
-nothing_entered types f foot c vs none = record {
+entry_numbers : (types : Types) (f : Function) (x n : ℕ) (input : List ℤ) (q : ℕ) (v : Cell) → slice_get (entry_arguments types f x n input) q ≡ Some v → (z : ℤ) × (v ≡ Number z)
+entry_numbers types f x zero input q v e = absurd (none_some e)
+entry_numbers types f x (suc n) [] q v e = absurd (none_some e)
+entry_numbers types f x (suc n) (z ∷ zs) zero v e = a_number v e
+entry_numbers types f x (suc n) (z ∷ zs) (suc q) v e = entry_numbers types f (x + 1) n zs q v e
+
+-- so nothing is handed over for an input
+nothing_handed : (types : Types) (f : Function) (c : Content) (vs : List Cell) → ((q : ℕ) (v : Cell) → slice_get vs q ≡ Some v → (z : ℤ) × (v ≡ Number z)) → (i : Input) (p : Pointer) → input_cell types f c vs i ≡ Some (Points p) → ⊥
+nothing_handed types f c vs numbers i p e = by_cell (slice_get vs (parameter_number i)) refl (path i.pointer) e
+  where
+    by_value : (v : Cell) (z : ℤ) → v ≡ Number z → (ms : List ℕ) → member_cell types f (parameter_number i) ms (Some v) c ≡ Some (Points p) → ⊥
+    by_value (Number z) y is [] h = unlike (some_same h)
+      where
+        unlike : Number z ≡ Points p → ⊥
+        unlike k = cc
+    by_value (Number z) y is (m ∷ ms) h = none_some h
+    by_value Empty y is ms h = cc
+    by_value (Named n) y is ms h = cc
+    by_value (Points u) y is ms h = cc
+
+    by_cell : (o : Option Cell) → slice_get vs (parameter_number i) ≡ o → (ms : List ℕ) → member_cell types f (parameter_number i) ms o c ≡ Some (Points p) → ⊥
+    by_cell None at_q [] h = none_some h
+    by_cell None at_q (m ∷ ms) h = none_some h
+    by_cell (Some v) at_q ms h = let z = numbers (parameter_number i) v at_q in by_value v z.0 z.1 ms h
+
+-- .. and nothing stands at one
+nothing_entered : (types : Types) (f : Function) (foot : Foot) (c : Content) (vs : List Cell) → ((q : ℕ) (v : Cell) → slice_get vs q ≡ Some v → (z : ℤ) × (v ≡ Number z)) → AreGiven types f (entry_inputs types f c vs) foot c
+nothing_entered types f foot c vs numbers = record {
   each = λ r a e. absurd (never r a e);
   part = λ r a e. absurd (never r a e);
   born = λ r a e. absurd (never r a e);
@@ -102,7 +134,7 @@ nothing_entered types f foot c vs none = record {
 }
   where
     never : (r : Root) (a : Region) → StandsAt (entry_inputs types f c vs) r a → ⊥
-    never r a e = let i = is_entered types f c vs r a e in none i.parameter (To i.target) i.handed
+    never r a e = let i = is_entered types f c vs r a e in nothing_handed types f c vs numbers i.input (To i.target) i.handed
 
 -- ---- a function whose calls are safe
 
@@ -111,9 +143,10 @@ pub record IsSafeFunction (types : Types) (fs : List Function) (number : ℕ) (f
   pub free : ArePointerSlots types (types_taken f)
   pub short : AreShort (elements_of types f)
   pub spoken : IsSpokenBody types f
+  pub few : length (locations_of types f) ≤ 256
   pub none : (d : Diag) → IsDiagnosed (signatures_of fs) types number f d → ⊥
 
-module _ (types : Types) (ordered : IsOrdered types) (once : HasEachOnce types) (some : HaveMembers types) (untold : HaveUntoldMembers types) (names texts : ℕ) (fs : List Function) (all : (k : ℕ) (g : Function) → slice_get fs k ≡ Some g → GoesWell types names texts fs g)
+module _ (types : Types) (ordered : IsOrdered types) (once : HasEachOnce types) (some : HaveMembers types) (names texts : ℕ) (fs : List Function) (all : (k : ℕ) (g : Function) → slice_get fs k ≡ Some g → GoesWell types names texts fs g)
     (all_safe : (k : ℕ) (g : Function) → slice_get fs k ≡ Some g → IsSafeFunction types fs k g) (s : Setting) where
   module _ (call : Callee) (callees : GoodCallee types fs call) (safe : SafeCallee types fs call) (number : ℕ) (f : Function) (is : slice_get fs number ≡ Some f) (rest : ℕ → ℕ) (xs : List Cell) (n : ℕ) (w : World)
       (suits : AreHandedTo types w.content (types_held types f) xs) (store : IsStore types (λ j. times (named_in xs) j + rest j) w.content) (buffered : AreBut types (IsLoose types (entry_inputs types f w.content xs) (named_in xs) w.content) w.content)
@@ -142,16 +175,26 @@ module _ (types : Types) (ordered : IsOrdered types) (once : HasEachOnce types) 
         (λ m born lt. let y = named_at st.cells m lt in ⊎_elim (λ old. old) (λ new. absurd (omega (arith, born, new))) (begun.own.named y.0 m y.1)) j
         (loose_apart types inputs (named_in xs) w.content (foot_with types (mutated types f inputs) (named_in xs)) (λ m e. positive_is (times (named_in xs) m) e) j loose) loose
 
+    -- what is handed over covers the pointers that are parameters, or members of one
+    entry_covered : (st : State) → IsNext types f rest w.content (entry_ready f) st → IsBegun types f inputs xs w.content st → FrameCovered types f inputs (FactsAt (signatures_of fs) types f 1) st
+    entry_covered st next begun l v pointer e =
+        entered_covered types ordered once f shaped asked.few (signatures_of fs) (λ j. times (named_in xs) j + rest j) w.content xs store apart suits passed st.world.content begun.own.touch st.cells l pointer short v
+        (member_handed types ordered once f shaped inputs xs (λ j. times (named_in xs) j + rest j) w store suits st begun l v pointer e)
+      where
+        short : (located l).length ≤ 8
+        short =
+            held_short types ordered once f shaped asked.short rest st next.sound.stands.store (λ x n at_x. next.sound.stands.frame.objects x n at_x)
+            (λ x n at_x. names_object types f st (poised types ordered once some names texts fs f well.formed well.points well.ready rest st next.sound) x n at_x) inputs (λ r a stands. apart.each r a stands) l pointer v e
+
     begun_safe_at : (st : State) → IsNext types f rest w.content (entry_ready f) st → IsBegun types f inputs xs w.content st → IsSafe types f rest inputs (FactsAt (signatures_of fs) types f 1) st
     begun_safe_at st next begun = record {
       sound = next.sound;
       given =
           given_on types f inputs (λ j. times (named_in xs) j + rest j) w.content st.world.content store.forest (foot_with types (mutated types f inputs) (named_in xs)) apart (frame_foot types f inputs st.cells) begun.own.touch
           (named_within types f inputs (named_in xs) (λ j. times (named_in xs) j + rest j) w.content store st begun.own);
-      covered = λ y v e.
-          entered_covered types ordered f shaped (signatures_of fs) (λ j. times (named_in xs) j + rest j) w.content xs store apart suits passed st.world.content begun.own.touch st.cells y v (begun.points y v e);
+      covered = entry_covered st next begun;
       buffered = but_more types (IsLoose types inputs (named_in xs) w.content) (MayLack types f inputs (FactsAt (signatures_of fs) types f 1) st) st.world.content (λ j loose. inr (still_loose st begun j loose)) begun.buffered;
-      told = entry_uniques types ordered f (signatures_of fs) st next.bits;
+      told = entry_uniques types ordered once f shaped asked.short (signatures_of fs) st next.bits (names_object types f st (poised types ordered once some names texts fs f well.formed well.points well.ready rest st next.sound));
     }
 
     -- ---- where it is left
@@ -160,7 +203,7 @@ module _ (types : Types) (ordered : IsOrdered types) (once : HasEachOnce types) 
     finish_safe (Normal m st) g = absurd g
     finish_safe (Broke m st) g = absurd g
     finish_safe (Continued m st) g = absurd g
-    finish_safe (Returned m st) g = (but_more types (MayLack types f inputs (FactsAt (signatures_of fs) types f g.point) st) (IsLoose types inputs (named_in (results types f st)) st.world.content) st.world.content (left_loose types untold names texts fs f well.formed well.points shaped rest inputs (signatures_of fs) g.point st g.safe.safe.sound g.safe.safe.given) g.safe.safe.buffered, (g.safe.own.touch, ((λ j lt. let y = results_named types f st j lt in g.safe.own.named y.0 j y.1), promised)))
+    finish_safe (Returned m st) g = (but_more types (MayLack types f inputs (FactsAt (signatures_of fs) types f g.point) st) (IsLoose types inputs (named_in (results types f st)) st.world.content) st.world.content (left_loose types names texts fs f well.formed well.points shaped rest inputs (signatures_of fs) g.point st g.safe.safe.sound g.safe.safe.given) g.safe.safe.buffered, (g.safe.own.touch, ((λ j lt. let y = results_named types f st j lt in g.safe.own.named y.0 j y.1), promised)))
       where
         poised_at : IsPoised types f st
         poised_at = poised types ordered once some names texts fs f well.formed well.points well.ready rest st g.safe.safe.sound
@@ -168,12 +211,23 @@ module _ (types : Types) (ordered : IsOrdered types) (once : HasEachOnce types) 
         uses : AreBits true (ready_of st) (result_uses (class_at types f.result) f.parameters)
         uses = (well.ready.ready g.point (ready_of st) (record { spot = spot_at g.place Return; leads = [] }) g.safe.reached g.returns).uses
 
-        promised : (p : Pointer) → is_pointer (ty_of types f.result) ≡ true → slice_get (results types f st) 0 ≡ Some (Points p) → IsPromised types f inputs st.world.content p
-        promised p pointer first =
-            let typed = result_typed types f (formed_parts types names texts fs f well.formed).result pointer in
-            let c = result_cell types f st poised_at pointer (formed_parts types names texts fs f well.formed).result uses p first in
-            result_promised types number f g.place (FactsAt (signatures_of fs) types f g.point) (clean_return (signatures_of fs) types f number asked.none g.point g.place [] g.returns) pointer inputs st (promised_input types (signature_of f) (ty_of types f.result)) p
-            (subst (λ (t : Ty). PointerFits t p) typed (poised_at.sorted f.parameters (Points p) c).1) (g.safe.safe.covered f.parameters p c)
+        formed_result : is_result_of types f.result (slice_get types.types f.result.0) (slice_get f.locals f.parameters) ≡ true
+        formed_result = (formed_parts types names texts fs f well.formed).result
+
+        promised : ArePromised types f inputs st.world.content (results types f st)
+        promised ms p pointer first =
+            let l : Location = record { local = f.parameters; members = ms } in
+            let typed = result_typed types f formed_result (part_solid types f.result ms pointer) in
+            let type_is : shapes.location_type types f l ≡ result_part types f ms = ap (λ (id : Option TyId). members_type types id ms) typed in
+            let points : is_pointer (type_in types f l) ≡ true = ap (λ (id : Option TyId). is_pointer (ty_if types id)) type_is ∙ pointer in
+            let held = result_held types f st poised_at formed_result uses ms p pointer first in
+            let short =
+            held_short types ordered once f shaped asked.short rest st g.safe.safe.sound.stands.store (λ x n at_x. g.safe.safe.sound.stands.frame.objects x n at_x)
+            (λ x n at_x. names_object types f st poised_at x n at_x) inputs (λ r a stands. g.safe.safe.given.each r a stands) l points p held in
+            result_promised types number f g.place (FactsAt (signatures_of fs) types f g.point) (clean_return (signatures_of fs) types f number asked.none g.point g.place [] g.returns) ms pointer short inputs st (promised_input types (signature_of f) (ty_if types (result_part types f ms))) p
+            (subst (λ (id : Option TyId). PointerFits (ty_if types id) p) type_is (poised_at.pointers l p points held))
+            (subst (λ (look : Look). IsCovered types st.world.content (RootStands types f (StandsAt inputs) st.cells) (may_change types f) (FactsAt (signatures_of fs) types f g.point) (located l) look p) (look_same types f shaped l ∙ ap (look_of types) type_is)
+            (g.safe.safe.covered l p points held))
     finish_safe (Stopped stop after) g = g
 
     begun_safe : (e : Effect) (run : State → Called) → GivesOn types f rest w.content (entry_ready f) e → OnNext e (IsBegun types f inputs xs w.content)
@@ -190,19 +244,19 @@ module _ (types : Types) (ordered : IsOrdered types) (once : HasEachOnce types) 
         (parameters_all types names f shaped (formed_at types ordered once some names texts fs f well.formed well.points well.ready)) store (free_handed types w.content (types_taken f) xs asked.free suits))
         (parameters_begun types ordered s f inputs xs (λ j. times (named_in xs) j + rest j) w.content store 0 (types_held types f) xs taking suits (λ i v e. let k : i ≡ 0 + i = omega arith in ap (slice_get xs) (sym k) ∙ e) (frame f w) (frame_begun types f inputs xs w buffered))
         (λ st next begun. finish_safe (exec s types f call f.body n st)
-        (body_safe types ordered once some names texts fs f well.formed well.points well.ready untold asked.short well.given asked.spoken (signatures_of fs) number asked.none rest inputs w.content (named_in xs) (λ j. times (named_in xs) j + rest j) store s call
-        (calls_safe types ordered once some names texts fs f well.formed well.points well.ready untold asked.short well.given asked.spoken (signatures_of fs) number asked.none rest inputs w.content (named_in xs) (λ j. times (named_in xs) j + rest j) store s call callees
-        (λ k g at_k. (all_safe k g at_k).free) safe (λ k g at_k. slice_get-map signature_of fs k ∙ ap (option_map signature_of) at_k) (λ k g at_k. (all k g at_k).formed))
+        (body_safe types ordered once some names texts fs f well.formed well.points well.ready asked.short well.given asked.spoken (signatures_of fs) number asked.none rest inputs w.content (named_in xs) (λ j. times (named_in xs) j + rest j) store s call
+        (calls_safe types ordered once some names texts fs f well.formed well.points well.ready asked.short well.given asked.spoken (signatures_of fs) number asked.none rest inputs w.content (named_in xs) (λ j. times (named_in xs) j + rest j) store s call callees
+        (λ k g at_k. (all_safe k g at_k).free) safe (λ k g at_k. slice_get-map signature_of fs k ∙ ap (option_map signature_of) at_k) (λ k g at_k. (all k g at_k).formed) (λ k g at_k. (all_safe k g at_k).few))
         n st next.bits (begun_safe_at st next begun) begun.own next.waits))
 
 -- ---- all calls of a program
 
-pub all_calls_safe : (s : Setting) (p : Program) (ordered : IsOrdered p.types) (once : HasEachOnce p.types) (some : HaveMembers p.types) (untold : HaveUntoldMembers p.types) (names texts : ℕ) (all : (k : ℕ) (g : Function) → slice_get p.functions k ≡ Some g → GoesWell p.types names texts p.functions g)
+pub all_calls_safe : (s : Setting) (p : Program) (ordered : IsOrdered p.types) (once : HasEachOnce p.types) (some : HaveMembers p.types) (names texts : ℕ) (all : (k : ℕ) (g : Function) → slice_get p.functions k ≡ Some g → GoesWell p.types names texts p.functions g)
     → ((k : ℕ) (g : Function) → slice_get p.functions k ≡ Some g → IsSafeFunction p.types p.functions k g) → (depth : ℕ) → SafeCallee p.types p.functions (calls s p depth)
-all_calls_safe s p ordered once some untold names texts all safe zero k g rest xs n w is suits store buffered apart passed = tt
-all_calls_safe s p ordered once some untold names texts all safe (suc depth) k g rest xs n w is suits store buffered apart passed =
+all_calls_safe s p ordered once some names texts all safe zero k g rest xs n w is suits store buffered apart passed = tt
+all_calls_safe s p ordered once some names texts all safe (suc depth) k g rest xs n w is suits store buffered apart passed =
     subst (λ (o : Option Function). SafeCalled p.types g (entry_inputs p.types g w.content xs) (named_in xs) w.content (entered s p.types o (calls s p depth) xs n w)) (sym is)
-    (entered_safe p.types ordered once some untold names texts p.functions all safe s (calls s p depth) (calls_good s p ordered once some names texts all depth) (all_calls_safe s p ordered once some untold names texts all safe depth) k g is rest xs n w suits store buffered apart passed)
+    (entered_safe p.types ordered once some names texts p.functions all safe s (calls s p depth) (calls_good s p ordered once some names texts all depth) (all_calls_safe s p ordered once some names texts all safe depth) k g is rest xs n w suits store buffered apart passed)
 
 -- ---- runs
 
@@ -221,21 +275,21 @@ nothing_buffered types bare n i o s free there slot = absurd (none_some (sym (at
 pub record HandsPointerSlots (p : Program) : Type 0 where
   pub free : (k : ℕ) (g : Function) → slice_get p.functions k ≡ Some g → ArePointerSlots p.types (types_taken g)
 
-pub safe_runs : (p : Program) (given : Given) (entry : ℕ) (f : Function) (input : List ℤ) (n : ℕ) → IsWellFormedProgram p → ((k : ℕ) (g : Function) → slice_get p.functions k ≡ Some g → HasReadyWays p.types g) → keeps_all_given p ≡ true → HandsPointerSlots p → HaveUntoldMembers p.types
-    → ((k : ℕ) (g : Function) → slice_get p.functions k ≡ Some g → AreShort (elements_of p.types g) × IsSpokenBody p.types g) → ((d : Diag) → IsProgramDiagnosed p d → ⊥) → slice_get p.functions entry ≡ Some f → IsAdmitted p f input → IsNoFault (run_of given p entry f input n).outcome
-safe_runs p given entry f input n well ready apart hands untold spoken none is admitted =
+pub safe_runs : (p : Program) (given : Given) (entry : ℕ) (f : Function) (input : List ℤ) (n : ℕ) → IsWellFormedProgram p → ((k : ℕ) (g : Function) → slice_get p.functions k ≡ Some g → HasReadyWays p.types g) → keeps_all_given p ≡ true → HandsPointerSlots p
+    → ((k : ℕ) (g : Function) → slice_get p.functions k ≡ Some g → AreShort (elements_of p.types g) × ((length (locations_of p.types g) ≤ 256) × IsSpokenBody p.types g)) → ((d : Diag) → IsProgramDiagnosed p d → ⊥) → slice_get p.functions entry ≡ Some f → IsAdmitted p f input → IsNoFault (run_of given p entry f input n).outcome
+safe_runs p given entry f input n well ready apart hands spoken none is admitted =
     called_safe p.types f (entry_inputs p.types f empty_content vs) (named_in vs) empty_content f.place (first_world f input) (first_called given p entry f input n)
-    (all_calls_safe (setting_of given p) p well.table well.once (have_members p.types (length p.names) p.members well.members) untold (length p.names) (length p.texts) each asked given.depth entry f (λ k. 0) (entry_arguments p.types f 0 f.parameters input) n (first_world f input) is
+    (all_calls_safe (setting_of given p) p well.table well.once (have_members p.types (length p.names) p.members well.members) (length p.names) (length p.texts) each asked given.depth entry f (λ k. 0) (entry_arguments p.types f 0 f.parameters input) n (first_world f input) is
     (free_taken p.types empty_content (types_taken f) vs (hands.free entry f is) (numbers_handed p.types f empty_content f.parameters f.locals 0 input admitted.values admitted.room admitted.enough solid))
     (less_in_hand p.types (λ k. 0) (λ k. times (named_in (entry_arguments p.types f 0 f.parameters input)) k + 0) empty_content (λ k. let z = none_named p.types f empty_content 0 f.parameters input k in omega (arith, z)) (empty_store p.types))
-    (nothing_buffered p.types (IsLoose p.types (entry_inputs p.types f empty_content vs) (named_in vs) empty_content)) (nothing_entered p.types f (foot_with p.types (mutated p.types f (entry_inputs p.types f empty_content vs)) (named_in vs)) empty_content vs pointless) (λ q u e. absurd (pointless q u e)))
+    (nothing_buffered p.types (IsLoose p.types (entry_inputs p.types f empty_content vs) (named_in vs) empty_content)) (nothing_entered p.types f (foot_with p.types (mutated p.types f (entry_inputs p.types f empty_content vs)) (named_in vs)) empty_content vs numbers) (λ i u among e. absurd (nothing_handed p.types f empty_content vs numbers i u e)))
   where
     -- the entry's arguments
     vs : List Cell
     vs = entry_arguments p.types f 0 f.parameters input
 
-    pointless : (q : ℕ) (u : Pointer) → slice_get vs q ≡ Some (Points u) → ⊥
-    pointless q u e = entry_pointless p.types f 0 f.parameters input q u e
+    numbers : (q : ℕ) (v : Cell) → slice_get vs q ≡ Some v → (z : ℤ) × (v ≡ Number z)
+    numbers q v e = entry_numbers p.types f 0 f.parameters input q v e
 
     formed_function : (k : ℕ) (g : Function) → slice_get p.functions k ≡ Some g → is_well_formed_function p.types (length p.names) (length p.texts) p.functions g ≡ true
     formed_function k g at_k = all_at (is_well_formed_function p.types (length p.names) (length p.texts) p.functions) p.functions k g well.functions at_k
@@ -252,7 +306,8 @@ safe_runs p given entry f input n well ready apart hands untold spoken none is a
     asked k g at_k = record {
       free = hands.free k g at_k;
       short = (spoken k g at_k).0;
-      spoken = (spoken k g at_k).1;
+      few = (spoken k g at_k).1.0;
+      spoken = (spoken k g at_k).1.1;
       none = λ d h.
           let own = own_function (signatures_of p.functions) p.types k g d h in
           none d (g, (ap (slice_get p.functions) own ∙ at_k, subst (λ m. IsDiagnosed (signatures_of p.functions) p.types m g d) (sym own) h));

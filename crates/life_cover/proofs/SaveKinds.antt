@@ -7,10 +7,10 @@ use Rattle.life_types.specs.declared.ty.TyId.{TyId}
 use Rattle.life_core.specs.Function.{Function}
 use Rattle.life_core.specs.Operands.{Operand}
 use Rattle.life_core.specs.Step.{Save}
-use Rattle.life_pset.specs.Elements.{local_place}
 use Rattle.life_pset.specs.Places.{path}
 use Rattle.life_pset.specs.declared.element.Fact.{Fact}
 use Rattle.life_pset.specs.declared.element.Root.{Root}
+use Rattle.life_contract.specs.Located.{located}
 use Rattle.life_contract.specs.Signatures.{Signature}
 use Rattle.life_proper.specs.Placed.{type_of}
 use Rattle.life_store.specs.Content.{Object, with_object, with_word}
@@ -31,13 +31,14 @@ use Rattle.life_forest.proofs.SeenTypes.{character_parts, value_parts}
 use Rattle.life_forest.proofs.Spots.{lies_at}
 use Rattle.life_forest.proofs.TypedSteps.{operand_of, value_solid}
 use Rattle.life_cover.specs.Covers.{IsSeenAs}
-use Rattle.life_cover.specs.Frames.{FrameCovered, RootStands, look_at}
+use Rattle.life_cover.specs.Frames.{FrameCovered, RootStands, look_in}
 use Rattle.life_cover.proofs.SingleParts.{AreSingle, single_kinds, single_owns}
 use Rattle.life_cover.proofs.Inside.{lies_true}
 use Rattle.life_cover.proofs.KnownFrames.{IsKnownFrame, IsRight, hand_of, reach_at, rooted_of, store_of, used_right}
 use Rattle.life_cover.proofs.OwnerKinds.{number_right}
 use Rattle.life_cover.proofs.Pointers.{OnRight}
 use Rattle.life_cover.proofs.Reaching.{IsReached, on_place_right}
+use Rattle.life_cover.proofs.SparedPointers.{content_held, spares_nothing}
 use Rattle.life_cover.proofs.Unkilled.{no_foot, unkilled_cover}
 use Rattle.life_cover.specs.Inputs.{may_change, StandsAt}
 use Rattle.life_cover.specs.Regions.{Region}
@@ -93,7 +94,8 @@ module _ (types : Types) (f : Function) (rest : ℕ → ℕ) (inputs : Root → 
       (λ r. subst (λ w. FrameCovered types f inputs S' (saved z r.region.object r.index w r.holder st)) (sym r.word) (kept r (word_of_number z))) (λ c single. tt))
     where
       kept : (r : IsReached types f st (StandsAt inputs) (may_change types f) S o) (word : ℕ) → FrameCovered types f inputs S' (put_content (with_object r.region.object (with_word r.index r.region.word word r.holder) st.world.content) st)
-      kept r word x v e =
+      kept r word l v pointer e =
           unkilled_cover types k.ordered (hand_of rest st) st.world.content (with_object r.region.object (with_word r.index r.region.word word r.holder) st.world.content) (store_of types f rest inputs S st k)
           (saved_touches types f rest inputs S st k o r value word) (RootStands types f (StandsAt inputs) st.cells) (RootStands types f (StandsAt inputs) st.cells) (may_change types f) (rooted_of types f rest inputs S st k).fits sigs f place (Save o q) S S' right.closed (λ e. refl)
-          (λ a h names free stands. stands) (local_place x) (look_at types f x) v refl (k.covered x v e)
+          (λ a h names free stands. stands) (located l) (look_in types f l) v refl
+          (k.covered l v pointer (content_held types f rest inputs S st k no_foot (spares_nothing types f rest inputs S st k) (with_object r.region.object (with_word r.index r.region.word word r.holder) st.world.content) (saved_touches types f rest inputs S st k o r value word) l v pointer e))

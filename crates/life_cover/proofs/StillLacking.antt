@@ -1,6 +1,6 @@
 -- What may be bare behind an instruction of a frame: locals of which facts say so still, since the instruction doesn't write them, and what other
 -- frames name.
-use Rattle.std.proofs.Common.{◌≡◌, inl, inr, ⊎_elim, ℕ, Bool, true, false, Some, refl, sym, ap, subst, List, ◌<◌, arith, Option}
+use Rattle.std.proofs.Common.{◌≡◌, inl, inr, ⊎_elim, ℕ, Bool, true, false, Some, refl, sym, ap, subst, List, [], ◌∷◌, ◌<◌, arith, Option}
 use Rattle.std.specs.Prelude.{cond, ◌&&◌, ◌||◌}
 use Rattle.std.proofs.lemmas.Bool.{false≢true}
 use Rattle.life_types.specs.Types.{Types}
@@ -11,6 +11,7 @@ use Rattle.life_types.specs.declared.ty.Ty.TheVariants as ty
 use Rattle.life_core.specs.Function.{Function}
 use Rattle.life_core.specs.Step.{Step, NonZero, NotNull, Test}
 use Rattle.life_core.specs.Operands.{Location}
+use Rattle.life_core.specs.Operands as operands
 use Rattle.life_pset.specs.Elements.{local_place}
 use Rattle.life_pset.specs.declared.element.Element.TheVariants as element
 use Rattle.life_pset.specs.declared.element.Fact.{Fact}
@@ -26,11 +27,10 @@ use Rattle.life_cover.specs.Buffered.{AreBut}
 use Rattle.life_cover.specs.Lacking.{IsMovedFrom, MayLack, IsLoose}
 use Rattle.life_cover.proofs.Behind.{IsBehind}
 use Rattle.life_cover.proofs.Buffering.{but_more}
-use Rattle.life_cover.proofs.SingleParts.{nullable_alone}
-use Rattle.life_cover.proofs.KnownFrames.{IsRight, whole_location}
+use Rattle.life_cover.proofs.KnownFrames.{IsRight}
 use Rattle.life_cover.proofs.UniqueFacts.{stays}
 use Rattle.life_cover.proofs.Edges.{Passes}
-use Rattle.life_cover.proofs.Putting.{other_local}
+use Rattle.life_cover.proofs.Putting.{member_other, other_local}
 use Rattle.life_cover.proofs.Owning.{named_at}
 use Rattle.life_proper.specs.Placed.{type_at, type_in}
 use Rattle.life_proper.specs.WellFormed.{is_well_formed_test}
@@ -42,7 +42,6 @@ use Rattle.life_forest.specs.Owned.{every, times}
 use Rattle.life_forest.proofs.Below.{positive_is}
 use Rattle.life_forest.proofs.Steps.{own_all}
 use Rattle.life_cover.specs.Inputs.{frame_foot}
-use Rattle.life_cover.specs.Members.{HaveUntoldMembers}
 use Rattle.life_cover.specs.Regions.{Region}
 use Rattle.life_pset.specs.declared.element.Root.{Root}
 
@@ -68,7 +67,7 @@ module _ (types : Types) (f : Function) (rest : ℕ → ℕ) (inputs : Root → 
     pub kept : (m : IsMovedFrom types f S st.cells n) → over m.local → ⊥
     pub unwritten : (m : IsMovedFrom types f S st.cells n) → writes i (local_place m.local) ≡ false
 
-  module _ (lost : ℕ → Type 0) (after : State) (h : IsBehind types f inputs bare over lost st after) where
+  module _ (lost : Location → Type 0) (after : State) (h : IsBehind types f inputs bare over lost st after) where
     new : (j : ℕ) → j < st.world.content.births → 0 < times (named_in after.cells) j → 0 < times (named_in st.cells) j
     new j born lt = let x = named_at after.cells j lt in ⊎_elim (λ old. old) (λ late. absurd (omega (arith, born, late))) (h.named x.0 j x.1)
 
@@ -106,14 +105,17 @@ nullable_apart ty.Text e b = false≢true e
 nullable_apart (ty.Vector element) e b = false≢true e
 nullable_apart _ e b = false≢true b
 
-module _ (types : Types) (f : Function) (rest : ℕ → ℕ) (inputs : Root → Option Region) (untold : HaveUntoldMembers types) (texts : ℕ) (fs : List Function) (S S' : Fact → Type 0) (st : State) where
+module _ (types : Types) (f : Function) (rest : ℕ → ℕ) (inputs : Root → Option Region) (texts : ℕ) (fs : List Function) (S S' : Fact → Type 0) (st : State) where
   not_stopped : (t : Test) (branch : Bool) (y : ℕ) (e : Element) → is_well_formed_test types texts fs f t ≡ true → has_buffer (type_at types f y) ≡ true → stops_at t (Some branch) (fact_at (local_place y) e) ≡ false
   not_stopped (NonZero r) branch y e formed buffer = refl
-  not_stopped (NotNull l) branch y e formed buffer =
-      let here = whole_location types untold f l (nullable_alone (type_in types f l) formed) in
-      ap (λ b. b && cond branch (is_null e) (is_held e))
-      (subst (λ (q : Location). is_location q (local_place y) ≡ false) here
-      (other_local l.local y (λ same. nullable_apart (type_in types f l) formed (subst (λ (q : Location). has_buffer (type_in types f q) ≡ true) here (subst (λ z. has_buffer (type_at types f z) ≡ true) (sym same) buffer)))))
+  not_stopped (NotNull l) branch y e formed buffer = ap (λ b. b && cond branch (is_null e) (is_held e)) (go l.members refl)
+    where
+      go : (ms : List ℕ) → l.members ≡ ms → is_location l (local_place y) ≡ false
+      go [] none =
+          let here : operands.whole l.local ≡ l = ap (λ (ms : List ℕ). record { local = l.local; members = ms }) (sym none) in
+          subst (λ (q : Location). is_location q (local_place y) ≡ false) here
+          (other_local l.local y (λ same. nullable_apart (type_in types f l) formed (subst (λ (q : Location). has_buffer (type_in types f q) ≡ true) here (subst (λ z. has_buffer (type_at types f z) ≡ true) (sym same) buffer))))
+      go (m ∷ ms) some = member_other l m ms some y
 
   pub passed_lacking : (t : Test) (branch : Bool) → is_well_formed_test types texts fs f t ≡ true → Passes t branch S S' → (n : ℕ) → MayLack types f inputs S st n → MayLack types f inputs S' st n
   passed_lacking t branch formed passes n (inl m) =

@@ -1,5 +1,5 @@
--- No derived fact says that a local was moved from which no instruction moves, in a proper function whose structs hold no pointers and no unique_ptrs.
-use Rattle.std.proofs.Common.{◌≡◌, ◌≢◌, ℕ, Bool, true, false, ◌&&◌, not, List, [], ◌∷◌, ◌++◌, Option, Some, None, refl, sym, ap, subst, ◌∙◌}
+-- No derived fact says that a local was moved from which no instruction moves, in a proper function.
+use Rattle.std.proofs.Common.{◌≡◌, ◌≢◌, ℕ, Bool, true, false, ◌&&◌, not, List, [], ◌∷◌, ◌++◌, Option, Some, None, refl, sym, ap, subst, ◌∙◌, arith}
 use Rattle.std.specs.Prelude.{Contains, cond, if◌then◌else◌, option_map, slice_get}
 use Rattle.std.proofs.lemmas.Bool.{and_parts, false≢true}
 use Rattle.life_types.specs.Trees.{holds_owner}
@@ -13,7 +13,7 @@ use Rattle.life_core.specs.declared.stmt.Edge.{Edge}
 use Rattle.life_core.specs.declared.stmt.Point.{Point}
 use Rattle.life_core.specs.Function.{Function}
 use Rattle.life_core.specs.Linked.{Linked, code_of, numbered, spot_of, spot_of_linked}
-use Rattle.life_core.specs.Operands.{Location, Operand}
+use Rattle.life_core.specs.Operands.{Location, Operand, whole}
 use Rattle.life_core.specs.Operands as named
 use Rattle.life_core.specs.Step.{Advance, Aim, Call, Changes, Copy, Cursor, Cut, End, Live, Make, Move, Repoint, Size, Step}
 use Rattle.life_core.specs.Step as step
@@ -46,16 +46,14 @@ use Rattle.life_store.proofs.CellLemmas.{none_some, some_same}
 use Rattle.life_forest.proofs.Slots.{ArePointsFormed}
 use Rattle.life_forest.proofs.OneNumber.{also_solid}
 use Rattle.life_cover.specs.Lacking.{IsUnmoved}
-use Rattle.life_cover.specs.Members.{HaveUntoldMembers}
 use Rattle.life_cover.proofs.CalmFacts.{AreCalm, Each, IsCalm, IsCalmFact, aimed_calm, both_each, called_none_calm, called_one_calm, called_two_calm, ended_calm, entry_calm, facts_calm, if_each, killed_calm, live_calm, made_calm, more_each, moved_calm, named_calm, none_each, one_each, position_none_calm, position_one_calm, target_calm, through_calm, through_two_calm, whole_calm}
 use Rattle.life_cover.proofs.Edges.{FactsAt}
-use Rattle.life_cover.proofs.SingleParts.{pointer_alone}
-use Rattle.life_cover.proofs.KnownFrames.{whole_location}
+use Rattle.life_cover.proofs.ExactLocations.{exact_location}
 use Rattle.life_cover.proofs.Unnamed.{given_away}
 
--- of the local no fact says that it was moved from, and of no pointer
+-- of the local no fact says that it was moved from, and of no pointer or member
 abbrev IsQuietAt : Types → Function → ℕ → Element → AbsPlace → Type 0
-IsQuietAt types f x (element.Moved c) l = (l ≢ local_place x) × (is_pointer (ty_if types (place_type types f l)) ≡ false)
+IsQuietAt types f x (element.Moved c) l = (y : ℕ) × (y ≢ x) × (l ≡ local_place y) × (is_pointer (type_at types f y) ≡ false)
 IsQuietAt types f x _ l = Unit {0}
 
 abbrev IsQuiet : Types → Function → ℕ → Fact → Type 0
@@ -97,7 +95,7 @@ seen_pointer types ty.View e = refl
 seen_pointer types (ty.Span target constant) e = refl
 seen_pointer types _ e = absurd (false≢true (sym e))
 
-module _ (types : Types) (untold : HaveUntoldMembers types) (sigs : List Signature) (texts : ℕ) (fs : List Function) (f : Function) (x : ℕ) (place : Place) where
+module _ (types : Types) (sigs : List Signature) (texts : ℕ) (fs : List Function) (f : Function) (x : ℕ) (place : Place) where
   abbrev Quiet : List Fact → Type 0
   Quiet facts = Each (IsQuiet types f x) facts
 
@@ -113,9 +111,8 @@ module _ (types : Types) (untold : HaveUntoldMembers types) (sigs : List Signatu
       by_element element.Null k is = tt
       by_element (element.Invalid c) k is = tt
       by_element (element.Moved c) k is =
-          let here = whole_location types untold f q (pointer_alone (type_in types f q) pointer) in
-          absurd (false≢true (sym (subst (λ (l : Location). is_pointer (ty_if types (place_type types f (located l))) ≡ false) (sym here) (subst (λ (l : AbsPlace). is_pointer (ty_if types (place_type types f l)) ≡ false) is k.1))
-          ∙ subst (λ (l : Location). is_pointer (type_in types f l) ≡ true) (sym here) pointer))
+          let here : q ≡ whole k.0 = exact_location (whole k.0) q (omega arith) (sym k.2 ∙ is) in
+          absurd (false≢true (sym k.3 ∙ subst (λ (l : Location). is_pointer (type_in types f l) ≡ true) here pointer))
       by_element element.Own k is = tt
       by_element element.Static k is = tt
       by_element (element.At b) k is = tt
@@ -148,7 +145,7 @@ module _ (types : Types) (untold : HaveUntoldMembers types) (sigs : List Signatu
       by_element (element.Invalid c) q = calm (element.Invalid c) tt
       by_element (element.Moved c) q =
           subst (λ b. Quiet (cond b (fact_at (copied_location (located from) (located to) a.location) (after_kill k (element.Moved c)) ∷ []) []))
-          (sym (and_false (is_within (located from) a.location) (is_pointer (ty_if types (place_type types f a.location))) q.1)) (none_each (IsQuiet types f x))
+          (sym (and_false (is_within (located from) a.location) (is_pointer (ty_if types (place_type types f a.location))) (ap (λ (l : AbsPlace). is_pointer (ty_if types (place_type types f l))) q.2 ∙ q.3))) (none_each (IsQuiet types f x))
       by_element element.Own q = calm element.Own tt
       by_element element.Static q = calm element.Static tt
       by_element (element.At b) q = calm (element.At b) tt
@@ -165,11 +162,8 @@ module _ (types : Types) (untold : HaveUntoldMembers types) (sigs : List Signatu
       let outer = and_parts (is_owner (type_of types f to)) _ e in
       let alike = (and_parts (same (type_of types f to) (type_at types f y)) _ (and_parts (object_at types f y) _ outer.1).1).0 in
       more_each (IsQuiet types f x) (fact_at (local_place y) (element.Moved (moved place y))) (whole_facts types f to)
-      (λ same_place. off to y refl (local_same (ap (λ (a : AbsPlace). a.root) same_place)), ap is_pointer (sym (same_is (type_of types f to) (type_at types f y) alike)) ∙ owner_no_pointer (type_of types f to) outer.0)
+      (y, off to y refl, refl, ap is_pointer (sym (same_is (type_of types f to) (type_at types f y) alike)) ∙ owner_no_pointer (type_of types f to) outer.0)
       (calm_quiet types f x _ (whole_calm types f place to))
-    where
-      local_same : {a b : ℕ} → root.Local a ≡ root.Local b → a ≡ b
-      local_same h = cc
   none_quiet (Aim p s) e off = calm_quiet types f x _ (facts_calm (located p) _ (target_calm s))
   none_quiet (step.Element p (named.Owner o) which) e off = calm_quiet types f x _ (facts_calm (located p) (named_in true o) (named_calm true o))
   none_quiet (step.Element p (named.Pointer l) which) e off = none_each (IsQuiet types f x)
@@ -275,7 +269,7 @@ module _ (types : Types) (untold : HaveUntoldMembers types) (sigs : List Signatu
 abbrev pub IsNeverMoved : Function → ℕ → Type 0
 IsNeverMoved f x = (p : ℕ) (l : Linked) (to : Operand) (y : ℕ) → numbered (code_of f) p ≡ Some l → l.spot.node ≡ Action (Move to y) → y ≢ x
 
-module _ (types : Types) (untold : HaveUntoldMembers types) (sigs : List Signature) (texts : ℕ) (fs : List Function) (f : Function) (points : ArePointsFormed types texts fs f) (x : ℕ) (never : IsNeverMoved f x) where
+module _ (types : Types) (sigs : List Signature) (texts : ℕ) (fs : List Function) (f : Function) (points : ArePointsFormed types texts fs f) (x : ℕ) (never : IsNeverMoved f x) where
   module _ (edge : Edge) where
     -- what stands at its first point
     spots_formed : (o : Option Linked) → numbered (code_of f) edge.from.0 ≡ o → (s : Spot) → option_map spot_of_linked o ≡ Some s → (is_well_formed_node types texts fs f s.node ≡ true) × ((i : Step) → s.node ≡ Action i → (to : Operand) (y : ℕ) → i ≡ Move to y → y ≢ x)
@@ -289,12 +283,12 @@ module _ (types : Types) (untold : HaveUntoldMembers types) (sigs : List Signatu
 
     given_quiet : (o : Option Spot) → spot_of f edge.from ≡ o → (premises : List Fact) (y : Fact) → ((a : Fact) → Contains premises a → IsQuiet types f x a) → Gives sigs types f edge premises y → IsQuiet types f x y
     given_quiet None e [] y quiet has = absurd (none_in_empty y (subst (λ (o : Option Spot). Contains (none_at sigs types f o) y) e has))
-    given_quiet (Some s) e [] y quiet has = none_node types untold sigs texts fs f x s.place s.node (formed s e).0 (formed s e).1 y (subst (λ (o : Option Spot). Contains (none_at sigs types f o) y) e has)
+    given_quiet (Some s) e [] y quiet has = none_node types sigs texts fs f x s.place s.node (formed s e).0 (formed s e).1 y (subst (λ (o : Option Spot). Contains (none_at sigs types f o) y) e has)
     given_quiet None e (a ∷ []) y quiet has = absurd (none_in_empty y (subst (λ (o : Option Spot). Contains (one_at sigs types f edge.branch o a) y) e has))
     given_quiet (Some s) e (a ∷ []) y quiet has =
-        one_node types untold sigs texts fs f x s.place s.node (formed s e).0 edge.branch a (quiet a (at_head a [])) y (subst (λ (o : Option Spot). Contains (one_at sigs types f edge.branch o a) y) e has)
+        one_node types sigs texts fs f x s.place s.node (formed s e).0 edge.branch a (quiet a (at_head a [])) y (subst (λ (o : Option Spot). Contains (one_at sigs types f edge.branch o a) y) e has)
     given_quiet None e (a ∷ b ∷ []) y quiet has = absurd (none_in_empty y (subst (λ (o : Option Spot). Contains (two_at sigs types f o a b) y) e has))
-    given_quiet (Some s) e (a ∷ b ∷ []) y quiet has = two_node types untold sigs texts fs f x s.place s.node a b y (subst (λ (o : Option Spot). Contains (two_at sigs types f o a b) y) e has)
+    given_quiet (Some s) e (a ∷ b ∷ []) y quiet has = two_node types sigs texts fs f x s.place s.node a b y (subst (λ (o : Option Spot). Contains (two_at sigs types f o a b) y) e has)
     given_quiet o e (a ∷ b ∷ d ∷ more) y quiet has = absurd has
 
   derived_quiet : {p : Point} {y : Fact} → Derives sigs types f p y → IsQuiet types f x y
@@ -303,7 +297,10 @@ module _ (types : Types) (untold : HaveUntoldMembers types) (sigs : List Signatu
 
   -- so no fact says that it was moved from
   pub derived_unmoved : (p : ℕ) → IsUnmoved (FactsAt sigs types f p) x
-  derived_unmoved p cause s = (derived_quiet s).0 refl
+  derived_unmoved p cause s = let q = derived_quiet s in q.1 (local_same (sym (ap (λ (a : AbsPlace). a.root) q.2)))
+    where
+      local_same : {a b : ℕ} → root.Local a ≡ root.Local b → a ≡ b
+      local_same h = cc
 
 -- ---- locals that are never moved
 

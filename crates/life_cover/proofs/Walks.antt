@@ -10,27 +10,27 @@ use Rattle.life_core.specs.declared.operand.RangeEnd.TheVariants as range_end
 use Rattle.life_core.specs.declared.operand.Which.{Which}
 use Rattle.life_core.specs.declared.operand.Which.TheVariants as which
 use Rattle.life_core.specs.Function.{Function}
-use Rattle.life_core.specs.Operands.{whole}
+use Rattle.life_core.specs.Operands.{Location}
 use Rattle.life_core.specs.Operands as named
-use Rattle.life_pset.specs.Elements.{local_place}
+use Rattle.life_contract.specs.Located.{located}
 use Rattle.life_pset.specs.declared.element.Element.{Element}
 use Rattle.life_pset.specs.declared.element.Fact.{Fact}
 use Rattle.life_pset.specs.declared.element.Root.{Root}
 use Rattle.life_rules.specs.Matching.{fact_at}
 use Rattle.life_store.specs.Content.{Content}
 use Rattle.life_store.specs.Doing.{advanced, count_in, cursor, cut, element, type_if}
-use Rattle.life_store.specs.Effects.{Attempt, Got, GotTrap, GotFault, GotLost, Effect, Setting, cell, on_got, on_number, put_cell, then_get, type_of}
+use Rattle.life_store.specs.Effects.{Attempt, Got, GotTrap, GotFault, GotLost, Effect, Setting, cell, on_got, on_number, then_get, type_of}
 use Rattle.life_store.specs.Held.{slots_at}
 use Rattle.life_store.specs.Iterators.{at_index, below_if, chosen, count_of, directed, element_of, end_index, index_in, iterator, standing, stepped, up_to}
 use Rattle.life_store.specs.Parts.{location_type}
-use Rattle.life_store.specs.Places.{pointed}
+use Rattle.life_store.specs.Places.{location_cell, pointed}
 use Rattle.life_store.specs.State.{Pointer, Null, Wild, To, Static, Cell, Empty, Named, Number, Points, State}
 use Rattle.life_store.specs.Views.{is_span, part_count, part_of, seen_count, text_size, usable, used}
 use Rattle.life_store.specs.declared.run.TrapKind.TheVariants as trap
 use Rattle.life_forest.specs.Forest.{IsForest}
 use Rattle.life_forest.specs.Kinds.{kinds_of}
 use Rattle.life_cover.specs.Covers.{IsCovered, Reseen}
-use Rattle.life_cover.specs.Frames.{look_at}
+use Rattle.life_cover.specs.Frames.{look_in}
 use Rattle.life_cover.specs.Regions.{Region}
 use Rattle.life_cover.proofs.Pointers.{HasPosition, IfRight, OnRight, advanced_right, part_right, right_then, used_right}
 use Rattle.life_cover.proofs.Using.{NotInvalid}
@@ -106,58 +106,50 @@ pub end_fits : (end : RangeEnd) (size : ℕ) → end_index end size ≤ size
 end_fits range_end.Begin size = omega arith
 end_fits range_end.End size = omega arith
 
--- ---- the kinds
+-- ---- the kinds, where p may be given what is covered
 
-module _ (types : Types) (f : Function) (Stands : Root → Region → Type 0) (may_change : Root → Bool) (S S' : Fact → Type 0) (st : State) (p q : ℕ) (v : Pointer) (there : cell st q ≡ Some (Points v)) (right : NotInvalid S (local_place q))
-    (target : Reseen types (look_at types f q).target (look_at types f p).target) (constant : (look_at types f p).constant ≡ false → (look_at types f q).constant ≡ false) (takes : (e : Element) → S (fact_at (local_place q) e) → S' (fact_at (local_place p) e))
-    (covered : IsCovered types st.world.content Stands may_change S (local_place q) (look_at types f q) v) (hand : ℕ → ℕ) (forest : IsForest (kinds_of types) hand st.world.content) where
+module _ (types : Types) (f : Function) (Stands : Root → Region → Type 0) (may_change : Root → Bool) (S S' : Fact → Type 0) (st : State) (p q : Location) (v : Pointer) (there : location_cell types f q st ≡ Some (Points v)) (right : NotInvalid S (located q))
+    (target : Reseen types (look_in types f q).target (look_in types f p).target) (constant : (look_in types f p).constant ≡ false → (look_in types f q).constant ≡ false) (takes : (e : Element) → S (fact_at (located q) e) → S' (fact_at (located p) e))
+    (covered : IsCovered types st.world.content Stands may_change S (located q) (look_in types f q) v) (hand : ℕ → ℕ) (forest : IsForest (kinds_of types) hand st.world.content)
+    (Q : State → Type 0) (given : (u : Pointer) → IsCovered types st.world.content Stands may_change S' (located p) (look_in types f p) u → OnRight (pointed types f p u st) Q) where
   abbrev c : Content
   c = st.world.content
 
-  -- p has a pointer that is covered, and all else is as it was
-  pub record IsAimed (st' : State) : Type 0 where
-    pub value : Pointer
-    pub put : st' ≡ put_cell p (Points value) st
-    pub covers : IsCovered types st.world.content Stands may_change S' (local_place p) (look_at types f p) value
-
-  aimed_at : (u : Pointer) → IsCovered types st.world.content Stands may_change S' (local_place p) (look_at types f p) u → OnRight (pointed types f (whole p) u st) IsAimed
-  aimed_at u h = record { value = u; put = refl; covers = h }
-
-  pub advance_right : (s : Setting) (r : ℕ) (way : Direction) → (look_at types f q).ranged ≡ false → (look_at types f p).ranged ≡ false → OnRight (advanced s types f (whole p) (whole q) r way st) IsAimed
+  pub advance_right : (s : Setting) (r : ℕ) (way : Direction) → (look_in types f q).ranged ≡ false → (look_in types f p).ranged ≡ false → OnRight (advanced s types f p q r way st) Q
   advance_right s r way is is' =
-      subst (λ o. OnRight (on_got (iterator c o) go) IsAimed) (sym there)
-      (right_then (standing c v) go (λ u. (i : ℕ) → HasPosition c u i → IsCovered types c Stands may_change S' (local_place p) (look_at types f p) (at_index c.clock i u)) IsAimed
-      (advanced_right types c Stands may_change S S' (local_place q) (local_place p) (look_at types f q) (look_at types f p) right target constant takes hand forest v is is' covered)
+      subst (λ o. OnRight (on_got (iterator c o) go) Q) (sym there)
+      (right_then (standing c v) go (λ u. (i : ℕ) → HasPosition c u i → IsCovered types c Stands may_change S' (located p) (look_in types f p) (at_index c.clock i u)) Q
+      (advanced_right types c Stands may_change S S' (located q) (located p) (look_in types f q) (look_in types f p) right target constant takes hand forest v is is' covered)
       (λ u each. number (cell st r) u each))
     where
       go : Pointer → Effect
-      go u = on_number (cell st r) (λ z. on_got (stepped s.texts c u (directed way (count_of (type_of types f r) z))) (λ i. pointed types f (whole p) (at_index c.clock i u) st))
+      go u = on_number (cell st r) (λ z. on_got (stepped s.texts c u (directed way (count_of (type_of types f r) z))) (λ i. pointed types f p (at_index c.clock i u) st))
 
-      number : (o : Option Cell) (u : Pointer) → ((i : ℕ) → HasPosition c u i → IsCovered types c Stands may_change S' (local_place p) (look_at types f p) (at_index c.clock i u))
-          → OnRight (on_number o (λ z. on_got (stepped s.texts c u (directed way (count_of (type_of types f r) z))) (λ i. pointed types f (whole p) (at_index c.clock i u) st))) IsAimed
+      number : (o : Option Cell) (u : Pointer) → ((i : ℕ) → HasPosition c u i → IsCovered types c Stands may_change S' (located p) (look_in types f p) (at_index c.clock i u))
+          → OnRight (on_number o (λ z. on_got (stepped s.texts c u (directed way (count_of (type_of types f r) z))) (λ i. pointed types f p (at_index c.clock i u) st))) Q
       number None u each = tt
       number (Some Empty) u each = tt
       number (Some (Named n)) u each = tt
       number (Some (Points w)) u each = tt
       number (Some (Number z)) u each =
-          right_then (stepped s.texts c u (directed way (count_of (type_of types f r) z))) (λ i. pointed types f (whole p) (at_index c.clock i u) st) (HasPosition c u) IsAimed
-          (stepped_right s.texts c u (directed way (count_of (type_of types f r) z))) (λ i h. aimed_at (at_index c.clock i u) (each i h))
+          right_then (stepped s.texts c u (directed way (count_of (type_of types f r) z))) (λ i. pointed types f p (at_index c.clock i u) st) (HasPosition c u) Q
+          (stepped_right s.texts c u (directed way (count_of (type_of types f r) z))) (λ i h. given (at_index c.clock i u) (each i h))
 
-  pub cut_right : (r : ℕ) (count : Option ℕ) → (look_at types f q).ranged ≡ true → (look_at types f p).ranged ≡ true → OnRight (cut types f (whole p) (whole q) r count st) IsAimed
+  pub cut_right : (r : ℕ) (count : Option ℕ) → (look_in types f q).ranged ≡ true → (look_in types f p).ranged ≡ true → OnRight (cut types f p q r count st) Q
   cut_right r count is is' =
-      subst (λ o. OnRight (on_got (used c o) go) IsAimed) (sym there)
-      (right_then (usable c v) go (λ u. (i n : ℕ) → i + n ≤ seen_count u → IsCovered types c Stands may_change S' (local_place p) (look_at types f p) (part_of c.clock i n u)) IsAimed
-      (part_right types c Stands may_change S S' (local_place q) (local_place p) (look_at types f q) (look_at types f p) right target constant takes hand forest v is is' covered)
-      (λ u each. right_then (index_in (cell st r)) (from u) (λ i. Unit {0}) IsAimed (index_right (cell st r))
-      (λ i h. right_then (count_in st count) (parts u i) (λ n. Unit {0}) IsAimed (count_right st count)
-      (λ n k. right_then (part_count span i n (seen_count u)) (λ m. pointed types f (whole p) (part_of c.clock i m u) st) (λ m. i + m ≤ seen_count u) IsAimed (part_count_right span i n (seen_count u))
-      (λ m fits. aimed_at (part_of c.clock i m u) (each i m fits))))))
+      subst (λ o. OnRight (on_got (used c o) go) Q) (sym there)
+      (right_then (usable c v) go (λ u. (i n : ℕ) → i + n ≤ seen_count u → IsCovered types c Stands may_change S' (located p) (look_in types f p) (part_of c.clock i n u)) Q
+      (part_right types c Stands may_change S S' (located q) (located p) (look_in types f q) (look_in types f p) right target constant takes hand forest v is is' covered)
+      (λ u each. right_then (index_in (cell st r)) (from u) (λ i. Unit {0}) Q (index_right (cell st r))
+      (λ i h. right_then (count_in st count) (parts u i) (λ n. Unit {0}) Q (count_right st count)
+      (λ n k. right_then (part_count span i n (seen_count u)) (λ m. pointed types f p (part_of c.clock i m u) st) (λ m. i + m ≤ seen_count u) Q (part_count_right span i n (seen_count u))
+      (λ m fits. given (part_of c.clock i m u) (each i m fits))))))
     where
       span : Bool
-      span = is_span (type_if types (location_type types f (whole q)))
+      span = is_span (type_if types (location_type types f q))
 
       parts : Pointer → ℕ → Option ℕ → Effect
-      parts u i n = on_got (part_count (is_span (type_if types (location_type types f (whole q)))) i n (seen_count u)) (λ m. pointed types f (whole p) (part_of c.clock i m u) st)
+      parts u i n = on_got (part_count (is_span (type_if types (location_type types f q))) i n (seen_count u)) (λ m. pointed types f p (part_of c.clock i m u) st)
 
       from : Pointer → ℕ → Effect
       from u i = on_got (count_in st count) (parts u i)
@@ -165,23 +157,23 @@ module _ (types : Types) (f : Function) (Stands : Root → Region → Type 0) (m
       go : Pointer → Effect
       go u = on_got (index_in (cell st r)) (from u)
 
-  pub element_right : (w : Which) → (look_at types f q).ranged ≡ true → (look_at types f p).ranged ≡ false → OnRight (element types f (whole p) (named.Pointer (whole q)) w st) IsAimed
+  pub element_right : (w : Which) → (look_in types f q).ranged ≡ true → (look_in types f p).ranged ≡ false → OnRight (element types f p (named.Pointer q) w st) Q
   element_right w is is' =
-      subst (λ o. OnRight (on_got (used c o) go) IsAimed) (sym there)
-      (right_then (usable c v) go (λ u. (i : ℕ) → i ≤ seen_count u → IsCovered types c Stands may_change S' (local_place p) (look_at types f p) (element_of c.clock i u)) IsAimed
-      (used_right types c Stands may_change S S' (local_place q) (local_place p) (look_at types f q) (look_at types f p) right target constant takes hand forest v is is' covered)
-      (λ u each. right_then (chosen st w (seen_count u)) (λ i. pointed types f (whole p) (element_of c.clock i u) st) (λ i. i ≤ seen_count u) IsAimed (chosen_right st w (seen_count u))
-      (λ i fits. aimed_at (element_of c.clock i u) (each i fits))))
+      subst (λ o. OnRight (on_got (used c o) go) Q) (sym there)
+      (right_then (usable c v) go (λ u. (i : ℕ) → i ≤ seen_count u → IsCovered types c Stands may_change S' (located p) (look_in types f p) (element_of c.clock i u)) Q
+      (used_right types c Stands may_change S S' (located q) (located p) (look_in types f q) (look_in types f p) right target constant takes hand forest v is is' covered)
+      (λ u each. right_then (chosen st w (seen_count u)) (λ i. pointed types f p (element_of c.clock i u) st) (λ i. i ≤ seen_count u) Q (chosen_right st w (seen_count u))
+      (λ i fits. given (element_of c.clock i u) (each i fits))))
     where
       go : Pointer → Effect
-      go u = on_got (chosen st w (seen_count u)) (λ i. pointed types f (whole p) (element_of c.clock i u) st)
+      go u = on_got (chosen st w (seen_count u)) (λ i. pointed types f p (element_of c.clock i u) st)
 
-  pub cursor_right : (end : RangeEnd) → (look_at types f q).ranged ≡ true → (look_at types f p).ranged ≡ false → OnRight (cursor types f (whole p) (named.Pointer (whole q)) end st) IsAimed
+  pub cursor_right : (end : RangeEnd) → (look_in types f q).ranged ≡ true → (look_in types f p).ranged ≡ false → OnRight (cursor types f p (named.Pointer q) end st) Q
   cursor_right end is is' =
-      subst (λ o. OnRight (on_got (used c o) go) IsAimed) (sym there)
-      (right_then (usable c v) go (λ u. (i : ℕ) → i ≤ seen_count u → IsCovered types c Stands may_change S' (local_place p) (look_at types f p) (element_of c.clock i u)) IsAimed
-      (used_right types c Stands may_change S S' (local_place q) (local_place p) (look_at types f q) (look_at types f p) right target constant takes hand forest v is is' covered)
-      (λ u each. aimed_at (element_of c.clock (end_index end (seen_count u)) u) (each (end_index end (seen_count u)) (end_fits end (seen_count u)))))
+      subst (λ o. OnRight (on_got (used c o) go) Q) (sym there)
+      (right_then (usable c v) go (λ u. (i : ℕ) → i ≤ seen_count u → IsCovered types c Stands may_change S' (located p) (look_in types f p) (element_of c.clock i u)) Q
+      (used_right types c Stands may_change S S' (located q) (located p) (look_in types f q) (look_in types f p) right target constant takes hand forest v is is' covered)
+      (λ u each. given (element_of c.clock (end_index end (seen_count u)) u) (each (end_index end (seen_count u)) (end_fits end (seen_count u)))))
     where
       go : Pointer → Effect
-      go u = pointed types f (whole p) (element_of c.clock (end_index end (seen_count u)) u) st
+      go u = pointed types f p (element_of c.clock (end_index end (seen_count u)) u) st

@@ -1,7 +1,7 @@
 -- An instruction of a frame, at which nothing is wrong, makes no fault; and what is known of the frame before it is
 -- known behind it: the facts cover all pointers, and each vector and each string has its buffer. What it touches lies beneath what the frame names.
 use Rattle.std.proofs.Common.{◌≡◌, ◌⊎◌, ℕ, Bool, true, false, ◌&&◌, not, Option, Some, None, List, refl, sym, ap, subst, ◌∙◌, ◌≢◌, [], ◌∷◌, inl, inr, ⊎_elim}
-use Rattle.std.specs.Prelude.{if◌then◌else◌, Contains, ℤ, nat_eq, slice_get}
+use Rattle.std.specs.Prelude.{◌||◌, if◌then◌else◌, Contains, ℤ, nat_eq, slice_get}
 use Rattle.std.specs.List.{list_any}
 use Rattle.std.proofs.lemmas.Bool.{and_parts, false≢true, ne_eqb}
 use Rattle.life_types.specs.Pointees.{ty_of}
@@ -21,13 +21,13 @@ use Rattle.life_core.specs.Operands as named
 use Rattle.life_core.specs.Touched.{touched_by}
 use Rattle.life_core.specs.declared.instr.Form.{Form}
 use Rattle.life_core.specs.declared.instr.Made.{Made}
-use Rattle.life_pset.specs.Shapes as shapes
-use Rattle.life_pset.specs.Shapes.{operand_type, tree_if, has_buffer, members_type, ty_if}
+use Rattle.life_pset.specs.Shapes.{operand_type, tree_if, has_buffer}
+use Rattle.life_pset.specs.declared.element.AbsPlace.{AbsPlace}
 use Rattle.life_pset.specs.declared.element.Element.TheVariants as element
 use Rattle.life_pset.specs.declared.element.Fact.{Fact}
 use Rattle.life_pset.specs.Elements.{changed_in, local_place, moved}
 use Rattle.life_contract.specs.Signatures.{Signature}
-use Rattle.life_contract.specs.Located.{is_location, is_rooted}
+use Rattle.life_contract.specs.Located.{is_location, is_root, is_rooted, located}
 use Rattle.life_proper.specs.OperandTypes.{aims_at, are_alike, is_range, keeps_const, same, walks, are_compared}
 use Rattle.life_proper.specs.Placed.{element_of, is_const_base, is_const_place, is_given, is_number_of, object_at, register_at, result_at, slot_at, type_at, type_in, type_of, type_of_element, is_number}
 use Rattle.life_proper.specs.WellFormed.{is_change_of, is_well_formed_step, is_port}
@@ -36,62 +36,63 @@ use Rattle.life_store.specs.Births.{end_locals}
 use Rattle.life_store.specs.Doing.{changed, does, pushes, with_output}
 use Rattle.life_store.specs.Effects.{Effect, Next, Traps, Faults, Strays, Setting, cell, put_cell}
 use Rattle.life_store.specs.Parts.{Vector, local_type, operand_parts, parts_at}
-use Rattle.life_store.specs.Places.{Spot}
+use Rattle.life_store.specs.Places.{Spot, pointed}
 use Rattle.life_store.specs.State.{Cell, Empty, Named, Number, Points, State, ready_of, Pointer}
-use Rattle.life_forest.specs.FrameTypes.{Stands}
 use Rattle.life_forest.specs.Frames.{OnNext}
-use Rattle.life_forest.specs.Settled.{IsPoised}
 use Rattle.life_forest.proofs.OneNumber.{same_solid, type_there}
 use Rattle.life_forest.proofs.ReadyCells.{number_any}
 use Rattle.life_forest.proofs.SeenTypes.{aims_seen, iterator_points, range_points, value_parts, walks_seen}
 use Rattle.life_forest.proofs.StandingNumbers.{evaluated_gives, loaded_gives, ports_give, sames_give, sizes_give}
-use Rattle.life_forest.proofs.TypedSteps.{IsSlotFree, value_solid}
+use Rattle.life_forest.proofs.TypedSteps.{IsSlotFree, operand_of, value_solid}
 use Rattle.life_cover.specs.Frames.{FrameCovered}
-use Rattle.life_cover.specs.Inputs.{may_change, owning, StandsAt}
+use Rattle.life_cover.specs.Inputs.{may_change, owning, StandsAt, frame_foot}
 use Rattle.life_cover.specs.Regions.{Region}
 use Rattle.life_pset.specs.declared.element.Root.{Root}
 use Rattle.life_cover.proofs.CopyKinds.{outside_local}
-use Rattle.life_cover.proofs.GivenOn.{given_behind}
-use Rattle.life_cover.proofs.SingleParts.{pointer_alone, unique_alone}
 use Rattle.life_cover.proofs.Opening.{text_opened, vector_opened}
 use Rattle.life_cover.proofs.Writing.{change_owning}
 use Rattle.life_cover.specs.Buffered.{AreBut}
 use Rattle.life_cover.specs.Covers.{IsOwnerTold}
-use Rattle.life_cover.specs.Uniques.{UniquesTold, had_by}
+use Rattle.life_cover.specs.Uniques.{UniquesTold, had_at, word_in}
 use Rattle.life_cover.proofs.UniqueFacts.{unique_told}
 use Rattle.life_cover.proofs.UniquesBorn.{live_tells}
 use Rattle.life_cover.specs.Lacking.{IsMovedFrom, MayLack}
-use Rattle.life_cover.proofs.Copyable.{copied_type}
 use Rattle.life_cover.proofs.FrameSteps.{IsSpoken, alike_points, not_false, source_points, step_covered}
 use Rattle.life_cover.proofs.HeldElements.{vector_operand}
 use Rattle.life_cover.proofs.KeptBuffers.{IsKept as IsKeptChange, by_change, by_next, ends_behind, text_behind, vector_behind, IsAmong, LeftBare, ends_tell}
-use Rattle.life_cover.proofs.KeptCopies.{copy_behind, live_behind, save_behind, CopiedBare, ReplacedBare, copyable_other}
-use Rattle.life_cover.proofs.KnownFrames.{at_pointer, IsKnownFrame, IsRight, number_free, object_uncounted, reach_at, used_right, whole_location, pointer_free, solid_type, typed, memberless}
+use Rattle.life_cover.proofs.KeptCopies.{copy_behind, live_behind, save_behind, CopiedBare, ReplacedBare}
+use Rattle.life_cover.proofs.KnownFrames.{IsKnownFrame, IsRight, number_free, object_uncounted, reach_at, used_right, typed, store_of}
 use Rattle.life_cover.proofs.Leaving.{advances_leave, aims_leave, cursors_leave, cuts_leave, elements_leave, repoints_leave}
 use Rattle.life_cover.proofs.Looks.{given_type}
 use Rattle.life_cover.proofs.Pointers.{OnRight, right_weaker}
 use Rattle.life_cover.proofs.PushedObjects.{object_pushed}
 use Rattle.life_cover.proofs.Reaching.{IsReached, Reach}
-use Rattle.life_cover.proofs.Behind.{IsBehind, behind_input, behind_number, behind_pointer, behind_self, right_next, any_local, no_local, behind_more, TellsLost, both_next, tells_none}
+use Rattle.life_cover.proofs.Behind.{HasPlaceOf, IsBehind, behind_input, behind_number, behind_self, right_next, any_local, no_local, behind_more, TellsLost, both_next, tells_none, no_location, any_location}
 use Rattle.life_cover.proofs.MakeKinds.{IsMade}
 use Rattle.life_cover.proofs.MakeSteps.{IsMadeBy, make_right, unique_of}
-use Rattle.life_cover.proofs.MoveSteps.{OfLocals, OfPlaces, by_move}
+use Rattle.life_cover.proofs.MoveSteps.{OfLocals, OfPlaces, OfUniques, by_move}
 use Rattle.life_cover.proofs.Lacking.{owner_whole, variable_here}
-use Rattle.life_cover.proofs.Putting.{other_local}
+use Rattle.life_cover.proofs.Putting.{other_local, member_other}
 use Rattle.life_cover.proofs.StillLacking.{StillLacks, still_lacking, loose_still, moved_on}
 use Rattle.life_cover.proofs.MovedFacts.{both_false}
-use Rattle.life_cover.proofs.MoveKinds.{move_kind}
+use Rattle.life_cover.proofs.MoveKinds.{MovedPlaces, move_kind}
 use Rattle.life_cover.proofs.BufferMoveKinds.{MovedBare, buffer_move_kind}
 use Rattle.life_cover.proofs.PlacedMoveKinds.{GivenBare, placed_move_kind}
 use Rattle.life_cover.proofs.Listing.{variable_listed}
 use Rattle.life_cover.proofs.Left.{caused_known}
 use Rattle.life_cover.proofs.Buffering.{but_more}
 use Rattle.life_proper.proofs.HeldSorts.{same_is}
-use Rattle.life_rules.specs.Carrying.{writes, whole_facts}
-use Rattle.life_rules.specs.Matching.{fact_at}
+use Rattle.life_rules.specs.Carrying.{is_named, writes, whole_facts}
+use Rattle.life_rules.specs.Matching.{fact_at, is_rooted_among}
 use Rattle.life_rules.proofs.Giving.{at_head, in_tail}
 use Rattle.life_pset.proofs.Numbers.{is_of_iff}
 use Rattle.life_store.proofs.MapLemmas.{one_or_apart}
+use Rattle.life_cover.proofs.PointedBehind.{pointed_behind}
+use Rattle.life_cover.proofs.GivenBuffers.{buffer_solid}
+use Rattle.life_cover.proofs.UniquePlaces.{buffer_no_unique, other_place, other_whole, outside_copied, pointer_no_unique}
+use Rattle.life_cover.proofs.Unkept.{members_root}
+use Rattle.life_forest.proofs.Steps.{touches_self}
+use Rattle.life_forest.specs.Kinds.{kinds_of}
 
 not_true : (b : Bool) → (b ≡ true → ⊥) → b ≡ false
 not_true true h = absurd (h refl)
@@ -106,10 +107,10 @@ both_right Strays P Q h k = tt
 module _ (types : Types) (f : Function) (rest : ℕ → ℕ) (inputs : Root → Option Region) (S : Fact → Type 0) (st : State) (k : IsKnownFrame types f rest inputs S st) (sigs : List Signature) (n : ℕ) (place : Place) (S' : Fact → Type 0) (texts : ℕ) (fs : List Function) (s : Setting) where
   -- the buffers are there but in what may be bare then, and what is touched lies beneath what the frame names
   abbrev pub IsKept : State → Type 0
-  IsKept after = AreBut types (MayLack types f inputs S' after) after.world.content × IsBehind types f inputs any_local any_local any_local st after × UniquesTold types f S' after
+  IsKept after = AreBut types (MayLack types f inputs S' after) after.world.content × IsBehind types f inputs any_local any_local any_location st after × UniquesTold types f S' after
 
   -- what is known behind it beside pointers
-  abbrev Held : (bare over lost : ℕ → Type 0) → State → Type 0
+  abbrev Held : (bare over : ℕ → Type 0) (lost : Location → Type 0) → State → Type 0
   Held bare over lost after = IsBehind types f inputs bare over lost st after × TellsLost types f S' lost after
 
   -- what a change gives over
@@ -117,7 +118,7 @@ module _ (types : Types) (f : Function) (rest : ℕ → ℕ) (inputs : Root → 
   Gives i y = Contains (given_step i) y
 
   abbrev Behind : Step → Type 0
-  Behind i = OnNext (does s types f i st) (IsBehind types f inputs (MayLack types f inputs S st) (Gives i) no_local st)
+  Behind i = OnNext (does s types f i st) (IsBehind types f inputs (MayLack types f inputs S st) (Gives i) no_location st)
 
   abbrev Right : Step → Type 0
   Right i = IsRight sigs types n f place i S S'
@@ -125,13 +126,13 @@ module _ (types : Types) (f : Function) (rest : ℕ → ℕ) (inputs : Root → 
   -- ---- changes
 
   -- more may be given over
-  more_given : (e : Effect) (over more : ℕ → Type 0) → ((y : ℕ) → over y → more y) → OnNext e (IsBehind types f inputs (MayLack types f inputs S st) over no_local st) → OnNext e (IsBehind types f inputs (MayLack types f inputs S st) more no_local st)
-  more_given (Next after) over more gives h = behind_more types f inputs (MayLack types f inputs S st) over no_local (MayLack types f inputs S st) more no_local st after (λ n b. b) gives (λ y l. l) h
+  more_given : (e : Effect) (over more : ℕ → Type 0) → ((y : ℕ) → over y → more y) → OnNext e (IsBehind types f inputs (MayLack types f inputs S st) over no_location st) → OnNext e (IsBehind types f inputs (MayLack types f inputs S st) more no_location st)
+  more_given (Next after) over more gives h = behind_more types f inputs (MayLack types f inputs S st) over no_location (MayLack types f inputs S st) more no_location st after (λ n b. b) gives (λ y l. l) h
   more_given (Traps kind) over more gives h = tt
   more_given (Faults kind) over more gives h = tt
   more_given Strays over more gives h = tt
 
-  no_more : (e : Effect) (more : ℕ → Type 0) → OnNext e (IsBehind types f inputs (MayLack types f inputs S st) no_local no_local st) → OnNext e (IsBehind types f inputs (MayLack types f inputs S st) more no_local st)
+  no_more : (e : Effect) (more : ℕ → Type 0) → OnNext e (IsBehind types f inputs (MayLack types f inputs S st) no_local no_location st) → OnNext e (IsBehind types f inputs (MayLack types f inputs S st) more no_location st)
   no_more e more = more_given e no_local more (λ y none. absurd none)
 
   module _ (o : Operand) (free : is_const_place types f o ≡ false) (c : Change) (right : Right (Changes o c)) where
@@ -160,9 +161,7 @@ module _ (types : Types) (f : Function) (rest : ℕ → ℕ) (inputs : Root → 
     )
     kept_change element (Erase at into) spoken e r is =
         let walk = (and_parts (walks types (type_in types f at) (ty_of types element)) (walks types (type_in types f into) (ty_of types element)) e).1 in
-        let pointer = (walks_seen types k.ordered k.once (type_in types f into) (ty_of types element) walk).pointer in
-        let here = whole_location types k.untold f into (pointer_alone (type_in types f into) pointer) in
-        (here, subst (λ (q : Location). is_pointer (type_in types f q) ≡ true) (sym here) pointer)
+        (walks_seen types k.ordered k.once (type_in types f into) (ty_of types element) walk).pointer
     kept_change element PopBack spoken e r is = tt
     kept_change element Clear spoken e r is = tt
     kept_change element (Reserve q) spoken e r is = tt
@@ -174,7 +173,7 @@ module _ (types : Types) (f : Function) (rest : ℕ → ℕ) (inputs : Root → 
 
     -- what a change does with the owner, where it is reached
     by_owner : is_void (type_of types f o) ≡ false → (IsReached types f st (StandsAt inputs) (may_change types f) S o → Behind (Changes o c)) → Behind (Changes o c)
-    by_owner solid each = by_next types f inputs S st o (reach_owner solid) (λ spot. changed s types f (operand_parts types f o) spot c st) (IsBehind types f inputs (MayLack types f inputs S st) (Gives (Changes o c)) no_local st) each
+    by_owner solid each = by_next types f inputs S st o (reach_owner solid) (λ spot. changed s types f (operand_parts types f o) spot c st) (IsBehind types f inputs (MayLack types f inputs S st) (Gives (Changes o c)) no_location st) each
 
     plain_changed : (element : TyId) → type_of types f o ≡ ty.Vector element → (d : Change) → c ≡ d → IsPlain element d → is_change_of types texts fs f (ty.Vector element) d ≡ true → Behind (Changes o c)
     plain_changed element is d one plain e =
@@ -190,10 +189,10 @@ module _ (types : Types) (f : Function) (rest : ℕ → ℕ) (inputs : Root → 
         typed : local_type types f x ≡ Some element
         typed = given_type types k.ordered k.once f k.shaped x element (and_parts (not (slot_at types f x)) _ (and_parts (not (result_at types f x)) _ outer.1).1).1
 
-        nothing : (r : IsReached types f st (StandsAt inputs) (may_change types f) S o) (v : Option Cell) → cell st x ≡ v → ((spot : Spot) → OnNext (pushes s types f (Vector element (parts_at types element)) spot x v st) (IsBehind types f inputs (MayLack types f inputs S st) (Gives (Changes o (PushBack x))) no_local st)) → Behind (Changes o (PushBack x))
+        nothing : (r : IsReached types f st (StandsAt inputs) (may_change types f) S o) (v : Option Cell) → cell st x ≡ v → ((spot : Spot) → OnNext (pushes s types f (Vector element (parts_at types element)) spot x v st) (IsBehind types f inputs (MayLack types f inputs S st) (Gives (Changes o (PushBack x))) no_location st)) → Behind (Changes o (PushBack x))
         nothing r v there none =
             by_change types f rest inputs S st k o r s (Gives (Changes o (PushBack x))) (Vector element (parts_at types element)) (vector_operand types f rest inputs S st k o r element is) (PushBack x)
-            (subst (λ (w : Option Cell). OnNext (pushes s types f (Vector element (parts_at types element)) (record { object = r.region.object; index = r.index; word = r.region.word }) x w st) (IsBehind types f inputs (MayLack types f inputs S st) (Gives (Changes o (PushBack x))) no_local st)) (sym there)
+            (subst (λ (w : Option Cell). OnNext (pushes s types f (Vector element (parts_at types element)) (record { object = r.region.object; index = r.index; word = r.region.word }) x w st) (IsBehind types f inputs (MayLack types f inputs S st) (Gives (Changes o (PushBack x))) no_location st)) (sym there)
             (none (record { object = r.region.object; index = r.index; word = r.region.word })))
 
         by_cell : (r : IsReached types f st (StandsAt inputs) (may_change types f) S o) (v : Option Cell) → cell st x ≡ v → Behind (Changes o (PushBack x))
@@ -230,24 +229,25 @@ module _ (types : Types) (f : Function) (rest : ℕ → ℕ) (inputs : Root → 
 
   -- ---- what may be bare behind an instruction
 
-  module _ (i : Step) (right : Right i) (bare over lost : ℕ → Type 0) where
+  module _ (i : Step) (right : Right i) (bare over : ℕ → Type 0) (lost : Location → Type 0) where
     abbrev Still : ℕ → Type 0
     Still = StillLacks types f rest inputs S st sigs n place S' i right bare over
 
-    kept_by : ((m : ℕ) → bare m → Still m) → ((y : ℕ) → is_unique (type_at types f y) ≡ true → lost y ⊎ (writes i (local_place y) ≡ false)) → OnNext (does s types f i st) (Held bare over lost) → OnNext (does s types f i st) IsKept
+    kept_by : ((m : ℕ) → bare m → Still m) → ((l : Location) (j : ℕ) → slice_get st.cells l.local ≡ Some (Named j) → is_unique (type_in types f l) ≡ true → lost l ⊎ (writes i (located l) ≡ false)) → OnNext (does s types f i st) (Held bare over lost) → OnNext (does s types f i st) IsKept
     kept_by each free = go (does s types f i st)
       where
         told : (after : State) → Held bare over lost after → UniquesTold types f S' after
-        told after h x j named unique =
-            ⊎_elim (λ l. h.1 x j l named unique)
-            (λ unwritten. ⊎_elim (λ l. h.1 x j l named unique)
-            (λ same. subst (IsOwnerTold S' (local_place x) true) (sym same.1) (unique_told sigs types f place i S S' right.closed (local_place x) (had_by st.world.content j) unwritten (k.told x j same.0 unique)))
-            (h.0.had x j named unique)) (free x unique)
+        told after h l j named unique =
+            ⊎_elim (λ gone. h.1 l j gone named unique)
+            (λ same. ⊎_elim (λ gone. h.1 l j gone named unique)
+            (λ unwritten. subst (IsOwnerTold S' (located l) true) (sym same.1) (unique_told sigs types f place i S S' right.closed (located l) (had_at st.world.content j (word_in types f l)) unwritten (k.told l j same.0 unique)))
+            (free l j same.0 unique))
+            (h.0.had l j named unique)
 
         go : (e : Effect) → OnNext e (Held bare over lost) → OnNext e IsKept
         go (Next after) h = (
           still_lacking types f rest inputs S st sigs n place S' i right bare over lost after h.0 each,
-          behind_more types f inputs bare over lost any_local any_local any_local st after (λ m b. tt) (λ y o. tt) (λ y l. tt) h.0,
+          behind_more types f inputs bare over lost any_local any_local any_location st after (λ m b. tt) (λ y o. tt) (λ y l. tt) h.0,
           told after h,
         )
         go (Traps kind) h = tt
@@ -255,77 +255,86 @@ module _ (types : Types) (f : Function) (rest : ℕ → ℕ) (inputs : Root → 
         go Strays h = tt
 
   -- of no unique_ptr sight is lost
-  none_lost : (bare over : ℕ → Type 0) (e : Effect) → OnNext e (IsBehind types f inputs bare over no_local st) → OnNext e (Held bare over no_local)
+  none_lost : (bare over : ℕ → Type 0) (e : Effect) → OnNext e (IsBehind types f inputs bare over no_location st) → OnNext e (Held bare over no_location)
   none_lost bare over (Next after) h = (h, tells_none types f S' after)
   none_lost bare over (Traps kind) h = tt
   none_lost bare over (Faults kind) h = tt
   none_lost bare over Strays h = tt
 
+  -- no vector and no string that is a local is written, and no unique_ptr
+  abbrev SparesBuffers : Step → Type 0
+  SparesBuffers i = (y : ℕ) → has_buffer (type_at types f y) ≡ true → writes i (local_place y) ≡ false
+
+  abbrev SparesUniques : Step → Type 0
+  SparesUniques i = (l : Location) (j : ℕ) → slice_get st.cells l.local ≡ Some (Named j) → is_unique (type_in types f l) ≡ true → writes i (located l) ≡ false
+
   -- where no vector and no string is written, and what is given over wasn't moved from
-  lost_kept : (i : Step) (right : Right i) (over lost : ℕ → Type 0) → ((y : ℕ) → over y → Gives i y) → ((y : ℕ) → has_buffer (type_at types f y) ≡ true → writes i (local_place y) ≡ false)
-      → ((y : ℕ) → is_unique (type_at types f y) ≡ true → lost y ⊎ (writes i (local_place y) ≡ false))
+  lost_kept : (i : Step) (right : Right i) (over : ℕ → Type 0) (lost : Location → Type 0) → ((y : ℕ) → over y → Gives i y) → SparesBuffers i
+      → ((l : Location) (j : ℕ) → slice_get st.cells l.local ≡ Some (Named j) → is_unique (type_in types f l) ≡ true → lost l ⊎ (writes i (located l) ≡ false))
       → OnNext (does s types f i st) (Held (MayLack types f inputs S st) over lost) → OnNext (does s types f i st) IsKept
   lost_kept i right over lost gives free free_unique =
       kept_by i right (MayLack types f inputs S st) over lost
       (λ m lacks. record { lacks = lacks; kept = λ moved o. right.unmoved moved.local moved.owner (gives moved.local o) moved.cause moved.holds; unwritten = λ moved. free moved.local moved.owner }) free_unique
 
-  -- a vector, a string or a unique_ptr
-  abbrev IsOwnerLocal : ℕ → Type 0
-  IsOwnerLocal y = (has_buffer (type_at types f y) ≡ true) ⊎ (is_unique (type_at types f y) ≡ true)
-
   -- .. and no unique_ptr either
-  plain_kept : (i : Step) (right : Right i) (over : ℕ → Type 0) → ((y : ℕ) → over y → Gives i y) → ((y : ℕ) → IsOwnerLocal y → writes i (local_place y) ≡ false) → OnNext (does s types f i st) (IsBehind types f inputs (MayLack types f inputs S st) over no_local st)
+  plain_kept : (i : Step) (right : Right i) (over : ℕ → Type 0) → ((y : ℕ) → over y → Gives i y) → SparesBuffers i → SparesUniques i → OnNext (does s types f i st) (IsBehind types f inputs (MayLack types f inputs S st) over no_location st)
       → OnNext (does s types f i st) IsKept
-  plain_kept i right over gives free h = lost_kept i right over no_local gives (λ y buffer. free y (inl buffer)) (λ y unique. inr (free y (inr unique))) (none_lost (MayLack types f inputs S st) over (does s types f i st) h)
+  plain_kept i right over gives buffers uniques h = lost_kept i right over no_location gives buffers (λ l j named unique. inr (uniques l j named unique)) (none_lost (MayLack types f inputs S st) over (does s types f i st) h)
 
-  -- a pointer is none of them
-  pointer_apart : (x y : ℕ) → is_pointer (type_at types f x) ≡ true → IsOwnerLocal y → x ≢ y
-  pointer_apart x y pointer owner same =
-      ⊎_elim (λ b. no_buffer (type_at types f x) pointer (subst (λ z. has_buffer (type_at types f z) ≡ true) (sym same) b)) (λ u. no_unique (type_at types f x) pointer (subst (λ z. is_unique (type_at types f z) ≡ true) (sym same) u)) owner
+  -- a pointer is no vector and no string
+  pointer_apart : (x y : ℕ) → is_pointer (type_at types f x) ≡ true → has_buffer (type_at types f y) ≡ true → x ≢ y
+  pointer_apart x y pointer buffer same = no_buffer (type_at types f x) pointer (subst (λ z. has_buffer (type_at types f z) ≡ true) (sym same) buffer)
     where
       no_buffer : (t : Ty) → is_pointer t ≡ true → has_buffer t ≡ true → ⊥
       no_buffer ty.Text p b = false≢true p
       no_buffer (ty.Vector element) p b = false≢true p
       no_buffer _ p b = false≢true b
 
-      no_unique : (t : Ty) → is_pointer t ≡ true → is_unique t ≡ true → ⊥
-      no_unique (ty.Unique target) p u = false≢true p
-      no_unique _ p u = false≢true u
+  -- no pointer's place is that of one of them
+  location_other : (p : Location) → is_pointer (type_in types f p) ≡ true → (y : ℕ) → has_buffer (type_at types f y) ≡ true → is_location p (local_place y) ≡ false
+  location_other p is y buffer = go p.members refl
+    where
+      go : (ms : List ℕ) → p.members ≡ ms → is_location p (local_place y) ≡ false
+      go [] none =
+          subst (λ (ms : List ℕ). is_location (record { local = p.local; members = ms }) (local_place y) ≡ false) (sym none)
+          (other_local p.local y (pointer_apart p.local y (subst (λ (ms : List ℕ). is_pointer (type_in types f (record { local = p.local; members = ms })) ≡ true) none is) buffer))
+      go (m ∷ ms) some = member_other p m ms some y
 
-  -- ---- a pointer that is a local is given a value
+  -- nor that of a unique_ptr
+  unique_other : (p : Location) → is_pointer (type_in types f p) ≡ true → (l : Location) (j : ℕ) → slice_get st.cells l.local ≡ Some (Named j) → is_unique (type_in types f l) ≡ true → is_location p (located l) ≡ false
+  unique_other p is l j named unique = other_place types f rest inputs S st k l j named unique p (pointer_no_unique (type_in types f p) is)
 
-  to_pointer : (p : Location) → is_pointer (type_in types f p) ≡ true → (P : Location → Type 0) → ((x : ℕ) → is_pointer (type_at types f x) ≡ true → P (whole x)) → P p
-  to_pointer p pointer P each = at_pointer types f rest inputs S st k p pointer (λ q. is_pointer (type_in types f q) ≡ true → P q) each pointer
+  -- ---- a pointer is given a value
 
   abbrev Kept : Step → Type 0
   Kept i = Right i → OnNext (does s types f i st) IsKept
 
-  -- a pointer alone is another one
-  pointed : (x : ℕ) → is_pointer (type_at types f x) ≡ true → (i : Step) → ((y : ℕ) → writes i (local_place y) ≡ is_location (whole x) (local_place y))
-      → (((v : Pointer) → IsBehind types f inputs (MayLack types f inputs S st) no_local no_local st (put_cell x (Points v) st)) → OnNext (does s types f i st) (IsBehind types f inputs (MayLack types f inputs S st) no_local no_local st)) → Kept i
-  pointed x is i written gives right =
-      plain_kept i right no_local (λ y none. absurd none) (λ y buffer. written y ∙ other_local x y (pointer_apart x y is buffer))
-      (gives (behind_pointer types f inputs (MayLack types f inputs S st) no_local no_local st k.buffered x (pointer_free types f rest inputs S st k x is)))
+  pointer_kept : (p : Location) → is_pointer (type_in types f p) ≡ true → (i : Step) → ((a : AbsPlace) → writes i a ≡ is_location p a)
+      → (((v : Pointer) → OnNext (pointed types f p v st) (IsBehind types f inputs (MayLack types f inputs S st) no_local no_location st)) → OnNext (does s types f i st) (IsBehind types f inputs (MayLack types f inputs S st) no_local no_location st)) → Kept i
+  pointer_kept p is i written gives right =
+      plain_kept i right no_local (λ y none. absurd none) (λ y buffer. written (local_place y) ∙ location_other p is y buffer) (λ l j named unique. written (located l) ∙ unique_other p is l j named unique)
+      (gives (λ v. pointed_behind types f rest inputs S st k (MayLack types f inputs S st) st.world.content k.buffered (touches_self (kinds_of types) (frame_foot types f inputs st.cells) st.world.content) (store_of types f rest inputs S st k) (λ x m e. k.stands.frame.objects x m e)
+      (λ l m e unique. inr refl) p is v))
 
   -- .. or a number
-  counted : (r : ℕ) → is_number types f r ≡ true → (i : Step) → ((y : ℕ) → writes i (local_place y) ≡ false)
-      → (((z : ℤ) → IsBehind types f inputs (MayLack types f inputs S st) no_local no_local st (put_cell r (Number z) st)) → OnNext (does s types f i st) (IsBehind types f inputs (MayLack types f inputs S st) no_local no_local st)) → Kept i
+  counted : (r : ℕ) → is_number types f r ≡ true → (i : Step) → ((a : AbsPlace) → writes i a ≡ false)
+      → (((z : ℤ) → IsBehind types f inputs (MayLack types f inputs S st) no_local no_location st (put_cell r (Number z) st)) → OnNext (does s types f i st) (IsBehind types f inputs (MayLack types f inputs S st) no_local no_location st)) → Kept i
   counted r is i written gives right =
-      plain_kept i right no_local (λ y none. absurd none) (λ y buffer. written y) (gives (behind_number types f inputs (MayLack types f inputs S st) no_local no_local st k.buffered r (number_free types f rest inputs S st k r is)))
+      plain_kept i right no_local (λ y none. absurd none) (λ y buffer. written (local_place y)) (λ l j named unique. written (located l)) (gives (behind_number types f inputs (MayLack types f inputs S st) no_local no_location st k.buffered r (number_free types f rest inputs S st k r is)))
 
   -- a local comes to life that named nothing
-  born_kept : (x : ℕ) (form : Form) (right : Right (Live x form)) → slot_at types f x ≡ false → OnNext (does s types f (Live x form) st) IsKept
-  born_kept x form right free =
-      kept_by (Live x form) right (ReplacedBare types f rest inputs S st x) no_local (λ y. x ≡ y)
+  born_kept : (x : ℕ) (form : Form) (right : Right (Live x form)) → is_well_formed_step types texts fs f (Live x form) ≡ true → slot_at types f x ≡ false → OnNext (does s types f (Live x form) st) IsKept
+  born_kept x form right can free =
+      kept_by (Live x form) right (ReplacedBare types f rest inputs S st x) no_local (λ (l : Location). x ≡ l.local)
       (λ m b. record {
         lacks = b.0;
         kept = λ moved none. none;
         unwritten = λ moved. apart x moved.local (λ same. b.1 (subst (λ y. slice_get st.cells y ≡ Some (Named m)) (sym same) moved.names));
       })
-      (λ y unique. one_or_apart x y (λ same. inl same) (λ ne. inr (apart x y ne)))
-      (both_next (does s types f (Live x form) st) (IsBehind types f inputs (ReplacedBare types f rest inputs S st x) no_local (λ y. x ≡ y) st) (TellsLost types f S' (λ y. x ≡ y))
-      (Held (ReplacedBare types f rest inputs S st x) no_local (λ y. x ≡ y))
-      (live_behind types f rest inputs S st k s x form) (live_tells types f rest inputs S st k sigs n place S' s x form right free) (λ after h t. (h, t)))
+      (λ l j named unique. one_or_apart x l.local (λ same. inl same) (λ ne. inr (ap (is_root x) (members_root l.members (local_place l.local)) ∙ ne_eqb x l.local ne)))
+      (both_next (does s types f (Live x form) st) (IsBehind types f inputs (ReplacedBare types f rest inputs S st x) no_local (λ (l : Location). x ≡ l.local) st) (TellsLost types f S' (λ (l : Location). x ≡ l.local))
+      (Held (ReplacedBare types f rest inputs S st x) no_local (λ (l : Location). x ≡ l.local))
+      (live_behind types f rest inputs S st k s x form) (live_tells types f rest inputs S st k sigs n place S' s x form right can free) (λ after h t. (h, t)))
     where
       apart : (a y : ℕ) → a ≢ y → is_rooted a (local_place y) ≡ false
       apart a y ne = ne_eqb a y ne
@@ -333,19 +342,19 @@ module _ (types : Types) (f : Function) (rest : ℕ → ℕ) (inputs : Root → 
   -- what ended is bare no more
   ended_kept : (xs : List ℕ) (right : Right (End xs)) → OnNext (does s types f (End xs) st) IsKept
   ended_kept xs right =
-      kept_by (End xs) right (LeftBare (MayLack types f inputs S st) xs st) (IsAmong xs) (IsAmong xs)
+      kept_by (End xs) right (LeftBare (MayLack types f inputs S st) xs st) (IsAmong xs) (λ l. IsAmong xs l.local)
       (λ m b. record { lacks = b.0; kept = λ moved among. b.1 moved.local among moved.names; unwritten = λ moved. not_true (list_any (λ z. nat_eq z moved.local) xs) (λ among. b.1 moved.local among moved.names) })
-      (λ y unique. by y (list_any (λ z. nat_eq z y) xs) refl)
-      (both_next (does s types f (End xs) st) (IsBehind types f inputs (LeftBare (MayLack types f inputs S st) xs st) (IsAmong xs) (IsAmong xs) st) (TellsLost types f S' (IsAmong xs))
-      (Held (LeftBare (MayLack types f inputs S st) xs st) (IsAmong xs) (IsAmong xs))
+      (λ l j named unique. by l (list_any (λ z. nat_eq z l.local) xs) refl)
+      (both_next (does s types f (End xs) st) (IsBehind types f inputs (LeftBare (MayLack types f inputs S st) xs st) (IsAmong xs) (λ l. IsAmong xs l.local) st) (TellsLost types f S' (λ l. IsAmong xs l.local))
+      (Held (LeftBare (MayLack types f inputs S st) xs st) (IsAmong xs) (λ l. IsAmong xs l.local))
       (ended_lost (end_locals types f xs st) (ends_behind types f rest inputs S st k s xs)) (ends_tell types f rest inputs S st k s xs S') (λ after h t. (h, t)))
     where
-      by : (y : ℕ) (b : Bool) → list_any (λ z. nat_eq z y) xs ≡ b → IsAmong xs y ⊎ (list_any (λ z. nat_eq z y) xs ≡ false)
-      by y true e = inl e
-      by y false e = inr e
+      by : (l : Location) (b : Bool) → list_any (λ z. nat_eq z l.local) xs ≡ b → IsAmong xs l.local ⊎ (is_rooted_among xs (located l) ≡ false)
+      by l true e = inl e
+      by l false e = inr (ap (λ (ro : Root). list_any (λ z. is_root z ro) xs) (members_root l.members (local_place l.local)) ∙ e)
 
-      ended_lost : (e : Effect) → OnNext e (IsBehind types f inputs (LeftBare (MayLack types f inputs S st) xs st) (IsAmong xs) no_local st) → OnNext e (IsBehind types f inputs (LeftBare (MayLack types f inputs S st) xs st) (IsAmong xs) (IsAmong xs) st)
-      ended_lost (Next after) h = behind_more types f inputs (LeftBare (MayLack types f inputs S st) xs st) (IsAmong xs) no_local (LeftBare (MayLack types f inputs S st) xs st) (IsAmong xs) (IsAmong xs) st after (λ m b. b) (λ y o. o) (λ y none. absurd none) h
+      ended_lost : (e : Effect) → OnNext e (IsBehind types f inputs (LeftBare (MayLack types f inputs S st) xs st) (IsAmong xs) no_location st) → OnNext e (IsBehind types f inputs (LeftBare (MayLack types f inputs S st) xs st) (IsAmong xs) (λ l. IsAmong xs l.local) st)
+      ended_lost (Next after) h = behind_more types f inputs (LeftBare (MayLack types f inputs S st) xs st) (IsAmong xs) no_location (LeftBare (MayLack types f inputs S st) xs st) (IsAmong xs) (λ l. IsAmong xs l.local) st after (λ m b. b) (λ y o. o) (λ l none. absurd none) h
       ended_lost (Traps kind) h = tt
       ended_lost (Faults kind) h = tt
       ended_lost Strays h = tt
@@ -353,21 +362,17 @@ module _ (types : Types) (f : Function) (rest : ℕ → ℕ) (inputs : Root → 
   copied_kept : (to from : Operand) (right : Right (Copy to from)) → is_well_formed_step types texts fs f (Copy to from) ≡ true → OnNext (does s types f (Copy to from) st) IsKept
   copied_kept to from right e =
       let first = and_parts (same (type_of types f to) (type_of types f from)) _ e in
-      let pointer = (and_parts (not (is_pointer (type_of types f to))) _ first.1).0 in
       let unique = (and_parts (not (holds_unique (tree_if types (operand_type types f to)))) _ (and_parts (not (is_pointer (type_of types f to))) _ first.1).1).0 in
       let solid = same_solid (type_of types f to) (type_of types f from) first.0 in
-      kept_by (Copy to from) right (CopiedBare types f rest inputs S st k to s to) no_local no_local (λ m b. still to from right solid m b) (λ y is. inr (apart to from solid (copyable_other (type_of types f to) (copied_type types f rest inputs S st k to solid unique)) y is))
-      (none_lost (CopiedBare types f rest inputs S st k to s to) no_local (does s types f (Copy to from) st) (copy_behind types f rest inputs S st k sigs n place S' s to from (not_false (is_const_place types f to) (and_parts (not (holds_unique (tree_if types (operand_type types f to)))) (not (is_const_place types f to)) (and_parts (not (is_pointer (type_of types f to))) _ first.1).1).1) right solid (ap is_void (sym (same_is (type_of types f to) (type_of types f from) first.0)) ∙ solid) (same_is (type_of types f to) (type_of types f from) first.0) (not_false (is_pointer (type_of types f to)) pointer)
-      (copied_type types f rest inputs S st k to solid unique)))
+      kept_by (Copy to from) right (CopiedBare types f rest inputs S st k to s to) no_local no_location (λ m b. still to from right solid m b) (λ l j named is. inr (apart to from solid unique l j named is))
+      (none_lost (CopiedBare types f rest inputs S st k to s to) no_local (does s types f (Copy to from) st) (copy_behind types f rest inputs S st k sigs n place S' s to from (not_false (is_const_place types f to) (and_parts (not (holds_unique (tree_if types (operand_type types f to)))) (not (is_const_place types f to)) (and_parts (not (is_pointer (type_of types f to))) _ first.1).1).1) right solid (ap is_void (sym (same_is (type_of types f to) (type_of types f from) first.0)) ∙ solid) (same_is (type_of types f to) (type_of types f from) first.0) unique))
     where
-      -- what is copied is no unique_ptr
-      apart : (q from : Operand) → is_void (type_of types f q) ≡ false → is_unique (type_of types f q) ≡ false → (y : ℕ) → is_unique (type_at types f y) ≡ true → writes (Copy q from) (local_place y) ≡ false
-      apart (named.Through p members) from solid other y is = refl
-      apart (named.Name l) from solid other y is =
-          outside_local l y (λ same.
-          let at_l : is_unique (type_at types f l.local) ≡ true = subst (λ z. is_unique (type_at types f z) ≡ true) (sym same) is in
-          let none = memberless types k.untold (shapes.local_type types f l.local) l.members (unique_alone (type_at types f l.local) at_l) (solid_type types f rest inputs S st k (named.Name l) solid) in
-          false≢true (sym other ∙ ap is_unique (sym (typed types f rest inputs S st k (named.Name l) solid) ∙ ap (λ (ms : List ℕ). ty_if types (members_type types (shapes.local_type types f l.local) ms)) none) ∙ at_l))
+      -- no unique_ptr is copied
+      apart : (q from : Operand) → is_void (type_of types f q) ≡ false → not (holds_unique (tree_if types (operand_type types f q))) ≡ true → (l : Location) (j : ℕ) → slice_get st.cells l.local ≡ Some (Named j) → is_unique (type_in types f l) ≡ true → writes (Copy q from) (located l) ≡ false
+      apart (named.Through p members) from solid free l j at_l is = refl
+      apart (named.Name p) from solid free l j at_l is =
+          let of = operand_of types k.ordered k.once 0 [] f k.shaped (named.Name p) (type_of types f (named.Name p)) refl solid in
+          outside_copied types f rest inputs S st k l j at_l is p of.number of.is free
 
       still : (q from : Operand) (right : Right (Copy q from)) → is_void (type_of types f q) ≡ false → (m : ℕ) → CopiedBare types f rest inputs S st k to s q m → StillLacks types f rest inputs S st sigs n place S' (Copy q from) right (CopiedBare types f rest inputs S st k to s q) no_local m
       still (named.Through p members) from right solid m b = record { lacks = b; kept = λ moved none. none; unwritten = λ moved. refl }
@@ -378,46 +383,37 @@ module _ (types : Types) (f : Function) (rest : ℕ → ℕ) (inputs : Root → 
       }
 
   -- only a pointer is given a position
-  erased_apart : (o : Operand) (c : Change) (t : Ty) → is_change_of types texts fs f t c ≡ true → (y : ℕ) → IsOwnerLocal y → writes (Changes o c) (local_place y) ≡ false
-  erased_apart o (Erase at into) (ty.Vector element) e y buffer =
+  erased_spares : (o : Operand) (c : Change) (t : Ty) → is_change_of types texts fs f t c ≡ true → (a : AbsPlace) → ((p : Location) → is_pointer (type_in types f p) ≡ true → is_location p a ≡ false) → writes (Changes o c) a ≡ false
+  erased_spares o (Erase at into) (ty.Vector element) e a other =
       let walk = (and_parts (walks types (type_in types f at) (ty_of types element)) (walks types (type_in types f into) (ty_of types element)) e).1 in
-      to_pointer into (walks_seen types k.ordered k.once (type_in types f into) (ty_of types element) walk).pointer (λ q. is_location q (local_place y) ≡ false) (λ x is. other_local x y (pointer_apart x y is buffer))
-  erased_apart o (Erase at into) ty.Text e y buffer = absurd (false≢true e)
-  erased_apart o (Erase at into) _ e y buffer = absurd (false≢true e)
-  erased_apart o (PushBack x) t e y buffer = refl
-  erased_apart o PopBack t e y buffer = refl
-  erased_apart o Clear t e y buffer = refl
-  erased_apart o (Reserve q) t e y buffer = refl
-  erased_apart o (Set given) t e y buffer = refl
-  erased_apart o (Append given) t e y buffer = refl
+      other into (walks_seen types k.ordered k.once (type_in types f into) (ty_of types element) walk).pointer
+  erased_spares o (Erase at into) ty.Text e a other = absurd (false≢true e)
+  erased_spares o (Erase at into) _ e a other = absurd (false≢true e)
+  erased_spares o (PushBack x) t e a other = refl
+  erased_spares o PopBack t e a other = refl
+  erased_spares o Clear t e a other = refl
+  erased_spares o (Reserve q) t e a other = refl
+  erased_spares o (Set given) t e a other = refl
+  erased_spares o (Append given) t e a other = refl
 
-  -- a unique_ptr is no vector and no string
-  unique_apart : (x y : ℕ) → is_unique (type_at types f x) ≡ true → has_buffer (type_at types f y) ≡ true → x ≢ y
-  unique_apart x y unique buffer same = unlike (type_at types f x) unique (subst (λ z. has_buffer (type_at types f z) ≡ true) (sym same) buffer)
-    where
-      unlike : (t : Ty) → is_unique t ≡ true → has_buffer t ≡ true → ⊥
-      unlike ty.Text p b = false≢true p
-      unlike (ty.Vector element) p b = false≢true p
-      unlike _ p b = false≢true b
-
-  location_apart : (l : Location) → is_unique (type_in types f l) ≡ true → (y : ℕ) → has_buffer (type_at types f y) ≡ true → is_location l (local_place y) ≡ false
-  location_apart l unique y buffer =
-      let here = whole_location types k.untold f l (unique_alone (type_in types f l) unique) in
-      subst (λ (q : Location). is_location q (local_place y) ≡ false) here (other_local l.local y (unique_apart l.local y (subst (λ (q : Location). is_unique (type_in types f q) ≡ true) (sym here) unique) buffer))
-
-  made_apart : (u : Location) (m : Made) → is_well_formed_step types texts fs f (Make u m) ≡ true → (y : ℕ) → has_buffer (type_at types f y) ≡ true → writes (Make u m) (local_place y) ≡ false
-  made_apart u m e = location_apart u (unique_of types texts fs f (type_in types f u) m e)
+  made_apart : (u : Location) (m : Made) → is_well_formed_step types texts fs f (Make u m) ≡ true → SparesBuffers (Make u m)
+  made_apart u m e y buffer = other_whole types f u y (unique_of types texts fs f (type_in types f u) m e) (buffer_no_unique (type_at types f y) buffer)
 
   -- a unique_ptr is moved
-  unique_kept : (y : ℕ) → OfLocals types f rest inputs S st k sigs n place S' texts fs y is_unique (λ q. OnNext (does s types f (Move q y) st) IsKept)
-  unique_kept y x now unique alike other =
-      lost_kept (Move (named.Name (whole x)) y) now no_local (λ z. (x ≡ z) ⊎ (y ≡ z)) (λ z none. absurd none)
+  unique_kept : (y : ℕ) → OfUniques types f rest inputs S st k sigs n place S' texts fs y (λ q. OnNext (does s types f (Move q y) st) IsKept)
+  unique_kept y to now unique alike other =
+      lost_kept (Move (named.Name to) y) now no_local (MovedPlaces to y) (λ z none. absurd none)
       (λ z buffer.
-      both_false (is_location (whole y) (local_place z)) (is_location (whole x) (local_place z)) (other_local y z (unique_apart y z (subst (λ (t : Ty). is_unique t ≡ true) alike unique) buffer)) (other_local x z (unique_apart x z unique buffer)))
-      (λ z is. one_or_apart x z (λ same. inl (inl same))
-      (λ not_x. one_or_apart y z (λ same. inl (inr same)) (λ not_y. inr (both_false (is_location (whole y) (local_place z)) (is_location (whole x) (local_place z)) (other_local y z not_y) (other_local x z not_x)))))
-      (right_next (does s types f (Move (named.Name (whole x)) y) st) (Held (MayLack types f inputs S st) no_local (λ z. (x ≡ z) ⊎ (y ≡ z)))
-      (right_weaker (does s types f (Move (named.Name (whole x)) y) st) (IsMade types f inputs S' (MayLack types f inputs S st) no_local (λ z. (x ≡ z) ⊎ (y ≡ z)) st) (Held (MayLack types f inputs S st) no_local (λ z. (x ≡ z) ⊎ (y ≡ z))) (move_kind types f rest inputs S st k sigs n place S' s x y now unique alike other) (λ after h. (h.1, h.2))))
+      let none = buffer_no_unique (type_at types f z) buffer in
+      both_false (is_location (whole y) (local_place z)) (is_location to (local_place z)) (other_whole types f (whole y) z (ap is_unique (sym alike) ∙ unique) none) (other_whole types f to z unique none))
+      (λ l j named is. go l (is_location to (located l)) refl (is_location (whole y) (located l)) refl)
+      (right_next (does s types f (Move (named.Name to) y) st) (Held (MayLack types f inputs S st) no_local (MovedPlaces to y))
+      (right_weaker (does s types f (Move (named.Name to) y) st) (IsMade types f inputs S' (MayLack types f inputs S st) no_local (MovedPlaces to y) st) (Held (MayLack types f inputs S st) no_local (MovedPlaces to y)) (move_kind types f rest inputs S st k sigs n place S' s to y now unique alike other) (λ after h. (h.1, h.2))))
+    where
+      go : (l : Location) (a : Bool) → is_location to (located l) ≡ a → (b : Bool) → is_location (whole y) (located l) ≡ b → MovedPlaces to y l ⊎ ((is_location (whole y) (located l) || is_location to (located l)) ≡ false)
+      go l true e b h = inl (inl e)
+      go l false e true h = inl (inr h)
+      go l false e false h = inr (both_false (is_location (whole y) (located l)) (is_location to (located l)) h e)
 
   -- .. a vector or a string: a fact says so then
   module _ (to : Operand) (y : ℕ) (now : Right (Move to y)) (owner_y : has_buffer (type_at types f y) ≡ true) where
@@ -431,43 +427,45 @@ module _ (types : Types) (f : Function) (rest : ℕ → ℕ) (inputs : Root → 
         (at_head (fact_at (local_place y) (element.Moved (moved place y))) (whole_facts types f to))
 
     -- what may be bare, but for what is written, and what is moved; no unique_ptr is written
-    module _ (bare : ℕ → Type 0) (free : (z : ℕ) → is_unique (type_at types f z) ≡ true → writes (Move to y) (local_place z) ≡ false) (lacks : (j : ℕ) → bare j → (MayLack types f inputs S st j × ((m : IsMovedFrom types f S st.cells j) → m.local ≢ y → writes (Move to y) (local_place m.local) ≡ false)) ⊎ (slice_get st.cells y ≡ Some (Named j))) where
-      now_lacks : (after : State) → IsBehind types f inputs bare no_local no_local st after → (j : ℕ) → slice_get st.cells y ≡ Some (Named j) → MayLack types f inputs S' after j
+    module _ (bare : ℕ → Type 0) (free : SparesUniques (Move to y)) (lacks : (j : ℕ) → bare j → (MayLack types f inputs S st j × ((m : IsMovedFrom types f S st.cells j) → m.local ≢ y → writes (Move to y) (local_place m.local) ≡ false)) ⊎ (slice_get st.cells y ≡ Some (Named j))) where
+      now_lacks : (after : State) → IsBehind types f inputs bare no_local no_location st after → (j : ℕ) → slice_get st.cells y ≡ Some (Named j) → MayLack types f inputs S' after j
       now_lacks after h j names = ⊎_elim (λ none. absurd none) (λ still. inl (record { local = y; names = still; owner = owner_y; cause = moved place y; holds = told j names })) (h.kept y j names)
 
-      still_lacks : (after : State) → IsBehind types f inputs bare no_local no_local st after → (j : ℕ) → bare j → MayLack types f inputs S' after j
+      still_lacks : (after : State) → IsBehind types f inputs bare no_local no_location st after → (j : ℕ) → bare j → MayLack types f inputs S' after j
       still_lacks after h j is = ⊎_elim (λ was. go was.0 was.1) (λ names. now_lacks after h j names) (lacks j is)
         where
           go : MayLack types f inputs S st j → ((m : IsMovedFrom types f S st.cells j) → m.local ≢ y → writes (Move to y) (local_place m.local) ≡ false) → MayLack types f inputs S' after j
-          go (inr loose) unwritten = loose_still types f rest inputs S st sigs n place S' (Move to y) now bare no_local no_local after h j loose
+          go (inr loose) unwritten = loose_still types f rest inputs S st sigs n place S' (Move to y) now bare no_local no_location after h j loose
           go (inl m) unwritten = one_or_apart m.local y
               (λ same. now_lacks after h j (subst (λ z. slice_get st.cells z ≡ Some (Named j)) same m.names))
-              (λ ne. moved_on types f rest inputs S st sigs n place S' (Move to y) now bare no_local no_local after h j m (λ none. none) (unwritten m ne))
+              (λ ne. moved_on types f rest inputs S st sigs n place S' (Move to y) now bare no_local no_location after h j m (λ none. none) (unwritten m ne))
 
-      moved_kept : OnNext (does s types f (Move to y) st) (IsBehind types f inputs bare no_local no_local st) → OnNext (does s types f (Move to y) st) IsKept
+      moved_kept : OnNext (does s types f (Move to y) st) (IsBehind types f inputs bare no_local no_location st) → OnNext (does s types f (Move to y) st) IsKept
       moved_kept = go (does s types f (Move to y) st)
         where
-          go : (e : Effect) → OnNext e (IsBehind types f inputs bare no_local no_local st) → OnNext e IsKept
+          go : (e : Effect) → OnNext e (IsBehind types f inputs bare no_local no_location st) → OnNext e IsKept
           go (Next after) h = (
             but_more types bare (MayLack types f inputs S' after) after.world.content (still_lacks after h) h.buffered,
-            behind_more types f inputs bare no_local no_local any_local any_local any_local st after (λ m b. tt) (λ z o. tt) (λ z l. tt) h,
-            λ x j named unique. ⊎_elim (λ none. absurd none)
-                (λ same. subst (IsOwnerTold S' (local_place x) true) (sym same.1) (unique_told sigs types f place (Move to y) S S' now.closed (local_place x) (had_by st.world.content j) (free x unique) (k.told x j same.0 unique)))
-                (h.had x j named unique),
+            behind_more types f inputs bare no_local no_location any_local any_local any_location st after (λ m b. tt) (λ z o. tt) (λ l gone. tt) h,
+            λ l j named unique. ⊎_elim (λ none. absurd none)
+                (λ same. subst (IsOwnerTold S' (located l) true) (sym same.1) (unique_told sigs types f place (Move to y) S S' now.closed (located l) (had_at st.world.content j (word_in types f l)) (free l j same.0 unique) (k.told l j same.0 unique)))
+                (h.had l j named unique),
           )
           go (Traps kind) h = tt
           go (Faults kind) h = tt
           go Strays h = tt
 
-  buffer_kept : (y : ℕ) → OfLocals types f rest inputs S st k sigs n place S' texts fs y has_buffer (λ q. OnNext (does s types f (Move q y) st) IsKept)
+  buffer_kept : (y : ℕ) → OfLocals types f rest inputs S st k sigs n place S' texts fs y (λ q. OnNext (does s types f (Move q y) st) IsKept)
   buffer_kept y x now buffer alike other =
       moved_kept (named.Name (whole x)) y now (subst (λ (t : Ty). has_buffer t ≡ true) alike buffer) (MovedBare types f rest inputs S st k x y) apart lacks
-      (right_next (does s types f (Move (named.Name (whole x)) y) st) (IsBehind types f inputs (MovedBare types f rest inputs S st k x y) no_local no_local st)
-      (right_weaker (does s types f (Move (named.Name (whole x)) y) st) (IsMade types f inputs S' (MovedBare types f rest inputs S st k x y) no_local no_local st) (IsBehind types f inputs (MovedBare types f rest inputs S st k x y) no_local no_local st) (buffer_move_kind types f rest inputs S st k sigs n place S' s x y now buffer alike other)
+      (right_next (does s types f (Move (named.Name (whole x)) y) st) (IsBehind types f inputs (MovedBare types f rest inputs S st k x y) no_local no_location st)
+      (right_weaker (does s types f (Move (named.Name (whole x)) y) st) (IsMade types f inputs S' (MovedBare types f rest inputs S st k x y) no_local no_location st) (IsBehind types f inputs (MovedBare types f rest inputs S st k x y) no_local no_location st) (buffer_move_kind types f rest inputs S st k sigs n place S' s x y now buffer alike other)
       (λ after h. h.1)))
     where
-      apart : (z : ℕ) → is_unique (type_at types f z) ≡ true → writes (Move (named.Name (whole x)) y) (local_place z) ≡ false
-      apart z is = both_false (is_location (whole y) (local_place z)) (is_location (whole x) (local_place z)) (other_local y z (λ same. unique_apart z y is (subst (λ (t : Ty). has_buffer t ≡ true) alike buffer) (sym same))) (other_local x z (λ same. unique_apart z x is buffer (sym same)))
+      apart : SparesUniques (Move (named.Name (whole x)) y)
+      apart l j named is =
+          let none = buffer_no_unique (type_at types f x) buffer in
+          both_false (is_location (whole y) (located l)) (is_location (whole x) (located l)) (other_place types f rest inputs S st k l j named is (whole y) (ap is_unique (sym alike) ∙ none)) (other_place types f rest inputs S st k l j named is (whole x) none)
 
       lacks : (j : ℕ) → MovedBare types f rest inputs S st k x y j
           → (MayLack types f inputs S st j × ((m : IsMovedFrom types f S st.cells j) → m.local ≢ y → writes (Move (named.Name (whole x)) y) (local_place m.local) ≡ false)) ⊎ (slice_get st.cells y ≡ Some (Named j))
@@ -479,11 +477,17 @@ module _ (types : Types) (f : Function) (rest : ℕ → ℕ) (inputs : Root → 
 
   placed_kept : (y : ℕ) → OfPlaces types f rest inputs S st k sigs n place S' texts fs y (λ q. OnNext (does s types f (Move q y) st) IsKept)
   placed_kept y o beside now buffer alike free =
-      moved_kept o y now buffer (GivenBare types f rest inputs S st k y) (λ z is. beside.free z (λ same. unique_apart z y is buffer (sym same))) lacks
-      (right_next (does s types f (Move o y) st) (IsBehind types f inputs (GivenBare types f rest inputs S st k y) no_local no_local st)
-      (right_weaker (does s types f (Move o y) st) (IsMade types f inputs S' (GivenBare types f rest inputs S st k y) no_local no_local st) (IsBehind types f inputs (GivenBare types f rest inputs S st k y) no_local no_local st)
+      moved_kept o y now buffer (GivenBare types f rest inputs S st k y) (λ l j named is. both_false (is_location (whole y) (located l)) (is_named o (located l)) (other_place types f rest inputs S st k l j named is (whole y) (buffer_no_unique (type_at types f y) buffer)) (unnamed o alike l j named is)) lacks
+      (right_next (does s types f (Move o y) st) (IsBehind types f inputs (GivenBare types f rest inputs S st k y) no_local no_location st)
+      (right_weaker (does s types f (Move o y) st) (IsMade types f inputs S' (GivenBare types f rest inputs S st k y) no_local no_location st) (IsBehind types f inputs (GivenBare types f rest inputs S st k y) no_local no_location st)
       (placed_move_kind types f rest inputs S st k sigs n place S' s o y beside now buffer alike free) (λ after h. h.1)))
     where
+      unnamed : (q : Operand) → type_of types f q ≡ type_at types f y → (l : Location) (j : ℕ) → slice_get st.cells l.local ≡ Some (Named j) → is_unique (type_in types f l) ≡ true → is_named q (located l) ≡ false
+      unnamed (named.Through p members) same l j at_l is = refl
+      unnamed (named.Name p) same l j at_l is =
+          other_place types f rest inputs S st k l j at_l is p
+          (ap is_unique (typed types f rest inputs S st k (named.Name p) (ap is_void same ∙ buffer_solid types (type_at types f y) buffer) ∙ same) ∙ buffer_no_unique (type_at types f y) buffer)
+
       lacks : (j : ℕ) → GivenBare types f rest inputs S st k y j
           → (MayLack types f inputs S st j × ((m : IsMovedFrom types f S st.cells j) → m.local ≢ y → writes (Move o y) (local_place m.local) ≡ false)) ⊎ (slice_get st.cells y ≡ Some (Named j))
       lacks j (inr names) = inr names
@@ -491,11 +495,13 @@ module _ (types : Types) (f : Function) (rest : ℕ → ℕ) (inputs : Root → 
 
   made_kept : (u : Location) (m : Made) → (right : Right (Make u m)) → is_well_formed_step types texts fs f (Make u m) ≡ true → OnNext (does s types f (Make u m) st) IsKept
   made_kept u m right e =
-      lost_kept (Make u m) right (Gives (Make u m)) (λ z. u.local ≡ z) (λ y given. given) (made_apart u m e)
-      (λ z is. one_or_apart u.local z (λ same. inl same)
-      (λ ne. inr (subst (λ (q : Location). is_location q (local_place z) ≡ false) (whole_location types k.untold f u (unique_alone (type_in types f u) (unique_of types texts fs f (type_in types f u) m e))) (other_local u.local z ne))))
-      (right_next (does s types f (Make u m) st) (Held (MayLack types f inputs S st) (Gives (Make u m)) (λ z. u.local ≡ z))
-      (right_weaker (does s types f (Make u m) st) (IsMadeBy types f rest inputs S st k sigs n place S' texts fs s u.local m) (Held (MayLack types f inputs S st) (Gives (Make u m)) (λ z. u.local ≡ z)) (make_right types f rest inputs S st k sigs n place S' texts fs s u m right e) (λ after h. (h.1, h.2))))
+      lost_kept (Make u m) right (Gives (Make u m)) (HasPlaceOf u) (λ y given. given) (made_apart u m e) (λ l j named is. go l (is_location u (located l)) refl)
+      (right_next (does s types f (Make u m) st) (Held (MayLack types f inputs S st) (Gives (Make u m)) (HasPlaceOf u))
+      (right_weaker (does s types f (Make u m) st) (IsMadeBy types f rest inputs S st k sigs n place S' texts fs s u m) (Held (MayLack types f inputs S st) (Gives (Make u m)) (HasPlaceOf u)) (make_right types f rest inputs S st k sigs n place S' texts fs s u m right e) (λ after h. (h.1, h.2))))
+    where
+      go : (l : Location) (b : Bool) → is_location u (located l) ≡ b → HasPlaceOf u l ⊎ (is_location u (located l) ≡ false)
+      go l true h = inl h
+      go l false h = inr h
 
   taken_number : (p : Port) (r : ℕ) → p ≡ Takes r → is_port types texts fs f p ≡ true → is_number types f r ≡ true
   taken_number (Takes q) r is e = subst (λ z. is_number types f z ≡ true) (same is) (number_any types f ty.Long q e)
@@ -514,59 +520,50 @@ module _ (types : Types) (f : Function) (rest : ℕ → ℕ) (inputs : Root → 
   -- ---- each instruction
 
   pub step_kept : (i : Step) → IsSpoken types f i → Right i → is_well_formed_step types texts fs f i ≡ true → IsSlotFree types f i → OnNext (does s types f i st) IsKept
-  step_kept (Live x form) spoken right e free = born_kept x form right free
+  step_kept (Live x form) spoken right e free = born_kept x form right e free
   step_kept (End xs) spoken right e free = ended_kept xs right
-  step_kept (Eval r o) spoken right e free = counted r (and_parts (is_number types f r) _ e).0 (Eval r o) (λ y. refl) (λ given. evaluated_gives types f st (IsBehind types f inputs (MayLack types f inputs S st) no_local no_local st) r given o) right
+  step_kept (Eval r o) spoken right e free = counted r (and_parts (is_number types f r) _ e).0 (Eval r o) (λ y. refl) (λ given. evaluated_gives types f st (IsBehind types f inputs (MayLack types f inputs S st) no_local no_location st) r given o) right
   step_kept (Load r o) spoken right e free =
       let value = (and_parts (is_value (type_of types f o)) (same (type_of types f o) (type_at types f r)) (and_parts (register_at types f r) (is_value (type_of types f o) && same (type_of types f o) (type_at types f r)) e).1).0 in
-      counted r (number_any types f (type_of types f o) r e) (Load r o) (λ y. refl) (λ given. loaded_gives types f st (IsBehind types f inputs (MayLack types f inputs S st) no_local no_local st) r given s o) right
+      counted r (number_any types f (type_of types f o) r e) (Load r o) (λ y. refl) (λ given. loaded_gives types f st (IsBehind types f inputs (MayLack types f inputs S st) no_local no_location st) r given s o) right
   step_kept (Save o r) spoken right e free =
       let number = (and_parts (is_number_of types f (type_of types f o) r) (not (is_const_place types f o)) e).0 in
       let value = (and_parts (is_value (type_of types f o)) (same (type_of types f o) (type_at types f r)) (and_parts (register_at types f r) (is_value (type_of types f o) && same (type_of types f o) (type_at types f r)) number).1).0 in
-      plain_kept (Save o r) right no_local (λ y none. absurd none) (λ y buffer. refl)
+      plain_kept (Save o r) right no_local (λ y none. absurd none) (λ y buffer. refl) (λ l j named is. refl)
       (save_behind types f rest inputs S st k o s value (reach_at types f rest inputs S st k right.closed.of o (value_solid (type_of types f o) value) (λ q h. used_right sigs types n f place (Save o r) S right.clean q h)) r)
   step_kept (Copy to from) spoken right e free = copied_kept to from right e
   step_kept (Move to y) spoken right e free = by_move types f rest inputs S st k sigs n place S' texts fs y (λ q. OnNext (does s types f (Move q y) st) IsKept) (unique_kept y) (buffer_kept y) (placed_kept y) to right e
   step_kept (Aim p sr) spoken right e free =
-      to_pointer p (source_points types f rest inputs S st k sigs n place S' texts fs s (type_in types f p) sr e) (λ q. Kept (Aim q sr))
-      (λ x is. pointed x is (Aim (whole x) sr) (λ y. refl) (λ given. aims_leave types f st (IsBehind types f inputs (MayLack types f inputs S st) no_local no_local st) x given s sr)) right
+      pointer_kept p (source_points types f rest inputs S st k sigs n place S' texts fs s (type_in types f p) sr e) (Aim p sr) (λ y. refl) (λ given. aims_leave types f st (IsBehind types f inputs (MayLack types f inputs S st) no_local no_location st) p given s sr) right
   step_kept (Repoint p q) spoken right e free =
-      to_pointer p (alike_points types (type_in types f p) (type_in types f q) (and_parts (are_alike types (type_in types f p) (type_in types f q)) _ e).0).0 (λ a. Kept (Repoint a q))
-      (λ x is. pointed x is (Repoint (whole x) q) (λ y. refl) (λ given. repoints_leave types f st (IsBehind types f inputs (MayLack types f inputs S st) no_local no_local st) x given q)) right
+      pointer_kept p (alike_points types (type_in types f p) (type_in types f q) (and_parts (are_alike types (type_in types f p) (type_in types f q)) _ e).0).0 (Repoint p q) (λ y. refl) (λ given. repoints_leave types f st (IsBehind types f inputs (MayLack types f inputs S st) no_local no_location st) p given q) right
   step_kept (step.Element p b w) spoken right e free =
       let both = and_parts (aims_at types (type_in types f p) (type_of_element types f b w)) (keeps_const (is_constant (type_in types f p)) (is_const_base types f b)) e in
-      to_pointer p (aims_seen types k.ordered k.once (type_in types f p) (type_of_element types f b w) both.0).pointer (λ q. Kept (step.Element q b w))
-      (λ x is. pointed x is (step.Element (whole x) b w) (λ y. refl) (λ given. elements_leave types f st (IsBehind types f inputs (MayLack types f inputs S st) no_local no_local st) x given b w)) right
+      pointer_kept p (aims_seen types k.ordered k.once (type_in types f p) (type_of_element types f b w) both.0).pointer (step.Element p b w) (λ y. refl) (λ given. elements_leave types f st (IsBehind types f inputs (MayLack types f inputs S st) no_local no_location st) p given b w) right
   step_kept (Cursor p b end) spoken right e free =
       let both = and_parts (walks types (type_in types f p) (element_of types f b)) (keeps_const (is_constant (type_in types f p)) (is_const_base types f b)) e in
-      to_pointer p (walks_seen types k.ordered k.once (type_in types f p) (element_of types f b) both.0).pointer (λ q. Kept (Cursor q b end))
-      (λ x is. pointed x is (Cursor (whole x) b end) (λ y. refl) (λ given. cursors_leave types f st (IsBehind types f inputs (MayLack types f inputs S st) no_local no_local st) x given b end)) right
+      pointer_kept p (walks_seen types k.ordered k.once (type_in types f p) (element_of types f b) both.0).pointer (Cursor p b end) (λ y. refl) (λ given. cursors_leave types f st (IsBehind types f inputs (MayLack types f inputs S st) no_local no_location st) p given b end) right
   step_kept (Advance p q r way) spoken right e free =
-      to_pointer p (iterator_points (type_in types f p) (and_parts (is_iterator (type_in types f p)) _ e).0) (λ a. Kept (Advance a q r way))
-      (λ x is. pointed x is (Advance (whole x) q r way) (λ y. refl) (λ given. advances_leave types f st (IsBehind types f inputs (MayLack types f inputs S st) no_local no_local st) x given s q r way)) right
+      pointer_kept p (iterator_points (type_in types f p) (and_parts (is_iterator (type_in types f p)) _ e).0) (Advance p q r way) (λ y. refl) (λ given. advances_leave types f st (IsBehind types f inputs (MayLack types f inputs S st) no_local no_location st) p given s q r way) right
   step_kept (Cut p q r count) spoken right e free =
-      to_pointer p (range_points (type_in types f p) (and_parts (is_range (type_in types f p)) _ e).0) (λ a. Kept (Cut a q r count))
-      (λ x is. pointed x is (Cut (whole x) q r count) (λ y. refl) (λ given. cuts_leave types f st (IsBehind types f inputs (MayLack types f inputs S st) no_local no_local st) x given q r count)) right
+      pointer_kept p (range_points (type_in types f p) (and_parts (is_range (type_in types f p)) _ e).0) (Cut p q r count) (λ y. refl) (λ given. cuts_leave types f st (IsBehind types f inputs (MayLack types f inputs S st) no_local no_location st) p given q r count) right
   step_kept (Size r b) spoken right e free =
-      counted r (number_any types f ty.Size r (and_parts (is_number_of types f ty.Size r) (not (is_void (element_of types f b))) e).0) (Size r b) (λ y. refl) (λ given. sizes_give types f st (IsBehind types f inputs (MayLack types f inputs S st) no_local no_local st) r given b) right
+      counted r (number_any types f ty.Size r (and_parts (is_number_of types f ty.Size r) (not (is_void (element_of types f b))) e).0) (Size r b) (λ y. refl) (λ given. sizes_give types f st (IsBehind types f inputs (MayLack types f inputs S st) no_local no_location st) r given b) right
   step_kept (Same r a b equal) spoken right e free =
       counted r (number_any types f ty.Bool r (and_parts (is_number_of types f ty.Bool r) (are_compared types (type_in types f a) (type_in types f b)) e).0) (Same r a b equal) (λ y. refl)
-      (λ given. sames_give types f st (IsBehind types f inputs (MayLack types f inputs S st) no_local no_local st) r given s a b equal) right
+      (λ given. sames_give types f st (IsBehind types f inputs (MayLack types f inputs S st) no_local no_location st) r given s a b equal) right
   step_kept (Changes o c) spoken right e free =
       let both = and_parts (is_change_of types texts fs f (type_of types f o) c) (not (is_const_place types f o)) e in
-      plain_kept (Changes o c) right (Gives (Changes o c)) (λ y given. given) (erased_apart o c (type_of types f o) both.0) (change_behind o (not_false (is_const_place types f o) both.1) c right (type_of types f o) refl both.0)
+      plain_kept (Changes o c) right (Gives (Changes o c)) (λ y given. given) (λ y buffer. erased_spares o c (type_of types f o) both.0 (local_place y) (λ p is. location_other p is y buffer))
+      (λ l j named unique. erased_spares o c (type_of types f o) both.0 (located l) (λ p is. unique_other p is l j named unique)) (change_behind o (not_false (is_const_place types f o) both.1) c right (type_of types f o) refl both.0)
   step_kept (Make u m) spoken right e free = made_kept u m right e
   step_kept (Call target g xs) spoken right e free = absurd spoken
   step_kept (Ports p) spoken right e free =
-      plain_kept (Ports p) right no_local (λ y none. absurd none) (λ y buffer. refl)
-      (ports_give types f st (IsBehind types f inputs (MayLack types f inputs S st) no_local no_local st) (λ text. behind_self types f inputs (MayLack types f inputs S st) no_local no_local st k.buffered (with_output text st) refl refl) s p
-      (λ r z zs is. behind_input types f inputs (MayLack types f inputs S st) no_local no_local st k.buffered r (number_free types f rest inputs S st k r (taken_number p r is e)) z zs))
+      plain_kept (Ports p) right no_local (λ y none. absurd none) (λ y buffer. refl) (λ l j named is. refl)
+      (ports_give types f st (IsBehind types f inputs (MayLack types f inputs S st) no_local no_location st) (λ text. behind_self types f inputs (MayLack types f inputs S st) no_local no_location st k.buffered (with_output text st) refl refl) s p
+      (λ r z zs is. behind_input types f inputs (MayLack types f inputs S st) no_local no_location st k.buffered r (number_free types f rest inputs S st k r (taken_number p r is e)) z zs))
 
   -- what is known of it before
   pub step_right : (i : Step) → IsSpoken types f i → Right i → is_well_formed_step types texts fs f i ≡ true → IsSlotFree types f i → AreReady (ready_of st) (touched_by f i) → OnRight (does s types f i st) (λ after. FrameCovered types f inputs S' after × IsKept after)
   step_right i spoken right e free ready =
       both_right (does s types f i st) (FrameCovered types f inputs S') IsKept (step_covered types f rest inputs S st k sigs n place S' texts fs s i spoken right e free ready) (step_kept i spoken right e free)
-
-  -- .. is known behind it, where its store and its cells stand
-  pub known_behind : (after : State) → FrameCovered types f inputs S' after × IsKept after → Stands types f rest after → IsPoised types f after → IsKnownFrame types f rest inputs S' after
-  known_behind after h stands poised = record { ordered = k.ordered; once = k.once; untold = k.untold; shaped = k.shaped; stand = k.stand; short = k.short; stands = stands; poised = poised; given = given_behind types f rest inputs any_local any_local any_local st after k.stands.store k.given h.1.1; covered = h.0; buffered = h.1.0; told = h.1.2 }

@@ -9,7 +9,7 @@ use Rattle.life_types.specs.declared.ty.TyId.{TyId}
 use Rattle.life_core.specs.declared.program.Local.{Local}
 use Rattle.life_core.specs.declared.program.LocalKind.TheVariants.{Register}
 use Rattle.life_core.specs.Function.{Function}
-use Rattle.life_pset.specs.Elements.{local_place}
+use Rattle.life_pset.specs.Elements.{Input, local_place}
 use Rattle.life_pset.specs.Places as places
 use Rattle.life_pset.specs.Places.{member_place, owned_place, path}
 use Rattle.life_pset.specs.declared.element.Element.TheVariants as element
@@ -17,11 +17,11 @@ use Rattle.life_pset.specs.declared.element.Root.{Root}
 use Rattle.life_pset.specs.declared.element.Root.TheVariants as root
 use Rattle.life_store.specs.Cells.{at, at-unset_same}
 use Rattle.life_store.specs.Content.{Slot, Object, Content, is_valid_in, resized, without}
-use Rattle.life_store.specs.Held.{slots_if}
-use Rattle.life_store.specs.Parts.{characters_type, local_type}
-use Rattle.life_store.specs.State.{Target, Named, Null, Number, Points, To}
+use Rattle.life_store.specs.Held.{pointer_in, slots_if, words_at}
+use Rattle.life_store.specs.Parts.{characters_type, local_type, word_within}
+use Rattle.life_store.specs.State.{Target, Named, Null, Number, Pointer, Points, To}
 use Rattle.life_cover.specs.Covers.{Covers, Holds, Look}
-use Rattle.life_cover.specs.Inputs.{entry_inputs, frame_foot, no_inputs, type_seen}
+use Rattle.life_cover.specs.Inputs.{entered_at, frame_foot, no_inputs, pointed, type_seen}
 use Rattle.life_cover.specs.Kills.{is_hit}
 use Rattle.life_cover.specs.Passed.{takes_null}
 use Rattle.life_cover.specs.Regions.{Lies, Region}
@@ -138,16 +138,36 @@ empty_handed c = (tt, λ h. h, λ h. h)
 
 -- ---- inputs at a function's entry
 
--- what a pointer points to is its input, as its type says, and null and a number stand for none
-pointer_stands : (f : Function) (c : Content) (i : ℕ) → at c.objects 8 ≡ Some buffer → seen_type table (local_type table f 1) ≡ Some (id 0) → entry_inputs table f c (Number (pos 3) ∷ Points (To (iterator i)) ∷ []) (root.Input 1 None) ≡ Some (region 8 0 0)
-pointer_stands f c i there seen =
-    ap (option_map (λ (o : Object). record { object = 8; word = 0; ty = type_seen table (seen_type table (local_type table f 1)) o.ty })) there ∙ ap (λ (t : Option TyId). Some (record { object = 8; word = 0; ty = type_seen table t buffer.ty })) seen
+-- a parameter that is a pointer
+abbrev parameter_input : ℕ → Option TyId → Input
+parameter_input q ty = record { pointer = local_place q; ty = ty; root = root.Input q None }
 
-number_stands : (f : Function) (c : Content) (i : ℕ) → entry_inputs table f c (Number (pos 3) ∷ Points (To (iterator i)) ∷ []) (root.Input 0 None) ≡ None
+-- the second member of one that is a struct, the first pointer in it
+abbrev member_input : Option TyId → Input
+member_input ty = record { pointer = member_place (local_place 0) 1; ty = ty; root = root.Input 0 (Some 0) }
+
+-- what a pointer points to is its input, as its type says, and null and a number stand for none
+behind_pointer : (c : Content) (i : ℕ) (ty : Option TyId) → at c.objects 8 ≡ Some buffer → seen_type table ty ≡ Some (id 0) → pointed table (seen_type table ty) c (Some (Points (To (iterator i)))) ≡ Some (region 8 0 0)
+behind_pointer c i ty there seen =
+    ap (option_map (λ (o : Object). record { object = 8; word = 0; ty = type_seen table (seen_type table ty) o.ty })) there ∙ ap (λ (t : Option TyId). Some (record { object = 8; word = 0; ty = type_seen table t buffer.ty })) seen
+
+pointer_stands : (f : Function) (c : Content) (i : ℕ) (ty : Option TyId) → at c.objects 8 ≡ Some buffer → seen_type table ty ≡ Some (id 0)
+    → entered_at table f c (Number (pos 3) ∷ Points (To (iterator i)) ∷ []) (root.Input 1 None) (Some (parameter_input 1 ty)) ≡ Some (region 8 0 0)
+pointer_stands f c i ty there seen = behind_pointer c i ty there seen
+
+number_stands : (f : Function) (c : Content) (i : ℕ) → entered_at table f c (Number (pos 3) ∷ Points (To (iterator i)) ∷ []) (root.Input 0 None) (Some (parameter_input 0 (Some (id 0)))) ≡ None
 number_stands f c i = refl
 
-null_stands : (f : Function) (c : Content) → entry_inputs table f c (Points Null ∷ []) (root.Input 0 None) ≡ None
-null_stands f c = refl
+null_stands : (f : Function) (c : Content) (ty : Option TyId) → entered_at table f c (Points Null ∷ []) (root.Input 0 None) (Some (parameter_input 0 ty)) ≡ None
+null_stands f c ty = refl
+
+-- .. of a struct that is handed over each pointer is one, by the words in it, and the struct itself is none
+member_stands : (f : Function) (c : Content) (i : ℕ) (ty : Option TyId) → at c.objects 8 ≡ Some buffer → seen_type table ty ≡ Some (id 0) → pointer_in (words_at c 9 0 (word_within table (local_type table f 0) (1 ∷ [])) 5) ≡ To (iterator i)
+    → entered_at table f c (Named 9 ∷ []) (root.Input 0 (Some 0)) (Some (member_input ty)) ≡ Some (region 8 0 0)
+member_stands f c i ty there seen words = ap (λ (p : Pointer). pointed table (seen_type table ty) c (Some (Points p))) words ∙ behind_pointer c i ty there seen
+
+struct_stands : (f : Function) (c : Content) (ty : Option TyId) → entered_at table f c (Named 9 ∷ []) (root.Input 0 None) (Some (member_input ty)) ≡ None
+struct_stands f c ty = refl
 
 -- a pointer to a member of a struct sees the member, and one to a character of a string the character
 member_seen : (type_seen table (Some (id 0)) (id 3) ≡ id 0) × (type_seen table (Some (id 0)) (characters_type table) ≡ characters_type table)
@@ -173,11 +193,11 @@ abbrev parameter : (type : ℕ) → (nonnull : Bool) → Place → Local
 parameter n nonnull place = record { name = None; ty = id n; kind = Register; place = place; nonnull = nonnull; keeps = false }
 
 -- a raw pointer may be null, and a reference may not, nor one that bears nonnull
-raw_null : (place : Place) → takes_null pointers 1 0 (Some (parameter 1 false place)) ≡ true
+raw_null : (place : Place) → takes_null pointers (Some (parameter 1 false place)) (parameter_input 0 (Some (id 1))) ≡ true
 raw_null place = refl
 
-nonnull_given : (place : Place) → takes_null pointers 1 0 (Some (parameter 1 true place)) ≡ false
+nonnull_given : (place : Place) → takes_null pointers (Some (parameter 1 true place)) (parameter_input 0 (Some (id 1))) ≡ false
 nonnull_given place = refl
 
-reference_given : (place : Place) → takes_null pointers 1 0 (Some (parameter 2 false place)) ≡ false
+reference_given : (place : Place) → takes_null pointers (Some (parameter 2 false place)) (parameter_input 0 (Some (id 2))) ≡ false
 reference_given place = refl

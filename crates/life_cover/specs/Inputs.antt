@@ -7,15 +7,18 @@ use Rattle.life_types.specs.Types.{Types}
 use Rattle.life_types.specs.declared.ty.TyId.{TyId}
 use Rattle.life_core.specs.Function.{Function}
 use Rattle.life_pset.specs.Elements.{Input, inputs_of}
+use Rattle.life_pset.specs.Places.{path}
 use Rattle.life_pset.specs.Shapes.{target_type, ty_if}
+use Rattle.life_pset.specs.contracts.element.RootPartialEq.TheImpl.{ghosts as compared}
 use Rattle.life_pset.specs.declared.element.Root.{Root}
 use Rattle.life_pset.specs.declared.element.Root.TheVariants as root
-use Rattle.life_contract.specs.Inputs.{is_mutating}
+use Rattle.life_contract.specs.Inputs.{is_mutating, parameter_number}
 use Rattle.life_contract.specs.Signatures.{signature_of}
 use Rattle.life_rules.specs.Texts.{input_of}
 use Rattle.life_store.specs.Cells.{at}
 use Rattle.life_store.specs.Content.{Content, Object}
-use Rattle.life_store.specs.Parts.{characters_type, local_type}
+use Rattle.life_store.specs.Parts.{characters_type}
+use Rattle.life_store.specs.Places.{member_cell}
 use Rattle.life_store.specs.State.{Cell, Points, To}
 use Rattle.life_forest.specs.Forest.{Beneath, Foot, positive}
 use Rattle.life_forest.specs.FrameTypes.{seen_type}
@@ -66,9 +69,17 @@ abbrev pub pointed : Types → (target : Option TyId) → Content → Option Cel
 pointed types target c (Some (Points (To t))) = option_map (λ (o : Object). record { object = t.object; word = t.word; ty = type_seen types target o.ty }) (at c.objects t.object)
 pointed types target c _ = None
 
+-- what is handed over for an input: all of it, or the member that is the pointer
+abbrev pub input_cell : Types → Function → Content → (arguments : List Cell) → Input → Option Cell
+input_cell types f c vs i = member_cell types f (parameter_number i) (path i.pointer) (slice_get vs (parameter_number i)) c
+
+-- at the entry a root stands for what the pointer of its input points to
+abbrev pub entered_at : Types → Function → Content → (arguments : List Cell) → Root → Option Input → Option Region
+entered_at types f c vs r None = None
+entered_at types f c vs r (Some i) = cond (compared.eq i.root r) (pointed types (seen_type types i.ty) c (input_cell types f c vs i)) None
+
 abbrev pub entry_inputs : Types → Function → Content → (arguments : List Cell) → Root → Option Region
-entry_inputs types f c vs (root.Input q None) = pointed types (seen_type types (local_type types f q)) c (slice_get vs q)
-entry_inputs types f c vs _ = None
+entry_inputs types f c vs r = entered_at types f c vs r (input_at types f r)
 
 -- it is an input of the function, and what stands there has the type that its pointer points to, or is the characters of a string
 pub record IsInput (types : Types) (f : Function) (r : Root) (a : Region) : Type 0 where

@@ -4,7 +4,6 @@ pub mod Frames
 pub mod Inputs
 pub mod Kills
 pub mod Lacking
-pub mod Members
 pub mod Passed
 pub mod Regions
 pub mod Roots

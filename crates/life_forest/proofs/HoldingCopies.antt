@@ -75,7 +75,7 @@ begun_back first others u v is b = record {
 -- ---- copies of words
 
 -- as many words, with the same pointers
-abbrev IsCopyOf : Parts → List ℕ → Words → Type 0
+abbrev pub IsCopyOf : Parts → List ℕ → Words → Type 0
 IsCopyOf p ws v = (length v.0 ≡ width p) × ((u : ℕ) → IsBegun p u → take 5 (drop u v.0) ≡ take 5 (drop u ws))
 
 narrow : (p : Parts) (ws vs : List ℕ) → width p ≡ 1 → (u : ℕ) → IsBegun p u → take 5 (drop u vs) ≡ take 5 (drop u ws)
@@ -93,7 +93,7 @@ buffer_copied s id w copy (Some n) c =
     any (GotFault kind) = tt
     any GotLost = tt
 
-copied_words : (s : Setting) (p : Parts) (ws : List ℕ) (c : Content) → length ws ≡ width p → IfGot (copied s p ws c) (IsCopyOf p ws)
+pub copied_words : (s : Setting) (p : Parts) (ws : List ℕ) (c : Content) → length ws ≡ width p → IfGot (copied s p ws c) (IsCopyOf p ws)
 copied_words s Single ws c e = (e, λ u b. refl)
 copied_words s Raw ws c e = (e, λ u b. refl)
 copied_words s Iterates ws c e = (e, λ u b. refl)

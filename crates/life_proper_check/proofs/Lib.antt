@@ -7,7 +7,6 @@ pub mod Named
 pub mod OwnSlots
 pub mod Parts
 pub mod Points
-pub mod ServedStructs
 pub mod StructMembers
 pub mod Tables
 pub mod Within

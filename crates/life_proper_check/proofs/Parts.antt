@@ -3,7 +3,7 @@ use Rattle.std.proofs.Common.{◌≡◌, subst, sym, true}
 use Rattle.life_types.specs.Trees.{IsOrdered}
 use Rattle.life_types.specs.Types.{HasEachOnce}
 use Rattle.life_core.specs.Function.{Program}
-use Rattle.life_core_served.specs.Served.{has_served_structs, is_served_program}
+use Rattle.life_core_served.specs.Served.{is_served_program}
 use Rattle.life_pset.specs.Limits.{IsProgramWithinLimits}
 use Rattle.life_proper.specs.Checking.{checked}
 use Rattle.life_proper.specs.GivenOver.{keeps_all_given}
@@ -25,8 +25,8 @@ parts_proper p ordered once formed given breaks within ready results = record {
 }
 
 -- .. and of one whose verdict is proved
-pub parts_served : (p : Program) → has_served_structs p.types ≡ true → is_served_program p ≡ true → IsServedProgram p
-parts_served p structs slotless = record { structs = structs; serves = slotless }
+pub parts_served : (p : Program) → is_served_program p ≡ true → IsServedProgram p
+parts_served p slotless = record { serves = slotless }
 
 -- a proper program stays as it was
 pub kept_proper : (p q : Program) → q ≡ p → (WritesResults p → IsProperProgram p) → WritesResults q → IsProperProgram q

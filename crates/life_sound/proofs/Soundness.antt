@@ -2,20 +2,20 @@
 use Rattle.std.proofs.Common.{◌≡◌, List, [], ◌∷◌, length, refl, subst, arith}
 use Rattle.life_core.specs.Function.{Program}
 use Rattle.life_core_served.specs.ProperPrograms.{IsProperProgram, IsServedProgram}
-use Rattle.life_core_served.proofs.PointsAsked.{proper_functions, served_functions}
+use Rattle.life_core_served.proofs.PointsAsked.{proper_functions}
 use Rattle.life_rules.specs.Listing.{IsProgramDiagnosed, AreProgramDiagnostics}
 use Rattle.life_rules.specs.declared.diag.Diag.{Diag}
 use Rattle.life_rules.proofs.Unique.{nothing_wrong}
 use Rattle.life_store.specs.NoFault.{NoFault}
 use Rattle.life_cover.proofs.SafeRuns.{safe_runs}
-use Rattle.life_sound.proofs.Spoken.{body_spoken, hands_no_slots, members_untold}
+use Rattle.life_sound.proofs.Spoken.{body_spoken, hands_no_slots}
 
 pub soundness : (p : Program) → IsProperProgram p → IsServedProgram p → ((d : Diag) → IsProgramDiagnosed p d → ⊥) → NoFault p
 soundness p proper served none given entry f input n is admitted =
-    safe_runs p given entry f input n proper.well_formed (λ k g at. (proper_functions p proper k g at).ready) proper.given (hands_no_slots p served) (members_untold p.types served.structs)
+    safe_runs p given entry f input n proper.well_formed (λ k g at. (proper_functions p proper k g at).ready) proper.given (hands_no_slots p served)
     (λ k g at. (
       (proper.limits.each k g at).steps,
-      body_spoken p.types served.structs (length p.texts) p.functions (served_functions p served) g (served_functions p served k g at) (proper_functions p proper k g at),
+      ((proper.limits.each k g at).locations, body_spoken p proper served k g at),
     ))
     none is admitted
 

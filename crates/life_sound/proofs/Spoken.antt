@@ -1,58 +1,33 @@
 -- What a program of the kinds that are served has of what the theorem on runs asks.
-use Rattle.std.proofs.Common.{◌≡◌, ℕ, zero, suc, true, false, List, [], ◌∷◌, map, take, slice_get, Option, Some, None, refl, sym, subst, ◌∙◌}
+use Rattle.std.proofs.Common.{◌≡◌, ℕ, zero, suc, true, false, List, [], ◌∷◌, length, map, take, slice_get, Option, Some, None, refl, sym, subst, ◌∙◌}
 use Rattle.std.specs.Prelude.{ℤ}
 use Rattle.std.specs.List.{list_all}
 use Rattle.std.proofs.lemmas.Bool.{and_parts, false≢true}
-use Rattle.std.proofs.lemmas.Option.{none-some}
 use Rattle.life_types.specs.Pointees.{ty_of}
 use Rattle.life_types.specs.Types.{Types, is_slot_at}
-use Rattle.life_types.specs.declared.ty.Ty.{Ty}
-use Rattle.life_types.specs.declared.ty.Ty.TheVariants as ty
 use Rattle.life_types.specs.declared.ty.TyId.{TyId}
 use Rattle.life_core.specs.declared.program.FnId.{FnId}
 use Rattle.life_core.specs.declared.program.Local.{Local}
 use Rattle.life_core.specs.Function.{Function, Program}
 use Rattle.life_core.specs.Operands.{Argument, Location, Slot}
-use Rattle.life_core_served.specs.Served.{has_served_structs, is_member_type, is_served, is_served_local}
+use Rattle.life_core_served.specs.Served.{is_served, is_served_local}
 use Rattle.life_core.specs.Step.{Call, Step}
 use Rattle.life_core.specs.Tree.{Node}
 use Rattle.life_proper.specs.Placed.{is_slot_local, slot_at}
-use Rattle.life_core_served.specs.ProperFunctions.{IsProperFunction}
 use Rattle.life_core_served.specs.ProperPrograms.{IsProperProgram, IsServedProgram}
 use Rattle.life_proper.specs.WellFormed.{are_arguments_for, goes_to, have_own_slots, is_argument_for, is_call, is_well_formed_node, is_well_formed_step, local_type, types_taken}
-use Rattle.life_core_served.proofs.PlainCalls.{member_served, slot_handed, target_whole}
-use Rattle.life_core_served.proofs.PointsAsked.{point_formed, served_functions}
+use Rattle.life_core_served.proofs.PlainCalls.{slot_handed}
+use Rattle.life_core_served.proofs.PointsAsked.{point_formed, proper_functions, served_functions}
 use Rattle.life_core_served.proofs.ServedLocals.{HaveNoSlot, first_served, not_slot}
 use Rattle.life_proper.proofs.SpotTests.{all_at}
 use Rattle.life_forest.proofs.HandedOver.{ArePointerSlots}
 use Rattle.life_forest.proofs.NeverStrays.{never_strays}
 use Rattle.life_store.specs.Doing.{Given}
 use Rattle.life_store.specs.Meaning.{IsAdmitted, IsFound, run_of}
-use Rattle.life_store.specs.Parts.{members_if}
-use Rattle.life_cover.specs.Members.{HaveUntoldMembers, is_untold}
 use Rattle.life_cover.proofs.Arguments.{AreSlotless, IsSlotless}
 use Rattle.life_cover.proofs.CallKinds.{IsPlainTarget}
 use Rattle.life_cover.proofs.SafeBodies.{IsSpokenAction, IsSpokenBody}
 use Rattle.life_cover.proofs.SafeRuns.{HandsPointerSlots}
-
--- ---- facts say nothing of members
-
-member_untold : (t : Ty) → is_member_type t ≡ true → is_untold t ≡ true
-member_untold ty.View e = absurd (false≢true e)
-member_untold (ty.Unique target) e = absurd (false≢true e)
-member_untold (ty.Raw target constant) e = absurd (false≢true e)
-member_untold (ty.Reference target constant) e = absurd (false≢true e)
-member_untold (ty.Iterator target constant) e = absurd (false≢true e)
-member_untold (ty.Span target constant) e = absurd (false≢true e)
-member_untold _ e = refl
-
-pub members_untold : (types : Types) → has_served_structs types ≡ true → HaveUntoldMembers types
-members_untold types structs id part m e = go (slice_get types.types id.0) e
-  where
-    go : (o : Option Ty) → slice_get (members_if types o) m ≡ Some part → is_untold (ty_of types part) ≡ true
-    go (Some (ty.Struct number)) h = member_untold (ty_of types part) (member_served types structs (ty.Struct number) m part h)
-    go None h = absurd (none-some part h)
-    go (Some _) h = absurd (none-some part h)
 
 -- ---- no slot is there
 
@@ -66,9 +41,9 @@ no_slots types (suc n) (l ∷ ls) e =
 
 -- ---- each instruction
 
-module _ (types : Types) (structs : has_served_structs types ≡ true) (texts : ℕ) (fs : List Function) (f : Function) where
+module _ (types : Types) (texts : ℕ) (fs : List Function) (f : Function) where
   argument_spoken : (id : TyId) (x : Argument) → is_slot_at types id ≡ false → is_argument_for types texts fs f id x ≡ true → IsSlotless x
-  argument_spoken id (Slot l) slotless e = slot_handed types structs texts fs f id l slotless e
+  argument_spoken id (Slot l) slotless e = slot_handed types texts fs f id l slotless e
   argument_spoken id _ slotless e = tt
 
   arguments_spoken : (ids : List TyId) (xs : List Argument) → HaveNoSlot types ids → are_arguments_for types texts fs f ids xs ≡ true → AreSlotless xs
@@ -87,16 +62,16 @@ module _ (types : Types) (structs : has_served_structs types ≡ true) (texts : 
         go None at = refl
         go (Some l) at = not_slot types l (all_at (is_served_local types) f.locals x l locals at)
 
-    target_spoken : (t : Ty) (target : Option Location) → goes_to types texts fs f t target ≡ true → IsPlainTarget types f target
-    target_spoken t None e = tt
-    target_spoken t (Some l) e = (target_whole types structs texts fs f t l e, no_slot l.local)
+    target_spoken : (n : ℕ) (g : Function) → slice_get fs n ≡ Some g → (target : Option Location) → goes_to types texts fs f (ty_of types g.result) target ≡ true → IsPlainTarget types f target
+    target_spoken n g at None e = tt
+    target_spoken n g at (Some l) e = no_slot l.local
 
     call_spoken : (n : ℕ) (g : Option Function) (number : FnId) (target : Option Location) (xs : List Argument) → slice_get fs n ≡ g → is_call types texts fs f g target xs ≡ true → IsSpokenAction types f (Call target number xs)
     call_spoken n None number target xs at e = absurd (false≢true e)
     call_spoken n (Some g) number target xs at e =
         let handed = and_parts (are_arguments_for types texts fs f (types_taken g) xs) _ e in
         let goes = and_parts (have_own_slots types texts fs f xs) (goes_to types texts fs f (ty_of types g.result) target) handed.1 in (
-          target_spoken (ty_of types g.result) target goes.1,
+          target_spoken n g at target goes.1,
           arguments_spoken (types_taken g) xs (first_served types g.parameters g.locals (slotless n g at)) handed.0,
         )
 
@@ -106,12 +81,11 @@ module _ (types : Types) (structs : has_served_structs types ≡ true) (texts : 
 
 -- ---- each function
 
-module _ (types : Types) (structs : has_served_structs types ≡ true) (texts : ℕ) (fs : List Function) (slotless : (n : ℕ) (g : Function) → slice_get fs n ≡ Some g → is_served types g ≡ true) (f : Function)
-    (served : is_served types f ≡ true) (proper : IsProperFunction types texts fs f) where
-  pub body_spoken : IsSpokenBody types f
-  body_spoken p l i at is =
-      step_spoken types structs texts fs f slotless served i
-      (subst (λ (n : Node). is_well_formed_node types texts fs f n ≡ true) is (point_formed types texts fs f proper p l at))
+module _ (p : Program) (proper : IsProperProgram p) (served : IsServedProgram p) (n : ℕ) (f : Function) (at : slice_get p.functions n ≡ Some f) where
+  pub body_spoken : IsSpokenBody p.types f
+  body_spoken m l i here is =
+      step_spoken p.types (length p.texts) p.functions f (served_functions p served) (served_functions p served n f at) i
+      (subst (λ (node : Node). is_well_formed_node p.types (length p.texts) p.functions f node ≡ true) is (point_formed p.types (length p.texts) p.functions f (proper_functions p proper n f at) m l here))
 
 pub hands_no_slots : (p : Program) → IsServedProgram p → HandsPointerSlots p
 hands_no_slots p served = record { free = λ k g at. no_slots p.types g.parameters g.locals (served_functions p served k g at) }
