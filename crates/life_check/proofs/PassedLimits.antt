@@ -1,13 +1,9 @@
 -- A translation that passes no limit is within those that proper programs are within.
-use Rattle.std.proofs.Common.{◌≡◌, ◌≤◌, ◌<◌, ◌^◌, ℕ, zero, suc, ◌+◌, Bool, true, false, if◌then◌else◌, nat_lt, List, [], ◌∷◌, Option, None, Some, arith, length, refl, subst, sym, slice_get}
+use Rattle.std.proofs.Common.{◌≡◌, ◌≤◌, ◌<◌, ◌^◌, ℕ, zero, suc, ◌+◌, List, [], ◌∷◌, Option, None, Some, arith, length, refl, subst, sym, slice_get}
 use Rattle.std.specs.Prelude.{option_map}
-use Rattle.std.proofs.lemmas.Bool.Decides.{nat_tests}
 use Rattle.std.proofs.lemmas.List.{length-append}
 use Rattle.std.proofs.lemmas.Option.{none-some, same_Some}
 use Rattle.life_types.specs.Types.{Types}
-use Rattle.life_types.specs.declared.place.Place.{Place}
-use Rattle.life_tree.specs.declared.limit.LimitFault.{LimitFault}
-use Rattle.life_tree.specs.declared.limit.LimitName.{LimitName}
 use Rattle.life_tree.specs.declared.limit.LimitName.TheVariants.{Functions, Locations, Points, Elements}
 use Rattle.life_core.specs.Function.{Function, Program}
 use Rattle.life_core.specs.Linked.{points_of}
@@ -19,24 +15,11 @@ use Rattle.life_elab.specs.ProgramForms.{functions, translated, written}
 use Rattle.life_elab.specs.Programs.{Functions as Written, around, with_function}
 use Rattle.life_typed.specs.Programs.{FunctionForm, ProgramForm}
 use Rattle.life_core_served.specs.ProperPrograms.{IsProperProgram}
+use Rattle.life_elab_laws.proofs.PassedNone.{first_none, not_passed}
 use Rattle.life_pset.specs.Limits.{IsProgramWithinLimits}
 use Rattle.life_pset.specs.Elements.{AreShort, IsWithinLimits, elements_of, locations_of}
 
-first_none : (a b : Option LimitFault) → first_of a b ≡ None → (a ≡ None) × (b ≡ None)
-first_none None b h = (refl, h)
-first_none (Some fault) b h = absurd (none-some fault (sym h))
-
 -- ---- functions
-
-not_passed : (count most : ℕ) (name : LimitName) (place : Place) → passes count most name place ≡ None → count ≤ most
-not_passed count most name place none = go (nat_lt most count) refl none
-  where
-    at_most : nat_lt most count ≡ false → count ≤ most
-    at_most h = grind (arith, nat_tests)
-
-    go : (b : Bool) → nat_lt most count ≡ b → (if b then Some (over.limit name place) else None) ≡ None → count ≤ most
-    go true is none = absurd (none-some (over.limit name place) (sym none))
-    go false is none = at_most is
 
 within : (types : Types) (f : Function) → over_function types f ≡ None → length f.locals < 2 ^ 32 → AreShort (elements_of types f) → IsWithinLimits types f
 within types f none numbered short =

@@ -64,6 +64,7 @@ use Rattle.life_elab_laws.proofs.EqualityRows.{compares}
 use Rattle.life_elab_laws.proofs.Elements.{element_target, element_there, one_element}
 use Rattle.life_elab_laws.proofs.Targets.{target_no_void}
 use Rattle.life_proper.specs.WellFormed.{is_itself}
+use Rattle.life_elab_laws.proofs.PointedCalls.{gives_plainly}
 
 same_of : {u w : Ty} → Of u ≡ Of w → u ≡ w
 same_of e = cc
@@ -126,10 +127,11 @@ module _ (a : Around) (visible : List ℕ) (types : Types) (texts : ℕ) (fs : L
                 let Q = a_number types texts fs f t in
                 let first = subst (λ (u : Ty). Makes types texts fs f None s q (a_pointer types texts fs f u)) at (walker_pointer a visible types texts fs f setting left l (own (uses a left)) s stands) in
                 let second = r.valued fit.right place t (ap is_value (ap own_type (sym (own_typed a visible types texts fs f setting right))) ∙ own_value (typed_in right).ty fit.right) None q.state tt (stands_later a visible s q.state first.grown stands) in
-                seen_part types texts fs f (no_gift types texts fs f) tt None s (gives (q.given, m.given) m.state) (both types texts fs f P Q) (λ x. By (λ p. Advance p x.0 x.1 direction)) (a_pointing types texts fs f (Of (ty.Iterator item constant)))
+                gives_plainly
+                (seen_part types texts fs f (no_gift types texts fs f) tt None s (gives (q.given, m.given) m.state) (both types texts fs f P Q) (λ x. By (λ p. Advance p x.0 x.1 direction)) (a_pointing types texts fs f (Of (ty.Iterator item constant)))
                 (and_part types texts fs f (no_gift types texts fs f) tt s q m P Q stands.opened first second)
                 (λ b h. advance_given types texts fs f item constant t q.given m.given direction h.0 (one_element a.program.types types setting.front item v) h.1)
-                (λ n k h. advance_filling types texts fs f q.given m.given direction n k h.0 h.1);
+                (λ n k h. advance_filling types texts fs f q.given m.given direction n k h.0 h.1));
           }
           by_type _ at v one moves = absurd (false≢true v)
 
@@ -169,7 +171,7 @@ module _ (a : Around) (visible : List ℕ) (types : Types) (texts : ℕ) (fs : L
               (seen_part types texts fs f (no_gift types texts fs f) tt None s q (a_pointer types texts fs f (ty.Iterator item constant)) (λ (p : Location). Through p []) (a_place types texts fs f (type_at a.program.types item) constant)
               (subst (λ (u : Ty). Makes types texts fs f None s q (a_pointer types texts fs f u)) same (walker_pointer a visible types texts fs f setting inner is (own (uses a inner)) s stands))
               (λ b h. behind_place types texts fs f q.given (ty.Iterator item constant) item constant (type_at a.program.types item) h refl refl refl (element_there a.program.types types setting.front item w) (target_no_void a.program.types (type_at a.program.types item) (element_target a.program.types (type_at a.program.types item) w)))
-              (λ n k p. record { local = p.local; uses = ap (λ (m : Location). m.local ∷ []) p.is; below = p.below; held = p.held }))
+              (λ n k p. record { local = p.local; uses = ap (λ (x : ℕ). x ∷ []) p.is; below = p.below; held = p.held }))
       go _ same w = absurd (false≢true w)
 
   -- ---- whether two are the same

@@ -22,12 +22,12 @@ use Rattle.life_proper.specs.declared.known.Known.TheVariants as known
 use Rattle.life_proper.proofs.ReadyTests.{uses_ready}
 use Rattle.life_writer.specs.Pointers.{As, By, Pointing, aimed, pointed}
 use Rattle.life_elab_laws.proofs.Falling.{Fills}
-use Rattle.life_elab_laws.proofs.Filling.{filling_fills}
-use Rattle.life_elab_laws.proofs.Gifts.{IsAt, IsGivenAs, IsTakenBy, takes_from}
-use Rattle.life_elab_laws.proofs.Held.{one_there}
+use Rattle.life_elab_laws.proofs.Filling.{filling_fills, filling_leaves, filling_ready}
+use Rattle.life_elab_laws.proofs.Gifts.{IsGivenAs, IsTakenBy, takes_from}
+use Rattle.life_elab_laws.proofs.Held.{one_there, two_there}
 use Rattle.life_elab_laws.proofs.Knowledge.{set_length, set_same}
 use Rattle.life_elab_laws.proofs.Locations.{is_location}
-use Rattle.life_elab_laws.proofs.Making.{IsPointer, IsPointing, Keeps}
+use Rattle.life_elab_laws.proofs.Making.{IsPointer, IsPointing, Keeps, keeps_all, lies_by, fills_in}
 use Rattle.life_elab_laws.proofs.OperandsThere.{same_is}
 use Rattle.life_elab_laws.proofs.Shaping.{IsFineStep}
 
@@ -41,20 +41,40 @@ keeps_further false false e h g = g
 module _ (f : Function) where
   pub pointed_fills : (x n : ℕ) (p : Pointing) (k : List Known) → IsPointing f p n k → is_register_at f x ≡ true → Fills f k (pointed p (whole x)) x
   pointed_fills x n (By step) k h e = filling_fills f step n k h x e
-  pointed_fills x n (As q) k h e = record { ready = uses_ready k (q.local ∷ []) (x ∷ []) (one_there k q.local (ap (λ (l : Location). known_at k l.local) h.is ∙ h.held)); after = refl }
+  pointed_fills x n (As q) k h e = record { ready = uses_ready k (q.local ∷ []) (x ∷ []) (one_there k q.local (ap (known_at k) h.is ∙ h.held)); after = refl }
 
-  register_is : (l : Location) (n : ℕ) (k : List Known) → (h : IsPointer l n k) → is_register_at f l.local ≡ true → is_register_at f h.local ≡ true
-  register_is l n k h e = sym (ap (λ (q : Location). is_register_at f q.local) h.is) ∙ e
+  module _ (l : Location) (n m : ℕ) (p : Pointing) (k : List Known) (h : IsPointer l n k) (g : IsPointing f p m k) where
+    abbrev part : (first : ℕ) (members : List ℕ) → Location
+    part first members = record { local = l.local; members = first ∷ members }
 
-  pub pointed_ready : (l : Location) (n m : ℕ) (p : Pointing) (k : List Known) → IsPointer l n k → IsPointing f p m k → is_register_at f l.local ≡ true → are_ready k (touched_by f (pointed p l)) ≡ true
-  pointed_ready l n m p k h g e = ap (λ (q : Location). are_ready k (touched_by f (pointed p q))) h.is ∙ (pointed_fills h.local m p k g (register_is l n k h e)).ready
+    there : known_at k l.local ≡ known.Ready
+    there = ap (known_at k) h.is ∙ h.held
 
-  pub pointed_keeps : (l : Location) (n m z : ℕ) (p : Pointing) (k : List Known) → IsPointer l n k → IsPointing f p m k → is_register_at f l.local ≡ true → Keeps f z None k (known_after (touched_by f (pointed p l)) k)
-  pointed_keeps l n m z p k h g e =
-      subst (Keeps f z None k) (sym (ap (λ (q : Location). known_after (touched_by f (pointed p q)) k) h.is ∙ (pointed_fills h.local m p k g (register_is l n k h e)).after)) (record {
-        sized = set_length k h.local known.Ready;
-        below = λ y lt b. set_same k h.local known.Ready y h.held;
-      })
+    -- in a member, where all stays as it is
+    part_ready : (p : Pointing) → IsPointing f p m k → (first : ℕ) (members : List ℕ) → are_ready k (touched_by f (pointed p (part first members))) ≡ true
+    part_ready (By step) g first members = filling_ready f step m k g l.local first members there
+    part_ready (As q) g first members = uses_ready k (q.local ∷ l.local ∷ []) [] (two_there k q.local l.local (ap (known_at k) g.is ∙ g.held) there)
+
+    part_leaves : (p : Pointing) → IsPointing f p m k → (first : ℕ) (members : List ℕ) → known_after (touched_by f (pointed p (part first members))) k ≡ k
+    part_leaves (By step) g first members = filling_leaves f step m k g l.local first members
+    part_leaves (As q) g first members = refl
+
+    pub pointed_ready : fills_in f l ≡ true → are_ready k (touched_by f (pointed p l)) ≡ true
+    pointed_ready kept = go l.members kept
+      where
+        go : (members : List ℕ) → lies_by members (is_register_at f l.local) true ≡ true → are_ready k (touched_by f (pointed p (record { local = l.local; members = members }))) ≡ true
+        go [] kept = (pointed_fills l.local m p k g kept).ready
+        go (first ∷ members) kept = part_ready p g first members
+
+    pub pointed_keeps : (z : ℕ) → fills_in f l ≡ true → Keeps f z None k (known_after (touched_by f (pointed p l)) k)
+    pointed_keeps z kept = go l.members kept
+      where
+        go : (members : List ℕ) → lies_by members (is_register_at f l.local) true ≡ true → Keeps f z None k (known_after (touched_by f (pointed p (record { local = l.local; members = members }))) k)
+        go [] kept = subst (Keeps f z None k) (sym (pointed_fills l.local m p k g kept).after) (record {
+          sized = set_length k l.local known.Ready;
+          below = λ y lt b. set_same k l.local known.Ready y there;
+        })
+        go (first ∷ members) kept = subst (Keeps f z None k) (sym (part_leaves p g first members)) (keeps_all f z None k)
 
 -- ---- what it is given fits it
 
@@ -78,7 +98,7 @@ module _ (types : Types) (texts : ℕ) (fs : List Function) (f : Function) where
 
   -- nullptr is taken by each raw pointer
   pub null_given : IsGivenAs types texts fs f NullPointer (aimed Null)
-  null_given = λ u l loc at taken. record { given = refl; formed = ap is_raw at.typed ∙ raw u taken }
+  null_given = λ u l loc at taken. record { given = refl; formed = ap is_raw at ∙ raw u taken }
     where
       clash : (u : Ty) → NullPointer ≡ Of u → ⊥
       clash u e = cc
@@ -91,7 +111,7 @@ module _ (types : Types) (texts : ℕ) (fs : List Function) (f : Function) where
   pub literal_given : (n : ℕ) → nat_lt n texts ≡ true → IsGivenAs types texts fs f TextLiteral (aimed (Text n))
   literal_given n few = λ u l loc at taken. record {
     given = refl;
-    formed = and_from (is_view (type_in types f l)) (nat_lt n texts) (ap is_view at.typed ∙ view u taken) few;
+    formed = and_from (is_view (type_in types f l)) (nat_lt n texts) (ap is_view at ∙ view u taken) few;
   }
     where
       clash : (u : Ty) → TextLiteral ≡ Of u → ⊥
@@ -105,7 +125,7 @@ module _ (types : Types) (texts : ℕ) (fs : List Function) (f : Function) where
   pub place_given : (t : Ty) (o : Operand) → (aims_at types t (type_of types f o) && keeps_const (is_constant t) (is_const_place types f o)) ≡ true → IsGivenAs types texts fs f (Of t) (aimed (Aimed o))
   place_given t o fits = λ u l raw at taken. record {
     given = refl;
-    formed = ap (λ (w : Ty). is_source_of types texts fs f w (Aimed o)) at.typed ∙ go u raw taken;
+    formed = ap (λ (w : Ty). is_source_of types texts fs f w (Aimed o)) at ∙ go u raw taken;
   }
     where
       same_of : (u : Ty) → Of t ≡ Of u → t ≡ u
@@ -115,11 +135,11 @@ module _ (types : Types) (texts : ℕ) (fs : List Function) (f : Function) where
       go u raw (inl e) = subst (λ (w : Ty). (aims_at types w (type_of types f o) && keeps_const (is_constant w) (is_const_place types f o)) ≡ true) (same_of u e) fits
       go u raw (inr taken) = aims_further u t o raw taken fits
 
-  pub pointed_fine : (l : Location) (u : Ty) (t : ExprType) (p : Pointing) → is_location u ≡ true → IsAt types texts fs f u l → takes_from types u t ≡ true → IsGivenAs types texts fs f t p → IsFineStep types texts fs f (pointed p l)
+  pub pointed_fine : (l : Location) (u : Ty) (t : ExprType) (p : Pointing) → is_location u ≡ true → type_in types f l ≡ u → takes_from types u t ≡ true → IsGivenAs types texts fs f t p → IsFineStep types texts fs f (pointed p l)
   pointed_fine l u t (By step) raw at taken given = given u l raw at (inr taken)
   pointed_fine l u (Of v) (As q) raw at taken given = record {
     given = refl;
-    formed = ap (λ (w : Ty). takes types w (type_in types f q)) at.typed ∙ ap (takes types u) given.typed ∙ taken;
+    formed = ap (λ (w : Ty). takes types w (type_in types f q)) at ∙ ap (takes types u) given.typed ∙ taken;
   }
   pointed_fine l u NullPointer (As q) raw at taken given = absurd given
   pointed_fine l u TextLiteral (As q) raw at taken given = absurd given

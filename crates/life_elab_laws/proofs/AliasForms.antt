@@ -36,13 +36,13 @@ use Rattle.life_elab_laws.proofs.FormedVariables.{const_same, owner_no_value}
 use Rattle.life_elab_laws.proofs.Gifts.{a_place, a_pointer, a_pointing, both, nothing as no_gift}
 use Rattle.life_elab_laws.proofs.Instructions.{literal_located_part}
 use Rattle.life_elab_laws.proofs.JoinedForms.{literal_builds}
-use Rattle.life_elab_laws.proofs.MadeForms.{Builds, IsOwning, is_made, lived_builds, of_copy, stands_there, owning_owner}
+use Rattle.life_elab_laws.proofs.MadeForms.{Builds, BuildsIn, IsOwning, is_made, less_plain, lived_builds, of_copy, owning_owner, stands_there}
 use Rattle.life_elab_laws.proofs.OwnerSteps.{copies_part}
 use Rattle.life_elab_laws.proofs.Parts.{leaf_part, then_part}
 use Rattle.life_elab_laws.proofs.PlainActs.{copied_plain}
 use Rattle.life_elab_laws.proofs.PointerForms.{held_typed}
 use Rattle.life_elab_laws.proofs.Setting.{Setting}
-use Rattle.life_elab_laws.proofs.Targets.{owner_target, value_target, IsTarget, target_is, to_owner, to_struct, to_value, struct_target}
+use Rattle.life_elab_laws.proofs.Targets.{owner_target, value_target, IsTarget, target_is, to_owner, to_struct, to_value}
 use Rattle.life_elab_laws.proofs.TypedKinds.{HasKind, a_null, a_number, a_pointer as is_pointer_kind, a_text, a_view, kind_no_owner, no_value, place_same, value_place}
 use Rattle.life_elab_laws.proofs.Values.{by_values}
 use Rattle.life_elab_laws.proofs.GivenKinds.{given_number}
@@ -72,12 +72,12 @@ literal_string types (ty.Vector item) o c h = absurd (false≢true h)
 literal_string types _ o c h = absurd (false≢true o)
 
 -- .. nor does a struct come of an owner, an iterator or a span
-owner_no_struct_given : (types : Types) (t : Ty) → is_owner_of_values types t ≡ true → (number : ℕ) (c : Category) → fits_at_all (fits types (ty.Struct number) (Of t) c) ≡ true → ⊥
+pub owner_no_struct_given : (types : Types) (t : Ty) → is_owner_of_values types t ≡ true → (number : ℕ) (c : Category) → fits_at_all (fits types (ty.Struct number) (Of t) c) ≡ true → ⊥
 owner_no_struct_given types ty.Text o number c h = false≢true h
 owner_no_struct_given types (ty.Vector item) o number c h = false≢true h
 owner_no_struct_given types _ o number c h = false≢true o
 
-walker_no_struct_given : (types : Types) (t : Ty) → is_walker_of_values types t ≡ true → (number : ℕ) (c : Category) → fits_at_all (fits types (ty.Struct number) (Of t) c) ≡ true → ⊥
+pub walker_no_struct_given : (types : Types) (t : Ty) → is_walker_of_values types t ≡ true → (number : ℕ) (c : Category) → fits_at_all (fits types (ty.Struct number) (Of t) c) ≡ true → ⊥
 walker_no_struct_given types (ty.Iterator item held) w number c h = false≢true h
 walker_no_struct_given types (ty.Span item held) w number c h = false≢true h
 walker_no_struct_given types _ w number c h = false≢true w
@@ -167,9 +167,12 @@ module _ (a : Around) (visible : List ℕ) (types : Types) (texts : ℕ) (fs : L
 
   -- ---- what a reference refers to, or what is built for it
 
+  abbrev BuildsAny : Ty → State → Gives Remaining → Type 0
+  BuildsAny t s w = BuildsIn a visible types texts fs f setting false t s w
+
   pub data IsAliased (u : Uses) (target : TyId) (constant : Bool) : Type 0 where
     to_place : (held : Bool) → is_place_of u.category target ≡ true → keeps_const constant held ≡ true → ((s : State) → Stood s → PlacedAs (type_at a.program.types target) held s (u.at s)) → IsAliased u target constant
-    to_built : is_place_of u.category target ≡ false → ((behind : Place) (s : State) → Stood s → BuildsAs (type_at a.program.types target) s (giving.given u (type_at a.program.types target) behind s)) → IsAliased u target constant
+    to_built : is_place_of u.category target ≡ false → ((behind : Place) (s : State) → Stood s → BuildsAny (type_at a.program.types target) s (giving.given u (type_at a.program.types target) behind s)) → IsAliased u target constant
 
   module _ (form : Form) (target : TyId) (constant : Bool) (o : is_owner_of_values a.program.types (type_at a.program.types target) ≡ true) (given : is_given a.program.types (ty.Reference target constant) (typed_in form) ≡ true) where
     bound : IsBound a.program.types target constant (typed_in form)
@@ -189,14 +192,20 @@ module _ (a : Around) (visible : List ℕ) (types : Types) (texts : ℕ) (fs : L
             subst (λ (d : Bool). PlacedAs (type_at a.program.types target) d s ((uses a form).at s)) (const_same is.id target is.constant b.held same)
             (subst (λ (t : Ty). PlacedAs t is.constant s ((uses a form).at s)) (sym is.here ∙ ap (type_at a.program.types) (place_same is.id target is.constant b.held same)) (is.names s stands)))
         go (is_made is) (at_place b) = absurd (value_place (sym is.value ∙ b.place))
-        go from (by_temporary none initial) = to_built (seen_here ∙ none) (λ behind s stands. owning_builds form from (type_at a.program.types target) o initial behind s stands)
+        go from (by_temporary none initial) =
+            to_built (seen_here ∙ none)
+            (λ behind s stands.
+            less_plain a visible types texts fs f setting (type_at a.program.types target) s (giving.given (uses a form) (type_at a.program.types target) behind s) (owning_builds form from (type_at a.program.types target) o initial behind s stands))
 
     pub whole_aliased : IsWhole a visible types texts fs f setting form → IsAliased (uses a form) target constant
     whole_aliased is = go bound
       where
         go : IsBound a.program.types target constant (typed_in form) → IsAliased (uses a form) target constant
         go (at_place b) = absurd (kind_no_owner a.program.types (typed_in form) is.kind.kind (type_at a.program.types target) o (is.kind.place target b.held b.place))
-        go (by_temporary none initial) = to_built (seen_here ∙ none) (λ behind s stands. value_builds form is (type_at a.program.types target) o initial behind s stands)
+        go (by_temporary none initial) =
+            to_built (seen_here ∙ none)
+            (λ behind s stands.
+            less_plain a visible types texts fs f setting (type_at a.program.types target) s (giving.given (uses a form) (type_at a.program.types target) behind s) (value_builds form is (type_at a.program.types target) o initial behind s stands))
 
   -- a reference to a value is given no owner
   pub value_reference_refused : (form : Form) (target : TyId) (constant : Bool) → is_value (type_at a.program.types target) ≡ true → is_given a.program.types (ty.Reference target constant) (typed_in form) ≡ true → IsOwning a visible types texts fs f setting form → ⊥
@@ -211,9 +220,9 @@ module _ (a : Around) (visible : List ℕ) (types : Types) (texts : ℕ) (fs : L
           owner_no_value a.program.types o.ty o.owner (subst (λ (x : ExprType). is_number x ≡ true) o.is (given_number a.program.types (type_at a.program.types target) (typed_in form) worth initial))
 
   -- .. nor is a reference to a struct
-  pub struct_reference_refused : (form : Form) (target : TyId) (constant : Bool) (number : ℕ) → type_at a.program.types target ≡ ty.Struct number → is_given a.program.types (ty.Reference target constant) (typed_in form) ≡ true → IsOwning a visible types texts fs f setting form → ⊥
-  struct_reference_refused form target constant number structure given from =
-      go from (given_bound a.program.types target constant (typed_in form) (struct_target a.program.types (type_at a.program.types target) number structure) given)
+  pub struct_reference_refused : (form : Form) (target : TyId) (constant : Bool) (number : ℕ) → type_at a.program.types target ≡ ty.Struct number → is_target a.program.types (type_at a.program.types target) ≡ true → is_given a.program.types (ty.Reference target constant) (typed_in form) ≡ true → IsOwning a visible types texts fs f setting form → ⊥
+  struct_reference_refused form target constant number structure wide given from =
+      go from (given_bound a.program.types target constant (typed_in form) wide given)
     where
       go : IsOwning a visible types texts fs f setting form → IsBound a.program.types target constant (typed_in form) → ⊥
       go (stands_there is) (at_place there) =
@@ -238,9 +247,9 @@ module _ (a : Around) (visible : List ℕ) (types : Types) (texts : ℕ) (fs : L
       go (at_place there) (to_value v) = false≢true (sym (walker_is a.program.types from.ty from.walker).value ∙ ap is_value (same (sym from.is ∙ from.place target there.held there.place)) ∙ v)
       go (at_place there) (to_owner o) =
           false≢true (sym (walker_is a.program.types from.ty from.walker).owner ∙ ap owns_elements (same (sym from.is ∙ from.place target there.held there.place)) ∙ owner_is a.program.types (type_at a.program.types target) o)
-      go (at_place there) (to_struct number s) =
+      go (at_place there) (to_struct number s pointless) =
           false≢true (subst (λ (u : Ty). is_walker_of_values a.program.types u ≡ true) (same (sym from.is ∙ from.place target there.held there.place) ∙ s) walks)
-      go (by_temporary none initial) (to_struct number s) =
+      go (by_temporary none initial) (to_struct number s pointless) =
           walker_no_struct_given a.program.types from.ty walks number (typed_in form).category
           (subst (λ (x : ExprType). fits_at_all (fits a.program.types (ty.Struct number) x (typed_in form).category) ≡ true) from.is (subst (λ (t : Ty). is_given a.program.types t (typed_in form) ≡ true) s initial))
       go (by_temporary none initial) (to_value v) =

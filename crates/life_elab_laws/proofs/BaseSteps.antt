@@ -40,10 +40,10 @@ use Rattle.life_elab_laws.proofs.OperandsThere.{number_any, register_there, type
 use Rattle.life_elab_laws.proofs.Parts.{Part}
 use Rattle.life_elab_laws.proofs.Types.{type_added}
 use Rattle.life_elab_laws.proofs.WrittenLocals.{fits_below, fits_register}
-use Rattle.life_elab_laws.proofs.Targets.{target_no_void, target_same}
+use Rattle.life_elab_laws.proofs.Targets.{target_no_void, target_same, target_no_slot}
 use Rattle.life_served.specs.Served.{is_element, is_target}
 use Rattle.life_elab_laws.proofs.Elements.{element_target, element_there}
-use Rattle.life_elab_laws.proofs.Shaped.{element_further}
+use Rattle.life_elab_laws.proofs.Shaped.{element_further, PlainStays}
 
 -- what has elements names a local that is there
 pub record IsBase (b : Base) (n : ℕ) (k : List Known) : Type 0 where
@@ -123,9 +123,9 @@ module _ (types : Types) (texts : ℕ) (fs : List Function) (f : Function) where
   element_is t constant b which.Target h number = absurd number
 
   -- an element, which is reached through a register
-  pub element_part : (few : Types) (place : Place) (id : TyId) (constant : Bool) (t : Ty) (x : Base × Which) (s : State) → IsFront few.types types.types → IsFront few.types s.types.types → type_at few id ≡ t → is_element few t ≡ true
+  pub element_part : (few : Types) (place : Place) (id : TyId) (constant : Bool) (t : Ty) (x : Base × Which) (s : State) → IsFront few.types types.types → PlainStays few types → IsFront few.types s.types.types → type_at few id ≡ t → is_element few t ≡ true
       → Part types texts fs f (both types texts fs f (a_base t constant) a_which) x None s (element place (category.Place id constant) x.0 x.1 s) (a_place types texts fs f t constant)
-  element_part few place id constant t x s front table here v =
+  element_part few place id constant t x s front stays table here v =
       emit_part types texts fs f (both types texts fs f (a_base t constant) a_which) x None s w place (λ r. Element (whole r) x.0 x.1) (behind w.given)
       (a_place types texts fs f t constant)
       (new_targeted types f place reference s fits (fits_below few s.types (front_length few.types s.types.types table) reference (ap (is_target few) here ∙ element_target few t v)))
@@ -153,7 +153,7 @@ module _ (types : Types) (texts : ℕ) (fs : List Function) (f : Function) where
 
       -- in the finished table it may be pointed to too
       wide : is_target types t ≡ true
-      wide = element_target types t (element_further few types front t v)
+      wide = element_target types t (element_further few types front stays t v)
 
       fits : fits_register types (ty.Reference id constant) ≡ true
       fits = ap (is_target types) (sym (type_either types id) ∙ later) ∙ wide
@@ -161,7 +161,7 @@ module _ (types : Types) (texts : ℕ) (fs : List Function) (f : Function) where
       at_reference : Begins types f (new_register place (ty.Reference id constant) s).state → type_in types f (whole (length s.locals)) ≡ ty.Reference id constant
       at_reference b =
           let l = added place (ty.Reference id constant) s in
-          reference_there types f (length s.locals) l id constant (b.locals (length s.locals) l (last_there s.locals l)) (b.table l.ty.0 (ty.Reference id constant) (type_added s.types.types (ty.Reference id constant))) (ap (is_target types) later ∙ wide)
+          reference_there types f (length s.locals) l id constant (b.locals (length s.locals) l (last_there s.locals l)) (b.table l.ty.0 (ty.Reference id constant) (type_added s.types.types (ty.Reference id constant))) (target_no_slot types (ty_of types id) (ap (is_target types) later ∙ wide))
 
       kept_reference : Begins types f (new_register place (ty.Reference id constant) s).state → is_register_at f (length s.locals) ≡ true
       kept_reference b = let l = added place (ty.Reference id constant) s in register_there types f (length s.locals) l (b.locals (length s.locals) l (last_there s.locals l)) refl

@@ -32,9 +32,9 @@ use Rattle.life_elab_laws.proofs.Growing.{Grows, grows_none}
 use Rattle.life_elab_laws.proofs.OrderedTypes.{order_none}
 use Rattle.life_elab_laws.proofs.WrittenLocals.{AddsRegisters, AreWrittenLocals, IsIntermediate, fits_register, locals_added, own_added, register_pushed, registers_none}
 use Rattle.life_elab_laws.proofs.PendingTemporaries.{none_pending, pending_later}
-use Rattle.life_elab_laws.proofs.ResultTypes.{IsResultType, gives_alias, gives_walker, gives_nothing, gives_raw, gives_reference, gives_value, gives_view, result_is, gives_struct, gives_owner, gives_unique}
+use Rattle.life_elab_laws.proofs.ResultTypes.{IsResultType, gives_alias, gives_walker, gives_nothing, gives_raw, gives_reference, gives_value, gives_view, result_is, gives_struct, gives_owner, gives_unique, gives_whole}
 use Rattle.life_elab_laws.proofs.Targets.{owner_target, value_target, struct_target}
-use Rattle.life_elab_laws.proofs.ServedTypes.{IsBuilt}
+use Rattle.life_elab_laws.proofs.ServedTypes.{IsBuilt, struct_tabled}
 use Rattle.life_elab_laws.proofs.Values.{by_values}
 use Rattle.life_elab_laws.proofs.OwnLocals.{first_own}
 use Rattle.life_types.specs.declared.ty.NameId.{NameId}
@@ -143,16 +143,16 @@ module _ (a : Around) where
   abbrev result_here : LocalKind → Local
   result_here kind = nameless_of kind a.function.place a.function.result
 
-  -- a register, or an object that is an owner or a unique_ptr
+  -- a register, or an object that is an owner, a unique_ptr or a struct
   abbrev FitsResult : Ty → LocalKind → Type 0
-  FitsResult t kind = ((kind ≡ Register) × (fits_register a.program.types t ≡ true)) ⊎ ((kind ≡ Object) × IsBuilt a.program.types t)
+  FitsResult t kind = ((kind ≡ Register) × (fits_register a.program.types t ≡ true)) ⊎ ((kind ≡ Object) × (slice_get a.program.types.types a.function.result.0 ≡ Some t → IsBuilt a.program.types t))
 
-  one_register : (t : Ty) (kind : LocalKind) (s : State) → FitsResult t kind → slice_get s.types.types a.function.result.0 ≡ Some t
+  one_register : (t : Ty) (kind : LocalKind) (s : State) → FitsResult t kind → slice_get a.program.types.types a.function.result.0 ≡ Some t → slice_get s.types.types a.function.result.0 ≡ Some t
       → (y : ℕ) (l : Local) → slice_get (s.locals ++ result_here kind ∷ []) y ≡ Some l → (slice_get s.locals y ≡ Some l) ⊎ IsIntermediate a.program.types s.types l
-  one_register t kind s (inl fits) at =
+  one_register t kind s (inl fits) own at =
       register_pushed a.program.types s.types s.locals (result_here kind) (record { nameless = refl; ty = t; typed = at; fits = inl (fits.0, fits.1) })
-  one_register t kind s (inr fits) at =
-      register_pushed a.program.types s.types s.locals (result_here kind) (record { nameless = refl; ty = t; typed = at; fits = inr (inl (fits.0, inr fits.1)) })
+  one_register t kind s (inr fits) own at =
+      register_pushed a.program.types s.types s.locals (result_here kind) (record { nameless = refl; ty = t; typed = at; fits = inr (inl (fits.0, inr (fits.1 own))) })
 
   one_register_grows : (kind : LocalKind) (s : State) → Grows s (record s { locals = s.locals ++ result_here kind ∷ [] })
   one_register_grows kind s = record {
@@ -176,26 +176,29 @@ module _ (a : Around) where
   by_result s P none one (ty.Iterator target constant) (gives_walker w) = one (ty.Iterator target constant) (inl (refl, w))
   by_result s P none one (ty.Span target constant) (gives_walker w) = one (ty.Span target constant) (inl (refl, w))
   by_result s P none one _ (gives_walker w) = absurd (false≢true w)
-  by_result s P none one ty.Text (gives_owner o) = one ty.Text (inr (refl, inl o))
-  by_result s P none one (ty.Vector item) (gives_owner o) = one (ty.Vector item) (inr (refl, inl o))
+  by_result s P none one ty.Text (gives_owner o) = one ty.Text (inr (refl, λ own. inl o))
+  by_result s P none one (ty.Vector item) (gives_owner o) = one (ty.Vector item) (inr (refl, λ own. inl o))
   by_result s P none one _ (gives_owner o) = absurd (false≢true o)
-  by_result s P none one t (gives_unique target unique w) = subst (λ (u : Ty). P u (with_result a u s)) (sym unique) (one (ty.Unique target) (inr (refl, inr w)))
+  by_result s P none one t (gives_unique target unique w) = subst (λ (u : Ty). P u (with_result a u s)) (sym unique) (one (ty.Unique target) (inr (refl, λ own. inr (inl w))))
+  by_result s P none one t (gives_whole number whole pointless) =
+      subst (λ (u : Ty). P u (with_result a u s)) (sym whole)
+      (one (ty.Struct number) (inr (refl, λ own. inr (inr (struct_tabled a.program.types a.function.result number (ap (λ (o : Option Ty). unwrap_or o ty.Void) own))))))
   by_result s P none one t (gives_view view) = subst (λ (u : Ty). P u (with_result a u s)) (sym view) (one ty.View (inl (refl, refl)))
   by_result s P none one t (gives_reference target constant refers w) =
       subst (λ (u : Ty). P u (with_result a u s)) (sym refers) (one (ty.Reference target constant) (inl (refl, value_target a.program.types (type_at a.program.types target) w)))
   by_result s P none one t (gives_alias target constant refers o) =
       subst (λ (u : Ty). P u (with_result a u s)) (sym refers) (one (ty.Reference target constant) (inl (refl, owner_target a.program.types (type_at a.program.types target) o)))
-  by_result s P none one t (gives_struct target constant number refers structure) =
-      subst (λ (u : Ty). P u (with_result a u s)) (sym refers) (one (ty.Reference target constant) (inl (refl, struct_target a.program.types (type_at a.program.types target) number structure)))
+  by_result s P none one t (gives_struct target constant number refers structure pointless) =
+      subst (λ (u : Ty). P u (with_result a u s)) (sym refers) (one (ty.Reference target constant) (inl (refl, struct_target a.program.types (type_at a.program.types target) pointless)))
 
   pub result_grows : (t : Ty) (s : State) → IsResultType a.program.types t → Grows s (with_result a t s)
   result_grows t s kind = by_result s (λ t r. Grows s r) (grows_none s) (λ t fits. one_register_grows (result_kind (class (Some t))) s) t kind
 
   -- .. a local without a name
-  result_registers : (t : Ty) (s : State) → IsResultType a.program.types t → slice_get s.types.types a.function.result.0 ≡ Some t → AddsRegisters a.program.types s (with_result a t s)
-  result_registers t s kind at =
-      by_result s (λ t r. slice_get s.types.types a.function.result.0 ≡ Some t → AddsRegisters a.program.types s r) (λ at. registers_none a.program.types s)
-      (λ t fits at. (one_register t (result_kind (class (Some t))) s fits at, order_none s.types)) t kind at
+  result_registers : (t : Ty) (s : State) → IsResultType a.program.types t → slice_get a.program.types.types a.function.result.0 ≡ Some t → slice_get s.types.types a.function.result.0 ≡ Some t → AddsRegisters a.program.types s (with_result a t s)
+  result_registers t s kind own at =
+      by_result s (λ t r. slice_get a.program.types.types a.function.result.0 ≡ Some t → slice_get s.types.types a.function.result.0 ≡ Some t → AddsRegisters a.program.types s r) (λ own at. registers_none a.program.types s)
+      (λ t fits own at. (one_register t (result_kind (class (Some t))) s fits own at, order_none s.types)) t kind own at
 
   result_there : (t : Ty) (s : State) → IsResultType a.program.types t → is_void t ≡ false → slice_get (with_result a t s).locals (length s.locals) ≡ Some (result_here (result_kind (class (Some t))))
   result_there t s kind some =
@@ -239,7 +242,7 @@ module _ (a : Around) where
         let there : slice_get given.types.types a.function.result.0 ≡ Some t =
         ap (λ (x : Types). slice_get x.types a.function.result.0) (types_same a.function.parameters a.function.locals (nothing_written T)) ∙ table a.function.result.0 t at in
         locals_added a.program.types a given (first_state a T) (result_grows (type_at a.program.types a.function.result) given (kind_of b)).types
-        (result_registers (type_at a.program.types a.function.result) given (kind_of b) (there ∙ ap Some (sym found)))
+        (result_registers (type_at a.program.types a.function.result) given (kind_of b) (at ∙ ap Some (sym found)) (there ∙ ap Some (sym found)))
         (own_parameters a.program.types a.function.parameters [] a.function.locals (nothing_written T) refl (λ y l none. absurd (none-some l none)))
 
     pub result_first : is_served_result a.program.types a.function.result ≡ true → is_void (type_at a.program.types a.function.result) ≡ false

@@ -1,9 +1,8 @@
 -- What is behind a pointer, and what a reference refers to that a call gives, whatever it is: its place, and its address.
-use Rattle.std.proofs.Common.{◌≡◌, ℕ, Bool, true, false, ◌||◌, List, Ok, Some, None, refl, sym, ap, ◌∙◌, subst, slice_get, ◌∷◌, []}
+use Rattle.std.proofs.Common.{◌≡◌, ℕ, Bool, true, false, List, Ok, Some, None, refl, sym, ap, ◌∙◌, subst, slice_get, ◌∷◌, []}
 use Rattle.std.proofs.lemmas.Bool.{and_from, false≢true}
-use Rattle.life_served.specs.Served.{is_owning, is_target}
+use Rattle.life_served.specs.Served.{is_target}
 use Rattle.life_types.specs.Pointees.{ty_of}
-use Rattle.life_types.specs.TypeTests.{is_value, is_void}
 use Rattle.life_types.specs.Types.{Types}
 use Rattle.life_types.specs.declared.place.Place.{Place}
 use Rattle.life_types.specs.declared.ty.Ty.{Ty}
@@ -45,7 +44,6 @@ use Rattle.life_elab_laws.proofs.ExpressionForms.{Hands, IsForm, IsWhole, Placed
 use Rattle.life_elab_laws.proofs.Filling.{aimed_filling}
 use Rattle.life_elab_laws.proofs.FormedVariables.{behind_place}
 use Rattle.life_elab_laws.proofs.Gifts.{a_place, a_pointer, a_pointing, nothing as no_gift}
-use Rattle.life_elab_laws.proofs.LentArguments.{plain_hands}
 use Rattle.life_elab_laws.proofs.Parts.{seen_part}
 use Rattle.life_elab_laws.proofs.PointerForms.{own_typed, placed_operand, raw_target, result_later}
 use Rattle.life_elab_laws.proofs.Setting.{Setting}
@@ -111,7 +109,7 @@ module _ (a : Around) (visible : List ℕ) (types : Types) (texts : ℕ) (fs : L
         (is.pointers (ty.Raw d.target d.constant) d.pointer refl s stands)
         (λ b h. behind_place types texts fs f l.given (ty.Raw d.target d.constant) d.target d.constant (type_at a.program.types d.target) h refl refl refl
         (target_type a.program.types types setting.front d.target d.wide) (target_no_void a.program.types (type_at a.program.types d.target) d.wide))
-        (λ n k q. record { local = q.local; uses = ap (λ (m : Location). m.local ∷ []) q.is; below = q.below; held = q.held }))
+        (λ n k q. record { local = q.local; uses = ap (λ (x : ℕ). x ∷ []) q.is; below = q.below; held = q.held }))
 
     -- no local stands there
     pub behind_apart : (s : State) (y : ℕ) → is_itself types texts fs f y ((form_uses a (dereference inner) place e.ty e.category).at s).given ≡ false
@@ -124,12 +122,10 @@ module _ (a : Around) (visible : List ℕ) (types : Types) (texts : ℕ) (fs : L
       → (s : State) → Stood s → Hands a visible types texts fs f setting of s (giving.arguments a (all_uses a given) delimiters (parameter_types (Some of)) s)
       → PlacedAs (type_at a.program.types target) constant s ((form_uses a (call g given delimiters) place e.ty e.category).at s)
   call_named g given delimiters e place of at target constant refers wide held s stands hands =
-      let first =
-      plain_hands a types texts fs f setting g of at (ap (λ (t : Ty). is_void t || (is_value t || is_owning a.program.types t)) refers) s (giving.arguments a (all_uses a given) delimiters (around.parameter_types a g) s)
-      (subst (λ (ids : List TyId). Hands a visible types texts fs f setting of s (giving.arguments a (all_uses a given) delimiters ids s)) (sym (ap parameters_of at)) hands) in
+      let first = subst (λ (ids : List TyId). Hands a visible types texts fs f setting of s (giving.arguments a (all_uses a given) delimiters ids s)) (sym (ap parameters_of at)) hands in
       subst (λ (t : Ty). PlacedAs (type_at a.program.types target) constant s (mapped through (built (Fill place (called g (giving.arguments a (all_uses a given) delimiters (around.parameter_types a g) s).given)) (wanted place None t) (giving.arguments a (all_uses a given) delimiters (around.parameter_types a g) s).state))) (sym (ap reference_to held))
       (referred_call types texts fs f g of (setting.callees g of at) s (giving.arguments a (all_uses a given) delimiters (around.parameter_types a g) s) first a.program.types setting.front target constant wide
-      (result_later a visible types texts fs f setting g of at ∙ refers) place stands.opened (stands_later a visible s (giving.arguments a (all_uses a given) delimiters (around.parameter_types a g) s).state first.grown stands).table)
+      (result_later a visible types texts fs f setting g of at ∙ refers) place (stands_later a visible s (giving.arguments a (all_uses a given) delimiters (around.parameter_types a g) s).state first.grown stands).table setting.plain)
 
   -- ---- the address of what stands at a place
 

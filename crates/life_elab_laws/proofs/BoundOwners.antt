@@ -2,8 +2,7 @@
 use Rattle.std.proofs.Common.{◌≡◌, ◌<◌, ◌⊎◌, inl, inr, ℕ, Bool, true, false, List, [], ◌∷◌, ◌++◌, Contains, drop, length, reverse, slice_get, slice_set, take, Some, None, refl, sym, ap, ◌∙◌, subst, arith, append_assoc, length-append}
 use Rattle.std.proofs.lemmas.List.Elements.{Contains-push, Contains-push_cases}
 use Rattle.std.proofs.lemmas.Option.{slice_get_within}
-use Rattle.life_served.specs.Served.{is_owner_of_values, is_served_variable, is_target}
-use Rattle.life_types.specs.Trees.{HasPartsBelow}
+use Rattle.life_served.specs.Served.{is_served_variable, is_target}
 use Rattle.life_types.specs.Types.{Types}
 use Rattle.life_types.specs.declared.place.Place.{Place}
 use Rattle.life_types.specs.declared.ty.Ty.{Ty}
@@ -26,7 +25,7 @@ use Rattle.life_well_typed.specs.Visible.{Visible, with_next}
 use Rattle.life_writer.specs.Around.{Around, result_local}
 use Rattle.life_writer.specs.Uses.{Remaining}
 use Rattle.life_writer.specs.Variables.{end_pending, variable_local}
-use Rattle.life_writer.specs.Writing.{Gives, State, emit, gives}
+use Rattle.life_writer.specs.Writing.{Gives, State, emit, gives, with_code}
 use Rattle.life_elab_laws.proofs.Among.{Among, all_among, among_contains, among_drop, among_either, among_left, among_or, among_reverse, among_right, among_take, apart_reverse, ascend_apart, ascend_drop, contains_among, reverse_among}
 use Rattle.life_elab_laws.proofs.BoundVariables.{adds_temporary, begins_before_it, follows_temporary, kept_none, kept_place, temporary_lives, temporary_local, temporary_written, with_temporary}
 use Rattle.life_elab_laws.proofs.Declaring.{adds_new, begins_old, follows_new, its_local, new_then, with_new}
@@ -39,7 +38,7 @@ use Rattle.life_elab_laws.proofs.Falling.{Falls, falls_append, falls_filling}
 use Rattle.life_elab_laws.proofs.Filling.{aimed_filling, filling_fills}
 use Rattle.life_elab_laws.proofs.Following.{Adds, Follows, adds_settled, adds_then, follows_again, follows_settled, knows_alive, settled, take_itself}
 use Rattle.life_elab_laws.proofs.FormedVariables.{keeps_all}
-use Rattle.life_elab_laws.proofs.Fronts.{IsFront, front_append, front_itself, front_length, last_there}
+use Rattle.life_elab_laws.proofs.Fronts.{IsFront, front_append, front_itself, last_there}
 use Rattle.life_elab_laws.proofs.Gifts.{Gift, IsPlaceOf, a_place, both, nothing}
 use Rattle.life_elab_laws.proofs.GivenApart.{Apart, codes_apart, AreApart}
 use Rattle.life_elab_laws.proofs.GivingBack.{fine_known}
@@ -48,31 +47,28 @@ use Rattle.life_elab_laws.proofs.Knowledge.{at_set, beside_set, ready_set, set_l
 use Rattle.life_elab_laws.proofs.MadeForms.{BuildsIn, Found, gift_of, one_new}
 use Rattle.life_elab_laws.proofs.Making.{Alive, IsOpen, opened_later}
 use Rattle.life_elab_laws.proofs.NewVariables.{bound_given, reference_declared, reference_kept}
-use Rattle.life_elab_laws.proofs.OrderedTypes.{order_then, type_ordered}
+use Rattle.life_elab_laws.proofs.OrderedTypes.{HasPartsIn, order_then, type_ordered}
 use Rattle.life_elab_laws.proofs.Parts.{Goes, Part, Runs}
 use Rattle.life_elab_laws.proofs.PendingTemporaries.{ArePending, temporary_later}
+use Rattle.life_elab_laws.proofs.ServedTypes.{IsBuilt}
 use Rattle.life_elab_laws.proofs.Setting.{Setting}
-use Rattle.life_elab_laws.proofs.Shaped.{is_passing, named_lasts, owner_later}
+use Rattle.life_elab_laws.proofs.Shaped.{built_later, is_passing, named_lasts}
 use Rattle.life_elab_laws.proofs.Shaping.{IsFine, fine_acts, fine_append}
 use Rattle.life_elab_laws.proofs.SomeKnown.{some_known, some_knows}
-use Rattle.life_elab_laws.proofs.Targets.{owner_target}
 use Rattle.life_elab_laws.proofs.TemporaryEnds.{temporary_ends}
 use Rattle.life_elab_laws.proofs.Types.{types_before}
 use Rattle.life_elab_laws.proofs.VariablePlaces.{Stands}
-use Rattle.life_elab_laws.proofs.WrittenLocals.{FitsTemporary, locals_added, own_added, owner_below}
+use Rattle.life_elab_laws.proofs.WrittenLocals.{FitsTemporary, built_below, locals_added, own_added}
 use Rattle.life_core.specs.declared.instr.Form.TheVariants.{Plain}
 use Rattle.life_elab_laws.proofs.Handing.{GoesHanding, RunsHanding, handed_apart}
 use Rattle.life_elab_laws.proofs.OwnLocals.{first_own}
 
 module _ (a : Around) (types : Types) (texts : ℕ) (fs : List Function) (f : Function) (setting : Setting a types fs f) (v : Visible) (in_loop : Bool) (last : Place)
     (u : TypedLocal) (s : State) (h : Follows types f a v s) (at : slice_get a.function.locals v.declared ≡ Some u) (built : is_served_variable a.program.types u.ty ≡ true)
-    (target : TyId) (constant : Bool) (found : slice_get a.program.types.types u.ty.0 ≡ Some (ty.Reference target constant)) (owner : is_owner_of_values a.program.types (type_at a.program.types target) ≡ true) (place : Place)
+    (target : TyId) (constant : Bool) (found : slice_get a.program.types.types u.ty.0 ≡ Some (ty.Reference target constant)) (wide : is_target a.program.types (type_at a.program.types target) ≡ true) (owner : IsBuilt a.program.types (type_at a.program.types target)) (place : Place)
     (w : Gives Remaining) {plain : Bool} (is : BuildsIn a v.visible types texts fs f setting plain (type_at a.program.types target) s w) where
   abbrev t : Ty
   t = type_at a.program.types target
-
-  wide : is_target a.program.types (type_at a.program.types target) ≡ true
-  wide = owner_target a.program.types (type_at a.program.types target) owner
 
   abbrev Q : Gift types texts fs f (Found is.making)
   Q = gift_of a v.visible types texts fs f setting is.making
@@ -80,7 +76,7 @@ module _ (a : Around) (types : Types) (texts : ℕ) (fs : List Function) (f : Fu
   -- ---- what is built
 
   pub fits : FitsTemporary types (type_at a.program.types target)
-  fits = inr (inl (owner_later a.program.types types setting.front (type_at a.program.types target) owner))
+  fits = inr (built_later a.program.types types setting.front setting.plain (type_at a.program.types target) owner)
 
   -- behind what is found, without the temporaries of that
   abbrev there : State
@@ -89,8 +85,8 @@ module _ (a : Around) (types : Types) (texts : ℕ) (fs : List Function) (f : Fu
   first : Follows types f a v there
   first = follows_settled types f a v s w.state is.hands.grown h
 
-  pub within : HasPartsBelow w.state.types (length w.state.types.types) (type_at a.program.types target)
-  within = owner_below a.program.types w.state.types (front_length a.program.types.types w.state.types.types first.stands.table) (type_at a.program.types target) owner
+  pub within : HasPartsIn w.state.types (type_at a.program.types target)
+  within = built_below a.program.types w.state.types first.stands.table (type_at a.program.types target) owner
 
   abbrev x : ℕ
   x = length w.state.locals
@@ -103,7 +99,7 @@ module _ (a : Around) (types : Types) (texts : ℕ) (fs : List Function) (f : Fu
 
   -- it has come to life
   abbrev begun : State
-  begun = emit (is.comes.at place) (is.comes.step x) kept
+  begun = with_code (kept.code ++ is.comes.code place x) kept
 
   abbrev there_kept : State
   there_kept = with_temporary a types texts fs f place t fits there within
@@ -137,7 +133,7 @@ module _ (a : Around) (types : Types) (texts : ℕ) (fs : List Function) (f : Fu
   }
 
   part : Part types texts fs f (both types texts fs f Q (a_place types texts fs f t false)) (is.found, object_named x) None begun (gives tt (is.act place (object_named x) begun)) (nothing types texts fs f)
-  part = is.acts place (object_named x) begun stood (λ n c. refl) (one_new a v.visible types texts fs f setting s x h.stands.opened is.hands.grown.count)
+  part = is.acts place (object_named x) begun stood (λ n c. refl) (one_new a v.visible types texts fs f setting s begun x h.stands.opened is.hands.grown.count (omega (arith, length-append w.state.locals (tl ∷ []))))
 
   -- it is built
   abbrev acted : State
@@ -209,7 +205,7 @@ module _ (a : Around) (types : Types) (texts : ℕ) (fs : List Function) (f : Fu
   finished_is = ap (λ (r : State). record r { pending = take n acted.pending }) e.written
 
   abbrev comes : List Tree
-  comes = Act (is.comes.at place) (is.comes.step x) ∷ []
+  comes = is.comes.code place x
 
   abbrev aims : List Tree
   aims = Act place (Aim (whole y) (Aimed (object_named x))) ∷ []

@@ -4,7 +4,6 @@ use Rattle.std.proofs.lemmas.Bool.{or_left}
 use Rattle.std.proofs.lemmas.List.Elements.{Contains-append_left, Contains-push_cases}
 use Rattle.std.proofs.lemmas.Option.{slice_get_within, same_Some}
 use Rattle.life_served.specs.Served.{is_served_variable, is_target}
-use Rattle.life_types.specs.Trees.{HasPartsBelow}
 use Rattle.life_types.specs.TypeTests.{is_value}
 use Rattle.life_types.specs.Types.{Types}
 use Rattle.life_types.specs.declared.place.Place.{Place}
@@ -55,7 +54,7 @@ use Rattle.life_elab_laws.proofs.Knowledge.{at_set, beside_set, ready_set, set_l
 use Rattle.life_elab_laws.proofs.Making.{Alive}
 use Rattle.life_elab_laws.proofs.NewVariables.{bound_given, reference_declared, reference_kept}
 use Rattle.life_elab_laws.proofs.OperandsThere.{object_there, type_there}
-use Rattle.life_elab_laws.proofs.OrderedTypes.{order_then, type_ordered}
+use Rattle.life_elab_laws.proofs.OrderedTypes.{HasPartsIn, order_then, type_ordered}
 use Rattle.life_elab_laws.proofs.PendingTemporaries.{none_pending}
 use Rattle.life_elab_laws.proofs.Setting.{Setting}
 use Rattle.life_elab_laws.proofs.Shaping.{IsFine, IsFineStep, fine_acts, fine_append}
@@ -72,12 +71,12 @@ use Rattle.life_proper.specs.GivenOver.{given_spot}
 use Rattle.life_elab_laws.proofs.OwnLocals.{first_own}
 
 -- what a value is of is in the table
-pub value_below : (table : Types) (t : Ty) → is_value t ≡ true → HasPartsBelow table (length table.types) t
-value_below table t worth = fits_below table table (omega arith) t (value_fits table t worth)
+pub value_below : (table : Types) (t : Ty) → is_value t ≡ true → HasPartsIn table t
+value_below table t worth ordered = fits_below table table (omega arith) t (value_fits table t worth)
 
 -- ---- the temporary lives, and nothing more is visible
 
-module _ (a : Around) (types : Types) (texts : ℕ) (fs : List Function) (f : Function) (place : Place) (t : Ty) (fits : FitsTemporary types t) (s : State) (within : HasPartsBelow s.types (length s.types.types) t) where
+module _ (a : Around) (types : Types) (texts : ℕ) (fs : List Function) (f : Function) (place : Place) (t : Ty) (fits : FitsTemporary types t) (s : State) (within : HasPartsIn s.types t) where
   abbrev pub temporary_local : Local
   temporary_local = nameless_of Object place (type_number t (typed_with t s))
 

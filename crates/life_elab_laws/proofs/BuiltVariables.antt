@@ -9,7 +9,7 @@ use Rattle.life_types.specs.declared.ty.Ty.{Ty}
 use Rattle.life_typed.specs.declared.typed_program.TypedLocal.{TypedLocal}
 use Rattle.life_core.specs.Function.{Function}
 use Rattle.life_core.specs.Operands.{object_named}
-use Rattle.life_core.specs.Tree.{Acts as Act, Tree, trees}
+use Rattle.life_core.specs.Tree.{Tree, trees}
 use Rattle.life_core.specs.declared.program.Local.{Local}
 use Rattle.life_proper.specs.Checking.{flow}
 use Rattle.life_proper.specs.Knowing.{known_at}
@@ -20,7 +20,7 @@ use Rattle.life_proper.specs.declared.known.Known.TheVariants as known
 use Rattle.life_well_typed.specs.Visible.{Visible, with_next}
 use Rattle.life_writer.specs.Around.{Around, result_local}
 use Rattle.life_writer.specs.Variables.{end_pending, variable_local}
-use Rattle.life_writer.specs.Writing.{Gives, State, emit, gives}
+use Rattle.life_writer.specs.Writing.{Gives, State, emit, gives, with_code}
 use Rattle.life_elab_laws.proofs.Among.{Among, all_among, among_contains, among_drop, among_left, among_or, among_reverse, among_right, among_take, apart_reverse, ascend_apart, ascend_drop, reverse_among}
 use Rattle.life_elab_laws.proofs.Declaring.{adds_new, follows_new, its_local, new_none, with_new}
 use Rattle.life_elab_laws.proofs.Doing.{Acting, Does}
@@ -64,7 +64,7 @@ module _ (a : Around) (types : Types) (texts : ℕ) (fs : List Function) (f : Fu
     l = variable_local a u
 
     abbrev pub begun : State
-    begun = emit (come.at u.place) (come.step x) (with_new l w.state)
+    begun = with_code (w.state.code ++ come.code u.place x) (with_new l w.state)
 
     -- what stands there, and what makes that of it
     module _ (act : State → State) (lives : Begins types f begun → can_live types texts fs f x ≡ true) (is_place : Begins types f begun → IsPlaceOf types texts fs f t false (object_named x))
@@ -140,7 +140,7 @@ module _ (a : Around) (types : Types) (texts : ℕ) (fs : List Function) (f : Fu
       finished_is = ap (λ (r : State). record r { pending = take n done.pending }) e.written
 
       abbrev comes : List Tree
-      comes = Act (come.at u.place) (come.step x) ∷ []
+      comes = come.code u.place x
 
       abbrev whole : List Tree
       whole = made.code ++ (comes ++ (part.code ++ e.code))

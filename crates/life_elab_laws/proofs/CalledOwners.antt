@@ -1,5 +1,5 @@
--- An owner or a unique_ptr that a call gives: its result brings to life what it goes to, behind its arguments, which may be owners that are given over.
-use Rattle.std.proofs.Common.{◌≡◌, ℕ, Bool, true, false, ◌&&◌, ◌||◌, List, [], ◌++◌, flat_map, slice_get, Some, None, inl, inr, refl, sym, ap, ◌∙◌, subst, append-nil, if◌then◌else◌}
+-- An owner, a unique_ptr or a struct that a call gives: its result brings to life what it goes to, behind its arguments, which may be owners that are given over.
+use Rattle.std.proofs.Common.{◌≡◌, ℕ, Bool, true, false, ◌&&◌, ◌||◌, List, [], ◌∷◌, ◌++◌, flat_map, slice_get, Some, None, inl, inr, refl, sym, ap, ◌∙◌, subst, append-nil, if◌then◌else◌}
 use Rattle.std.proofs.lemmas.Bool.{and_from, false≢true, or_left}
 use Rattle.life_types.specs.Pointees.{ty_of}
 use Rattle.life_types.specs.TypeTests.{is_pointer}
@@ -11,9 +11,10 @@ use Rattle.life_typed.specs.Programs.{FunctionForm}
 use Rattle.life_core.specs.Function.{Function}
 use Rattle.life_core.specs.Kinds.{is_object_at}
 use Rattle.life_core.specs.Operands.{Argument, object_named, whole}
+use Rattle.life_core.specs.Tree.{Acts}
 use Rattle.life_core.specs.Touched.{if_object, unless_object}
 use Rattle.life_proper.specs.GivenOver.{given_argument}
-use Rattle.life_proper.specs.OperandTypes.{is_owner, same}
+use Rattle.life_proper.specs.OperandTypes.{is_composed, same}
 use Rattle.life_proper.specs.OperandTypes as operands
 use Rattle.life_proper.specs.Placed.{is_number, object_at, type_in}
 use Rattle.life_proper.specs.Placed as placed
@@ -29,23 +30,25 @@ use Rattle.life_elab_laws.proofs.Coming.{Comes}
 use Rattle.life_elab_laws.proofs.Gifts.{IsPlaceOf, a_place, all_handed, both, nothing as no_gift}
 use Rattle.life_elab_laws.proofs.GivenApart.{nil_right}
 use Rattle.life_elab_laws.proofs.HandedArguments.{Hands}
+use Rattle.life_elab_laws.proofs.HandedTypes.{built_composed}
 use Rattle.life_elab_laws.proofs.HandingCalls.{born_falls, born_fine, born_looks}
 use Rattle.life_elab_laws.proofs.MadeForms.{Builds, of_call, handed_ready}
-use Rattle.life_elab_laws.proofs.MoveSteps.{built_moves, moved_same, moved_there}
+use Rattle.life_elab_laws.proofs.MoveSteps.{moved_same, moved_there}
 use Rattle.life_elab_laws.proofs.Parts.{gives_part}
 use Rattle.life_elab_laws.proofs.ServedTypes.{IsBuilt}
 use Rattle.life_elab_laws.proofs.Setting.{Setting}
 
-owner_no_pointer : (t : Ty) → is_owner t ≡ true → is_pointer t ≡ false
+owner_no_pointer : (t : Ty) → is_composed t ≡ true → is_pointer t ≡ false
 owner_no_pointer ty.Text o = refl
 owner_no_pointer (ty.Vector item) o = refl
 owner_no_pointer (ty.Unique target) o = refl
+owner_no_pointer (ty.Struct number) o = refl
 owner_no_pointer _ o = absurd (false≢true o)
 
 module _ (types : Types) (texts : ℕ) (fs : List Function) (f : Function) where
   -- ---- where its result goes
 
-  goes_owner : (t : Ty) (x : ℕ) → is_owner t ≡ true → placed.type_at types f x ≡ t → object_at types f x ≡ true → goes_to types texts fs f t (Some (whole x)) ≡ true
+  goes_owner : (t : Ty) (x : ℕ) → is_composed t ≡ true → placed.type_at types f x ≡ t → object_at types f x ≡ true → goes_to types texts fs f t (Some (whole x)) ≡ true
   goes_owner t x owner typed there =
       ap (λ (b : Bool). if b then operands.takes types (type_in types f (whole x)) t else (same t (type_in types f (whole x)) && (object_at types f x || is_number types f x))) (owner_no_pointer t owner)
       ∙ and_from (same t (placed.type_at types f x)) (object_at types f x || is_number types f x) (ap (same t) typed ∙ moved_same t owner) (or_left (object_at types f x) (is_number types f x) there)
@@ -56,8 +59,7 @@ module _ (types : Types) (texts : ℕ) (fs : List Function) (f : Function) where
       → ((x : ℕ) → IsPlaceOf types texts fs f t false (object_named x) → goes_to types texts fs f (ty_of types of.result) (Some (whole x)) ≡ true)
       → Comes types texts fs f (flat_map given_argument w.given) s w (all_handed types texts fs f (parameter_types (Some of))) hands t
   call_comes g of callee s w hands t place goes = record {
-    at = λ start. place;
-    step = λ x. called g w.given (whole x);
+    code = λ start x. Acts place (called g w.given (whole x)) ∷ [];
     fine = λ q start x can is. born_fine types texts fs f g of callee s w hands x place q (goes x is);
     falls = λ r start x k q none blank aside. born_falls types texts fs f g of callee s w hands x place r k q none blank aside;
     named = λ start x y m. subst (Among y) (append-nil (flat_map given_argument w.given)) m;
@@ -76,11 +78,11 @@ module _ (a : Around) (visible : List ℕ) (types : Types) (texts : ℕ) (fs : L
     hands = hands;
     comes = call_comes types texts fs f g of (setting.callees g of there) s w hands t place
         (λ x is.
-        let owner = built_moves a.program.types t built in
+        let owner = built_composed a.program.types t built in
         let here = moved_there types texts fs f t x owner is in
         ap (λ (u : Ty). goes_to types texts fs f u (Some (whole x))) same ∙ goes_owner types texts fs f t x owner here.typed here.object);
     act = λ start to r. r;
-    lives = refl;
+    lives = λ d r. refl;
     acts = λ start to r stands still new.
         gives_part types texts fs f (both types texts fs f (all_handed types texts fs f (parameter_types (Some of))) (a_place types texts fs f t false)) (w.given, to) None tt r (no_gift types texts fs f) (λ b h. tt) (λ b k alive h. tt);
     alone = λ e. record {

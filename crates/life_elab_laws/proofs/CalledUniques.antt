@@ -1,5 +1,5 @@
 -- A unique_ptr that a call gives.
-use Rattle.std.proofs.Common.{◌≡◌, inr, ℕ, true, List, Option, Some, None, slice_get, sym, ap, ◌∙◌, subst, refl}
+use Rattle.std.proofs.Common.{◌≡◌, inr, ℕ, true, List, Option, Some, None, slice_get, sym, ap, ◌∙◌, subst, refl, inl}
 use Rattle.std.proofs.lemmas.Bool.{false≢true}
 use Rattle.life_served.specs.Served.{is_element, is_unique_of_element, is_unique_type}
 use Rattle.life_types.specs.Types.{Types}
@@ -24,7 +24,7 @@ use Rattle.life_writer.specs.Giving as giving
 use Rattle.life_writer.specs.Writing.{State}
 use Rattle.life_elab_laws.proofs.CalledOwners.{call_builds}
 use Rattle.life_elab_laws.proofs.ExpressionForms.{Hands, Standing}
-use Rattle.life_elab_laws.proofs.ExpressionTypes.{IsAnswered, answered_as, answers_made, answers_nothing, answers_owner, answers_place, answers_raw, answers_struct, answers_unique, answers_value, answers_view, answers_walker}
+use Rattle.life_elab_laws.proofs.ExpressionTypes.{IsAnswered, answered_as, answers_made, answers_nothing, answers_owner, answers_place, answers_raw, answers_struct, answers_unique, answers_value, answers_view, answers_walker, answers_whole}
 use Rattle.life_elab_laws.proofs.FreshUniques.{IsFreshAt}
 use Rattle.life_elab_laws.proofs.MadeForms.{Builds}
 use Rattle.life_elab_laws.proofs.MovedOwners.{given_moved}
@@ -33,11 +33,13 @@ use Rattle.life_elab_laws.proofs.ResultTypes.{result_is}
 use Rattle.life_elab_laws.proofs.Setting.{Setting}
 use Rattle.life_elab_laws.proofs.TypedKinds.{value_simple}
 use Rattle.life_elab_laws.proofs.UniqueForms.{owner_no_unique, walker_no_unique}
+use Rattle.life_elab_laws.proofs.AnsweredUniques.{IsAnsweredAt}
 
 -- no other answer is one
 unique_answered : (types : Types) (result : Ty) (t : ExprType) (k : Category) → IsAnswered types result t k → is_unique_type t ≡ true → (target : TyId) × (result ≡ ty.Unique target) × (is_element types (type_at types target) ≡ true) × (t ≡ Of (ty.Unique target)) × (k ≡ category.Value)
 unique_answered types result t k (answers_nothing void own held) n = absurd (false≢true (sym (ap is_unique_type own) ∙ n))
 unique_answered types result t k (answers_value v own held) n = absurd (false≢true (sym (ap is_unique_type own ∙ (value_simple result v).unique) ∙ n))
+unique_answered types result t k (answers_whole number whole pointless own held) n = absurd (false≢true (sym (ap is_unique_type own) ∙ n))
 unique_answered types result t k (answers_raw target constant raw w own held) n = absurd (false≢true (sym (ap is_unique_type own) ∙ n))
 unique_answered types result t k (answers_view view own held) n = absurd (false≢true (sym (ap is_unique_type own) ∙ n))
 unique_answered types result t k (answers_walker w own held) n = absurd (false≢true (sym (ap is_unique_type own ∙ walker_no_unique types result w) ∙ n))
@@ -45,7 +47,7 @@ unique_answered types result t k (answers_made o own held) n = absurd (false≢t
 unique_answered types result t k (answers_unique target unique w own held) n = (target, unique, w, own, held)
 unique_answered types result t k (answers_place target constant refers w own held) n = absurd (false≢true (sym (ap is_unique_type own ∙ (value_simple (type_at types target) w).unique) ∙ n))
 unique_answered types result t k (answers_owner target constant refers o own held) n = absurd (false≢true (sym (ap is_unique_type own ∙ owner_no_unique types (type_at types target) o) ∙ n))
-unique_answered types result t k (answers_struct target constant number refers structure own held) n = absurd (false≢true (sym (ap is_unique_type own) ∙ n))
+unique_answered types result t k (answers_struct target constant number refers structure pointless own held) n = absurd (false≢true (sym (ap is_unique_type own) ∙ n))
 
 module _ (a : Around) (visible : List ℕ) (types : Types) (texts : ℕ) (fs : List Function) (f : Function) (setting : Setting a types fs f) where
   abbrev Stood : State → Type 0
@@ -79,6 +81,27 @@ module _ (a : Around) (visible : List ℕ) (types : Types) (texts : ℕ) (fs : L
             value = x.4;
             builds = λ target worth fits s stands.
                 subst (λ (t : Ty). Builds a visible types texts fs f setting t s ((form_uses a (call g given delimiters) place e.ty e.category).object s)) (given_moved a visible types texts fs f setting (ty.Unique target) (ty.Unique x.0) e refl refl x.3 fits)
-                (call_builds a visible types texts fs f setting g of at (ty.Unique x.0) (inr own) (result_later a visible types texts fs f setting g of at ∙ x.1) place s (giving.arguments a (all_uses a given) delimiters (around.parameter_types a g) s)
+                (call_builds a visible types texts fs f setting g of at (ty.Unique x.0) (inr (inl own)) (result_later a visible types texts fs f setting g of at ∙ x.1) place s (giving.arguments a (all_uses a given) delimiters (around.parameter_types a g) s)
                 (subst (λ (ids : List TyId). Hands a visible types texts fs f setting of s (giving.arguments a (all_uses a given) delimiters ids s)) (sym (ap parameters_of at)) (hands of at s stands)));
           }
+
+  -- .. where it is asked
+  pub called_answer : (g : ℕ) (given : Form) (delimiters : DelimitersForm) (e : Typed) (place : Place) → is_unique_type e.ty ≡ true → HasResult a.program.types (slice_get a.program.functions g) e
+      → ((of : FunctionForm) → slice_get a.program.functions g ≡ Some of → (s : State) → Stood s → Hands a visible types texts fs f setting of s (giving.arguments a (all_uses a given) delimiters (parameter_types (Some of)) s))
+      → let u = form_uses a (call g given delimiters) place e.ty e.category in IsAnsweredAt a visible types texts fs f setting e u.object u.decision u.named
+  called_answer g given delimiters e place n h hands =
+      let fresh = called_fresh g given delimiters e place n h hands in
+      let x = called_unique g e n h in
+      record {
+        fresh = fresh;
+        worth = subst (λ (t : TyId). is_element a.program.types (type_at a.program.types t) ≡ true) (one_target x.0 fresh.owned (sym x.2 ∙ fresh.is)) x.1;
+        undecided = λ b. refl;
+        nameless = refl;
+      }
+    where
+      target_in : ExprType → TyId
+      target_in (Of (ty.Unique t)) = t
+      target_in _ = (called_unique g e n h).0
+
+      one_target : (t u : TyId) → Of (ty.Unique t) ≡ Of (ty.Unique u) → t ≡ u
+      one_target t u same = ap target_in same

@@ -8,7 +8,7 @@ use Rattle.life_types.specs.Types.{Types, class, class_at}
 use Rattle.life_types.specs.declared.ty.Ty.{Ty}
 use Rattle.life_types.specs.declared.ty.Ty.TheVariants as ty
 use Rattle.life_types.specs.declared.ty.TyId.{TyId}
-use Rattle.life_served.specs.Served.{are_served_variables, is_served_function, is_served_result, is_served_statement, are_served_parameters, is_served_parameter, is_walker_of_values, takes_owners, is_owner_of_values}
+use Rattle.life_served.specs.Served.{are_served_variables, is_served_function, is_served_result, is_served_statement, are_served_parameters, is_served_parameter, is_walker_of_values, is_owner_of_values}
 use Rattle.life_typed.specs.BaseTypes.{type_at}
 use Rattle.life_typed.specs.Ends.{ends}
 use Rattle.life_typed.specs.Programs.{FunctionForm, ProgramForm, is_main}
@@ -27,10 +27,11 @@ use Rattle.life_elab_laws.proofs.Beginning.{parameter_locals, parameters_front, 
 use Rattle.life_elab_laws.proofs.Calls.{IsCallee}
 use Rattle.life_elab_laws.proofs.Fronts.{IsFront, front_cut, front_then}
 use Rattle.life_elab_laws.proofs.HandedTypes.{IsHandedType, handed_later, handed_type}
-use Rattle.life_elab_laws.proofs.ResultTypes.{IsResultType, gives_alias, gives_walker, gives_nothing, gives_raw, gives_reference, gives_value, gives_view, past_end, result_is, gives_struct, gives_owner, gives_unique}
+use Rattle.life_elab_laws.proofs.ResultTypes.{IsResultType, gives_alias, gives_walker, gives_nothing, gives_raw, gives_reference, gives_value, gives_view, past_end, result_is, gives_struct, gives_owner, gives_unique, gives_whole}
 use Rattle.life_elab_laws.proofs.Setting.{GivesBack, asked, unasked}
 use Rattle.life_elab_laws.proofs.Types.{value_class}
 use Rattle.life_elab_laws.proofs.OwnLocals.{first_own}
+use Rattle.life_elab_laws.proofs.Shaped.{PlainStays}
 
 -- what stands in a table is the type there
 pub type_found : (types : Types) (id : TyId) (t : Ty) → slice_get types.types id.0 ≡ Some t → type_at types id ≡ t
@@ -40,22 +41,22 @@ type_found types id t at = ap (λ (o : Option Ty). unwrap_or o ty.Void) at
 
 pub record IsServedFunction (texts : ℕ) (types : Types) (f : FunctionForm) : Type 0 where
   pub result : is_served_result types f.result ≡ true
-  pub parameters : are_served_parameters types (takes_owners types f.result) (take (length f.parameters) f.locals) ≡ true
+  pub parameters : are_served_parameters types (take (length f.parameters) f.locals) ≡ true
   pub variables : are_served_variables types f.locals ≡ true
   pub body : is_served_statement texts types f.locals f.body ≡ true
 
 pub served_parts : (texts : ℕ) (types : Types) (f : FunctionForm) → is_served_function texts types f ≡ true → IsServedFunction texts types f
 served_parts texts types f b =
     let one = and_parts (is_served_result types f.result) _ b in
-    let two = and_parts (are_served_parameters types (takes_owners types f.result) (take (length f.parameters) f.locals)) _ one.1 in
+    let two = and_parts (are_served_parameters types (take (length f.parameters) f.locals)) _ one.1 in
     let three = and_parts (are_served_variables types f.locals) (is_served_statement texts types f.locals f.body) two.1 in
     record { result = one.0; parameters = two.0; variables = three.0; body = three.1 }
 
-pub parameter_at : (types : Types) (owners : Bool) (us : List TypedLocal) → are_served_parameters types owners us ≡ true → (n : ℕ) (id : TyId) → slice_get (map type_of us) n ≡ Some id → is_served_parameter types owners id ≡ true
-parameter_at types owners [] b n id at = absurd (none-some id at)
-parameter_at types owners (u ∷ us) b zero id at =
-    subst (λ (i : TyId). is_served_parameter types owners i ≡ true) (same_Some u.ty id at) (and_parts (is_served_parameter types owners u.ty) (are_served_parameters types owners us) b).0
-parameter_at types owners (u ∷ us) b (suc n) id at = parameter_at types owners us (and_parts (is_served_parameter types owners u.ty) (are_served_parameters types owners us) b).1 n id at
+pub parameter_at : (types : Types) (us : List TypedLocal) → are_served_parameters types us ≡ true → (n : ℕ) (id : TyId) → slice_get (map type_of us) n ≡ Some id → is_served_parameter types id ≡ true
+parameter_at types [] b n id at = absurd (none-some id at)
+parameter_at types (u ∷ us) b zero id at =
+    subst (λ (i : TyId). is_served_parameter types i ≡ true) (same_Some u.ty id at) (and_parts (is_served_parameter types u.ty) (are_served_parameters types us) b).0
+parameter_at types (u ∷ us) b (suc n) id at = parameter_at types us (and_parts (is_served_parameter types u.ty) (are_served_parameters types us) b).1 n id at
 
 -- ---- what a function takes
 
@@ -66,16 +67,16 @@ types_cut a [] us rest few = refl
 types_cut a (p ∷ ps) [] rest few = absurd (omega (arith, few))
 types_cut a (p ∷ ps) (u ∷ us) rest few = ap (λ (ids : List TyId). u.ty ∷ ids) (types_cut a ps us rest (omega (arith, few)))
 
-parameter_taken : (a : Around) (owners : Bool) (ps : List ParameterPromise) (us : List TypedLocal) (y : ℕ) → length ps ≤ length us → are_served_parameters a.program.types owners (take (length ps) us) ≡ true → y < length ps
+parameter_taken : (a : Around) (ps : List ParameterPromise) (us : List TypedLocal) (y : ℕ) → length ps ≤ length us → are_served_parameters a.program.types (take (length ps) us) ≡ true → y < length ps
     → (l : Local) × (slice_get (parameter_locals a ps us) y ≡ Some l) × IsHandedType a.program.types l.ty
-parameter_taken a owners [] us y few b lt = absurd (omega (arith, lt))
-parameter_taken a owners (p ∷ ps) [] y few b lt = absurd (omega (arith, few))
-parameter_taken a owners (p ∷ ps) (u ∷ us) zero few b lt =
-    let parts = and_parts (is_served_parameter a.program.types owners u.ty) (are_served_parameters a.program.types owners (take (length ps) us)) b in
-    (parameter_local a p u, refl, handed_type a.program.types owners u.ty parts.0)
-parameter_taken a owners (p ∷ ps) (u ∷ us) (suc y) few b lt =
-    let parts = and_parts (is_served_parameter a.program.types owners u.ty) (are_served_parameters a.program.types owners (take (length ps) us)) b in
-    parameter_taken a owners ps us y (omega (arith, few)) parts.1 (omega (arith, lt))
+parameter_taken a [] us y few b lt = absurd (omega (arith, lt))
+parameter_taken a (p ∷ ps) [] y few b lt = absurd (omega (arith, few))
+parameter_taken a (p ∷ ps) (u ∷ us) zero few b lt =
+    let parts = and_parts (is_served_parameter a.program.types u.ty) (are_served_parameters a.program.types (take (length ps) us)) b in
+    (parameter_local a p u, refl, handed_type a.program.types u.ty parts.0)
+parameter_taken a (p ∷ ps) (u ∷ us) (suc y) few b lt =
+    let parts = and_parts (is_served_parameter a.program.types u.ty) (are_served_parameters a.program.types (take (length ps) us)) b in
+    parameter_taken a ps us y (omega (arith, few)) parts.1 (omega (arith, lt))
 
 -- ---- what its core function takes and gives, where it begins as it is written
 
@@ -90,6 +91,7 @@ pub record IsFunctionOf (p : ProgramForm) (f : FunctionForm) : Type 0 where
 pub record IsBegun (p : ProgramForm) (f : FunctionForm) (T types : Types) (core : Function) : Type 0 where
   pub table : IsFront p.types.types T.types
   pub later : IsFront T.types types.types
+  pub plain : PlainStays p.types types
   pub count : core.parameters ≡ length f.parameters
   pub same : core.result ≡ f.result
   pub locals : IsFront (first_state (around p f) T).locals core.locals
@@ -112,9 +114,9 @@ module _ (p : ProgramForm) (of : FunctionForm) (T types : Types) (core : Functio
 
   pub takes_handed : (y : ℕ) (l : Local) → slice_get core.locals y ≡ Some l → y < core.parameters → IsHandedType types l.ty
   takes_handed y l at lt =
-      let taken = parameter_taken (around p of) (takes_owners p.types of.result) of.parameters of.locals y is.typed.parameters is.built.parameters (omega (arith, lt, begun.count)) in
+      let taken = parameter_taken (around p of) of.parameters of.locals y is.typed.parameters is.built.parameters (omega (arith, lt, begun.count)) in
       let there : slice_get core.locals y ≡ Some taken.0 = begun.locals y taken.0 (parameters_front (around p of) T is.typed.parameters begun.table is.built.result y taken.0 taken.1) in
-      handed_later p.types types front l.ty (subst (λ (u : Local). IsHandedType p.types u.ty) (same_Some taken.0 l (sym there ∙ at)) taken.2)
+      handed_later p.types types front begun.plain l.ty (subst (λ (u : Local). IsHandedType p.types u.ty) (same_Some taken.0 l (sym there ∙ at)) taken.2)
 
   result_type : slice_get types.types core.result.0 ≡ Some is.ty
   result_type = ap (λ (id : TyId). slice_get types.types id.0) begun.same ∙ front of.result.0 is.ty is.result
@@ -155,6 +157,10 @@ module _ (p : ProgramForm) (of : FunctionForm) (T types : Types) (core : Functio
         where
           clash : ty.Int ≡ ty.Unique target → ⊥
           clash e = cc
+      go (gives_whole number whole pointless) = pointing (ap is_void whole) (λ int. clash (sym int ∙ whole))
+        where
+          clash : ty.Int ≡ ty.Struct number → ⊥
+          clash e = cc
       go (gives_view view) = pointing (ap is_void view) (λ int. clash (sym int ∙ view))
         where
           clash : ty.Int ≡ ty.View → ⊥
@@ -167,7 +173,7 @@ module _ (p : ProgramForm) (of : FunctionForm) (T types : Types) (core : Functio
         where
           clash : ty.Int ≡ ty.Reference target constant → ⊥
           clash e = cc
-      go (gives_struct target constant number refers structure) = pointing (ap is_void refers) (λ int. clash (sym int ∙ refers))
+      go (gives_struct target constant number refers structure pointless) = pointing (ap is_void refers) (λ int. clash (sym int ∙ refers))
         where
           clash : ty.Int ≡ ty.Reference target constant → ⊥
           clash e = cc

@@ -1,12 +1,12 @@
 -- Calls: arguments in registers, and what a function that is called takes and gives.
-use Rattle.std.proofs.Common.{◌≡◌, ℕ, Bool, true, false, List, [], ◌∷◌, ◌++◌, cond, flat_map, slice_get, Option, Some, None, refl, ap, ◌∙◌}
+use Rattle.std.proofs.Common.{◌≡◌, ℕ, Bool, true, false, List, [], ◌∷◌, ◌++◌, cond, flat_map, slice_get, Option, Some, None, refl, ap, ◌∙◌, sym, append_assoc}
 use Rattle.std.proofs.lemmas.Bool.{and_from, false≢true}
 use Rattle.life_types.specs.Types.{Types}
 use Rattle.life_types.specs.declared.ty.TyId.{TyId}
 use Rattle.life_typed.specs.Programs.{FunctionForm}
 use Rattle.life_core.specs.Function.{Function}
 use Rattle.life_core.specs.Kinds.{has_kind, is_object, is_object_at, is_register, is_register_at}
-use Rattle.life_core.specs.Operands.{Argument, Location, PointerOf, Value, whole}
+use Rattle.life_core.specs.Operands.{Argument, PointerOf, Value, whole}
 use Rattle.life_core.specs.Touched.{argument_leaves, argument_uses, if_object, nothing, touched_by, unless_object}
 use Rattle.life_core.specs.declared.program.Local.{Local}
 use Rattle.life_core.specs.declared.program.LocalKind.{LocalKind}
@@ -24,6 +24,7 @@ use Rattle.life_elab_laws.proofs.Gifts.{AreNumbersFor}
 use Rattle.life_elab_laws.proofs.Held.{blank_there, ready_there}
 use Rattle.life_elab_laws.proofs.Making.{AreHeld, IsFilling}
 use Rattle.life_elab_laws.proofs.ViewSteps.{pointer_is_held}
+use Rattle.life_elab_laws.proofs.Filling.{only_uses}
 
 -- ---- functions
 
@@ -56,7 +57,7 @@ module _ (f : Function) where
   numbers_there (id ∷ ids) (Value r ∷ xs) n k h =
       and_from (is_known known.Ready k r) (are_known known.Ready k (flat_map (argument_uses f) xs)) (ready_there k r h.0.1) (numbers_there ids xs n k h.1)
   numbers_there (id ∷ ids) (PointerOf l ∷ xs) n k h =
-      and_from (is_known known.Ready k l.local) (are_known known.Ready k (flat_map (argument_uses f) xs)) (ready_there k l.local (ap (λ (q : Location). known_at k q.local) h.0.is ∙ h.0.held)) (numbers_there ids xs n k h.1)
+      and_from (is_known known.Ready k l.local) (are_known known.Ready k (flat_map (argument_uses f) xs)) (ready_there k l.local (ap (known_at k) h.0.is ∙ h.0.held)) (numbers_there ids xs n k h.1)
   numbers_there _ _ n k h = absurd h
 
   numbers_held : (ids : List TyId) (xs : List Argument) (n : ℕ) (k : List Known) → AreNumbersFor ids xs n k → AreHeld (flat_map (argument_uses f) xs ++ []) n k
@@ -99,6 +100,7 @@ module _ (f : Function) where
       touches = λ x e.
           ap (λ (gone : List ℕ). record nothing { uses = flat_map (argument_uses f) xs ++ []; leaves = gone; births = if_object f x; writes = unless_object f x }) stay
           ∙ ap (λ (object : Bool). record nothing { uses = flat_map (argument_uses f) xs ++ []; births = cond object (x ∷ []) []; writes = cond object [] (x ∷ []) }) (no_object (slice_get f.locals x) e);
+      parts = λ x m ms. ap (λ (gone : List ℕ). record nothing { uses = flat_map (argument_uses f) xs ++ x ∷ []; leaves = gone }) stay ∙ only_uses (sym (append_assoc (flat_map (argument_uses f) xs) [] (x ∷ [])));
     }
 
     -- .. or brings to life what isn't there

@@ -47,7 +47,7 @@ use Rattle.life_elab_laws.proofs.Setting.{Setting}
 use Rattle.life_elab_laws.proofs.TypedKinds.{none_some}
 use Rattle.life_elab_laws.proofs.VariablePlaces.{stands_later}
 use Rattle.life_elab_laws.proofs.ViewForms.{gives_as, IsAnswer}
-use Rattle.life_elab_laws.proofs.PushedElements.{AreGiving, given_pushed, giving_number}
+use Rattle.life_elab_laws.proofs.PushedElements.{AreGiving, given_pushed, pushing_number}
 use Rattle.life_elab_laws.proofs.FreeObjects.{owner_part}
 
 -- what isn't const may be changed
@@ -106,7 +106,7 @@ module _ (a : Around) (visible : List ℕ) (types : Types) (texts : ℕ) (fs : L
         -- a string has characters
         go ty.Text at o taken =
             let number = taken_number a.program.types ty.Char (typed_in x) refl taken in
-            numbered_part place ty.Char (value (uses a x) (behind_first d) ty.Char None) PushBack s stands (λ s stands. (giving_number a visible types texts fs f setting x givings.0 number).valued number (behind_first d) ty.Char refl None s tt stands)
+            numbered_part place ty.Char (value (uses a x) (behind_first d) ty.Char None) PushBack s stands (λ s stands. (pushing_number a visible types texts fs f setting x givings.0 number).valued number (behind_first d) ty.Char refl None s tt stands)
             (λ r h. (ap (λ (u : Ty). is_change_of types texts fs f u (PushBack r)) at ∙ h, push_takes types f ty.Char r h))
         go (ty.Vector item) at o taken =
             let to = object s in
@@ -125,7 +125,7 @@ module _ (a : Around) (visible : List ℕ) (types : Types) (texts : ℕ) (fs : L
     reserved_part nothing d place s givings taken change stands = absurd (false≢true taken)
     reserved_part (x ⨟ more) d place s givings taken change stands =
         let number = taken_number a.program.types ty.Size (typed_in x) refl (and_parts (is_taken a.program.types (Some ty.Size) (typed_in x)) _ taken).0 in
-        numbered_part place ty.Size (value (uses a x) (behind_first d) ty.Size None) Reserve s stands (λ s stands. (giving_number a visible types texts fs f setting x givings.0 number).valued number (behind_first d) ty.Size refl None s tt stands)
+        numbered_part place ty.Size (value (uses a x) (behind_first d) ty.Size None) Reserve s stands (λ s stands. (pushing_number a visible types texts fs f setting x givings.0 number).valued number (behind_first d) ty.Size refl None s tt stands)
         (λ r h. (change r h, record { uses = refl; leaves = refl; writes = refl; given = refl }))
     reserved_part _ d place s givings taken change stands = absurd givings
 

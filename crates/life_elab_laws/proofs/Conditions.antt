@@ -1,5 +1,5 @@
 -- Conditions, and values that are decided by them.
-use Rattle.std.proofs.Common.{◌≡◌, ◌<◌, inl, inr, ℕ, Bool, true, false, ◌||◌, cond, List, [], ◌∷◌, ◌++◌, length, slice_set, Option, Some, None, refl, sym, ap, ◌∙◌, subst, arith}
+use Rattle.std.proofs.Common.{◌≡◌, ◌<◌, inl, inr, ℕ, Bool, true, false, ◌||◌, cond, List, [], ◌∷◌, ◌++◌, length, slice_set, Option, Some, None, refl, sym, ap, ◌∙◌, subst, arith, is_some, slice_get}
 use Rattle.std.proofs.lemmas.Bool.{or_left, and_parts, false≢true}
 use Rattle.std.proofs.lemmas.Option.{slice_get_within}
 use Rattle.std.specs.Prelude.{pos, ℤ}
@@ -28,13 +28,13 @@ use Rattle.life_elab_laws.proofs.Among.{Among, among_take}
 use Rattle.life_elab_laws.proofs.BornLocals.{Bears, bears_then, codes_bear}
 use Rattle.life_elab_laws.proofs.Emitting.{IsNameless, Targets, keeps_set, nameless_no_object, targeted}
 use Rattle.life_elab_laws.proofs.Falling.{Decides, Falls, decides_asks, decides_behind, decides_both, decides_either, decides_negated, falls_acts, falls_choice, falls_append}
-use Rattle.life_elab_laws.proofs.Gifts.{Gift, a_number, a_pointer, nothing}
+use Rattle.life_elab_laws.proofs.Gifts.{Gift, a_number, a_pointer, nothing, IsAt}
 use Rattle.life_elab_laws.proofs.GivenApart.{Apart, alone_apart, codes_apart, none_apart, same_apart, three_apart, trees_apart}
 use Rattle.life_elab_laws.proofs.Growing.{Begins, Grows, bare, begins_before, grows_none, grows_then}
 use Rattle.life_elab_laws.proofs.Held.{one_there}
 use Rattle.life_elab_laws.proofs.Instructions.{IsIntoOf, into_of_later, is_constant, is_into, target_number}
 use Rattle.life_elab_laws.proofs.Knowledge.{agreed_length, at_agreed, at_set}
-use Rattle.life_elab_laws.proofs.Making.{Alive, IsBeside, Keeps, keeps_then, IsPointer}
+use Rattle.life_elab_laws.proofs.Making.{Alive, IsBeside, Keeps, keeps_then, IsPointer, is_named, lies_by}
 use Rattle.life_elab_laws.proofs.OperandsThere.{number_any, type_there}
 use Rattle.life_elab_laws.proofs.Parts.{Goes, Makes, Runs}
 use Rattle.life_elab_laws.proofs.EndedTemporaries.{behind, behind_grows, behind_is, ending, ending_is, ends_alive, ends_fall, ends_fine, ends_keep, ends_spare, ends_level}
@@ -200,18 +200,20 @@ module _ (types : Types) (texts : ℕ) (fs : List Function) (f : Function) where
       never : (low : ℕ) → IsTemporary low f.locals types.types r → ⊥
       never low is = false≢true (sym (ap (has_kind is_register) is.there ∙ ap is_register is.kind) ∙ (and_parts (is_register_at f r) _ number).0)
 
-  pointer_spared : (l : Location) (t : Ty) (n : ℕ) (k j : List Known) → is_raw t ≡ true → type_in types f l ≡ t → IsPointer l n k → Spares k j → known_at j l.local ≡ known.Ready
-  pointer_spared l t n k j raw typed h spares = ap (λ (q : Location). known_at j q.local) h.is ∙ spares h.local never ∙ h.held
+  pointer_spared : (l : Location) (t : Ty) (n : ℕ) (k j : List Known) → is_raw t ≡ true → IsAt types texts fs f t l → IsPointer l n k → Spares k j → known_at j l.local ≡ known.Ready
+  pointer_spared l t n k j raw at h spares = spares l.local (λ low is. never low is l.members refl at.kept) ∙ (ap (known_at k) h.is ∙ h.held)
     where
       no_pointer : (u : Ty) → is_pointer u ≡ false → (is_reference u ≡ false) × (is_raw u ≡ false)
       no_pointer (ty.Reference target constant) plain = absurd (false≢true (sym plain))
       no_pointer (ty.Raw target constant) plain = absurd (false≢true (sym plain))
       no_pointer _ plain = (refl, refl)
 
-      never : (low : ℕ) → IsTemporary low f.locals types.types h.local → ⊥
-      never low is =
+      -- a temporary is no pointer, and has no name
+      never : (low : ℕ) → (is : IsTemporary low f.locals types.types l.local) → (members : List ℕ) → l.members ≡ members → lies_by members (is_register_at f l.local) (is_named (slice_get f.locals l.local)) ≡ true → ⊥
+      never low is [] whole kept =
           let no = no_pointer is.ty is.plain in
-          false≢true (sym no.1 ∙ ap is_raw (sym (type_there types f h.local is.local is.ty is.there is.typed no.0)) ∙ ap (λ (q : Location). is_raw (type_in types f q)) (sym h.is) ∙ ap is_raw typed ∙ raw)
+          false≢true (sym no.1 ∙ ap is_raw (sym (type_there types f l.local is.local is.ty is.there is.typed no.0)) ∙ ap (λ (members : List ℕ). is_raw (type_in types f (record { local = l.local; members = members }))) (sym whole) ∙ ap is_raw at.typed ∙ raw)
+      never low is (m ∷ members) part kept = false≢true (sym (ap is_named is.there ∙ ap is_some is.nameless) ∙ kept)
 
   pub non_zero_part : (place : Place) (ends : Option Place) (t : Ty) (value : State → Gives ℕ) (s : State) → (low : ℕ) → ArePending low s → TemporariesEnd types texts fs f low
       → Makes types texts fs f None (with_code [] s) (value (with_code [] s)) (a_number types texts fs f t) → Tests ends s (non_zero place ends value s)
@@ -223,7 +225,7 @@ module _ (types : Types) (texts : ℕ) (fs : List Function) (f : Function) where
       → Makes types texts fs f None (with_code [] s) (pointer (with_code [] s)) (a_pointer types texts fs f t) → Tests ends s (not_null place ends pointer s)
   not_null_part place ends t pointer s raw low before can made =
       tested_part place NotNull s (pointer (with_code [] s)) (a_pointer types texts fs f t)
-      (λ l n k j at h spares. uses_ready j (l.local ∷ []) [] (one_there j l.local (pointer_spared l t n k j raw at.typed h spares)))
+      (λ l n k j at h spares. uses_ready j (l.local ∷ []) [] (one_there j l.local (pointer_spared l t n k j raw at h spares)))
       (λ l h. or_left (is_raw (type_in types f l)) (is_unique (type_in types f l)) (ap is_raw h.typed ∙ raw)) made ends low before can
 
   -- ---- conditions of others

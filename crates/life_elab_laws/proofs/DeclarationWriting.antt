@@ -1,13 +1,11 @@
 -- What is written for a declaration is ready and well formed: the variable lives, and is given what typing lets it be given.
-use Rattle.std.proofs.Common.{◌≡◌, ◌<◌, ℕ, Bool, true, false, ◌&&◌, ◌||◌, cond, not, List, [], ◌∷◌, ◌++◌, Contains, length, slice_get, Option, Some, None, refl, sym, ap, ◌∙◌, subst, unwrap_or, arith, append_assoc, inl, inr, nat_lt, flat_map}
+use Rattle.std.proofs.Common.{◌≡◌, [], ℕ, ◌<◌, Bool, true, false, ◌&&◌, ◌||◌, cond, not, List, ◌∷◌, ◌++◌, length, slice_get, Option, Some, None, refl, sym, ap, ◌∙◌, subst, unwrap_or, arith, append_assoc, inl, inr, nat_lt, flat_map, length-append}
 use Rattle.std.proofs.lemmas.Bool.{and_parts, false≢true, or_cases, and_from}
 use Rattle.std.specs.List.{list_all}
-use Rattle.life_served.specs.Served.{is_owner_of_values, is_owner_type, is_served_declaration, is_served_declared, is_served_expression, is_served_initial, is_served_owned, is_served_owner, is_served_variable, is_served_walker, is_walker, is_walker_of_values, owns_elements, is_served_owning, are_served_elements, are_served_listed, is_element, is_target, takes_list, takes_owner, takes_value, fills_owner, is_served_struct, is_struct, takes_struct, is_vector, is_served_fresh}
-use Rattle.std.proofs.lemmas.Option.{slice_get_within}
-use Rattle.life_served.specs.Served.{fills_unique}
+use Rattle.life_served.specs.Served.{is_owner_of_values, is_owner_type, is_plain_struct, is_served_declaration, is_served_declared, is_served_expression, is_served_initial, is_served_owned, is_served_owner, is_served_variable, is_served_walker, is_walker, is_walker_of_values, owns_elements, is_served_owning, are_served_elements, are_served_listed, is_element, is_target, takes_list, takes_owner, takes_value, fills_owner, is_served_struct, is_struct, takes_struct, is_served_fresh, is_nullptr, are_served_parts, lists_members}
 use Rattle.life_types.specs.Pointees.{ty_of}
-use Rattle.life_types.specs.TypeTests.{is_value, is_view, is_unique}
-use Rattle.life_types.specs.Types.{Types}
+use Rattle.life_types.specs.TypeTests.{is_value, is_view, is_unique, is_reference}
+use Rattle.life_types.specs.Types.{Types, class}
 use Rattle.life_types.specs.contracts.ty.TyPartialEq.TheImpl.{ghosts as compared}
 use Rattle.life_types.specs.declared.place.Place.{Place}
 use Rattle.life_types.specs.declared.ty.Ty.{Ty}
@@ -16,7 +14,7 @@ use Rattle.life_types.specs.declared.ty.TyId.{TyId}
 use Rattle.life_typed.specs.BaseTypes.{type_at}
 use Rattle.life_typed.specs.Conversions.{is_place, fits, is_place_of}
 use Rattle.life_typed.specs.Programs.{FunctionForm}
-use Rattle.life_typed.specs.TypedForm.{Typed, whole as whole_form, Form, forms, make_unique, move, null, text, typed}
+use Rattle.life_typed.specs.TypedForm.{Typed, whole as whole_form, Form, forms, null, text, typed}
 use Rattle.life_typed.specs.TypedStatement.{DeclarationForm, InitialForm, one, several, ListForm}
 use Rattle.life_typed.specs.declared.typed_expr.Category.TheVariants as category
 use Rattle.life_typed.specs.declared.typed_program.TypedLocal.{TypedLocal}
@@ -39,16 +37,15 @@ use Rattle.life_well_typed.specs.Visible.{Visible, with_next}
 use Rattle.life_writer.specs.Around.{Around, own_type, type_of}
 use Rattle.life_writer.specs.Around as around
 use Rattle.life_writer.specs.Calls.{Called, call_for, called, form_call}
-use Rattle.life_writer.specs.ExpressionForms.{all_uses, uses, uses_if}
+use Rattle.life_writer.specs.ExpressionForms.{all_uses, uses}
 use Rattle.life_writer.specs.Giving.{aimed_at, call_to, initial, value_by, object_by}
 use Rattle.life_writer.specs.Giving as giving
 use Rattle.life_writer.specs.Building.{live}
-use Rattle.life_writer.specs.Pointers.{aimed, pointed, located}
+use Rattle.life_writer.specs.Pointers.{Pointing, aimed, pointed, located}
 use Rattle.life_writer.specs.Temporaries.{scoped}
 use Rattle.life_writer.specs.Using.{pointing, value}
-use Rattle.life_writer.specs.OwnerForms.{made_at, moved_out_of, owned_operand}
-use Rattle.life_writer.specs.Variables.{end_pending, variable, variable_local}
-use Rattle.life_writer.specs.Uses.{Remaining, Uses}
+use Rattle.life_writer.specs.Variables.{end_pending, variable_local, kind}
+use Rattle.life_writer.specs.Uses.{Remaining, Uses, lived}
 use Rattle.life_writer.specs.Writing.{State, Gives, ◌>>◌, emit, gives, mapped, with_code}
 use Rattle.life_elab.specs.DeclarationForms.{declared, declared_as, default_to, empty, given_initial}
 use Rattle.life_elab.specs.Declarations.{variable as home}
@@ -59,14 +56,15 @@ use Rattle.life_elab_laws.proofs.Doing.{Does}
 use Rattle.life_elab_laws.proofs.ExpressionKinds.{variable_built}
 use Rattle.life_elab_laws.proofs.ExpressionForms.{IsWhole}
 use Rattle.life_elab_laws.proofs.ExpressionTypes.{answer_own, seen_kind}
-use Rattle.life_elab_laws.proofs.Expressions.{owner_expression, walker_expression, whole_expression, givings, struct_expression, giving_if_any, fresh_expression}
+use Rattle.life_elab_laws.proofs.Expressions.{owner_expression, walker_expression, whole_expression, givings, struct_expression, fresh_expression, listings}
+use Rattle.life_elab_laws.proofs.PointedCalls.{GivesPointer, IsPointedCall, gives_called, gives_plainly}
 use Rattle.life_elab_laws.proofs.PointerForms.{points_whole, result_later}
 use Rattle.life_elab_laws.proofs.GivenKinds.{given_number, given_pointer, given_view}
 use Rattle.life_elab_laws.proofs.Falling.{Fills, falls_filling}
 use Rattle.life_elab_laws.proofs.Following.{Follows, follows_settled, same_variable, settled}
 use Rattle.life_elab_laws.proofs.Filling.{aimed_filling, filling_fills, text_filling}
 use Rattle.life_elab_laws.proofs.FormedFits.{IsBound, IsBoundTo, at_place, by_temporary, given_bound, given_raw, given_seen, given_owner, given_string, given_vector, given_walker}
-use Rattle.life_elab_laws.proofs.Gifts.{a_number, a_place, a_pointer, a_pointing, both, Gift, nothing, takes_from, all_handed}
+use Rattle.life_elab_laws.proofs.Gifts.{a_number, a_place, a_pointer, a_pointing, Gift, nothing, takes_from, all_handed}
 use Rattle.life_elab_laws.proofs.GivenApart.{given_of, looked_of, step_apart, AreApart}
 use Rattle.life_elab_laws.proofs.Fronts.{front_append}
 use Rattle.life_elab_laws.proofs.Growing.{Begins, Grows}
@@ -82,17 +80,17 @@ use Rattle.life_elab_laws.proofs.Types.{same_types}
 use Rattle.life_elab_laws.proofs.Values.{by_values}
 use Rattle.life_elab_laws.proofs.MadeForms.{Builds, BuildsIn, gift_of, is_made, IsMade, IsOwning, owning_owner, stands_there, one_new}
 use Rattle.life_elab_laws.proofs.VariablePlaces.{a_raw, a_reference, a_struct, a_unique, a_value, a_view, a_walker, an_alias, an_owner, IsVariableType, owner_is, variable_type, walker_is, a_struct_alias}
-use Rattle.life_elab_laws.proofs.ObjectForms.{IsObject, IsOwner, other_number}
-use Rattle.life_elab_laws.proofs.FreshUniques.{IsFresh}
+use Rattle.life_elab_laws.proofs.ObjectForms.{IsObject, IsOwner}
+use Rattle.life_elab_laws.proofs.FreshUniques.{IsFresh, nothing_builds}
 use Rattle.life_elab_laws.proofs.MoveSteps.{owner_moves}
-use Rattle.life_elab_laws.proofs.MovedOwners.{IsMovedFrom, given_moved, moved_from_variable, moved_kind, moved_out_part, moved_plain}
+use Rattle.life_elab_laws.proofs.MovedOwners.{moved_kind, moved_plain}
 use Rattle.life_elab_laws.proofs.OwnerBirths.{lives_then}
 use Rattle.life_elab_laws.proofs.OwnerSteps.{copy_fine, place_held}
 use Rattle.life_elab_laws.proofs.SeenForms.{string_points}
 use Rattle.life_core.specs.Touched.{place_uses}
 use Rattle.life_typed.specs.declared.typed_expr.Category.{Category}
 use Rattle.life_typed.specs.declared.typed_expr.ExprType.TheVariants.{Of, TextLiteral}
-use Rattle.life_elab_laws.proofs.BuiltVariables.{built_does, lived_does}
+use Rattle.life_elab_laws.proofs.BuiltVariables.{built_does}
 use Rattle.life_elab_laws.proofs.Instructions.{literal_located_part}
 use Rattle.life_elab_laws.proofs.ViewSteps.{pointer_is_held}
 use Rattle.life_proper.specs.Placed.{is_const_place, type_of as type_of_place}
@@ -110,22 +108,18 @@ use Rattle.life_elab_laws.proofs.PushedElements.{AreGiving}
 use Rattle.life_elab_laws.proofs.AliasForms.{IsAliased, owning_aliased, value_reference_refused, whole_aliased, to_built, to_place, struct_reference_refused}
 use Rattle.life_elab_laws.proofs.BoundOwners.{bound_owner_does}
 use Rattle.life_elab_laws.proofs.Targets.{owner_target, value_target, struct_target}
-use Rattle.life_elab_laws.proofs.Making.{AreHeld}
-use Rattle.life_elab_laws.proofs.UniqueSteps.{IsMadeFor, a_made, made_uses_of, makes_part, null_fits}
-use Rattle.life_elab_laws.proofs.UniqueMaking.{IsOwnedBy}
-use Rattle.life_elab_laws.proofs.OwnedContents.{IsContentOf, content_as, is_found, is_over}
-use Rattle.life_elab_laws.proofs.OwnedVariables.{made_declared}
-use Rattle.life_core.specs.declared.instr.Made.{Made}
-use Rattle.life_core.specs.declared.instr.Made.TheVariants as owning
 use Rattle.life_elab_laws.proofs.UniqueForms.{owner_no_unique, walker_no_unique}
-use Rattle.life_elab_laws.proofs.FormedFits.{given_struct}
-use Rattle.life_elab_laws.proofs.StructBirths.{struct_copied, struct_listed}
-use Rattle.life_elab_laws.proofs.StructForms.{IsStruct}
-use Rattle.life_elab_laws.proofs.StructLists.{listings}
+use Rattle.life_elab_laws.proofs.StructForms.{owner_no_struct}
+use Rattle.life_elab_laws.proofs.StructLists.{members_build}
 use Rattle.life_elab_laws.proofs.HandedArguments.{Hands}
 use Rattle.life_elab_laws.proofs.HandingCalls.{born_falls, born_fine, born_looks, born_named}
 use Rattle.life_elab_laws.proofs.StructReferences.{kind_no_struct, struct_alone, struct_aliased, IsStructAlias}
 use Rattle.life_elab_laws.proofs.OwnLocals.{first_own}
+use Rattle.life_writer.specs.OwnerForms.{made_null}
+use Rattle.life_elab_laws.proofs.MadeStructs.{IsAnyStruct, as_struct}
+use Rattle.life_elab_laws.proofs.StructMembers.{AreListed}
+use Rattle.life_elab_laws.proofs.ServedTypes.{IsBuilt, struct_built}
+use Rattle.life_core.specs.declared.program.LocalKind.TheVariants.{Object}
 
 module _ (a : Around) (types : Types) (texts : ℕ) (fs : List Function) (f : Function) (setting : Setting a types fs f) (v : Visible) (in_loop : Bool) where
   module _ (u : TypedLocal) (s : State) (h : Follows types f a v s) (at : slice_get a.function.locals v.declared ≡ Some u) (built : is_served_variable a.program.types u.ty ≡ true) (last : Place) where
@@ -164,18 +158,19 @@ module _ (a : Around) (types : Types) (texts : ℕ) (fs : List Function) (f : Fu
         (λ b k size q blank. falls_filling types f u.place (Live (length s.locals) Plain) (length s.locals) k (live_fills types f (length s.locals) Plain k blank))
         (λ b q k alive r blank. new_none f (variable_local a u) s)
 
-    -- an owner or a unique_ptr, by whatever builds it
-    builds_does : {plain : Bool} (t : Ty) → slice_get a.program.types.types u.ty.0 ≡ Some t → is_owner t ≡ true → (w : Gives Remaining) → BuildsIn a v.visible types texts fs f setting plain t s w → Born (w.given (home a u) w.state).state
-    builds_does t is o w made =
-        subst (λ (r : Remaining). Born (r (home a u) w.state).state) (sym made.lives)
+    -- an owner, a unique_ptr or a struct, by whatever builds it
+    builds_does : {plain : Bool} (t : Ty) → slice_get a.program.types.types u.ty.0 ≡ Some t → kind (class (Some t)) ≡ Object → is_reference t ≡ false → (w : Gives Remaining) → BuildsIn a v.visible types texts fs f setting plain t s w → Born (w.given (home a u) w.state).state
+    builds_does t is object direct w made =
+        subst (λ (g : Gives ℕ). Born g.state) (sym (made.lives (home a u) w.state))
         (built_does a types texts fs f setting v in_loop last u s h at built made.over (gives made.found w.state) (gift_of a v.visible types texts fs f setting made.making) made.hands t made.comes
         (made.act u.place (object_named (length w.state.locals)))
-        (λ b. object_lives a types texts fs f setting.front u w.state b t is (moved_kind a v.visible types texts fs f setting t o))
-        (λ b. object_placed a types texts fs f setting.front u w.state b t is (moved_kind a v.visible types texts fs f setting t o) (moved_plain a v.visible types texts fs f setting t o))
+        (λ b. object_lives a types texts fs f setting.front u w.state b t is object)
+        (λ b. object_placed a types texts fs f setting.front u w.state b t is object direct)
         (λ stands.
-        made.acts u.place (object_named (length w.state.locals)) (emit (made.comes.at u.place) (made.comes.step (length w.state.locals)) (with_new (variable_local a u) w.state)) stands
+        made.acts u.place (object_named (length w.state.locals)) (with_code (w.state.code ++ made.comes.code u.place (length w.state.locals)) (with_new (variable_local a u) w.state)) stands
         (λ n c. same_variable types f w.state (with_new (variable_local a u) w.state) n (front_append w.state.variables (length w.state.locals ∷ [])) (omega (arith, h.visible n c, h.count, ap length made.hands.grown.variables)))
-        (one_new a v.visible types texts fs f setting s (length w.state.locals) h.stands.opened made.hands.grown.count)))
+        (one_new a v.visible types texts fs f setting s (with_code (w.state.code ++ made.comes.code u.place (length w.state.locals)) (with_new (variable_local a u) w.state)) (length w.state.locals) h.stands.opened made.hands.grown.count
+        (omega (arith, length-append w.state.locals (variable_local a u ∷ []))))))
 
     -- ---- an object
 
@@ -230,6 +225,29 @@ module _ (a : Around) (types : Types) (texts : ℕ) (fs : List Function) (f : Fu
         (λ b q k alive r blank under.
         subst (λ (xs : List ℕ). AreApart f w.state (with_new (variable_local a u) w.state) xs []) (sym (born_looks types texts fs f g of callee s w hands x place k r)) (new_none f (variable_local a u) w.state under))
 
+    -- a call that gives a pointer
+    called_pointer_does : (t : Ty) → is_location t ≡ true → slice_get a.program.types.types u.ty.0 ≡ Some t → (source : ExprType) (place : Place) (w : Gives Pointing) → IsPointedCall types texts fs f source s w → takes_from types t source ≡ true
+        → Born (emit place (pointed w.given (whole (length w.state.locals))) (with_new (variable_local a u) w.state))
+    called_pointer_does t loc is source place w c taken =
+        let g = c.given in
+        let x = length g.state.locals in
+        subst (λ (q : Gives Pointing). Born (emit place (pointed q.given (whole (length q.state.locals))) (with_new (variable_local a u) q.state))) (sym c.is)
+        (handed_declared types texts fs f a setting.front v in_loop can last u s g (all_handed types texts fs f (parameter_types (Some c.of))) (Acts place (called c.function g.given (whole x)) ∷ []) h at built (flat_map given_argument g.given) c.hands
+        (λ b q. born_fine types texts fs f c.function c.of c.callee s g c.hands x place q (c.goes t (whole x) (location_declared a types texts fs f setting.front u g.state b t loc is).typed (inr taken)))
+        (λ b r k size q blank born. born_falls types texts fs f c.function c.of c.callee s g c.hands x place r k q blank born (λ m. let lt = c.hands.below x m in omega (arith, lt)))
+        [] (born_named types texts fs f c.function c.of c.callee s g c.hands x place)
+        (λ b q k alive r blank under.
+        subst (λ (xs : List ℕ). AreApart f g.state (with_new (variable_local a u) g.state) xs []) (sym (born_looks types texts fs f c.function c.of c.callee s g c.hands x place k r)) (new_none f (variable_local a u) g.state under)))
+
+    -- whatever gives it that
+    aimed_pointer_does : (t : Ty) → is_location t ≡ true → slice_get a.program.types.types u.ty.0 ≡ Some t → (source : ExprType) (place : Place) (w : Gives Pointing) → GivesPointer types texts fs f source s w → takes_from types t source ≡ true
+        → Born (emit place (pointed w.given (whole (length w.state.locals))) (with_new (variable_local a u) w.state))
+    aimed_pointer_does t loc is source place w (gives_called c) taken = called_pointer_does t loc is source place w c taken
+    aimed_pointer_does t loc is source place w (gives_plainly made) taken =
+        filled_does place w (a_pointing types texts fs f source) (λ p l. pointed p l) made
+        (λ b q. pointed_fine types texts fs f (whole (length w.state.locals)) t source w.given loc (location_declared a types texts fs f setting.front u w.state b t loc is).typed taken q)
+        (λ b k q blank. pointed_fills f (length w.state.locals) (length w.state.locals) w.given k q (location_declared a types texts fs f setting.front u w.state b t loc is).kept)
+
     -- ---- a reference
 
     -- what would be built where it isn't a place of the type
@@ -258,16 +276,16 @@ module _ (a : Around) (types : Types) (texts : ℕ) (fs : List Function) (f : Fu
         })
         (λ b k q blank. filling_fills f (λ p. Aim p (Aimed w.given)) (length w.state.locals) k (aimed_filling f w.given (length w.state.locals) k q) (length w.state.locals) (reference_kept a types texts fs f setting.front u w.state b target constant is wide)))
 
-    -- .. to an owner, which may be built for it
-    alias_does : (e : Typed) (behind : Place) (target : TyId) (constant : Bool) → slice_get a.program.types.types u.ty.0 ≡ Some (ty.Reference target constant) → is_owner_of_values a.program.types (type_at a.program.types target) ≡ true
-        → IsAliased a v.visible types texts fs f setting (uses a (whole_form e)) target constant → Born (Bound e behind target constant)
-    alias_does e behind target constant is o (to_place held here kept names) = aimed_does e behind target constant held is (owner_target a.program.types (type_at a.program.types target) o) here kept (names s h.stands)
-    alias_does e behind target constant is o (to_built none made) =
+    -- .. to an owner or a struct, which may be built for it
+    alias_does : (e : Typed) (behind : Place) (target : TyId) (constant : Bool) → slice_get a.program.types.types u.ty.0 ≡ Some (ty.Reference target constant) → is_target a.program.types (type_at a.program.types target) ≡ true
+        → IsBuilt a.program.types (type_at a.program.types target) → IsAliased a v.visible types texts fs f setting (uses a (whole_form e)) target constant → Born (Bound e behind target constant)
+    alias_does e behind target constant is wide o (to_place held here kept names) = aimed_does e behind target constant held is wide here kept (names s h.stands)
+    alias_does e behind target constant is wide o (to_built none made) =
         let w = giving.given (uses a (whole_form e)) (type_of a target) behind s in
         let built_here = made behind s h.stands in
         subst (λ (c : Bool). Born (bound_by e behind target c)) (sym none)
-        (subst (λ (r : Remaining). Born (r (scoped e.place (type_of a target)) w.state >> λ x s. gives (aimed_at e.place (object_named x)) s >> λ rest s. rest (home a u) s).state) (sym built_here.lives)
-        (bound_owner_does a types texts fs f setting v in_loop last u s h at built target constant is o e.place w built_here))
+        (subst (λ (g : Gives ℕ). Born (g >> λ x s. gives (aimed_at e.place (object_named x)) s >> λ rest s. rest (home a u) s).state) (sym (built_here.lives (scoped e.place (type_of a target)) w.state))
+        (bound_owner_does a types texts fs f setting v in_loop last u s h at built target constant is wide o e.place w built_here))
 
     -- ---- built variable that is given one expression
 
@@ -314,10 +332,7 @@ module _ (a : Around) (types : Types) (texts : ℕ) (fs : List Function) (f : Fu
       pointer_does : (t : Ty) → is_location t ≡ true → slice_get a.program.types.types u.ty.0 ≡ Some t → is_pointed e.ty ≡ true → takes_from types t e.ty ≡ true
           → Born (emit e.place (pointed (pointing (uses a (whole_form e)) s).given (whole (length (pointing (uses a (whole_form e)) s).state.locals))) (with_new (variable_local a u) (pointing (uses a (whole_form e)) s).state))
       pointer_does t loc is pointed_one taken =
-          let w = pointing (uses a (whole_form e)) s in
-          filled_does e.place w (a_pointing types texts fs f e.ty) (λ p l. pointed p l) (points_whole a v.visible types texts fs f setting (whole_form e) whole_is pointed_one s h.stands)
-          (λ b q. pointed_fine types texts fs f (whole (length w.state.locals)) t e.ty w.given loc (location_declared a types texts fs f setting.front u w.state b t loc is) taken q)
-          (λ b k q blank. pointed_fills f (length w.state.locals) (length w.state.locals) w.given k q (location_declared a types texts fs f setting.front u w.state b t loc is).kept)
+          aimed_pointer_does t loc is e.ty e.place (pointing (uses a (whole_form e)) s) (points_whole a v.visible types texts fs f setting (whole_form e) whole_is pointed_one s h.stands) taken
 
       raw_does : (target : TyId) (constant : Bool) → slice_get a.program.types.types u.ty.0 ≡ Some (ty.Raw target constant) → is_target a.program.types (type_at a.program.types target) ≡ true → is_given a.program.types (ty.Raw target constant) e ≡ true
           → Born (GivenOne (ty.Raw target constant))
@@ -353,11 +368,11 @@ module _ (a : Around) (types : Types) (texts : ℕ) (fs : List Function) (f : Fu
           go (an_owner t is o) = absurd (false≢true (sym (ap takes_value (type_is t is) ∙ ap (λ (b : Bool). not (b || (is_walker t || (is_unique t || is_struct t)))) (owner_is a.program.types t o)) ∙ plain))
           go (a_unique target is w) = absurd (false≢true (sym (ap takes_value (type_is (ty.Unique target) is)) ∙ plain))
           go (a_struct number is) = absurd (false≢true (sym (ap takes_value (type_is (ty.Struct number) is)) ∙ plain))
-          go (a_struct_alias target constant number is structure) =
-              absurd (kind_no_struct a.program.types e whole_is.kind.kind (struct_alone a.program.types target constant number e structure (as_given (ty.Reference target constant) is) (λ held. whole_is.kind.place target held)))
+          go (a_struct_alias target constant number is structure pointless) =
+              absurd (kind_no_struct a.program.types e whole_is.kind.kind (struct_alone a.program.types target constant number e structure (struct_target a.program.types (type_at a.program.types target) pointless) (as_given (ty.Reference target constant) is) (λ held. whole_is.kind.place target held)))
           go (an_alias target constant is o) =
               as_type (ty.Reference target constant) is
-              (alias_does e behind target constant is o (whole_aliased a v.visible types texts fs f setting (whole_form e) target constant o (as_given (ty.Reference target constant) is) whole_is))
+              (alias_does e behind target constant is (owner_target a.program.types (type_at a.program.types target) o) (inl o) (whole_aliased a v.visible types texts fs f setting (whole_form e) target constant o (as_given (ty.Reference target constant) is) whole_is))
           go (a_reference target constant is w) = as_type (ty.Reference target constant) is (bound (given_bound a.program.types target constant e (value_target a.program.types (type_at a.program.types target) w) (as_given (ty.Reference target constant) is)))
             where
               bound : IsBound a.program.types target constant e → Born (GivenOne (ty.Reference target constant))
@@ -385,11 +400,7 @@ module _ (a : Around) (types : Types) (texts : ℕ) (fs : List Function) (f : Fu
       -- a pointer, as what gives it something of a type
       shown_does : (t : Ty) → is_location t ≡ true → slice_get a.program.types.types u.ty.0 ≡ Some t → (source : ExprType) → Makes types texts fs f None s (pointing (uses a (whole_form e)) s) (a_pointing types texts fs f source) → takes_from types t source ≡ true
           → Born (emit e.place (pointed (pointing (uses a (whole_form e)) s).given (whole (length (pointing (uses a (whole_form e)) s).state.locals))) (with_new (variable_local a u) (pointing (uses a (whole_form e)) s).state))
-      shown_does t loc is source made taken =
-          let w = pointing (uses a (whole_form e)) s in
-          filled_does e.place w (a_pointing types texts fs f source) (λ p l. pointed p l) made
-          (λ b q. pointed_fine types texts fs f (whole (length w.state.locals)) t source w.given loc (location_declared a types texts fs f setting.front u w.state b t loc is) taken q)
-          (λ b k q blank. pointed_fills f (length w.state.locals) (length w.state.locals) w.given k q (location_declared a types texts fs f setting.front u w.state b t loc is).kept)
+      shown_does t loc is source made taken = aimed_pointer_does t loc is source e.place (pointing (uses a (whole_form e)) s) (gives_plainly made) taken
 
       -- a copy
       module _ (from : IsObject a v.visible types texts fs f setting (whole_form e)) where
@@ -410,7 +421,7 @@ module _ (a : Around) (types : Types) (texts : ℕ) (fs : List Function) (f : Fu
           let w = (uses a (whole_form e)).object s in
           let one : from.ty ≡ t = given_owner a.program.types t from.ty e o from.owner from.is given in
           subst Born (sym (by_owner t o ∙ ap (λ (c : Category). (object_by c (uses a (whole_form e)).at (uses a (whole_form e)).object s >> λ rest s. rest (home a u) s).state) from.value))
-          (builds_does t is (owner_moves a.program.types t o) w (subst (λ (x : Ty). Builds a v.visible types texts fs f setting x s w) one (from.builds s h.stands)))
+          (builds_does t is (moved_kind a v.visible types texts fs f setting t (owner_moves a.program.types t o)) (moved_plain a v.visible types texts fs f setting t (owner_moves a.program.types t o)) w (subst (λ (x : Ty). Builds a v.visible types texts fs f setting x s w) one (from.builds s h.stands)))
 
       module _ (from : IsOwner a v.visible types texts fs f setting (whole_form e)) where
         -- a view of the whole
@@ -428,12 +439,12 @@ module _ (a : Around) (types : Types) (texts : ℕ) (fs : List Function) (f : Fu
       walker_does : IsWalker a v.visible types texts fs f setting (whole_form e) → (t : Ty) → slice_get a.program.types.types u.ty.0 ≡ Some t → is_walker_of_values a.program.types t ≡ true → is_given a.program.types t e ≡ true → Born (GivenThis t)
       walker_does from t is w given = go t is w (given_walker a.program.types types setting.front t from.ty e w from.walker from.is given)
         where
-          made : Makes types texts fs f None s (pointing (uses a (whole_form e)) s) (a_pointing types texts fs f (Of from.ty))
+          made : GivesPointer types texts fs f (Of from.ty) s (pointing (uses a (whole_form e)) s)
           made = walker_points a v.visible types texts fs f setting (whole_form e) from s h.stands
 
           go : (t : Ty) → slice_get a.program.types.types u.ty.0 ≡ Some t → is_walker_of_values a.program.types t ≡ true → takes types t from.ty ≡ true → Born (GivenThis t)
-          go (ty.Iterator item constant) is w taken = shown_does (ty.Iterator item constant) refl is (Of from.ty) made taken
-          go (ty.Span item constant) is w taken = shown_does (ty.Span item constant) refl is (Of from.ty) made taken
+          go (ty.Iterator item constant) is w taken = aimed_pointer_does (ty.Iterator item constant) refl is (Of from.ty) e.place (pointing (uses a (whole_form e)) s) made taken
+          go (ty.Span item constant) is w taken = aimed_pointer_does (ty.Span item constant) refl is (Of from.ty) e.place (pointing (uses a (whole_form e)) s) made taken
           go _ is w taken = absurd (false≢true w)
 
       -- a literal
@@ -457,68 +468,20 @@ module _ (a : Around) (types : Types) (texts : ℕ) (fs : List Function) (f : Fu
                 (ap (λ (t : Ty). is_change_of types texts fs f t (Set (View w.given))) at.typed ∙ ap is_view q.typed) at.held;
           }))
 
-      -- what is moved out of another variable
-      module _ (x : ℕ) (c : Contains v.visible x) (from : IsMovedFrom a v.visible types texts fs f setting x e) where
-        apart_from : variable (emit u.place (Live (length s.locals) Plain) (with_new (variable_local a u) s)) x < length s.locals
-        apart_from =
-            let is = h.stands.seen x from.source c from.found in
-            subst (λ (y : ℕ). y < length s.locals)
-            (sym (same_variable types f s (with_new (variable_local a u) s) x (front_append s.variables (length s.locals ∷ [])) (omega (arith, h.visible x c, h.count))))
-            (slice_get_within s.locals (variable s x) is.local is.there)
-
-        moved_does : e.form ≡ move x → (t : Ty) → slice_get a.program.types.types u.ty.0 ≡ Some t → is_owner t ≡ true → is_given a.program.types t e ≡ true → Born (GivenThis t)
-        moved_does same t is o given =
-            let n = length s.locals in
-            let one : from.ty ≡ t = given_moved a v.visible types texts fs f setting t from.ty e o from.owner from.is given in
-            let found : slice_get a.program.types.types u.ty.0 ≡ Some from.ty = is ∙ ap Some (sym one) in
-            subst Born (sym (by_moved t o
-            ∙ ap (λ (c : Category). (object_by c (uses a (whole_form e)).at (uses a (whole_form e)).object s >> λ rest s. rest (home a u) s).state) from.value
-            ∙ ap (λ (g : Form). ((uses a (typed e.place e.ty e.category g)).object s >> λ rest s. rest (home a u) s).state) same))
-            (lived_does a types texts fs f setting v in_loop last u s h at built (gives tt s) (nothing types texts fs f)
-            (leaf_part types texts fs f tt s (nothing types texts fs f) (λ b. tt) (λ b k alive. tt)) Plain from.ty
-            (moved_out_of e.place x u.place (object_named n))
-            (λ b. object_lives a types texts fs f setting.front u s b from.ty found (moved_kind a v.visible types texts fs f setting from.ty from.owner))
-            (λ b. object_placed a types texts fs f setting.front u s b from.ty found (moved_kind a v.visible types texts fs f setting from.ty from.owner) (moved_plain a v.visible types texts fs f setting from.ty from.owner))
-            (λ stands.
-            let begun = emit u.place (Live n Plain) (with_new (variable_local a u) s) in
-            moved_out_part a v.visible types texts fs f setting x e from c e.place (object_named n) u.place begun stands (other_number n (variable begun x) (λ e. omega (arith, e, apart_from)))))
-
       -- ---- a unique_ptr
-
-      -- built behind what was found first
-      filled_unique : {A : Type 0} (target : TyId) → slice_get a.program.types.types u.ty.0 ≡ Some (ty.Unique target) → (w : Gives A) (Q : Gift types texts fs f A) → Makes types texts fs f None s w Q → (place : Place) (what : Made) (used : List ℕ)
-          → (Q.typed w.given → IsMadeFor types texts fs f target what used) → ((n : ℕ) (k : List Known) → Q.ready w.given n k → AreHeld used n k)
-          → Born (made_at place what u.place (object_named (length w.state.locals)) (emit u.place (Live (length w.state.locals) Plain) (with_new (variable_local a u) w.state)))
-      filled_unique target is w Q found place what used fits ready =
-          lived_does a types texts fs f setting v in_loop last u s h at built w Q found Plain (ty.Unique target)
-          (made_at place what u.place (object_named (length w.state.locals)))
-          (λ b. object_lives a types texts fs f setting.front u w.state b (ty.Unique target) is refl)
-          (λ b. object_placed a types texts fs f setting.front u w.state b (ty.Unique target) is refl refl)
-          (λ stands.
-          makes_part types texts fs f (both types texts fs f Q (a_place types texts fs f (ty.Unique target) false)) (w.given, object_named (length w.state.locals)) target what used (length w.state.locals) place
-          (emit u.place (Live (length w.state.locals) Plain) (with_new (variable_local a u) w.state)) (λ q. (q.1, fits q.0)) (λ n k q. (q.1, ready n k q.0)))
 
       -- one that is made anew, moved or given, where the variable has come to life
       fresh_does : (target : TyId) → slice_get a.program.types.types u.ty.0 ≡ Some (ty.Unique target) → is_element a.program.types (type_at a.program.types target) ≡ true → is_given a.program.types (ty.Unique target) e ≡ true → IsFresh a v.visible types texts fs f setting (whole_form e)
           → Born (GivenThis (ty.Unique target))
       fresh_does target is worth given from =
           subst Born (sym (by_moved (ty.Unique target) refl ∙ ap (λ (c : Category). (object_by c (uses a (whole_form e)).at (uses a (whole_form e)).object s >> λ rest s. rest (home a u) s).state) from.value))
-          (builds_does (ty.Unique target) is refl ((uses a (whole_form e)).object s) (from.builds target worth given s h.stands))
+          (builds_does (ty.Unique target) is refl refl ((uses a (whole_form e)).object s) (from.builds target worth given s h.stands))
 
-      null_does : (target : TyId) → slice_get a.program.types.types u.ty.0 ≡ Some (ty.Unique target) → is_element a.program.types (type_at a.program.types target) ≡ true → e.form ≡ null → e.category ≡ category.Value → Born (GivenThis (ty.Unique target))
-      null_does target is worth same held =
+      null_does : (target : TyId) → slice_get a.program.types.types u.ty.0 ≡ Some (ty.Unique target) → e.form ≡ null → e.category ≡ category.Value → Born (GivenThis (ty.Unique target))
+      null_does target is same held =
           subst Born (sym (ap (λ (c : Category). (object_by c (uses a (whole_form e)).at (uses a (whole_form e)).object s >> λ rest s. rest (home a u) s).state) held
           ∙ ap (λ (g : Form). ((uses a (typed e.place e.ty e.category g)).object s >> λ rest s. rest (home a u) s).state) same))
-          (filled_unique target is (gives tt s) (nothing types texts fs f) (leaf_part types texts fs f tt s (nothing types texts fs f) (λ b. tt) (λ b k alive. tt)) u.place owning.Null [] (λ q. null_fits types texts fs f target) (λ n k q. tt))
-
-      unique_made_does : (target : TyId) → slice_get a.program.types.types u.ty.0 ≡ Some (ty.Unique target) → is_element a.program.types (type_at a.program.types target) ≡ true → (id : TyId) (argument : Form) (closing : Place) → e.form ≡ make_unique id argument closing → e.category ≡ category.Value
-          → IsOwnedBy a v.visible types texts fs f setting target id argument closing → Born (GivenThis (ty.Unique target))
-      unique_made_does target is worth id argument closing same held owned =
-          let w = owned_operand (type_of a id) (uses_if a argument) closing s in
-          let made = owned.makes s h.stands in
-          subst Born (sym (ap (λ (c : Category). (object_by c (uses a (whole_form e)).at (uses a (whole_form e)).object s >> λ rest s. rest (home a u) s).state) held
-          ∙ ap (λ (g : Form). ((uses a (typed e.place e.ty e.category g)).object s >> λ rest s. rest (home a u) s).state) same))
-          (filled_unique target is w (a_made types texts fs f target) made e.place w.given (made_uses_of w.given) (λ q. q) (λ n k q. q))
+          (builds_does (ty.Unique target) is refl refl (gives (lived Plain made_null) s) (nothing_builds a v.visible types texts fs f setting target s))
 
     owned_does : (e : Typed) → (he : Whole e) → (behind : Place) → is_served_owned texts (type_of a u.ty) e ≡ true → is_given a.program.types (type_of a u.ty) e ≡ true → Born (GivenThis e he behind (type_of a u.ty))
     owned_does e he behind b given = elim (or_cases (takes_owner (type_of a u.ty) && is_served_owning texts e) _ b) [
@@ -534,12 +497,12 @@ module _ (a : Around) (types : Types) (texts : ℕ) (fs : List Function) (f : Fu
           | inl walks ↦
               let one = and_parts (is_walker (type_of a u.ty)) (is_served_walker texts (whole_form e)) walks in
               given_walker_does one.0 (walker_expression a v.visible types texts fs f setting (whole_form e) one.1 he) (variable_type a.program.types u.ty built)
-          | inr others ↦ elim (or_cases (is_unique (type_of a u.ty) && (fills_unique texts e.form || is_served_fresh texts (whole_form e))) (takes_struct (type_of a u.ty) && is_served_struct texts (whole_form e)) others) [
+          | inr others ↦ elim (or_cases (is_unique (type_of a u.ty) && (is_nullptr e.form || is_served_fresh texts (whole_form e))) (takes_struct (type_of a u.ty) && is_served_struct texts (whole_form e)) others) [
             | inl fills ↦
-                let one = and_parts (is_unique (type_of a u.ty)) (fills_unique texts e.form || is_served_fresh texts (whole_form e)) fills in
+                let one = and_parts (is_unique (type_of a u.ty)) (is_nullptr e.form || is_served_fresh texts (whole_form e)) fills in
                 given_unique_does one.0 (variable_type a.program.types u.ty built)
-                (λ target is w. elim (or_cases (fills_unique texts e.form) (is_served_fresh texts (whole_form e)) one.1) [
-                  | inl filled ↦ filled_unique_does e.form refl filled he target is w
+                (λ target is w. elim (or_cases (is_nullptr e.form) (is_served_fresh texts (whole_form e)) one.1) [
+                  | inl filled ↦ null_unique_does e.form refl filled he target is
                   | inr fresh ↦ fresh_does e he behind target is w (as_given (ty.Unique target) is) (fresh_expression a v.visible types texts fs f setting (whole_form e) fresh he)
                 ])
             | inr structure ↦
@@ -566,12 +529,12 @@ module _ (a : Around) (types : Types) (texts : ℕ) (fs : List Function) (f : Fu
         given_owner_does p from (a_reference target constant is w) = absurd (value_reference_refused a v.visible types texts fs f setting (whole_form e) target constant w (as_given (ty.Reference target constant) is) from)
         given_owner_does p from (an_alias target constant is o) =
             as_type (ty.Reference target constant) is
-            (alias_does e behind target constant is o (owning_aliased a v.visible types texts fs f setting (whole_form e) target constant o (as_given (ty.Reference target constant) is) from))
+            (alias_does e behind target constant is (owner_target a.program.types (type_at a.program.types target) o) (inl o) (owning_aliased a v.visible types texts fs f setting (whole_form e) target constant o (as_given (ty.Reference target constant) is) from))
         given_owner_does p from (a_view is) = as_type ty.View is (string_view_does e he behind (owning_owner a v.visible types texts fs f setting (whole_form e) from) is (as_given ty.View is))
         given_owner_does p from (a_unique target is w) = refused (ty.Unique target) is refl p
         given_owner_does p from (a_struct number is) = refused (ty.Struct number) is refl p
-        given_owner_does p from (a_struct_alias target constant number is structure) =
-            absurd (struct_reference_refused a v.visible types texts fs f setting (whole_form e) target constant number structure (as_given (ty.Reference target constant) is) from)
+        given_owner_does p from (a_struct_alias target constant number is structure pointless) =
+            absurd (struct_reference_refused a v.visible types texts fs f setting (whole_form e) target constant number structure (struct_target a.program.types (type_at a.program.types target) pointless) (as_given (ty.Reference target constant) is) from)
         given_owner_does p from (a_walker (ty.Iterator item constant) is w) = refused (ty.Iterator item constant) is refl p
         given_owner_does p from (a_walker (ty.Span item constant) is w) = as_type (ty.Span item constant) is (span_does e he behind (owning_owner a v.visible types texts fs f setting (whole_form e) from) item constant w is (as_given (ty.Span item constant) is))
         given_owner_does p from (a_walker _ is w) = absurd (false≢true w)
@@ -589,7 +552,7 @@ module _ (a : Around) (types : Types) (texts : ℕ) (fs : List Function) (f : Fu
         given_walker_does p from (a_view is) = no_walker ty.View is refl p
         given_walker_does p from (a_unique target is w) = no_walker (ty.Unique target) is refl p
         given_walker_does p from (a_struct number is) = no_walker (ty.Struct number) is refl p
-        given_walker_does p from (a_struct_alias target constant number is structure) = no_walker (ty.Reference target constant) is refl p
+        given_walker_does p from (a_struct_alias target constant number is structure pointless) = no_walker (ty.Reference target constant) is refl p
         given_walker_does p from (an_owner ty.Text is o) = no_walker ty.Text is refl p
         given_walker_does p from (an_owner (ty.Vector item) is o) = no_walker (ty.Vector item) is refl p
         given_walker_does p from (an_owner _ is o) = absurd (false≢true o)
@@ -605,7 +568,7 @@ module _ (a : Around) (types : Types) (texts : ℕ) (fs : List Function) (f : Fu
         owner_filled_does p (text n) same few made (an_alias target constant is o) = no_literal (ty.Reference target constant) is refl p
         owner_filled_does p (text n) same few made (a_unique target is w) = no_literal (ty.Unique target) is refl p
         owner_filled_does p (text n) same few made (a_struct number is) = no_literal (ty.Struct number) is refl p
-        owner_filled_does p (text n) same few made (a_struct_alias target constant number is structure) = no_literal (ty.Reference target constant) is refl p
+        owner_filled_does p (text n) same few made (a_struct_alias target constant number is structure pointless) = no_literal (ty.Reference target constant) is refl p
         owner_filled_does p (text n) same few made (a_view is) = no_literal ty.View is refl p
         owner_filled_does p (text n) same few made (a_walker t is w) = no_literal t is (walker_is a.program.types t w).owner p
         owner_filled_does p (text n) same few made (an_owner t is o) =
@@ -631,45 +594,30 @@ module _ (a : Around) (types : Types) (texts : ℕ) (fs : List Function) (f : Fu
         given_unique_does p (a_walker t is w) does = no_unique t is (walker_no_unique a.program.types t w) p
         given_unique_does p (an_owner t is o) does = no_unique t is (owner_no_unique a.program.types t o) p
         given_unique_does p (a_struct number is) does = no_unique (ty.Struct number) is refl p
-        given_unique_does p (a_struct_alias target constant number is structure) does = no_unique (ty.Reference target constant) is refl p
+        given_unique_does p (a_struct_alias target constant number is structure pointless) does = no_unique (ty.Reference target constant) is refl p
         given_unique_does p (a_unique target is w) does = as_type (ty.Unique target) is (does target is w)
 
-        filled_unique_does : (form : Form) → e.form ≡ form → fills_unique texts form ≡ true → Whole e → (target : TyId) → slice_get a.program.types.types u.ty.0 ≡ Some (ty.Unique target) → is_element a.program.types (type_at a.program.types target) ≡ true
-            → Born (GivenThis e he behind (ty.Unique target))
-        filled_unique_does form same fills made target is w = by form same fills (subst (IsMadeOf a.program a.function.locals v.visible e) same made)
-          where
-            owning_does : (target : TyId) → slice_get a.program.types.types u.ty.0 ≡ Some (ty.Unique target) → is_element a.program.types (type_at a.program.types target) ≡ true → (id : TyId) (argument : Form) (closing : Place) → e.form ≡ make_unique id argument closing
-                → e.category ≡ category.Value → IsContentOf a v.visible types texts fs f setting target id argument closing → Born (GivenThis e he behind (ty.Unique target))
-            owning_does target is w id argument closing same held (is_found owned) = unique_made_does e he behind target is w id argument closing same held owned
-            owning_does target is w id argument closing same held (is_over t owner holds makes) =
-                made_declared a types texts fs f setting v in_loop last u s h at built target is t owner holds e id argument closing same held (makes s h.stands) behind
-
-            by : (form : Form) → e.form ≡ form → fills_unique texts form ≡ true → IsMadeOf a.program a.function.locals v.visible e form → Born (GivenThis e he behind (ty.Unique target))
-            by null same fills told = null_does e he behind target is w same told.1
-            by (make_unique id argument closing) same fills told =
-                owning_does target is w id argument closing same (ap (λ (y : Typed). y.category) told.0) (content_as a v.visible types texts fs f setting target w id argument closing e (as_given (ty.Unique target) is) told (giving_if_any a v.visible types texts fs f setting argument fills told.3))
-            by (move x) same fills told =
-                moved_does e he behind x told.0 (moved_from_variable a v.visible types texts fs f setting x e told.1) same (ty.Unique target) is refl (as_given (ty.Unique target) is)
-            by _ same fills told = absurd (false≢true fills)
+        null_unique_does : (form : Form) → e.form ≡ form → is_nullptr form ≡ true → Whole e → (target : TyId) → slice_get a.program.types.types u.ty.0 ≡ Some (ty.Unique target) → Born (GivenThis e he behind (ty.Unique target))
+        null_unique_does null same b made target is = null_does e he behind target is same (subst (IsMadeOf a.program a.function.locals v.visible e) same made).1
+        null_unique_does _ same b made target is = absurd (false≢true b)
 
         no_struct : (t : Ty) → slice_get a.program.types.types u.ty.0 ≡ Some t → takes_struct t ≡ false → takes_struct (type_of a u.ty) ≡ true → Born (GivenThis e he behind (type_of a u.ty))
         no_struct t is none p = absurd (false≢true (sym (ap takes_struct (type_is t is) ∙ none) ∙ p))
 
         -- which a reference is to, if any
-        aliased : IsStruct a v.visible types texts fs f setting (whole_form e) → (target : TyId) (constant : Bool) → slice_get a.program.types.types u.ty.0 ≡ Some (ty.Reference target constant) → is_target a.program.types (type_at a.program.types target) ≡ true
+        aliased : IsAnyStruct a v.visible types texts fs f setting (whole_form e) → (target : TyId) (constant : Bool) → slice_get a.program.types.types u.ty.0 ≡ Some (ty.Reference target constant) → is_target a.program.types (type_at a.program.types target) ≡ true
             → IsStructAlias a v.visible types texts fs f setting (whole_form e) target constant
-        aliased from target constant is wide = struct_aliased a v.visible types texts fs f setting (whole_form e) from target constant wide (as_given (ty.Reference target constant) is)
+        aliased from target constant is wide = struct_aliased a v.visible types texts fs f setting (whole_form e) target constant from wide (as_given (ty.Reference target constant) is)
 
-        given_struct_does : takes_struct (type_of a u.ty) ≡ true → IsStruct a v.visible types texts fs f setting (whole_form e) → IsVariableType a.program.types u.ty → Born (GivenThis e he behind (type_of a u.ty))
+        given_struct_does : takes_struct (type_of a u.ty) ≡ true → IsAnyStruct a v.visible types texts fs f setting (whole_form e) → IsVariableType a.program.types u.ty → Born (GivenThis e he behind (type_of a u.ty))
         given_struct_does p from (a_value t is w) = no_struct t is (by_values (λ t. takes_struct t ≡ false) refl refl refl refl refl t w) p
         given_struct_does p from (a_raw target constant is w) = no_struct (ty.Raw target constant) is refl p
         given_struct_does p from (a_reference target constant is w) = absurd (false≢true (sym (ap is_value (aliased from target constant is (value_target a.program.types (type_at a.program.types target) w)).structure) ∙ w))
         given_struct_does p from (an_alias target constant is o) =
             absurd (false≢true (sym (ap (is_owner_of_values a.program.types) (aliased from target constant is (owner_target a.program.types (type_at a.program.types target) o)).structure) ∙ o))
-        given_struct_does p from (a_struct_alias target constant number is structure) =
-            let wide = struct_target a.program.types (type_at a.program.types target) number structure in
-            let to = aliased from target constant is wide in
-            as_type (ty.Reference target constant) is (aimed_does e behind target constant to.held is wide to.here to.kept (to.names s h.stands))
+        given_struct_does p from (a_struct_alias target constant number is structure pointless) =
+            let wide = struct_target a.program.types (type_at a.program.types target) pointless in
+            as_type (ty.Reference target constant) is (alias_does e behind target constant is wide (struct_built a.program.types target number structure) (aliased from target constant is wide).aliased)
         given_struct_does p from (a_view is) = no_struct ty.View is refl p
         given_struct_does p from (a_walker (ty.Iterator item constant) is w) = no_struct (ty.Iterator item constant) is refl p
         given_struct_does p from (a_walker (ty.Span item constant) is w) = no_struct (ty.Span item constant) is refl p
@@ -679,8 +627,8 @@ module _ (a : Around) (types : Types) (texts : ℕ) (fs : List Function) (f : Fu
         given_struct_does p from (an_owner _ is o) = absurd (false≢true o)
         given_struct_does p from (a_unique target is w) = no_struct (ty.Unique target) is refl p
         given_struct_does p from (a_struct number is) =
-            as_type (ty.Struct number) is
-            (struct_copied a types texts fs f setting v in_loop last u s h at built number is e from (given_struct a.program.types number from.number e from.is (as_given (ty.Struct number) is)))
+            let of = as_struct a v.visible types texts fs f setting (whole_form e) number from (as_given (ty.Struct number) is) in
+            as_type (ty.Struct number) is (builds_does (ty.Struct number) is refl refl (giving.given (uses a (whole_form e)) (ty.Struct number) behind s) (of.builds behind s h.stands))
 
     -- ---- built variable
 
@@ -727,7 +675,7 @@ module _ (a : Around) (types : Types) (texts : ℕ) (fs : List Function) (f : Fu
             (live_does (λ b. owner_lives a types texts fs f setting.front u s b t is o)))
         go (a_reference target constant is w) = absurd (none_some (sym (subst (λ (t : Ty). default_fault t ≡ None) (type_is (ty.Reference target constant) is) none)))
         go (an_alias target constant is o) = absurd (none_some (sym (subst (λ (t : Ty). default_fault t ≡ None) (type_is (ty.Reference target constant) is) none)))
-        go (a_struct_alias target constant number is structure) = absurd (none_some (sym (subst (λ (t : Ty). default_fault t ≡ None) (type_is (ty.Reference target constant) is) none)))
+        go (a_struct_alias target constant number is structure pointless) = absurd (none_some (sym (subst (λ (t : Ty). default_fault t ≡ None) (type_is (ty.Reference target constant) is) none)))
 
     -- ---- a list of elements
 
@@ -754,14 +702,27 @@ module _ (a : Around) (types : Types) (texts : ℕ) (fs : List Function) (f : Fu
               let builds = list_builds a v.visible types texts fs f setting item worth list.opening (forms list.elements) list.delimiters s given all in
               let kept = subst (λ (t : Ty). BuildsIn a v.visible types texts fs f setting false t s w) (sym here) builds in
               subst (λ (g : Gives Remaining). Born (Kept g)) (sym (ap (λ (t : Ty). giving.given (listed a t list.opening element_uses list.delimiters) t behind s) here))
-              (subst (λ (r : Remaining). Born (Kept (gives r s))) (sym kept.lives) (bound_owner_does a types texts fs f setting v in_loop last u s h at built target true is o list.opening w kept))
+              (subst (λ (g : Gives ℕ). Born (g >> λ x s. gives (aimed_at list.opening (object_named x)) s >> λ rest s. rest (home a u) s).state) (sym (kept.lives (scoped list.opening (type_of a target)) s)) (bound_owner_does a types texts fs f setting v in_loop last u s h at built target true is (owner_target a.program.types (type_at a.program.types target) o) (inl o) list.opening w kept))
           go _ here worth all = absurd (false≢true worth)
 
-    listed_does : (list : ListForm) (behind : Place) → (takes_list a.program.types (type_of a u.ty) && are_served_listed texts (type_of a u.ty) (forms list.elements)) ≡ true → IsInitialised a.program a.function.locals a.function.result v.visible (Some u) (Some (several list)) → Born (given_initial a u (Some (several list)) behind s)
+      -- .. or to a struct
+      alias_of_members : (constant : Bool) (number : ℕ) → slice_get a.program.types.types u.ty.0 ≡ Some (ty.Reference target constant) → type_at a.program.types target ≡ ty.Struct number → is_plain_struct a.program.types (type_at a.program.types target) ≡ true
+          → AreListed a v.visible types texts fs f setting (forms list.elements) → is_listed a.program.types (ty.Reference target constant) (forms list.elements) ≡ true → Born (ListGiven list behind (forms list.elements) (ty.Reference target constant))
+      alias_of_members false number is here pointless given all = absurd (false≢true all)
+      alias_of_members true number is here pointless given all =
+          let w = gives (list_object a (ty.Struct number) list.opening element_uses list.delimiters) s in
+          let each = subst (λ (t : Ty). makes_object a.program.types t (forms list.elements) ≡ true) here all in
+          let builds = members_build a v.visible types texts fs f setting number list.opening (forms list.elements) list.delimiters s given each in
+          let kept = subst (λ (t : Ty). BuildsIn a v.visible types texts fs f setting false t s w) (sym here) builds in
+          subst (λ (g : Gives Remaining). Born (Kept g)) (sym (ap (λ (t : Ty). giving.given (listed a t list.opening element_uses list.delimiters) t behind s) here))
+          (subst (λ (g : Gives ℕ). Born (g >> λ x s. gives (aimed_at list.opening (object_named x)) s >> λ rest s. rest (home a u) s).state) (sym (kept.lives (scoped list.opening (type_of a target)) s))
+          (bound_owner_does a types texts fs f setting v in_loop last u s h at built target true is (struct_target a.program.types (type_at a.program.types target) pointless) (struct_built a.program.types target number here) list.opening w kept))
+
+    listed_does : (list : ListForm) (behind : Place) → (takes_list a.program.types (type_of a u.ty) && are_served_listed texts (lists_members a.program.types (type_of a u.ty)) (forms list.elements)) ≡ true → IsInitialised a.program a.function.locals a.function.result v.visible (Some u) (Some (several list)) → Born (given_initial a u (Some (several list)) behind s)
     listed_does list behind b i = go one.0 (variable_type a.program.types u.ty built)
       where
-        one : (takes_list a.program.types (type_of a u.ty) ≡ true) × (are_served_listed texts (type_of a u.ty) (forms list.elements) ≡ true)
-        one = and_parts (takes_list a.program.types (type_of a u.ty)) (are_served_listed texts (type_of a u.ty) (forms list.elements)) b
+        one : (takes_list a.program.types (type_of a u.ty) ≡ true) × (are_served_listed texts (lists_members a.program.types (type_of a u.ty)) (forms list.elements) ≡ true)
+        one = and_parts (takes_list a.program.types (type_of a u.ty)) (are_served_listed texts (lists_members a.program.types (type_of a u.ty)) (forms list.elements)) b
 
         as_type : (t : Ty) → slice_get a.program.types.types u.ty.0 ≡ Some t → Born (ListGiven list behind (forms list.elements) t) → Born (ListGiven list behind (forms list.elements) (type_of a u.ty))
         as_type t is born = subst (λ (x : Ty). Born (ListGiven list behind (forms list.elements) x)) (sym (type_is t is)) born
@@ -770,8 +731,15 @@ module _ (a : Around) (types : Types) (texts : ℕ) (fs : List Function) (f : Fu
         as_listed t is = subst (λ (x : Ty). is_listed a.program.types x (forms list.elements) ≡ true) (type_is t is) i.0
 
         -- elements, or the members of a struct
-        served : (t : Ty) → slice_get a.program.types.types u.ty.0 ≡ Some t → are_served_listed texts t (forms list.elements) ≡ true
-        served t is = subst (λ (x : Ty). are_served_listed texts x (forms list.elements) ≡ true) (type_is t is) one.1
+        served : (t : Ty) → slice_get a.program.types.types u.ty.0 ≡ Some t → are_served_listed texts (lists_members a.program.types t) (forms list.elements) ≡ true
+        served t is = subst (λ (x : Ty). are_served_listed texts (lists_members a.program.types x) (forms list.elements) ≡ true) (type_is t is) one.1
+
+        -- .. of a reference by what it is to
+        served_there : (target : TyId) (constant : Bool) → slice_get a.program.types.types u.ty.0 ≡ Some (ty.Reference target constant) → (b : Bool) → is_struct (type_at a.program.types target) ≡ b → are_served_listed texts b (forms list.elements) ≡ true
+        served_there target constant is b same = subst (λ (b : Bool). are_served_listed texts b (forms list.elements) ≡ true) same (served (ty.Reference target constant) is)
+
+        parts : are_served_parts texts (forms list.elements) ≡ true → AreListed a v.visible types texts fs f setting (forms list.elements)
+        parts b = listings a v.visible types texts fs f setting (forms list.elements) b i.1
 
         given : are_served_elements texts (forms list.elements) ≡ true → AreGiving a v.visible types texts fs f setting (forms list.elements)
         given b = givings a v.visible types texts fs f setting (forms list.elements) b i.1
@@ -789,12 +757,14 @@ module _ (a : Around) (types : Types) (texts : ℕ) (fs : List Function) (f : Fu
         go p (a_value t is w) = no_list t is (by_values (λ t. takes_list a.program.types t ≡ false) refl refl refl refl refl t w) p
         go p (a_raw target constant is w) = no_list (ty.Raw target constant) is refl p
         go p (a_reference target constant is w) = absurd (value_listed target constant w (as_listed (ty.Reference target constant) is))
-        go p (an_alias target constant is o) = as_type (ty.Reference target constant) is (alias_listed list behind target constant is o (given (served (ty.Reference target constant) is)) (as_listed (ty.Reference target constant) is))
-        go p (a_struct_alias target constant number is structure) = no_list (ty.Reference target constant) is (ap is_vector structure) p
+        go p (an_alias target constant is o) = as_type (ty.Reference target constant) is (alias_listed list behind target constant is o (given (served_there target constant is false (owner_no_struct a.program.types (type_at a.program.types target) o))) (as_listed (ty.Reference target constant) is))
+        go p (a_struct_alias target constant number is structure pointless) =
+            as_type (ty.Reference target constant) is (alias_of_members list behind target constant number is structure pointless (parts (served_there target constant is true (ap is_struct structure))) (as_listed (ty.Reference target constant) is))
         go p (a_unique target is w) = no_list (ty.Unique target) is refl p
         go p (a_struct number is) =
             as_type (ty.Struct number) is
-            (struct_listed a types texts fs f setting v in_loop last u s h at built number is list.opening (forms list.elements) list.delimiters (listings a v.visible types texts fs f setting (forms list.elements) (served (ty.Struct number) is) i.1) (as_listed (ty.Struct number) is))
+            (builds_does (ty.Struct number) is refl refl (gives (list_object a (ty.Struct number) list.opening (all_uses a (forms list.elements)) list.delimiters) s)
+            (members_build a v.visible types texts fs f setting number list.opening (forms list.elements) list.delimiters s (parts (served (ty.Struct number) is)) (as_listed (ty.Struct number) is)))
         go p (a_view is) = no_list ty.View is refl p
         go p (a_walker (ty.Iterator item constant) is w) = no_list (ty.Iterator item constant) is refl p
         go p (a_walker (ty.Span item constant) is w) = no_list (ty.Span item constant) is refl p
@@ -802,7 +772,7 @@ module _ (a : Around) (types : Types) (texts : ℕ) (fs : List Function) (f : Fu
         go p (an_owner ty.Text is o) = no_list ty.Text is refl p
         go p (an_owner (ty.Vector item) is o) =
             as_type (ty.Vector item) is
-            (builds_does (ty.Vector item) is refl (gives (list_object a (ty.Vector item) list.opening (all_uses a (forms list.elements)) list.delimiters) s)
+            (builds_does (ty.Vector item) is refl refl (gives (list_object a (ty.Vector item) list.opening (all_uses a (forms list.elements)) list.delimiters) s)
             (list_builds a v.visible types texts fs f setting item o list.opening (forms list.elements) list.delimiters s (given (served (ty.Vector item) is)) (as_listed (ty.Vector item) is)))
         go p (an_owner _ is o) = absurd (false≢true o)
 

@@ -40,7 +40,7 @@ use Rattle.life_elab_laws.proofs.Knowledge.{at_set, beside_set, set_length, read
 use Rattle.life_elab_laws.proofs.Gifts.{Gift, nothing}
 use Rattle.life_elab_laws.proofs.OperandsThere.{object_there, type_there}
 use Rattle.life_elab_laws.proofs.Parts.{Makes, Part}
-use Rattle.life_elab_laws.proofs.Shaped.{named_lasts, target_there}
+use Rattle.life_elab_laws.proofs.Shaped.{named_lasts}
 use Rattle.life_elab_laws.proofs.Shaping.{IsFine, fine_append}
 use Rattle.life_elab_laws.proofs.Types.{value_kind}
 use Rattle.life_elab_laws.proofs.VariablePlaces.{a_raw, a_reference, a_struct, a_unique, a_value, a_view, a_walker, an_alias, an_owner, IsVariableAt, IsVariableType, owner_kind, variable_type, walker_is, a_struct_alias}
@@ -53,7 +53,7 @@ use Rattle.life_elab_laws.proofs.TemporaryEnds.{TemporariesEnd}
 use Rattle.life_elab_laws.proofs.Under.{ActingUnder, DoesUnder, MayBeKnown, does_plain, leaves_under}
 use Rattle.life_proper.specs.ReadyKnown.{can_leave, set_known}
 use Rattle.life_types.specs.declared.place.Place.{Place}
-use Rattle.life_elab_laws.proofs.Targets.{owner_target, value_target, struct_target}
+use Rattle.life_elab_laws.proofs.Targets.{owner_target, value_target, struct_target, target_unslotted}
 use Rattle.life_typed.specs.BaseTypes.{type_at}
 use Rattle.life_elab_laws.proofs.Handing.{Handing, RunsHanding, handed_apart, handing_none}
 use Rattle.life_elab_laws.proofs.OwnLocals.{first_own}
@@ -105,7 +105,7 @@ module _ (types : Types) (f : Function) (a : Around) (front : IsFront a.program.
         refers : (target : TyId) (constant : Bool) → slice_get a.program.types.types u.ty.0 ≡ Some (ty.Reference target constant) → is_target a.program.types (type_at a.program.types target) ≡ true → may_end types f (length s.locals) ≡ true
         refers target constant is h =
             pointer (ty.Reference target constant)
-            (reference_there types f (length s.locals) l target constant there (typed (ty.Reference target constant) is) (target_there a.program.types types front target h)) refl
+            (reference_there types f (length s.locals) l target constant there (typed (ty.Reference target constant) is) (target_unslotted a.program.types types front target h)) refl
 
         go : IsVariableType a.program.types u.ty → may_end types f (length s.locals) ≡ true
         go (a_value t is e) = object t is (value_kind t e)
@@ -117,7 +117,7 @@ module _ (types : Types) (f : Function) (a : Around) (front : IsFront a.program.
         go (a_view is) = pointer ty.View (type_there types f (length s.locals) l ty.View there (typed ty.View is) refl) refl
         go (a_reference target constant is e) = refers target constant is (value_target a.program.types (type_at a.program.types target) e)
         go (an_alias target constant is o) = refers target constant is (owner_target a.program.types (type_at a.program.types target) o)
-        go (a_struct_alias target constant number is structure) = refers target constant is (struct_target a.program.types (type_at a.program.types target) number structure)
+        go (a_struct_alias target constant number is structure pointless) = refers target constant is (struct_target a.program.types (type_at a.program.types target) pointless)
 
     -- ---- the state
 

@@ -1,7 +1,7 @@
 -- The variable of a loop over a range, which is given the element that the hidden iterator stands at: its value, or a reference to it.
 use Rattle.std.proofs.Common.{◌≡◌, ◌<◌, inl, inr, ℕ, zero, suc, Bool, true, false, ◌&&◌, cond, List, [], ◌∷◌, ◌++◌, drop, length, reverse, slice_get, slice_set, take, if◌then◌else◌, Option, Some, None, refl, sym, ap, ◌∙◌, subst, arith, append_assoc, unwrap_or}
 use Rattle.std.proofs.lemmas.Bool.{and_parts, false≢true, or_cases}
-use Rattle.life_served.specs.Served.{is_element, is_owner_of_values, is_served_variable, is_target, takes_as, takes_element}
+use Rattle.life_served.specs.Served.{is_element, is_owner_of_values, is_served_variable, is_struct, is_target, takes_as, takes_element}
 use Rattle.life_types.specs.TypeTests.{is_value}
 use Rattle.life_types.specs.Types.{Types, class}
 use Rattle.life_types.specs.contracts.ty.TyPartialEq.TheImpl.{ghosts as compared}
@@ -50,7 +50,7 @@ use Rattle.life_elab_laws.proofs.Elements.{element_target, element_there, one_el
 use Rattle.life_elab_laws.proofs.Falling.{Falls, falls_filling}
 use Rattle.life_elab_laws.proofs.Filling.{aimed_filling, filling_fills}
 use Rattle.life_elab_laws.proofs.Following.{Follows, follows_settled, settled}
-use Rattle.life_elab_laws.proofs.FormedFits.{IsBound, IsBoundTo, at_place, by_temporary, given_bound, given_owner, given_string, given_vector}
+use Rattle.life_elab_laws.proofs.FormedFits.{IsBound, IsBoundTo, at_place, by_temporary, given_bound, given_owner, given_string, given_struct, given_vector}
 use Rattle.life_elab_laws.proofs.FormedVariables.{const_same}
 use Rattle.life_elab_laws.proofs.Gifts.{Gift, IsGivenAs, IsPlaceOf, a_number, a_place}
 use Rattle.life_elab_laws.proofs.GivenApart.{Apart}
@@ -60,15 +60,16 @@ use Rattle.life_elab_laws.proofs.HiddenStay.{hidden_known}
 use Rattle.life_elab_laws.proofs.Instructions.{as_type_part, load_part}
 use Rattle.life_elab_laws.proofs.Locations.{is_location}
 use Rattle.life_elab_laws.proofs.Making.{Alive}
-use Rattle.life_elab_laws.proofs.NewVariables.{bound_given, location_declared, owner_declared, owner_lives, reference_declared, reference_kept, value_lives, value_saved}
+use Rattle.life_elab_laws.proofs.NewVariables.{bound_given, location_declared, object_lives, object_placed, owner_declared, owner_lives, reference_declared, reference_kept, value_lives, value_saved}
 use Rattle.life_elab_laws.proofs.OwnerBirths.{lives_falls}
 use Rattle.life_elab_laws.proofs.OwnerSteps.{copy_fine, place_held, whole_filling, whole_given}
 use Rattle.life_elab_laws.proofs.Parts.{Part, gives_part, then_part}
 use Rattle.life_elab_laws.proofs.RangeBases.{behind_hidden}
 use Rattle.life_elab_laws.proofs.Saving.{saved_falls, saved_fine}
 use Rattle.life_elab_laws.proofs.Setting.{Setting}
-use Rattle.life_elab_laws.proofs.Shaping.{IsFine, fine_acts, fine_append}
-use Rattle.life_elab_laws.proofs.Targets.{owner_target, target_no_void, value_target, struct_target}
+use Rattle.life_elab_laws.proofs.Shaping.{IsFine, IsFineStep, fine_acts, fine_append}
+use Rattle.life_elab_laws.proofs.StructSteps.{struct_copy_fine}
+use Rattle.life_elab_laws.proofs.Targets.{owner_target, struct_named, struct_target, target_no_void, value_target}
 use Rattle.life_elab_laws.proofs.TemporaryEnds.{TemporariesEnd, temporary_ends}
 use Rattle.life_elab_laws.proofs.TypedKinds.{place_same}
 use Rattle.life_elab_laws.proofs.Under.{DoesUnder, does_more}
@@ -204,38 +205,48 @@ module _ (a : Around) (types : Types) (texts : ℕ) (fs : List Function) (f : Fu
       pub value_declared : Born (given_element a (class (Some (type_of a u.ty))) u colon it element s)
       value_declared = subst Born (sym value_written) value_born
 
-  -- ---- a copy of it, where it is an owner
+  -- ---- a copy of it, where it is an owner or a struct
 
-  module _ (z : Ty) (is : slice_get a.program.types.types u.ty.0 ≡ Some z) (o : is_owner_of_values a.program.types z ≡ true) (same_type : t ≡ z) where
-    copied_born : Born (emit colon (Copy (object_named (length s.locals)) (behind it)) (emit u.place (Live (length s.locals) Plain) (with_new (variable_local a u) s)))
-    copied_born =
-        let y = length s.locals in
-        let lives = Acts u.place (Live y Plain) ∷ [] in
-        let copies = Acts colon (Copy (object_named y) (behind it)) ∷ [] in
-        subst (λ (c : List Tree). Born (with_code c (with_new (variable_local a u) s)))
-        (sym (append_assoc s.code lives copies))
-        (declared (gives (behind it) s) (a_place types texts fs f t constant) (lives ++ copies) refl place_part
-        (λ b q.
-        let new = owner_declared a types texts fs f setting.front u s b z is o in
-        fine_append types texts fs f lives copies
-        (fine_acts types texts fs f u.place (Live y Plain) (record { given = refl; formed = owner_lives a types texts fs f setting.front u s b z is o }))
-        (fine_acts types texts fs f colon (Copy (object_named y) (behind it))
-        (copy_fine types texts fs f a.program.types z (object_named y) (behind it) o new.typed new.held (q.typed ∙ same_type))))
-        (λ b k size q blank.
-        lives_falls types f u.place colon (λ y. Copy (object_named y) (behind it)) (place_uses (behind it)) y refl k (omega (arith, size, below s (grows_none s) b)) (place_held (behind it) y k q) blank)
-        (λ b q k alive r blank. new_none f (variable_local a u) s))
+  abbrev copied : State
+  copied = emit colon (Copy (object_named (length s.locals)) (behind it)) (emit u.place (Live (length s.locals) Plain) (with_new (variable_local a u) s))
 
-    copied_written : given_element a (class (Some (type_of a u.ty))) u colon it element s ≡ emit colon (Copy (object_named (length s.locals)) (behind it)) (emit u.place (Live (length s.locals) Plain) (with_new (variable_local a u) s))
-    copied_written = ap (λ (q : Ty). given_element a (class (Some q)) u colon it element s) (type_is z is) ∙ by_owner z o
-      where
-        by_owner : (q : Ty) → is_owner_of_values a.program.types q ≡ true
-            → given_element a (class (Some q)) u colon it element s ≡ emit colon (Copy (object_named (length s.locals)) (behind it)) (emit u.place (Live (length s.locals) Plain) (with_new (variable_local a u) s))
-        by_owner ty.Text o = refl
-        by_owner (ty.Vector item) o = refl
-        by_owner _ o = absurd (false≢true o)
+  copied_born : (New s → IsFineStep types texts fs f (Live (length s.locals) Plain)) → (New s → IsPlaceOf types texts fs f t constant (behind it) → IsFineStep types texts fs f (Copy (object_named (length s.locals)) (behind it))) → Born copied
+  copied_born comes copies_it =
+      let y = length s.locals in
+      let lives = Acts u.place (Live y Plain) ∷ [] in
+      let copies = Acts colon (Copy (object_named y) (behind it)) ∷ [] in
+      subst (λ (c : List Tree). Born (with_code c (with_new (variable_local a u) s)))
+      (sym (append_assoc s.code lives copies))
+      (declared (gives (behind it) s) (a_place types texts fs f t constant) (lives ++ copies) refl place_part
+      (λ b q.
+      fine_append types texts fs f lives copies (fine_acts types texts fs f u.place (Live y Plain) (comes b)) (fine_acts types texts fs f colon (Copy (object_named y) (behind it)) (copies_it b q)))
+      (λ b k size q blank.
+      lives_falls types f u.place colon (λ y. Copy (object_named y) (behind it)) (place_uses (behind it)) y refl k (omega (arith, size, below s (grows_none s) b)) (place_held (behind it) y k q) blank)
+      (λ b q k alive r blank. new_none f (variable_local a u) s))
 
-    pub copied_declared : Born (given_element a (class (Some (type_of a u.ty))) u colon it element s)
-    copied_declared = subst Born (sym copied_written) copied_born
+  copied_written : (z : Ty) → slice_get a.program.types.types u.ty.0 ≡ Some z → given_element a (class (Some z)) u colon it element s ≡ copied → given_element a (class (Some (type_of a u.ty))) u colon it element s ≡ copied
+  copied_written z is written = ap (λ (q : Ty). given_element a (class (Some q)) u colon it element s) (type_is z is) ∙ written
+
+  pub copied_declared : (z : Ty) → slice_get a.program.types.types u.ty.0 ≡ Some z → is_owner_of_values a.program.types z ≡ true → t ≡ z → Born (given_element a (class (Some (type_of a u.ty))) u colon it element s)
+  copied_declared z is o same_type =
+      subst Born (sym (copied_written z is (by_owner z o)))
+      (copied_born (λ b. record { given = refl; formed = owner_lives a types texts fs f setting.front u s b z is o })
+      (λ b q.
+      let new = owner_declared a types texts fs f setting.front u s b z is o in
+      copy_fine types texts fs f a.program.types z (object_named (length s.locals)) (behind it) o new.typed new.held (q.typed ∙ same_type)))
+    where
+      by_owner : (q : Ty) → is_owner_of_values a.program.types q ≡ true → given_element a (class (Some q)) u colon it element s ≡ copied
+      by_owner ty.Text o = refl
+      by_owner (ty.Vector item) o = refl
+      by_owner _ o = absurd (false≢true o)
+
+  pub struct_declared : (number : ℕ) → slice_get a.program.types.types u.ty.0 ≡ Some (ty.Struct number) → t ≡ ty.Struct number → Born (given_element a (class (Some (type_of a u.ty))) u colon it element s)
+  struct_declared number is same_type =
+      subst Born (sym (copied_written (ty.Struct number) is refl))
+      (copied_born (λ b. record { given = refl; formed = object_lives a types texts fs f setting.front u s b (ty.Struct number) is refl })
+      (λ b q.
+      let new = object_placed a types texts fs f setting.front u s b (ty.Struct number) is refl refl in
+      struct_copy_fine types texts fs f setting.structs number (object_named (length s.locals)) (behind it) new.typed new.held (q.typed ∙ same_type)))
 
   -- ---- a view or a span of the whole of it
 
@@ -248,7 +259,7 @@ module _ (a : Around) (types : Types) (texts : ℕ) (fs : List Function) (f : Fu
     shown_born =
         let y = length s.locals in
         declared (gives (behind it) s) (a_place types texts fs f t constant) (Acts colon (shows (whole y)) ∷ []) refl place_part
-        (λ b q. fine_acts types texts fs f colon (shows (whole y)) (seen q z (whole y) loc (location_declared a types texts fs f setting.front u s b z loc is) (inl refl)))
+        (λ b q. fine_acts types texts fs f colon (shows (whole y)) (seen q z (whole y) loc (location_declared a types texts fs f setting.front u s b z loc is).typed (inl refl)))
         (λ b k size q blank.
         falls_filling types f colon (shows (whole y)) y k
         (filling_fills f shows y k (whole_filling types texts fs f (behind it) y k q) y (location_declared a types texts fs f setting.front u s b z loc is).kept))
@@ -399,6 +410,9 @@ module _ (a : Around) (types : Types) (texts : ℕ) (fs : List Function) (f : Fu
       owned (ty.Vector item) o e = owner_element a.program.types t worth e
       owned _ o e = absurd (false≢true o)
 
+      structure : (number : ℕ) → is_struct t ≡ true → is_given a.program.types (ty.Struct number) as_given ≡ true → t ≡ ty.Struct number
+      structure number is_one given = let found = struct_named t is_one in found.1 ∙ ap ty.Struct (given_struct a.program.types number found.0 as_given (ap Of found.1) given)
+
       bound : (target : TyId) (held : Bool) → slice_get a.program.types.types u.ty.0 ≡ Some (ty.Reference target held) → is_target a.program.types (type_at a.program.types target) ≡ true → IsBound a.program.types target held as_given → Born (declared_from a (Some u) colon it element s)
       bound target held is w (at_place there) = reference_bound target held is w there
       bound target held is w (by_temporary none else_given) =
@@ -414,7 +428,7 @@ module _ (a : Around) (types : Types) (texts : ℕ) (fs : List Function) (f : Fu
       go (a_value z is w) = value_declared z w (plain z w (as_taken z is)) is
       go (a_reference target held is w) = refers target held is (value_target a.program.types (type_at a.program.types target) w)
       go (an_alias target held is o) = refers target held is (owner_target a.program.types (type_at a.program.types target) o)
-      go (a_struct_alias target held number is structure) = refers target held is (struct_target a.program.types (type_at a.program.types target) number structure)
+      go (a_struct_alias target held number is structure pointless) = refers target held is (struct_target a.program.types (type_at a.program.types target) pointless)
       go (a_raw target held is w) = refused (ty.Raw target held) is refl
       go (a_view is) = view_declared is (given_string a.program.types t as_given (owner_element a.program.types t worth (as_taken ty.View is)) refl (given_as ty.View is))
       go (a_walker (ty.Span item held) is w) =
@@ -423,7 +437,7 @@ module _ (a : Around) (types : Types) (texts : ℕ) (fs : List Function) (f : Fu
       go (a_walker (ty.Iterator item held) is w) = refused (ty.Iterator item held) is refl
       go (a_walker _ is w) = absurd (false≢true w)
       go (a_unique target is w) = refused (ty.Unique target) is refl
-      go (a_struct number is) = refused (ty.Struct number) is refl
+      go (a_struct number is) = struct_declared number is (structure number (as_taken (ty.Struct number) is) (given_as (ty.Struct number) is))
       go (an_owner z is o) =
           copied_declared z is o
           (given_owner a.program.types z t as_given o (owned z o (as_taken z is)) refl (given_as z is))

@@ -66,7 +66,7 @@ module _ (types : Types) (f : Function) where
   register_new : (place : Place) (t : Ty) (s : State) → fits_register types t ≡ true → HasPartsBelow s.types (length s.types.types) t → AddsRegisters types s (new_register place t s).state
   register_new place t s fits below = (
     register_pushed types (new_register place t s).state.types s.locals (added place t s) (record { nameless = refl; ty = t; typed = type_added s.types.types t; fits = inl (refl, fits) }),
-    type_ordered s.types t below,
+    type_ordered s.types t (λ ordered. below),
   )
 
   pub new_targeted : (place : Place) (t : Ty) (s : State) → fits_register types t ≡ true → HasPartsBelow s.types (length s.types.types) t → Targets None s (new_register place t s)

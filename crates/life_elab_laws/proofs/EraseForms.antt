@@ -1,5 +1,5 @@
 -- An element that is erased: it gives an iterator to what stood behind it.
-use Rattle.std.proofs.Common.{◌≡◌, ◌++◌, ℕ, Bool, true, false, not, List, [], ◌∷◌, None, refl, sym, ap, ◌∙◌, subst}
+use Rattle.std.proofs.Common.{◌≡◌, ◌++◌, ℕ, Bool, true, false, not, List, [], ◌∷◌, None, refl, sym, ap, ◌∙◌, subst, append_assoc}
 use Rattle.std.proofs.lemmas.Bool.{and_from, and_parts, false≢true}
 use Rattle.life_served.specs.Served.{is_owner_of_values, is_walker_of_values}
 use Rattle.life_types.specs.Pointees.{ty_of}
@@ -48,13 +48,15 @@ use Rattle.life_elab_laws.proofs.WalkerForms.{IsWalker, IsWalkerAt, walker_point
 use Rattle.life_elab_laws.proofs.WalkerSteps.{iterator_taker}
 use Rattle.life_elab_laws.proofs.Elements.{one_element}
 use Rattle.life_elab_laws.proofs.FreeObjects.{object_part}
+use Rattle.life_elab_laws.proofs.Filling.{only_uses}
+use Rattle.life_elab_laws.proofs.PointedCalls.{gives_plainly}
 
 module _ (types : Types) (texts : ℕ) (fs : List Function) (f : Function) where
   erase_given : (item found : TyId) (held : Bool) (o : Operand) (q : Location) → same (ty_of types item) (ty_of types item) ≡ true → ty_of types found ≡ ty_of types item → IsPlaceOf types texts fs f (ty.Vector item) false o
       → IsAt types texts fs f (ty.Iterator found held) q → IsGivenAs types texts fs f (Of (ty.Iterator item false)) (By (λ p. Changes o (Erase q p)))
   erase_given item found held o q itself one place source = λ u l loc at taken.
       let to = iterator_taker types item false u loc taken in
-      let typed : type_in types f l ≡ ty.Iterator to.target to.held = at.typed ∙ to.is in
+      let typed : type_in types f l ≡ ty.Iterator to.target to.held = at ∙ to.is in
       record {
         given = refl;
         formed =
@@ -70,6 +72,7 @@ module _ (types : Types) (texts : ℕ) (fs : List Function) (f : Function) where
     uses = place_uses o ++ (q.local ∷ []);
     held = subst (λ (xs : List ℕ). AreHeld (xs ++ (q.local ∷ [])) n k) (sym place.uses) ((place.below, place.held), (pointer_is_held q n k lies, tt));
     touches = λ x e. refl;
+    parts = λ x m ms. only_uses (sym (append_assoc (place_uses o) (q.local ∷ []) (x ∷ [])));
   }
 
 module _ (a : Around) (visible : List ℕ) (types : Types) (texts : ℕ) (fs : List Function) (f : Function) (setting : Setting a types fs f) where
@@ -111,10 +114,11 @@ module _ (a : Around) (visible : List ℕ) (types : Types) (texts : ℕ) (fs : L
                 let Q = a_pointer types texts fs f (ty.Iterator found held) in
                 let first = subst (λ (t : Ty). Makes types texts fs f None s x (a_place types texts fs f t false)) alike (object_part a visible types texts fs f setting base is free s stands) in
                 let second = subst (λ (t : Ty). Makes types texts fs f None x.state q (a_pointer types texts fs f t)) named (walker_pointer a visible types texts fs f setting position at (own (uses a position)) x.state (stands_later a visible s x.state first.grown stands)) in
-                seen_part types texts fs f (no_gift types texts fs f) tt None s (gives (x.given, q.given) q.state) (both types texts fs f P Q) (λ y. By (λ p. Changes y.0 (Erase y.1 p))) (a_pointing types texts fs f (Of (ty.Iterator item false)))
+                gives_plainly
+                (seen_part types texts fs f (no_gift types texts fs f) tt None s (gives (x.given, q.given) q.state) (both types texts fs f P Q) (λ y. By (λ p. Changes y.0 (Erase y.1 p))) (a_pointing types texts fs f (Of (ty.Iterator item false)))
                 (and_part types texts fs f (no_gift types texts fs f) tt s x q P Q stands.opened first second)
                 (λ b h. erase_given types texts fs f item found held x.given q.given worth (one found held named) h.0 h.1)
-                (λ n k h. erase_filling types texts fs f x.given q.given n k h.0 h.1);
+                (λ n k h. erase_filling types texts fs f x.given q.given n k h.0 h.1));
           }
           by_position (ty.Span found held) named w = absurd (false≢true (subst (λ (t : Ty). is_given a.program.types (ty.Iterator item true) (record (typed_in position) { ty = Of t }) ≡ true) named (subst (λ (x : ExprType). is_given a.program.types (ty.Iterator item true) (record (typed_in position) { ty = x }) ≡ true) at.is fits)))
           by_position _ named w = absurd (false≢true w)

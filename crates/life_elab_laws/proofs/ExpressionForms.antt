@@ -43,6 +43,7 @@ use Rattle.life_elab_laws.proofs.Gifts as gifts
 use Rattle.life_elab_laws.proofs.Instructions.{IsIntoOf, as_type_part, located_part, read_part}
 use Rattle.life_elab_laws.proofs.Locations.{IsPointed, at_location, by_literal, by_null, is_location, is_pointed, location_is, number_no_pointer, pointed_type, raw_location}
 use Rattle.life_elab_laws.proofs.Parts.{Makes, then_part}
+use Rattle.life_elab_laws.proofs.PointedCalls.{GivesPointer, call_located, gives_called, gives_plainly}
 use Rattle.life_elab_laws.proofs.Setting.{Setting}
 use Rattle.life_elab_laws.proofs.TypedKinds.{IsKind, a_number as is_number_kind, kind_same, none_some, null_value, text_value, value_place}
 use Rattle.life_elab_laws.proofs.VariablePlaces.{Stands}
@@ -68,6 +69,10 @@ module _ (a : Around) (visible : List ℕ) (types : Types) (texts : ℕ) (fs : L
 
   abbrev pub Points : ExprType → State → Gives Pointing → Type 0
   Points t s w = Makes types texts fs f None s w (a_pointing types texts fs f t)
+
+  -- .. also where owners are given over to a call
+  abbrev pub PointsAt : ExprType → State → Gives Pointing → Type 0
+  PointsAt t s w = GivesPointer types texts fs f t s w
 
   abbrev pub Hands : FunctionForm → State → Gives (List Argument) → Type 0
   Hands of s w = AllHanded types texts fs f (parameter_types (Some of)) s w
@@ -112,7 +117,7 @@ module _ (a : Around) (visible : List ℕ) (types : Types) (texts : ℕ) (fs : L
     pub names : (id : TyId) (constant : Bool) → e.category ≡ category.Place id constant → is_value (type_at a.program.types id) ≡ true → (place : Place) (s : State) → Standing s
         → Placed (type_at a.program.types id) constant s ((form_uses a form place e.ty e.category).at s)
     -- a pointer points
-    pub points : is_pointed e.ty ≡ true → (place : Place) (s : State) → Standing s → Points e.ty s ((form_uses a form place e.ty e.category).pointing s)
+    pub points : is_pointed e.ty ≡ true → (place : Place) (s : State) → Standing s → PointsAt e.ty s ((form_uses a form place e.ty e.category).pointing s)
     -- what is made of conditions decides
     pub decides : (place : Place) (b : Behind) (w : State → Gives Tree) → (form_uses a form place e.ty e.category).decision b ≡ Some w → (s : State) → Standing s → Decided b.ends s (w s)
     -- what is a call is one of a function that is there
@@ -129,7 +134,7 @@ module _ (a : Around) (visible : List ℕ) (types : Types) (texts : ℕ) (fs : L
     pub lands : is_number (typed_in form).ty ≡ true → (behind : Place) (to : Ty) (r : ℕ) (s : State) → (value (uses a form) behind to (Some r) s).given ≡ r
     pub names : (id : TyId) (constant : Bool) → (typed_in form).category ≡ category.Place id constant → is_value (type_at a.program.types id) ≡ true → (s : State) → Standing s
         → Placed (type_at a.program.types id) constant s ((uses a form).at s)
-    pub points : is_pointed (typed_in form).ty ≡ true → (s : State) → Standing s → Points (typed_in form).ty s ((uses a form).pointing s)
+    pub points : is_pointed (typed_in form).ty ≡ true → (s : State) → Standing s → PointsAt (typed_in form).ty s ((uses a form).pointing s)
     pub pointers : (u : Ty) → (typed_in form).ty ≡ Of u → is_location u ≡ true → (s : State) → Standing s → Pointed u s (located (uses a form).place (own (uses a form)) ((uses a form).pointing s).given ((uses a form).pointing s).state)
     pub conditions : is_condition (typed_in form).ty ≡ true → (b : Behind) (s : State) → Standing s → Decided b.ends s (condition (uses a form) b s)
     pub decides : (b : Behind) (w : State → Gives Tree) → (uses a form).decision b ≡ Some w → (s : State) → Standing s → Decided b.ends s (w s)
@@ -164,15 +169,18 @@ module _ (a : Around) (visible : List ℕ) (types : Types) (texts : ℕ) (fs : L
       go true = here
       go false = refl
 
-  pub pointer_part : (w : State → Gives Pointing) (t : ExprType) (u : Ty) (place : Place) (s : State) → t ≡ Of u → is_location u ≡ true → fits_register a.program.types u ≡ true → Standing s → Points t s (w s)
+  pub pointer_part : (w : State → Gives Pointing) (t : ExprType) (u : Ty) (place : Place) (s : State) → t ≡ Of u → is_location u ≡ true → fits_register a.program.types u ≡ true → Standing s → PointsAt t s (w s)
       → Pointed u s (located place (own_type t) (w s).given (w s).state)
   pointer_part w t u place s is raw fits stands first =
-      subst (λ (x : ExprType). Pointed u s (located place (own_type x) (w s).given (w s).state)) (sym is) (go (subst (λ (x : ExprType). Points x s (w s)) is first))
+      subst (λ (x : ExprType). Pointed u s (located place (own_type x) (w s).given (w s).state)) (sym is) (go (subst (λ (x : ExprType). PointsAt x s (w s)) is first))
     where
-      go : Points (Of u) s (w s) → Pointed u s (located place u (w s).given (w s).state)
-      go first =
+      go : PointsAt (Of u) s (w s) → Pointed u s (located place u (w s).given (w s).state)
+      go (gives_called c) =
+          call_located types texts fs f (Of u) s (w s) c u place refl raw (fits_later a.program.types types setting.front setting.plain u fits)
+          (fits_below a.program.types c.given.state.types (front_length a.program.types.types c.given.state.types.types (front_then a.program.types.types s.types.types c.given.state.types.types stands.table c.hands.grown.types)) u fits)
+      go (gives_plainly first) =
           then_part types texts fs f (gifts.nothing types texts fs f) tt None s (w s) _ (a_pointing types texts fs f (Of u)) (a_pointer types texts fs f u) stands.opened first
-          (located_part types texts fs f (w s).given u place (w s).state raw (fits_later a.program.types types setting.front u fits)
+          (located_part types texts fs f (w s).given u place (w s).state raw (fits_later a.program.types types setting.front setting.plain u fits)
           (fits_below a.program.types (w s).state.types (front_length a.program.types.types (w s).state.types.types (front_then a.program.types.types s.types.types (w s).state.types.types stands.table first.grown.types)) u fits))
 
   -- a raw pointer or a view is tested, and is located, as what it is
@@ -332,7 +340,7 @@ module _ (a : Around) (visible : List ℕ) (types : Types) (texts : ℕ) (fs : L
     computes = λ at n. absurd (never n);
     lands = λ at n. absurd (never n);
     names = no_place form e c;
-    points = points;
+    points = λ p place s stands. gives_plainly (points p place s stands);
     decides = λ place b w at. absurd (none_some (sym (plain place b) ∙ at));
     calls = λ d at. absurd (none_some (sym none ∙ at));
     as_literal = told;
@@ -348,7 +356,7 @@ module _ (a : Around) (visible : List ℕ) (types : Types) (texts : ℕ) (fs : L
     computes = λ at. absurd (c at);
     lands = λ at. absurd (c at);
     names = names;
-    points = points;
+    points = λ p place s stands. gives_plainly (points p place s stands);
     decides = λ place b w at. absurd (none_some (sym (plain place b) ∙ at));
     calls = λ d at. absurd (none_some (sym none ∙ at));
     as_literal = λ at. absurd (c (text_value a.program.types e kind.kind at));
@@ -362,7 +370,7 @@ module _ (a : Around) (visible : List ℕ) (types : Types) (texts : ℕ) (fs : L
     computes = λ at n place b none into s wanted stands. is.valued (ap is_number t ∙ n) closing (own_type e.ty) (own_value e.ty n) into s wanted stands;
     lands = λ at n place b none r s. is.lands (ap is_number t ∙ n) closing (own_type e.ty) r s;
     names = λ id constant at v place s stands. is.names id constant (c ∙ at) v s stands;
-    points = λ p place s stands. subst (λ (x : ExprType). Points x s ((uses a inner).pointing s)) t (is.points (ap is_pointed t ∙ p) s stands);
+    points = λ p place s stands. subst (λ (x : ExprType). PointsAt x s ((uses a inner).pointing s)) t (is.points (ap is_pointed t ∙ p) s stands);
     decides = λ place b. is.decides (closed_by closing b);
     calls = λ d at. subst (λ (x : ExprType). IsCall d x e.category) t (subst (IsCall d (typed_in inner).ty) c (is.calls d at));
     as_literal = λ at place. is.as_literal (t ∙ at);

@@ -92,7 +92,7 @@ dereferenced_as types inner e k n h = go k.kind
         worth : IsTarget types (type_at types target) → is_value (type_at types target) ≡ true
         worth (to_value v) = v
         worth (to_owner o) = absurd (owner_refused types (type_at types target) o (subst (λ (x : ExprType). is_plain_type x ≡ true) (ap (λ (x : Typed). x.ty) here) n))
-        worth (to_struct number s) = absurd (struct_refused (type_at types target) number s (subst (λ (x : ExprType). is_plain_type x ≡ true) (ap (λ (x : Typed). x.ty) here) n))
+        worth (to_struct number s pointless) = absurd (struct_refused (type_at types target) number s (subst (λ (x : ExprType). is_plain_type x ≡ true) (ap (λ (x : Typed). x.ty) here) n))
 
 pub record IsNegated (inner e : Typed) : Type 0 where
   pub ty : Ty

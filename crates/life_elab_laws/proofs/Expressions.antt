@@ -1,8 +1,8 @@
 -- What is written for a well typed expression, by one recursion: each form says by one way how it is written, and has all laws by that.
-use Rattle.std.proofs.Common.{◌≡◌, inl, inr, ℕ, zero, suc, Bool, true, false, List, [], ◌∷◌, slice_get, Option, Some, None, refl, sym, ap, ◌∙◌, subst, ◌&&◌, ◌||◌, Ok}
+use Rattle.std.proofs.Common.{◌≡◌, inl, inr, ℕ, zero, suc, Bool, true, false, List, [], ◌∷◌, slice_get, Option, Some, None, refl, sym, ap, ◌∙◌, subst, ◌&&◌, ◌||◌, if◌then◌else◌, Ok}
 use Rattle.std.proofs.lemmas.Bool.{and_parts, false≢true, or_cases}
 use Rattle.std.specs.Prelude.{pos}
-use Rattle.life_served.specs.Served.{are_served_arguments, are_served_elements, form_type, is_asking, is_edge, is_end, is_equality, is_erase, is_get, is_owner_of_values, is_owner_type, is_plain_type, is_served_either, is_served_form, is_served_object, is_served_owner, is_served_struct, is_served_unique, is_served_walker, is_struct_type, is_subspan, is_testing, is_walker_of_values, is_walker_type, owns_elements, is_number_type, is_served_content, is_served_fresh, is_unique_type}
+use Rattle.life_served.specs.Served.{are_served_arguments, are_served_elements, form_type, is_asking, is_edge, is_end, is_equality, is_erase, is_get, is_owner_of_values, is_owner_type, is_plain_type, is_served_either, is_served_form, is_served_object, is_served_owner, is_served_struct, is_served_unique, is_served_walker, is_struct_type, is_subspan, is_testing, is_walker_of_values, is_walker_type, owns_elements, is_served_content, is_served_fresh, is_unique_type, are_served_parts}
 use Rattle.life_types.specs.Types.{Types}
 use Rattle.life_types.specs.declared.place.Place.{Place}
 use Rattle.life_types.specs.declared.ty.Ty.TheVariants as ty
@@ -29,7 +29,7 @@ use Rattle.life_writer.specs.Values as values
 use Rattle.life_writer.specs.Writing.{Gives, State}
 use Rattle.life_elab_laws.proofs.OwnedContents.{IsGivingIfAny}
 use Rattle.life_elab_laws.proofs.HandedUniques.{fresh_first}
-use Rattle.life_elab_laws.proofs.CalledUniques.{called_fresh}
+use Rattle.life_elab_laws.proofs.CalledUniques.{called_fresh, called_answer}
 use Rattle.life_elab_laws.proofs.FreshUniques.{IsFresh, IsFreshAt, made_fresh, moved_fresh}
 use Rattle.life_elab_laws.proofs.Conditions.{Tests}
 use Rattle.life_elab_laws.proofs.ExpressionForms.{IsForm, IsWhole, literal, paren_form, value_form, whole_of}
@@ -68,11 +68,17 @@ use Rattle.life_elab_laws.proofs.ReferredStructs.{call_struct, dereferenced_stru
 use Rattle.life_elab_laws.proofs.PushedElements.{AreGiving, IsGiving}
 use Rattle.life_elab_laws.proofs.MovedForms.{moved_made}
 use Rattle.life_elab_laws.proofs.MovedOwners.{moved_from_variable}
-use Rattle.life_elab_laws.proofs.StructForms.{IsStruct, IsStructAt, member_form, member_object, member_struct, struct_same, variable_struct}
-use Rattle.life_elab_laws.proofs.UniqueForms.{IsUnique, unique_dereferenced, unique_expression, unique_get_form}
+use Rattle.life_elab_laws.proofs.StructForms.{member_form, member_object, member_struct, variable_struct, member_walker, IsStructAt, reached_struct}
+use Rattle.life_elab_laws.proofs.UniqueForms.{IsUnique, lying_dereferenced, lying_get_form, variable_unique}
 use Rattle.life_elab_laws.proofs.UniqueTests.{by_unique, by_value, deciding_form, deciding_negation, IsDeciding}
 use Rattle.life_type_expr.specs.Members.{indexed_at}
 use Rattle.life_typed.specs.Conversions.{is_place}
+use Rattle.life_elab_laws.proofs.MadeStructs.{IsAnyStruct, IsAnyStructAt, any_same, struct_made, struct_there, with_address, with_members}
+use Rattle.life_elab_laws.proofs.StructLists.{constructed}
+use Rattle.life_elab_laws.proofs.StructMembers.{AreListed, a_struct_listed, a_value_listed, an_owner_listed, a_walker_listed}
+use Rattle.life_elab_laws.proofs.ReplacedOwners.{literal_plain, replaced}
+use Rattle.life_elab_laws.proofs.AnsweredUniques.{IsHolding, IsHoldingAt, holds_answer, holds_named, holding_lies, holding_same}
+use Rattle.life_writer.specs.Behind.{closed_by}
 
 module _ (a : Around) (visible : List ℕ) (types : Types) (texts : ℕ) (fs : List Function) (f : Function) (setting : Setting a types fs f) where
   abbrev Standing : State → Type 0
@@ -136,19 +142,16 @@ module _ (a : Around) (visible : List ℕ) (types : Types) (texts : ℕ) (fs : L
   equated_form o left right e c equality (inl l) (inr r) =
       compared_form a visible types texts fs f setting o left right e c (compares_both o left right c.ty equality (inr (owner_ranged right r)) (row_fits_between o left right c.ty c.answer)) (inl l) (inr r)
 
-  -- ---- unique_ptrs that are named
-
-  pub named_unique : (form : Form) → is_served_unique form ≡ true → IsExpression a.program a.function.locals visible form → IsUnique a visible types texts fs f setting form
-  named_unique form b h = unique_expression a visible types texts fs f setting form b h
+  -- ---- unique_ptrs that are asked
 
   -- what decides
-  deciding_of : (form : Form) → (is_served_form texts form || is_served_unique form) ≡ true → (is_served_form texts form ≡ true → IsWhole a visible types texts fs f setting form) → IsExpression a.program a.function.locals visible form
+  deciding_of : (form : Form) → (is_served_form texts form || is_served_unique texts form) ≡ true → (is_served_form texts form ≡ true → IsWhole a visible types texts fs f setting form) → (is_served_unique texts form ≡ true → IsHolding a visible types texts fs f setting form)
       → IsDeciding a visible types texts fs f setting form
-  deciding_of form b value h = elim (or_cases (is_served_form texts form) (is_served_unique form) b) [ inl v ↦ by_value (value v) | inr u ↦ by_unique (named_unique form u h) ]
+  deciding_of form b value unique = elim (or_cases (is_served_form texts form) (is_served_unique texts form) b) [ inl v ↦ by_value (value v) | inr u ↦ by_unique (unique u) ]
 
-  got_from : (m : Method) (base given : Form) (d : DelimitersForm) (e : Typed) → is_get m ≡ true → IsUnique a visible types texts fs f setting base → IsCalled a.program.types (typed_in base).ty (typed_in base).category m given e
+  got_from : (m : Method) (base given : Form) (d : DelimitersForm) (e : Typed) → is_get m ≡ true → IsHolding a visible types texts fs f setting base → IsCalled a.program.types (typed_in base).ty (typed_in base).category m given e
       → IsForm a visible types texts fs f setting (method base m given d) e
-  got_from methods.Get base given d e b is h = unique_get_form a visible types texts fs f setting base is given d e h
+  got_from methods.Get base given d e b is h = lying_get_form a visible types texts fs f setting base (holding_lies a visible types texts fs f setting base is) given d e h
   got_from _ base given d e b is h = absurd (false≢true b)
 
   -- ---- elements, and what is behind a pointer, an iterator or a unique_ptr
@@ -175,21 +178,30 @@ module _ (a : Around) (visible : List ℕ) (types : Types) (texts : ℕ) (fs : L
       edge_reached a visible types texts fs f setting base which given delimiters e (owning_owner a visible types texts fs f setting base (owner two.1 (ap is_owner_type (operand_typed base) ∙ two.0))) one.0 h
 
   -- what is behind an iterator or a unique_ptr
-  pub behind_reached : (inner : Form) (e : Typed) → (is_served_walker texts inner || is_served_unique inner) ≡ true → IsMadeOf a.program a.function.locals visible e (dereference inner) → (is_served_walker texts inner ≡ true → IsWalker a visible types texts fs f setting inner)
-      → IsReached a visible types texts fs f setting (dereference inner) e
-  behind_reached inner e b h walker =
-      elim (or_cases (is_served_walker texts inner) (is_served_unique inner) b) [
+  pub behind_reached : (inner : Form) (e : Typed) → (is_served_walker texts inner || is_served_unique texts inner) ≡ true → IsMadeOf a.program a.function.locals visible e (dereference inner) → (is_served_walker texts inner ≡ true → IsWalker a visible types texts fs f setting inner)
+      → (is_served_unique texts inner ≡ true → IsHolding a visible types texts fs f setting inner) → IsReached a visible types texts fs f setting (dereference inner) e
+  behind_reached inner e b h walker unique =
+      elim (or_cases (is_served_walker texts inner) (is_served_unique texts inner) b) [
         | inl w ↦ walker_dereferenced a visible types texts fs f setting inner e (walker w) h.0
-        | inr u ↦ unique_dereferenced a visible types texts fs f setting inner (named_unique inner u h.1) e h.0
+        | inr u ↦ lying_dereferenced a visible types texts fs f setting inner (holding_lies a visible types texts fs f setting inner (unique u)) e h.0
       ]
 
-  behind_of : (inner : Form) (e : Typed) (place : Place) → (is_served_form texts inner || (is_served_walker texts inner || is_served_unique inner)) ≡ true → is_owner_type e.ty ≡ true → IsMadeOf a.program a.function.locals visible e (dereference inner)
-      → (is_served_form texts inner ≡ true → IsWhole a visible types texts fs f setting inner) → (is_served_walker texts inner ≡ true → IsWalker a visible types texts fs f setting inner)
+  behind_of : (inner : Form) (e : Typed) (place : Place) → (is_served_form texts inner || (is_served_walker texts inner || is_served_unique texts inner)) ≡ true → is_owner_type e.ty ≡ true → IsMadeOf a.program a.function.locals visible e (dereference inner)
+      → (is_served_form texts inner ≡ true → IsWhole a visible types texts fs f setting inner) → (is_served_walker texts inner ≡ true → IsWalker a visible types texts fs f setting inner) → (is_served_unique texts inner ≡ true → IsHolding a visible types texts fs f setting inner)
       → IsObjectAt a visible types texts fs f setting e ((form_uses a (dereference inner) place e.ty e.category).at)
-  behind_of inner e place b n h value walker =
-      elim (or_cases (is_served_form texts inner) (is_served_walker texts inner || is_served_unique inner) b) [
+  behind_of inner e place b n h value walker unique =
+      elim (or_cases (is_served_form texts inner) (is_served_walker texts inner || is_served_unique texts inner) b) [
         | inl v ↦ dereferenced_object a visible types texts fs f setting inner e place (value v) n h.0
-        | inr others ↦ reached_object a visible types texts fs f setting (dereference inner) e place (behind_reached inner e others h walker) n
+        | inr others ↦ reached_object a visible types texts fs f setting (dereference inner) e place (behind_reached inner e others h walker unique) n
+      ]
+
+  struct_behind_of : (inner : Form) (e : Typed) (place : Place) → (is_served_form texts inner || (is_served_walker texts inner || is_served_unique texts inner)) ≡ true → is_struct_type e.ty ≡ true → IsMadeOf a.program a.function.locals visible e (dereference inner)
+      → (is_served_form texts inner ≡ true → IsWhole a visible types texts fs f setting inner) → (is_served_walker texts inner ≡ true → IsWalker a visible types texts fs f setting inner) → (is_served_unique texts inner ≡ true → IsHolding a visible types texts fs f setting inner)
+      → IsStructAt a visible types texts fs f setting e ((form_uses a (dereference inner) place e.ty e.category).at)
+  struct_behind_of inner e place b n h value walker unique =
+      elim (or_cases (is_served_form texts inner) (is_served_walker texts inner || is_served_unique texts inner) b) [
+        | inl v ↦ dereferenced_struct a visible types texts fs f setting inner e place (value v) n h.0
+        | inr others ↦ reached_struct a visible types texts fs f setting (dereference inner) e place (behind_reached inner e others h walker unique) n
       ]
 
   -- an owner that a call refers to, or gives itself
@@ -222,11 +234,11 @@ module _ (a : Around) (visible : List ℕ) (types : Types) (texts : ℕ) (fs : L
     expression (paren inner closing) e q b h = paren_form a visible types texts fs f setting inner closing e (ap (λ (y : Typed). y.ty) (ok_same h.0)) (ap (λ (y : Typed). y.category) (ok_same h.0)) (whole_expression inner b h.1)
     expression input e q b h = literal a visible types texts fs f setting input e ty.Long h refl refl (λ place b. refl) (λ place behind into s wanted stands. input_part types texts fs f into ty.Long place s refl wanted) (λ place behind r s. refl)
     expression (dereference inner) e q b h =
-        elim (or_cases (is_served_form texts inner) (is_served_walker texts inner || is_served_unique inner) b) [
+        elim (or_cases (is_served_form texts inner) (is_served_walker texts inner || is_served_unique texts inner) b) [
           | inl value ↦ let is = whole_expression inner value h.1 in dereference_form a visible types texts fs f setting inner e (dereferenced_as a.program.types (typed_in inner) e is.kind q h.0) is
-          | inr others ↦ reached_form a visible types texts fs f setting (dereference inner) e (behind_reached inner e others h (λ w. walker_expression inner w h.1)) q refl (λ place b. refl)
+          | inr others ↦ reached_form a visible types texts fs f setting (dereference inner) e (behind_reached inner e others h (λ w. walker_expression inner w h.1) (λ u. holding_expression inner u h.1)) q refl (λ place b. refl)
         ]
-    expression (member base which) e q b h = member_form a visible types texts fs f setting base which e (struct_expression base b h.1) h.0 q
+    expression (member base which) e q b h = member_form a visible types texts fs f setting base which e (with_members a visible types texts fs f setting base which e (struct_expression base b h.1) h.0) h.0 q
     expression (negate inner) e q b h =
         let is = whole_expression inner b h.1 in
         let g = negated_as a.program.types (typed_in inner) e is.kind h.0 in
@@ -235,24 +247,24 @@ module _ (a : Around) (visible : List ℕ) (types : Types) (texts : ℕ) (fs : L
         (λ place behind into s wanted stands. negated_part types texts fs f g.ty place (value (uses a inner) behind g.ty None) into s g.worth (sym (ap (λ (t : ExprType). operands.is_promoted (own_type t)) own) ∙ negated_promoted a.program.types (typed_in inner) e is.kind h.0) wanted stands.opened
         (is.valued g.number behind g.ty g.worth None s tt stands))
         (λ place behind r s. refl)
-    expression (not inner) e q b h = deciding_negation a visible types texts fs f setting inner e h.0 (deciding_of inner b (λ v. whole_expression inner v h.1) h.1)
+    expression (not inner) e q b h = deciding_negation a visible types texts fs f setting inner e h.0 (deciding_of inner b (λ v. whole_expression inner v h.1) (λ u. holding_expression inner u h.1))
     expression (address_of inner) e q b h =
         elim (or_cases (is_served_either inner (is_served_object texts inner) (is_served_form texts inner)) (is_served_struct texts inner) b) [
           | inl either ↦ elim (either_served inner (is_served_object texts inner) (is_served_form texts inner) either) [
             | inl value ↦ let is = whole_expression inner value h.1 in address_form a visible types texts fs f setting inner e (addressed_as a.program.types (typed_in inner) e is.kind h.0) is
             | inr owner ↦ owner_address_form a visible types texts fs f setting inner e (object_expression inner owner.1 owner.0 h.1) h.0
           ]
-          | inr structure ↦ struct_address_form a visible types texts fs f setting inner e (struct_expression inner structure h.1) h.0
+          | inr structure ↦ struct_address_form a visible types texts fs f setting inner e (with_address a visible types texts fs f setting inner e (struct_expression inner structure h.1) h.0) h.0
         ]
     expression (binary o left right) e q b h =
         let c = combined_as o e.place (typed_in left) (typed_in right) e h.0 in
         elim (or_cases (is_served_form texts left && is_served_form texts right) _ b) [
           | inl values ↦ let parts = and_parts (is_served_form texts left) (is_served_form texts right) values in binary_form a visible types texts fs f setting o left right e c (whole_expression left parts.0 h.1) (whole_expression right parts.1 h.2)
-          | inr others ↦ elim (or_cases (is_testing o && ((is_served_form texts left || is_served_unique left) && (is_served_form texts right || is_served_unique right))) _ others) [
+          | inr others ↦ elim (or_cases (is_testing o && ((is_served_form texts left || is_served_unique texts left) && (is_served_form texts right || is_served_unique texts right))) _ others) [
             | inl tests ↦
-                let one = and_parts (is_testing o) ((is_served_form texts left || is_served_unique left) && (is_served_form texts right || is_served_unique right)) tests in
-                let both = and_parts (is_served_form texts left || is_served_unique left) (is_served_form texts right || is_served_unique right) one.1 in
-                deciding_form a visible types texts fs f setting o left right e c (deciding_of left both.0 (λ v. whole_expression left v h.1) h.1) (deciding_of right both.1 (λ v. whole_expression right v h.2) h.2)
+                let one = and_parts (is_testing o) ((is_served_form texts left || is_served_unique texts left) && (is_served_form texts right || is_served_unique texts right)) tests in
+                let both = and_parts (is_served_form texts left || is_served_unique texts left) (is_served_form texts right || is_served_unique texts right) one.1 in
+                deciding_form a visible types texts fs f setting o left right e c (deciding_of left both.0 (λ v. whole_expression left v h.1) (λ u. holding_expression left u h.1)) (deciding_of right both.1 (λ v. whole_expression right v h.2) (λ u. holding_expression right u h.2))
             | inr equal ↦
                 let equality = and_parts (is_equality o) _ equal in
                 elim (or_cases (is_served_either left (is_served_owner texts left) (is_served_form texts left) && is_served_either right (is_served_owner texts right) (is_served_form texts right)) (is_served_walker texts left && is_served_walker texts right) equality.1) [
@@ -276,7 +288,7 @@ module _ (a : Around) (visible : List ℕ) (types : Types) (texts : ℕ) (fs : L
         let is = indexed_of base position closing e parts.0 h.0 (λ v. whole_expression base v h.1) (λ o n. owner_expression base o n h.1) (λ w. walker_expression base w h.1) (whole_expression position parts.1 h.2) in
         reached_form a visible types texts fs f setting (index base position closing) e is q refl (λ place b. refl)
     expression (method base which given delimiters) e q b h =
-        elim (or_cases (is_asking which && ((is_served_either base (is_served_owner texts base) (is_served_form texts base) || is_served_walker texts base) && is_served_form texts given)) (is_get which && is_served_unique base) b) [
+        elim (or_cases (is_asking which && ((is_served_either base (is_served_owner texts base) (is_served_form texts base) || is_served_walker texts base) && is_served_form texts given)) (is_get which && is_served_unique texts base) b) [
           | inl asks ↦
               let one = and_parts (is_asking which) _ asks in
               let two = and_parts (is_served_either base (is_served_owner texts base) (is_served_form texts base) || is_served_walker texts base) (is_served_form texts given) one.1 in
@@ -287,7 +299,7 @@ module _ (a : Around) (visible : List ℕ) (types : Types) (texts : ℕ) (fs : L
                 ]
                 | inr walker ↦ span_method_form a visible types texts fs f setting base which given delimiters e (walker_expression base walker h.1) one.0 h.0
               ]
-          | inr gets ↦ let one = and_parts (is_get which) (is_served_unique base) gets in got_from which base given delimiters e one.0 (named_unique base one.1 h.1) h.0
+          | inr gets ↦ let one = and_parts (is_get which) (is_served_unique texts base) gets in got_from which base given delimiters e one.0 (holding_expression base one.1 h.1) h.0
         ]
     expression (typed at t c form) e q b h = absurd h
     expression nothing e q b h = absurd h
@@ -320,8 +332,8 @@ module _ (a : Around) (visible : List ℕ) (types : Types) (texts : ℕ) (fs : L
     owner_made (call g given delimiters) e b n h place =
         called_owner g given delimiters e place n h.0
         (λ of at s stands. handed delimiters given b h.2 (parameter_types (Some of)) (subst (λ (o : Option FunctionForm). are_given a.program.types (parameter_types o) given ≡ true) at h.1) (setting.taken g of at) s stands)
-    owner_made (dereference inner) e b n h place = stands_there (behind_of inner e place b n h (λ v. whole_expression inner v h.1) (λ w. walker_expression inner w h.1))
-    owner_made (member base which) e b n h place = stands_there (member_object a visible types texts fs f setting base which e (struct_expression base b h.1) h.0 n)
+    owner_made (dereference inner) e b n h place = stands_there (behind_of inner e place b n h (λ v. whole_expression inner v h.1) (λ w. walker_expression inner w h.1) (λ u. holding_expression inner u h.1))
+    owner_made (member base which) e b n h place = stands_there (member_object a visible types texts fs f setting base which e (with_members a visible types texts fs f setting base which e (struct_expression base b h.1) h.0) h.0 n)
     owner_made (index base position closing) e b n h place =
         let parts = and_parts (is_served_either base (is_served_owner texts base) (is_served_form texts base) || is_served_walker texts base) (is_served_form texts position) b in
         let is = indexed_of base position closing e parts.0 h.0 (λ v. whole_expression base v h.1) (λ o n. owner_expression base o n h.1) (λ w. walker_expression base w h.1) (whole_expression position parts.1 h.2) in
@@ -348,8 +360,8 @@ module _ (a : Around) (visible : List ℕ) (types : Types) (texts : ℕ) (fs : L
     object_made (call g given delimiters) e b n p h place =
         call_object a visible types texts fs f setting g given delimiters e place n p h.0
         (λ of at s stands. handed delimiters given b h.2 (parameter_types (Some of)) (subst (λ (o : Option FunctionForm). are_given a.program.types (parameter_types o) given ≡ true) at h.1) (setting.taken g of at) s stands)
-    object_made (dereference inner) e b n p h place = behind_of inner e place b n h (λ v. whole_expression inner v h.1) (λ w. walker_expression inner w h.1)
-    object_made (member base which) e b n p h place = member_object a visible types texts fs f setting base which e (struct_expression base b h.1) h.0 n
+    object_made (dereference inner) e b n p h place = behind_of inner e place b n h (λ v. whole_expression inner v h.1) (λ w. walker_expression inner w h.1) (λ u. holding_expression inner u h.1)
+    object_made (member base which) e b n p h place = member_object a visible types texts fs f setting base which e (with_members a visible types texts fs f setting base which e (struct_expression base b h.1) h.0) h.0 n
     object_made (index base position closing) e b n p h place =
         let parts = and_parts (is_served_either base (is_served_owner texts base) (is_served_form texts base) || is_served_walker texts base) (is_served_form texts position) b in
         let is = indexed_of base position closing e parts.0 h.0 (λ v. whole_expression base v h.1) (λ o n. owner_expression base o n h.1) (λ w. walker_expression base w h.1) (whole_expression position parts.1 h.2) in
@@ -360,25 +372,53 @@ module _ (a : Around) (visible : List ℕ) (types : Types) (texts : ℕ) (fs : L
     object_made (typed place t c form) e b n p h at = absurd h
     object_made _ e b n p h place = absurd (false≢true b)
 
-    -- a struct at a place
-    pub struct_expression : (form : Form) → is_served_struct texts form ≡ true → IsExpression a.program a.function.locals visible form → IsStruct a visible types texts fs f setting form
+    -- a struct, at a place or made
+    pub struct_expression : (form : Form) → is_served_struct texts form ≡ true → IsExpression a.program a.function.locals visible form → IsAnyStruct a visible types texts fs f setting form
     struct_expression (typed place t c form) b h =
-        let parts = and_parts (is_struct_type t) (is_served_struct texts form) b in struct_made form (record { place = place; ty = t; category = c; form = form }) parts.0 parts.1 h place
+        let parts = and_parts (is_struct_type t) (is_served_struct texts form) b in struct_made_of form (record { place = place; ty = t; category = c; form = form }) parts.0 parts.1 h place
     struct_expression _ b h = absurd h
 
-    struct_made : (form : Form) (e : Typed) → is_struct_type e.ty ≡ true → is_served_struct texts form ≡ true → IsMadeOf a.program a.function.locals visible e form → (place : Place)
-        → IsStructAt a visible types texts fs f setting e ((form_uses a form place e.ty e.category).at)
-    struct_made (local x) e n b h place = variable_struct a visible types texts fs f setting x e n h.0 h.1
-    struct_made (member base which) e n b h place = member_struct a visible types texts fs f setting base which e (struct_expression base b h.1) h.0 n
-    struct_made (paren inner closing) e n b h place =
+    struct_made_of : (form : Form) (e : Typed) → is_struct_type e.ty ≡ true → is_served_struct texts form ≡ true → IsMadeOf a.program a.function.locals visible e form → (place : Place)
+        → IsAnyStructAt a visible types texts fs f setting e ((form_uses a form place e.ty e.category).at) ((form_uses a form place e.ty e.category).object)
+    struct_made_of (local x) e n b h place = struct_there (variable_struct a visible types texts fs f setting x e n h.0 h.1)
+    struct_made_of (member base which) e n b h place =
+        struct_there (member_struct a visible types texts fs f setting base which e (with_members a visible types texts fs f setting base which e (struct_expression base b h.1) h.0) h.0 n)
+    struct_made_of (paren inner closing) e n b h place =
         let same = ok_same h.0 in
-        struct_same a visible types texts fs f setting (typed_in inner) e ((uses a inner).at) (ap (λ (y : Typed). y.ty) same) (ap (λ (y : Typed). y.category) same) (struct_expression inner b h.1)
-    struct_made (call g given delimiters) e n b h place =
+        any_same a visible types texts fs f setting (typed_in inner) e ((uses a inner).at) ((uses a inner).object) (ap (λ (y : Typed). y.ty) same) (ap (λ (y : Typed). y.category) same) (struct_expression inner b h.1)
+    struct_made_of (call g given delimiters) e n b h place =
         call_struct a visible types texts fs f setting g given delimiters e place n h.0
         (λ of at s stands. handed delimiters given b h.2 (parameter_types (Some of)) (subst (λ (o : Option FunctionForm). are_given a.program.types (parameter_types o) given ≡ true) at h.1) (setting.taken g of at) s stands)
-    struct_made (dereference inner) e n b h place = dereferenced_struct a visible types texts fs f setting inner e place (whole_expression inner b h.1) n h.0
-    struct_made (typed at t c form) e n b h place = absurd h
-    struct_made _ e n b h place = absurd (false≢true b)
+    struct_made_of (construct which elements delimiters) e n b h place = struct_made (constructed a visible types texts fs f setting which elements delimiters e place h.0 h.1 (listings elements b h.2))
+    struct_made_of (dereference inner) e n b h place = struct_there (struct_behind_of inner e place b n h (λ v. whole_expression inner v h.1) (λ w. walker_expression inner w h.1) (λ u. holding_expression inner u h.1))
+    struct_made_of (index base position closing) e n b h place =
+        let parts = and_parts (is_served_either base (is_served_owner texts base) (is_served_form texts base) || is_served_walker texts base) (is_served_form texts position) b in
+        let is = indexed_of base position closing e parts.0 h.0 (λ v. whole_expression base v h.1) (λ o n. owner_expression base o n h.1) (λ w. walker_expression base w h.1) (whole_expression position parts.1 h.2) in
+        struct_there (reached_struct a visible types texts fs f setting (index base position closing) e place is n)
+    struct_made_of (method base which given delimiters) e n b h place =
+        let is = edge_of base which given delimiters e b h.0 (λ o n. owner_expression base o n h.1) in
+        struct_there (reached_struct a visible types texts fs f setting (method base which given delimiters) e place is n)
+    struct_made_of (typed at t c form) e n b h place = absurd h
+    struct_made_of _ e n b h place = absurd (false≢true b)
+
+    -- what a struct is given for its members
+    pub listings : (form : Form) → are_served_parts texts form ≡ true → AreExpressions a.program a.function.locals visible form → AreListed a visible types texts fs f setting form
+    listings nothing b h = tt
+    listings (e ⨟ es) b h =
+        let parts = and_parts (is_served_either e (is_served_owner texts e) (is_served_form texts e) || (is_served_walker texts e || is_served_struct texts e)) (are_served_parts texts es) b in (
+          elim (or_cases (is_served_either e (is_served_owner texts e) (is_served_form texts e)) (is_served_walker texts e || is_served_struct texts e) parts.0) [
+            | inl either ↦ elim (either_served e (is_served_owner texts e) (is_served_form texts e) either) [
+              | inl value ↦ a_value_listed (whole_expression e value h.0) (literal_plain a visible types texts fs f setting e value h.0)
+              | inr owner ↦ an_owner_listed (owner_expression e owner.1 owner.0 h.0) (replaced a visible types texts fs f setting e owner.1 owner.0 h.0)
+            ]
+            | inr others ↦ elim (or_cases (is_served_walker texts e) (is_served_struct texts e) others) [
+              | inl walker ↦ a_walker_listed (walker_expression e walker h.0)
+              | inr structure ↦ a_struct_listed (struct_expression e structure h.0)
+            ]
+          ],
+          listings es parts.1 h.1,
+        )
+    listings _ b h = absurd h
 
     -- an iterator or a span
     pub walker_expression : (form : Form) → is_served_walker texts form ≡ true → IsExpression a.program a.function.locals visible form → IsWalker a visible types texts fs f setting form
@@ -390,6 +430,7 @@ module _ (a : Around) (visible : List ℕ) (types : Types) (texts : ℕ) (fs : L
         → IsWalkerAt a visible types texts fs f setting e ((form_uses a form place e.ty e.category).pointing)
     walker_made (local x) e n b h place = variable_walker a visible types texts fs f setting x e n h.0 h.1
     walker_made (paren inner closing) e n b h place = walker_same a visible types texts fs f setting (typed_in inner) e ((uses a inner).pointing) (ap (λ (y : Typed). y.ty) (ok_same h.0)) (ap (λ (y : Typed). y.category) (ok_same h.0)) (walker_expression inner b h.1)
+    walker_made (member base which) e n b h place = member_walker a visible types texts fs f setting base which e (with_members a visible types texts fs f setting base which e (struct_expression base b h.1) h.0) h.0 n
     walker_made (call g given delimiters) e n b h place =
         call_walker a visible types texts fs f setting g given delimiters e place n h.0
         (λ of at s stands. handed delimiters given b h.2 (parameter_types (Some of)) (subst (λ (o : Option FunctionForm). are_given a.program.types (parameter_types o) given ≡ true) at h.1) (setting.taken g of at) s stands)
@@ -424,6 +465,26 @@ module _ (a : Around) (visible : List ℕ) (types : Types) (texts : ℕ) (fs : L
     walker_given (e ⨟ es) b h = walker_expression e b h.0
     walker_given _ b h = absurd h
 
+    -- a unique_ptr that is asked
+    pub holding_expression : (form : Form) → is_served_unique texts form ≡ true → IsExpression a.program a.function.locals visible form → IsHolding a visible types texts fs f setting form
+    holding_expression (typed place t c form) b h =
+        let parts = and_parts (is_unique_type t) (is_served_unique texts form) b in holding_made form (record { place = place; ty = t; category = c; form = form }) parts.0 parts.1 h place
+    holding_expression _ b h = absurd h
+
+    holding_made : (form : Form) (e : Typed) → is_unique_type e.ty ≡ true → is_served_unique texts form ≡ true → IsMadeOf a.program a.function.locals visible e form → (place : Place)
+        → (let u = form_uses a form place e.ty e.category in IsHoldingAt a visible types texts fs f setting e u.at u.object u.decision u.named)
+    holding_made (local x) e n b h place = holds_named (variable_unique a visible types texts fs f setting x e n h.0 h.1)
+    holding_made (call g given delimiters) e n b h place =
+        holds_answer (called_answer a visible types texts fs f setting g given delimiters e place n h.0
+        (λ of at s stands. handed delimiters given b h.2 (parameter_types (Some of)) (subst (λ (o : Option FunctionForm). are_given a.program.types (parameter_types o) given ≡ true) at h.1) (setting.taken g of at) s stands))
+    holding_made (paren inner closing) e n b h place =
+        let same = ok_same h.0 in
+        let u = uses a inner in
+        holding_same a visible types texts fs f setting (typed_in inner) e u.at u.object u.decision (λ b. u.decision (closed_by closing b)) u.named (ap (λ (y : Typed). y.ty) same) (ap (λ (y : Typed). y.category) same) (λ b none. none (closed_by closing b))
+        (holding_expression inner b h.1)
+    holding_made (typed at t c form) e n b h place = absurd h
+    holding_made _ e n b h place = absurd (false≢true b)
+
     -- a unique_ptr that is made, moved out of a variable, or given by a call
     pub fresh_expression : (form : Form) → is_served_fresh texts form ≡ true → IsExpression a.program a.function.locals visible form → IsFresh a visible types texts fs f setting form
     fresh_expression (typed place t c form) b h =
@@ -432,9 +493,17 @@ module _ (a : Around) (visible : List ℕ) (types : Types) (texts : ℕ) (fs : L
 
     fresh_made : (form : Form) (e : Typed) → is_unique_type e.ty ≡ true → is_served_fresh texts form ≡ true → IsMadeOf a.program a.function.locals visible e form → (place : Place)
         → IsFreshAt a visible types texts fs f setting e ((form_uses a form place e.ty e.category).object)
-    fresh_made (make_unique id nothing closing) e n b h place = made_fresh a visible types texts fs f setting id nothing closing e place b tt h
+    fresh_made (make_unique id nothing closing) e n b h place = made_fresh a visible types texts fs f setting id nothing closing e place tt h
     fresh_made (make_unique id (typed at t c form) closing) e n b h place =
-        made_fresh a visible types texts fs f setting id (typed at t c form) closing e place b (whole_expression (typed at t c form) (and_parts (is_number_type t) (is_plain_type t && is_served_form texts form) b).1 h.3) h
+        made_fresh a visible types texts fs f setting id (typed at t c form) closing e place
+        (elim (or_cases (if is_owner_type t then is_served_owner texts form else (is_plain_type t && is_served_form texts form)) (is_struct_type t && is_served_struct texts form) b) [
+          | inl either ↦ inl (elim (either_served (typed at t c form) (is_served_owner texts form) (is_plain_type t && is_served_form texts form) either) [
+            | inl value ↦ inl (whole_expression (typed at t c form) value h.3)
+            | inr owner ↦ inr (owner_expression (typed at t c form) owner.1 owner.0 h.3)
+          ])
+          | inr structure ↦ inr (struct_expression (typed at t c form) structure h.3)
+        ])
+        h
     fresh_made (move x) e n b h place = moved_fresh a visible types texts fs f setting x e place n h.0 (moved_from_variable a visible types texts fs f setting x e h.1)
     fresh_made (call g given delimiters) e n b h place =
         called_fresh a visible types texts fs f setting g given delimiters e place n h.0
@@ -483,14 +552,23 @@ module _ (a : Around) (visible : List ℕ) (types : Types) (texts : ℕ) (fs : L
   ]
 
   pub giving_if_any : (form : Form) → is_served_content texts form ≡ true → IsExpressionIfAny a.program a.function.locals visible form → IsGivingIfAny a visible types texts fs f setting form
-  giving_if_any (typed place t c form) b h = giving_expression (typed place t c form) b h
+  giving_if_any (typed place t c form) b h = elim (or_cases (if is_owner_type t then is_served_owner texts form else (is_plain_type t && is_served_form texts form)) (is_struct_type t && is_served_struct texts form) b) [
+    | inl either ↦ inl (giving_expression (typed place t c form) either h)
+    | inr structure ↦ inr (struct_expression (typed place t c form) structure h)
+  ]
   giving_if_any nothing b h = tt
   giving_if_any _ b h = absurd h
 
   pub givings : (form : Form) → are_served_elements texts form ≡ true → AreExpressions a.program a.function.locals visible form → AreGiving a visible types texts fs f setting form
   givings nothing b h = tt
   givings (e ⨟ es) b h =
-      let parts = and_parts (is_served_either e (is_served_owner texts e) (is_served_form texts e)) (are_served_elements texts es) b in (giving_expression e parts.0 h.0, givings es parts.1 h.1)
+      let parts = and_parts (is_served_either e (is_served_owner texts e) (is_served_form texts e) || is_served_struct texts e) (are_served_elements texts es) b in (
+        elim (or_cases (is_served_either e (is_served_owner texts e) (is_served_form texts e)) (is_served_struct texts e) parts.0) [
+          | inl either ↦ inl (giving_expression e either h.0)
+          | inr structure ↦ inr (struct_expression e structure h.0)
+        ],
+        givings es parts.1 h.1,
+      )
   givings _ b h = absurd h
 
   -- ---- an owner that is asked something
@@ -500,5 +578,14 @@ module _ (a : Around) (visible : List ℕ) (types : Types) (texts : ℕ) (fs : L
 
   -- ---- what decides
 
-  pub deciding_expression : (form : Form) → (is_served_form texts form || is_served_unique form) ≡ true → IsExpression a.program a.function.locals visible form → IsDeciding a visible types texts fs f setting form
-  deciding_expression form b h = deciding_of form b (λ v. whole_expression form v h) h
+  pub deciding_expression : (form : Form) → (is_served_form texts form || is_served_unique texts form) ≡ true → IsExpression a.program a.function.locals visible form → IsDeciding a visible types texts fs f setting form
+  deciding_expression form b h = deciding_of form b (λ v. whole_expression form v h) (λ u. holding_expression form u h)
+
+  -- ---- a unique_ptr at a place has a name
+
+  pub named_unique : (form : Form) → is_place (typed_in form).category ≡ true → is_served_unique texts form ≡ true → IsExpression a.program a.function.locals visible form → IsUnique a visible types texts fs f setting form
+  named_unique form place b h = go (holding_expression form b h)
+    where
+      go : IsHolding a visible types texts fs f setting form → IsUnique a visible types texts fs f setting form
+      go (holds_named is) = is
+      go (holds_answer is) = absurd (false≢true (sym (ap is_place is.fresh.value) ∙ place))

@@ -70,5 +70,5 @@ module _ (types : Types) (texts : ℕ) (fs : List Function) (f : Function) (shap
       go (a_raw target constant found v) = both (ap (is_slot_type types) found)
       go (a_view found) = both (ap (is_slot_type types) found)
       go (a_reference target constant found v) = both (ap (is_slot_type types) found ∙ reference_no_slot types target constant (value_target types (type_at types target) v))
-      go (a_struct_alias target constant number found structure) = both (ap (is_slot_type types) found ∙ reference_no_slot types target constant (struct_target types (type_at types target) number structure))
+      go (a_struct_alias target constant number found structure pointless) = both (ap (is_slot_type types) found ∙ reference_no_slot types target constant (struct_target types (type_at types target) pointless))
       go (an_alias target constant found o) = both (ap (is_slot_type types) found ∙ reference_no_slot types target constant (owner_target types (type_at types target) o))

@@ -1,18 +1,18 @@
 -- The locals of a core function that is translated are well formed, and so is what stands beside its body: its name, its result and its promise.
-use Rattle.std.proofs.Common.{◌≡◌, ◌<◌, ◌+◌, ◌≤◌, ◌⊎◌, inl, inr, ℕ, zero, suc, Bool, true, false, ◌&&◌, ◌||◌, not, List, [], ◌∷◌, length, nat_eq, nat_le, nat_lt, slice_get, Option, Some, None, is_some, refl, sym, ap, ◌∙◌, subst, unwrap_or, arith}
+use Rattle.std.proofs.Common.{◌≡◌, ◌<◌, ◌+◌, ◌≤◌, ◌⊎◌, inl, inr, ℕ, zero, suc, Bool, true, false, ◌&&◌, ◌||◌, not, List, [], ◌∷◌, length, nat_eq, nat_le, nat_lt, slice_get, Option, Some, is_some, refl, sym, ap, ◌∙◌, subst, unwrap_or, arith}
 use Rattle.std.specs.List.{list_all}
-use Rattle.std.proofs.lemmas.Bool.{and_from, and_parts, false≢true, le-leb, or_cases}
+use Rattle.std.proofs.lemmas.Bool.{and_from, and_parts, false≢true, le-leb, or_left, or_right}
 use Rattle.std.proofs.lemmas.Bool.Decides.{nat_tests}
 use Rattle.std.proofs.lemmas.Option.{same_Some}
 use Rattle.life_types.specs.Pointees.{or_void, ty_of}
-use Rattle.life_types.specs.Trees.{AllBelow, TypeTree, is_plain, members_at, struct_of, tree_at, tree_of, tree_within}
+use Rattle.life_types.specs.Trees.{AllBelow, TypeTree, is_plain, members_at, struct_of, tree_at, tree_of}
 use Rattle.life_types.specs.TypeTests.{is_value, is_void}
 use Rattle.life_types.specs.Types.{Types, class}
 use Rattle.life_types.specs.declared.ty.NameId.{NameId}
 use Rattle.life_types.specs.declared.ty.Ty.{Ty}
 use Rattle.life_types.specs.declared.ty.Ty.TheVariants as ty
 use Rattle.life_types.specs.declared.ty.TyId.{TyId}
-use Rattle.life_served.specs.Served.{have_each, is_element, is_member_within, is_owner_of_values, is_owner_within, is_pointing, is_struct, is_target, is_unique_of_element, is_walker_of_values}
+use Rattle.life_served.specs.Served.{have_each, is_element, is_owner_of_values, is_pointing, is_struct, is_struct_member, is_target, is_unique_of_element, is_walker_of_values, is_plain_struct, is_pointer_member}
 use Rattle.life_typed.specs.BaseTypes.{type_at}
 use Rattle.life_typed.specs.Programs.{FunctionForm, ProgramForm, PromiseForm, default, listed}
 use Rattle.life_typed.specs.declared.typed_program.ParameterPromise.{ParameterPromise}
@@ -37,173 +37,126 @@ use Rattle.life_elab_laws.proofs.Beginning.{given, given_count, parameter_locals
 use Rattle.life_elab_laws.proofs.Callees.{IsFunctionOf, type_found}
 use Rattle.life_elab_laws.proofs.ExpressionKinds.{variable_built}
 use Rattle.life_elab_laws.proofs.Fronts.{IsFront, front_length, passed_at}
-use Rattle.life_elab_laws.proofs.OperandsThere.{type_either}
 use Rattle.life_elab_laws.proofs.ServedTypes.{IsServedType, variable_found}
 use Rattle.life_elab_laws.proofs.ResultTypes.{result_is}
 use Rattle.life_elab_laws.proofs.Values.{by_values}
 use Rattle.life_elab_laws.proofs.WrittenLocals.{AreWrittenLocals, fits_later, fits_local, fits_register, FitsNameless, FitsTemporary, hidden_later, hidden_local, hidden_pointer, IsIntermediate, IsOwn, local_later, owner_local, register_local, struct_local, unique_local}
-use Rattle.life_elab_laws.proofs.Shaped.{owner_later, unique_later}
+use Rattle.life_elab_laws.proofs.Shaped.{owner_later, unique_later, PlainStays}
 use Rattle.life_elab_laws.proofs.OrderedTypes.{all_below}
 use Rattle.life_elab_laws.proofs.StructTypes.{HasStructs}
-use Rattle.life_elab_laws.proofs.Targets.{IsTarget, target_is, target_referred, to_owner, to_struct, to_value}
-use Rattle.life_elab_laws.proofs.Elements.{IsElement, has_value, has_owner, element_is}
+use Rattle.life_elab_laws.proofs.Targets.{IsTarget, target_is, target_referred, to_owner, to_struct, to_value, or_false, target_unslotted}
+use Rattle.life_elab_laws.proofs.Elements.{element_target}
+use Rattle.life_types.proofs.TreeLemmas.{tree_made}
+use Rattle.life_elab_laws.proofs.PlainStructs.{struct_plain}
 
 -- ---- what a register or a variable holds
 
 module _ (types : Types) where
-  -- a vector stands where its elements do
-  of_elements : (n : ℕ) (element : TyId) → (is_plain (tree_within n types element) && may_stand (tree_within n types element)) ≡ true
-      → (is_plain (tree_within n types element) && (is_plain (tree_within n types element) && may_stand (tree_within n types element))) ≡ true
-  of_elements n element item =
-      and_from (is_plain (tree_within n types element)) (is_plain (tree_within n types element) && may_stand (tree_within n types element)) (and_parts (is_plain (tree_within n types element)) (may_stand (tree_within n types element)) item).0 item
+  -- what a pointer or a vector is of has no pointer in it
+  abbrev PlainBefore : ℕ → Type 0
+  PlainBefore n = (id : TyId) → id.0 < n → is_target types (type_at types id) ≡ true → is_plain (tree_at types id) ≡ true
 
-  -- the tree of a value, however many steps deep
-  value_tree : (n : ℕ) (id : TyId) → is_value (type_at types id) ≡ true → (is_plain (tree_within n types id) && may_stand (tree_within n types id)) ≡ true
-  value_tree zero id v = refl
-  value_tree (suc n) id v = go (slice_get types.types id.0) v
+  plain_types : HasStructs types → (n : ℕ) → PlainBefore n → (id : TyId) → id.0 < suc n → IsTarget types (type_at types id) → is_plain (tree_at types id) ≡ true
+  plain_types structs n inside id below (to_struct number s pointless) = struct_plain types structs.ordered id number s ∙ ap (is_plain_struct types) (sym s) ∙ pointless
+  plain_types structs n inside id below (to_value v) = ap is_plain (tree_made types structs.ordered id) ∙ go (slice_get types.types id.0) v
     where
-      go : (o : Option Ty) → is_value (unwrap_or o ty.Void) ≡ true → (is_plain (tree_of types (tree_within n types) o) && may_stand (tree_of types (tree_within n types) o)) ≡ true
+      go : (o : Option Ty) → is_value (unwrap_or o ty.Void) ≡ true → is_plain (tree_of types (tree_at types) o) ≡ true
       go (Some ty.Bool) v = refl
       go (Some ty.Char) v = refl
       go (Some ty.Int) v = refl
       go (Some ty.Long) v = refl
       go (Some ty.Size) v = refl
       go _ v = absurd (false≢true v)
-
-  -- .. and of an owner, as deep as it is
-  owner_stands : (m n : ℕ) → ((id : TyId) → is_owner_within m types (type_at types id) ≡ true → (is_plain (tree_within n types id) && may_stand (tree_within n types id)) ≡ true)
-      → (t : Option Ty) → is_owner_within (suc m) types (unwrap_or t ty.Void) ≡ true → (is_plain (tree_of types (tree_within n types) t) && may_stand (tree_of types (tree_within n types) t)) ≡ true
-  owner_stands m n inside (Some ty.Text) o = refl
-  owner_stands m n inside (Some (ty.Vector element)) o = of_elements n element (elim (or_cases (is_value (type_at types element)) (is_owner_within m types (type_at types element)) o) [
-    | inl v ↦ value_tree n element v
-    | inr inner ↦ inside element inner
-  ])
-  owner_stands m n inside _ o = absurd (false≢true o)
-
-  within_tree : (m n : ℕ) (id : TyId) → is_owner_within m types (type_at types id) ≡ true → (is_plain (tree_within n types id) && may_stand (tree_within n types id)) ≡ true
-  within_tree m zero id o = refl
-  within_tree zero (suc n) id o = absurd (false≢true o)
-  within_tree (suc m) (suc n) id o = owner_stands m n (within_tree m n) (slice_get types.types id.0) o
-
-  element_tree : (n : ℕ) (id : TyId) → is_element types (type_at types id) ≡ true → (is_plain (tree_within n types id) && may_stand (tree_within n types id)) ≡ true
-  element_tree n id h = go (element_is types (type_at types id) h)
+  plain_types structs n inside id below (to_owner o) = ap is_plain (tree_made types structs.ordered id) ∙ go (slice_get types.types id.0) refl o
     where
-      go : IsElement types (type_at types id) → (is_plain (tree_within n types id) && may_stand (tree_within n types id)) ≡ true
-      go (has_value v) = value_tree n id v
-      go (has_owner o) = within_tree 7 n id o
+      go : (t : Option Ty) → slice_get types.types id.0 ≡ t → is_owner_of_values types (unwrap_or t ty.Void) ≡ true → is_plain (tree_of types (tree_at types) t) ≡ true
+      go (Some ty.Text) at o = refl
+      go (Some (ty.Vector item)) at o = let before : item.0 < id.0 = structs.ordered.parts id.0 (ty.Vector item) at in inside item (omega (arith, before, below)) (element_target types (type_at types item) o)
+      go _ at o = absurd (false≢true o)
 
-  -- a struct stands, since its members stand before it
-  abbrev MemberStands : (m n : ℕ) → Type 0
-  MemberStands m n = (id : TyId) → id.0 < n → is_member_within m types (type_at types id) ≡ true → (is_member (tree_within n types id) && may_stand (tree_within n types id)) ≡ true
+  all_plain : HasStructs types → (n : ℕ) → PlainBefore n
+  all_plain structs zero id below h = absurd (omega (arith, below))
+  all_plain structs (suc n) id below h = plain_types structs n (all_plain structs n) id below (target_is types (type_at types id) h)
 
-  value_member : (n : ℕ) (id : TyId) → id.0 < n → is_value (type_at types id) ≡ true → (is_member (tree_within n types id) && may_stand (tree_within n types id)) ≡ true
-  value_member zero id below v = absurd (omega (arith, below))
-  value_member (suc n) id below v = go (slice_get types.types id.0) v
+  -- a struct stands, since its members stand before it, and what they point to
+  abbrev MemberStands : ℕ → Type 0
+  MemberStands n = (id : TyId) → id.0 < n → is_struct_member types (type_at types id) ≡ true → (is_member (tree_at types id) && may_stand (tree_at types id)) ≡ true
+
+  -- what is pointed to may be a member
+  target_member : (t : Ty) → is_target types t ≡ true → is_struct_member types t ≡ true
+  target_member t h = go (target_is types t h)
     where
-      go : (o : Option Ty) → is_value (unwrap_or o ty.Void) ≡ true → (is_member (tree_of types (tree_within n types) o) && may_stand (tree_of types (tree_within n types) o)) ≡ true
-      go (Some ty.Bool) v = refl
-      go (Some ty.Char) v = refl
-      go (Some ty.Int) v = refl
-      go (Some ty.Long) v = refl
-      go (Some ty.Size) v = refl
-      go _ v = absurd (false≢true v)
+      go : IsTarget types t → is_struct_member types t ≡ true
+      go (to_value v) = or_left (is_value t) (is_pointer_member types t || (is_owner_of_values types t || is_struct t)) v
+      go (to_owner o) =
+          or_right (is_value t) (is_pointer_member types t || (is_owner_of_values types t || is_struct t))
+          (or_right (is_pointer_member types t) (is_owner_of_values types t || is_struct t) (or_left (is_owner_of_values types t) (is_struct t) o))
+      go (to_struct number s pointless) = ap (is_struct_member types) s
+
+  target_before : HasStructs types → (n : ℕ) → MemberStands n → (target : TyId) → target.0 < n → is_target types (type_at types target) ≡ true → (is_plain (tree_at types target) && may_stand (tree_at types target)) ≡ true
+  target_before structs n inside target below h =
+      and_from (is_plain (tree_at types target)) (may_stand (tree_at types target)) (all_plain structs n target below h)
+      (and_parts (is_member (tree_at types target)) (may_stand (tree_at types target)) (inside target below (target_member (type_at types target) h))).1
 
   struct_member : (part : TyId → TypeTree) (ids : List TyId) → is_member (struct_of part ids) ≡ true
   struct_member part [] = refl
   struct_member part (id ∷ ids) = refl
 
-  members_stand : (m n : ℕ) → MemberStands m n → (ids : List TyId) → AllBelow n ids → have_each (is_member_within m types) types ids ≡ true → may_stand (struct_of (tree_within n types) ids) ≡ true
-  members_stand m n inside [] below b = refl
-  members_stand m n inside (id ∷ ids) below b =
-      let parts = and_parts (is_member_within m types (type_at types id)) (have_each (is_member_within m types) types ids) b in
-      let first = and_parts (is_member (tree_within n types id)) (may_stand (tree_within n types id)) (inside id below.0 parts.0) in
-      and_from (is_member (tree_within n types id)) _ first.0 (and_from (may_stand (tree_within n types id)) (may_stand (struct_of (tree_within n types) ids)) first.1 (members_stand m n inside ids below.1 parts.1))
+  members_stand : (n : ℕ) → MemberStands n → (ids : List TyId) → AllBelow n ids → have_each (is_struct_member types) types ids ≡ true → may_stand (struct_of (tree_at types) ids) ≡ true
+  members_stand n inside [] below b = refl
+  members_stand n inside (id ∷ ids) below b =
+      let parts = and_parts (is_struct_member types (type_at types id)) (have_each (is_struct_member types) types ids) b in
+      let first = and_parts (is_member (tree_at types id)) (may_stand (tree_at types id)) (inside id below.0 parts.0) in
+      and_from (is_member (tree_at types id)) _ first.0 (and_from (may_stand (tree_at types id)) (may_stand (struct_of (tree_at types) ids)) first.1 (members_stand n inside ids below.1 parts.1))
 
   -- those of a struct in the table come before it
   struct_below : HasStructs types → (n number : ℕ) → slice_get types.types n ≡ Some (ty.Struct number) → AllBelow n (members_at types number)
   struct_below structs n number at = let has = structs.ordered.parts n (ty.Struct number) at in subst (AllBelow n) (sym (ap (λ (o : Option (List TyId)). unwrap_or o []) has.there)) has.below
 
-  member_stands : HasStructs types → (m n : ℕ) → MemberStands m n → (id : TyId) → id.0 < suc n → (o : Option Ty) → slice_get types.types id.0 ≡ o → is_member_within (suc m) types (unwrap_or o ty.Void) ≡ true
-      → (is_member (tree_of types (tree_within n types) o) && may_stand (tree_of types (tree_within n types) o)) ≡ true
-  member_stands structs m n inside id below (Some (ty.Struct number)) at b =
-      and_from (is_member (struct_of (tree_within n types) (members_at types number))) (may_stand (struct_of (tree_within n types) (members_at types number))) (struct_member (tree_within n types) (members_at types number))
-      (members_stand m n inside (members_at types number) (all_below id.0 n (omega (arith, below)) (members_at types number) (struct_below structs id.0 number at)) b)
-  member_stands structs m n inside id below (Some ty.Text) at b = refl
-  member_stands structs m n inside id below (Some (ty.Vector item)) at b =
-      let tree = tree_of types (tree_within n types) (Some (ty.Vector item)) in (and_parts (is_plain tree) (may_stand tree) (owner_stands m n (within_tree m n) (Some (ty.Vector item)) b)).1
-  member_stands structs m n inside id below (Some ty.Bool) at b = refl
-  member_stands structs m n inside id below (Some ty.Char) at b = refl
-  member_stands structs m n inside id below (Some ty.Int) at b = refl
-  member_stands structs m n inside id below (Some ty.Long) at b = refl
-  member_stands structs m n inside id below (Some ty.Size) at b = refl
-  member_stands structs m n inside id below _ at b = absurd (false≢true b)
+  struct_stands : HasStructs types → (n : ℕ) → MemberStands n → (id : TyId) (number : ℕ) → id.0 < suc n → slice_get types.types id.0 ≡ Some (ty.Struct number) → may_stand (struct_of (tree_at types) (members_at types number)) ≡ true
+  struct_stands structs n inside id number below at = members_stand n inside (members_at types number) (all_below id.0 n (omega (arith, below)) (members_at types number) (struct_below structs id.0 number at)) (structs.members number)
 
-  member_tree : HasStructs types → (m n : ℕ) → MemberStands m n
-  member_tree structs zero n id below b = value_member n id below b
-  member_tree structs (suc m) zero id below b = absurd (omega (arith, below))
-  member_tree structs (suc m) (suc n) id below b = member_stands structs m n (member_tree structs m n) id below (slice_get types.types id.0) refl b
+  member_stands : HasStructs types → (n : ℕ) → MemberStands n → (id : TyId) → id.0 < suc n → (o : Option Ty) → slice_get types.types id.0 ≡ o → is_struct_member types (unwrap_or o ty.Void) ≡ true
+      → (is_member (tree_of types (tree_at types) o) && may_stand (tree_of types (tree_at types) o)) ≡ true
+  member_stands structs n inside id below (Some (ty.Struct number)) at b =
+      and_from (is_member (struct_of (tree_at types) (members_at types number))) (may_stand (struct_of (tree_at types) (members_at types number))) (struct_member (tree_at types) (members_at types number))
+      (struct_stands structs n inside id number below at)
+  member_stands structs n inside id below (Some ty.Text) at b = refl
+  member_stands structs n inside id below (Some (ty.Vector item)) at b =
+      let before : item.0 < id.0 = structs.ordered.parts id.0 (ty.Vector item) at in target_before structs n inside item (omega (arith, before, below)) (element_target types (type_at types item) (or_false (is_element types (type_at types item)) b))
+  member_stands structs n inside id below (Some ty.Bool) at b = refl
+  member_stands structs n inside id below (Some ty.Char) at b = refl
+  member_stands structs n inside id below (Some ty.Int) at b = refl
+  member_stands structs n inside id below (Some ty.Long) at b = refl
+  member_stands structs n inside id below (Some ty.Size) at b = refl
+  member_stands structs n inside id below (Some ty.View) at b = refl
+  member_stands structs n inside id below (Some (ty.Raw target constant)) at b =
+      let before : target.0 < id.0 = structs.ordered.parts id.0 (ty.Raw target constant) at in target_before structs n inside target (omega (arith, before, below)) (or_false (is_target types (type_at types target)) b)
+  member_stands structs n inside id below (Some (ty.Iterator item constant)) at b =
+      let before : item.0 < id.0 = structs.ordered.parts id.0 (ty.Iterator item constant) at in target_before structs n inside item (omega (arith, before, below)) (element_target types (type_at types item) (or_false (is_element types (type_at types item)) b))
+  member_stands structs n inside id below (Some (ty.Span item constant)) at b =
+      let before : item.0 < id.0 = structs.ordered.parts id.0 (ty.Span item constant) at in target_before structs n inside item (omega (arith, before, below)) (element_target types (type_at types item) (or_false (is_element types (type_at types item)) b))
+  member_stands structs n inside id below _ at b = absurd (false≢true b)
 
-  -- .. and has no pointer in it
-  abbrev MemberPlain : (m n : ℕ) → Type 0
-  MemberPlain m n = (id : TyId) → is_member_within m types (type_at types id) ≡ true → is_plain (tree_within n types id) ≡ true
-
-  members_plain : (m n : ℕ) → MemberPlain m n → (ids : List TyId) → have_each (is_member_within m types) types ids ≡ true → is_plain (struct_of (tree_within n types) ids) ≡ true
-  members_plain m n inside [] b = refl
-  members_plain m n inside (id ∷ ids) b =
-      let parts = and_parts (is_member_within m types (type_at types id)) (have_each (is_member_within m types) types ids) b in
-      and_from (is_plain (tree_within n types id)) (is_plain (struct_of (tree_within n types) ids)) (inside id parts.0) (members_plain m n inside ids parts.1)
-
-  held_plain : (m n : ℕ) → MemberPlain m n → (o : Option Ty) → is_member_within (suc m) types (unwrap_or o ty.Void) ≡ true → is_plain (tree_of types (tree_within n types) o) ≡ true
-  held_plain m n inside (Some (ty.Struct number)) b = members_plain m n inside (members_at types number) b
-  held_plain m n inside (Some ty.Text) b = refl
-  held_plain m n inside (Some (ty.Vector item)) b =
-      let tree = tree_of types (tree_within n types) (Some (ty.Vector item)) in (and_parts (is_plain tree) (may_stand tree) (owner_stands m n (within_tree m n) (Some (ty.Vector item)) b)).0
-  held_plain m n inside (Some ty.Bool) b = refl
-  held_plain m n inside (Some ty.Char) b = refl
-  held_plain m n inside (Some ty.Int) b = refl
-  held_plain m n inside (Some ty.Long) b = refl
-  held_plain m n inside (Some ty.Size) b = refl
-  held_plain m n inside _ b = absurd (false≢true b)
-
-  member_plain : (m n : ℕ) → MemberPlain m n
-  member_plain zero n id b = (and_parts (is_plain (tree_within n types id)) (may_stand (tree_within n types id)) (value_tree n id b)).0
-  member_plain (suc m) zero id b = refl
-  member_plain (suc m) (suc n) id b = held_plain m n (member_plain m n) (slice_get types.types id.0) b
-
-  struct_tree : HasStructs types → (n : ℕ) (id : TyId) (number : ℕ) → id.0 < n → type_at types id ≡ ty.Struct number → (is_plain (tree_within n types id) && may_stand (tree_within n types id)) ≡ true
-  struct_tree structs zero id number before s = refl
-  struct_tree structs (suc n) id number before s = go (slice_get types.types id.0) refl s
-    where
-      no_struct : ty.Void ≡ ty.Struct number → ⊥
-      no_struct e = cc
-
-      go : (o : Option Ty) → slice_get types.types id.0 ≡ o → unwrap_or o ty.Void ≡ ty.Struct number → (is_plain (tree_of types (tree_within n types) o) && may_stand (tree_of types (tree_within n types) o)) ≡ true
-      go None at e = absurd (no_struct e)
-      go (Some t) at e =
-          let ids = members_at types number in
-          let below = all_below id.0 n (omega (arith, before)) ids (struct_below structs id.0 number (at ∙ ap Some e)) in
-          ap (λ (u : Ty). is_plain (tree_of types (tree_within n types) (Some u)) && may_stand (tree_of types (tree_within n types) (Some u))) e
-          ∙ and_from (is_plain (struct_of (tree_within n types) ids)) (may_stand (struct_of (tree_within n types) ids))
-          (members_plain 2 n (member_plain 2 n) ids (structs.members number)) (members_stand 2 n (member_tree structs 2 n) ids below (structs.members number))
-
-  -- pointers are to such an owner or struct too
-  target_tree : HasStructs types → (n : ℕ) (id : TyId) → id.0 < n → IsTarget types (type_at types id) → (is_plain (tree_within n types id) && may_stand (tree_within n types id)) ≡ true
-  target_tree structs n id before (to_value v) = value_tree n id v
-  target_tree structs n id before (to_owner o) = within_tree 8 n id o
-  target_tree structs n id before (to_struct number s) = struct_tree structs n id number before s
+  all_stand : HasStructs types → (n : ℕ) → MemberStands n
+  all_stand structs zero id below b = absurd (omega (arith, below))
+  all_stand structs (suc n) id below b =
+      ap (λ (t : TypeTree). is_member t && may_stand t) (tree_made types structs.ordered id) ∙ member_stands structs n (all_stand structs n) id below (slice_get types.types id.0) refl b
 
   fits_stands : HasStructs types → (id : TyId) (t : Ty) → slice_get types.types id.0 ≡ Some t → fits_local types t ≡ true → may_stand (tree_at types id) ≡ true
-  unfolding tree_at
-  fits_stands structs id t at h = ap (λ (o : Option Ty). may_stand (tree_of types (tree_within id.0 types) o)) at ∙ go t at h
+  fits_stands structs id t at h = ap may_stand (tree_made types structs.ordered id ∙ ap (tree_of types (tree_at types)) at) ∙ go t at h
     where
-      go : (t : Ty) → slice_get types.types id.0 ≡ Some t → fits_local types t ≡ true → may_stand (tree_of types (tree_within id.0 types) (Some t)) ≡ true
-      go (ty.Raw target constant) at h = target_tree structs id.0 target (structs.ordered.parts id.0 (ty.Raw target constant) at) (target_is types (type_at types target) h)
-      go (ty.Reference target constant) at h = target_tree structs id.0 target (structs.ordered.parts id.0 (ty.Reference target constant) at) (target_is types (type_at types target) h)
-      go (ty.Vector element) at h = element_tree id.0 element h
-      go (ty.Unique target) at h = element_tree id.0 target h
-      go (ty.Iterator target constant) at h = element_tree id.0 target h
-      go (ty.Span target constant) at h = element_tree id.0 target h
-      go (ty.Struct number) at h = members_stand 2 id.0 (member_tree structs 2 id.0) (members_at types number) (struct_below structs id.0 number at) (structs.members number)
+      inside : MemberStands id.0
+      inside = all_stand structs id.0
+
+      go : (t : Ty) → slice_get types.types id.0 ≡ Some t → fits_local types t ≡ true → may_stand (tree_of types (tree_at types) (Some t)) ≡ true
+      go (ty.Raw target constant) at h = target_before structs id.0 inside target (structs.ordered.parts id.0 (ty.Raw target constant) at) h
+      go (ty.Reference target constant) at h = target_before structs id.0 inside target (structs.ordered.parts id.0 (ty.Reference target constant) at) h
+      go (ty.Vector element) at h = target_before structs id.0 inside element (structs.ordered.parts id.0 (ty.Vector element) at) (element_target types (type_at types element) h)
+      go (ty.Unique target) at h = target_before structs id.0 inside target (structs.ordered.parts id.0 (ty.Unique target) at) (element_target types (type_at types target) h)
+      go (ty.Iterator target constant) at h = target_before structs id.0 inside target (structs.ordered.parts id.0 (ty.Iterator target constant) at) (element_target types (type_at types target) h)
+      go (ty.Span target constant) at h = target_before structs id.0 inside target (structs.ordered.parts id.0 (ty.Span target constant) at) (element_target types (type_at types target) h)
+      go (ty.Struct number) at h = struct_stands structs id.0 inside id number (omega arith) at
       go _ at h = refl
 
   -- it stands as it is, also where a parameter has it
@@ -212,7 +165,7 @@ module _ (types : Types) where
   fits_itself true id t at h = ap (λ (o : Option Ty). unslotted types id (or_void o)) at ∙ go t h
     where
       go : (t : Ty) → fits_local types t ≡ true → unslotted types id t ≡ id
-      go (ty.Reference target false) h = target_referred types id target (ty_of types target) (ap (is_target types) (type_either types target) ∙ h)
+      go (ty.Reference target false) h = target_referred id target (ty_of types target) (target_unslotted types types (λ n x e. e) target h)
       go _ h = refl
 
   fits_no_void : (t : Ty) → fits_local types t ≡ true → not (is_void t) ≡ true
@@ -389,7 +342,7 @@ result_kept _ = refl
 -- as it is written, in a finished table that begins with the one behind it
 module _ (p : ProgramForm) (of : FunctionForm) (T types : Types) (names : ℕ) (made : IsFunctionOf p of) (table : IsFront p.types.types T.types) (front : IsFront p.types.types types.types)
     (grown : IsFront (first_state (around p of) T).locals (written (around p of) T).locals) (later : IsFront (written (around p of) T).types.types types.types)
-    (own : AreWrittenLocals p.types (around p of) (written (around p of) T)) (named : is_function_named names of ≡ true) (structs : HasStructs types) where
+    (own : AreWrittenLocals p.types (around p of) (written (around p of) T)) (named : is_function_named names of ≡ true) (structs : HasStructs types) (stays : PlainStays p.types types) where
   abbrev core : Function
   core = function_from of (written (around p of) T)
 
@@ -420,17 +373,18 @@ module _ (p : ProgramForm) (of : FunctionForm) (T types : Types) (names : ℕ) (
 
       temporary_fits : FitsTemporary p.types is.ty → (fits_local types is.ty ≡ true) × (fits_kind Object is.ty ≡ true)
       temporary_fits (inl value) = (by_values (λ t. fits_local types t ≡ true) refl refl refl refl refl is.ty value, by_values (λ t. fits_kind Object t ≡ true) refl refl refl refl refl is.ty value)
-      temporary_fits (inr (inl o)) = let owner = owner_later p.types types front is.ty o in (owner_local types is.ty owner, owner_kept is.ty owner)
-      temporary_fits (inr (inr u)) = let unique = unique_later p.types types front is.ty u in (unique_local types is.ty unique, unique_kept is.ty unique)
+      temporary_fits (inr (inl o)) = let owner = owner_later p.types types front stays is.ty o in (owner_local types is.ty owner, owner_kept is.ty owner)
+      temporary_fits (inr (inr (inr structure))) = (ap (fits_local types) structure.is, ap (fits_kind Object) structure.is)
+      temporary_fits (inr (inr (inl u))) = let unique = unique_later p.types types front stays is.ty u in (unique_local types is.ty unique, unique_kept is.ty unique)
 
       go : FitsNameless p.types (written (around p of) T).types l.kind is.ty → is_well_formed_local types names core.parameters x l ≡ true
       go (inl register) =
-          let fit = fits_later p.types types front is.ty register.1 in
+          let fit = fits_later p.types types front stays is.ty register.1 in
           nameless_formed (register_local types is.ty fit) (ap (λ (k : LocalKind). fits_kind k is.ty) register.0 ∙ fits_kept types is.ty fit)
       go (inr (inl temporary)) = let fit = temporary_fits temporary.1 in nameless_formed fit.0 (ap (λ (k : LocalKind). fits_kind k is.ty) temporary.0 ∙ fit.1)
       go (inr (inr hidden)) =
-          let fit = hidden_later (written (around p of) T).types types later is.ty hidden.1 in
-          nameless_formed (hidden_local types is.ty fit) (ap (λ (k : LocalKind). fits_kind k is.ty) hidden.0 ∙ hidden_pointer types is.ty fit)
+          let fit = hidden_later p.types (written (around p of) T).types types later is.ty hidden.1 in
+          nameless_formed (hidden_local p.types types front stays is.ty fit) (ap (λ (k : LocalKind). fits_kind k is.ty) hidden.0 ∙ hidden_pointer p.types types is.ty fit)
 
   own_formed : (x : ℕ) (l : Local) → slice_get core.locals x ≡ Some l → IsOwn (around p of) l → is_well_formed_local types names core.parameters x l ≡ true
   own_formed x l at is =
@@ -438,7 +392,7 @@ module _ (p : ProgramForm) (of : FunctionForm) (T types : Types) (names : ℕ) (
       let kept : l.kind ≡ kind (class (Some found.0)) = is.of.kind ∙ ap (λ (o : Option Ty). kind (class o)) found.1 in
       let known = (and_parts (nat_lt of.name.0 names) (list_all (is_local_named names) of.locals) named).1 in
       local_formed types structs names core.parameters x l found.0 (ap (λ (id : TyId). slice_get types.types id.0) is.of.typed ∙ front is.variable.ty.0 found.0 found.1)
-      (local_later p.types types front found.0 (variable_fits p.types found.0 found.2))
+      (local_later p.types types front stays found.0 (variable_fits p.types found.0 found.2))
       (ap (λ (k : LocalKind). fits_kind k found.0) kept ∙ variable_kept p.types found.0 found.2)
       (ap (λ (k : LocalKind). is_named_as k found.0 l.name) kept ∙ ap (is_named_as (kind (class (Some found.0))) found.0) is.of.named ∙ variable_named p.types found.0 is.variable.name found.2)
       (ap (is_name_if names) is.of.named ∙ passed_at (is_local_named names) (list_all (is_local_named names)) (λ u us. refl) of.locals is.number is.variable known is.there)

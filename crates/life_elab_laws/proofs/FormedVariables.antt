@@ -4,7 +4,7 @@ use Rattle.std.proofs.lemmas.Bool.{false≢true}
 use Rattle.life_served.specs.Served.{is_owner_of_values, is_served_variable, is_target}
 use Rattle.life_types.specs.Pointees.{or_void, pointee, ty_of}
 use Rattle.life_types.specs.TypeTests.{is_constant, is_reference, is_value, is_void}
-use Rattle.life_types.specs.Types.{Types, class}
+use Rattle.life_types.specs.Types.{Types, class, is_slot_target}
 use Rattle.life_types.specs.declared.ty.Ty.{Ty}
 use Rattle.life_types.specs.declared.ty.Ty.TheVariants as ty
 use Rattle.life_types.specs.declared.ty.TyId.{TyId}
@@ -24,8 +24,7 @@ use Rattle.life_writer.specs.Variables.{kind, variable, variable_place}
 use Rattle.life_writer.specs.Writing.{State}
 use Rattle.life_elab_laws.proofs.Fronts.{IsFront}
 use Rattle.life_elab_laws.proofs.Growing.{Begins}
-use Rattle.life_elab_laws.proofs.Shaped.{target_there}
-use Rattle.life_elab_laws.proofs.Targets.{target_no_void, target_referred, target_type, value_target}
+use Rattle.life_elab_laws.proofs.Targets.{target_no_void, target_referred, target_type, value_target, target_unslotted}
 use Rattle.life_elab_laws.proofs.Locations.{is_location}
 use Rattle.life_elab_laws.proofs.TypedKinds.{place_same, owner_named, walker_named}
 use Rattle.life_elab_laws.proofs.Types.{value_kind}
@@ -100,12 +99,12 @@ location_kind (ty.Span target constant) loc = refl
 location_kind _ loc = absurd (false≢true loc)
 
 module _ (types : Types) (f : Function) where
-  reference_shape : (parameter : Bool) (id target : TyId) (constant : Bool) → ty_of types id ≡ ty.Reference target constant → is_target types (ty_of types target) ≡ true → shape_if types parameter id ≡ id
+  reference_shape : (parameter : Bool) (id target : TyId) (constant : Bool) → ty_of types id ≡ ty.Reference target constant → is_slot_target (Some (ty_of types target)) ≡ false → shape_if types parameter id ≡ id
   reference_shape false id target constant at v = refl
   reference_shape true id target true at v = ap (unslotted types id) at
-  reference_shape true id target false at v = ap (unslotted types id) at ∙ target_referred types id target (ty_of types target) v
+  reference_shape true id target false at v = ap (unslotted types id) at ∙ target_referred id target (ty_of types target) v
 
-  pub reference_there : (x : ℕ) (l : Local) (target : TyId) (constant : Bool) → slice_get f.locals x ≡ Some l → slice_get types.types l.ty.0 ≡ Some (ty.Reference target constant) → is_target types (ty_of types target) ≡ true
+  pub reference_there : (x : ℕ) (l : Local) (target : TyId) (constant : Bool) → slice_get f.locals x ≡ Some l → slice_get types.types l.ty.0 ≡ Some (ty.Reference target constant) → is_slot_target (Some (ty_of types target)) ≡ false
       → placed.type_at types f x ≡ ty.Reference target constant
   reference_there x l target constant at typed v =
       ap (λ (o : Option Local). ty_if types (shape_of types f.parameters x o)) at
@@ -149,7 +148,7 @@ module _ (types : Types) (texts : ℕ) (fs : List Function) (f : Function) where
         subst (IsPlaceOf types texts fs f (type_at a.program.types target) constant) (sym (place_is a s x v h Register register))
         (behind_place (whole (variable s x)) t target constant (type_at a.program.types target)
         (record {
-          typed = reference_there types f (variable s x) h.local target constant there (typed_as t found) (target_there a.program.types types front target h');
+          typed = reference_there types f (variable s x) h.local target constant there (typed_as t found) (target_unslotted a.program.types types front target h');
           kept = register_there types f (variable s x) h.local there register;
         })
         refl refl refl later (target_no_void a.program.types (type_at a.program.types target) h'))
@@ -191,7 +190,7 @@ module _ (types : Types) (texts : ℕ) (fs : List Function) (f : Function) where
         go (an_alias target c found o) =
             let here = ap (type_at a.program.types) (place_same target id c constant (own target c (named (ty.Reference target c) found))) in
             absurd (owner_no_value a.program.types (type_at a.program.types target) o (ap is_value here ∙ value))
-        go (a_struct_alias target c number found structure) =
+        go (a_struct_alias target c number found structure pointless) =
             let here = ap (type_at a.program.types) (place_same target id c constant (own target c (named (ty.Reference target c) found))) in
             absurd (false≢true (sym (ap is_value structure) ∙ ap is_value here ∙ value))
         go (a_unique target found w) =

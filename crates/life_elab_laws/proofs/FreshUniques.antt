@@ -1,7 +1,7 @@
 -- unique_ptrs that are built where they have come to life: of nullptr, made anew, or of what is moved out of a variable.
-use Rattle.std.proofs.Common.{◌≡◌, ℕ, true, List, [], ◌∷◌, Contains, refl, sym, ap, ◌∙◌, subst, false, None}
+use Rattle.std.proofs.Common.{◌≡◌, [], ℕ, true, List, ◌∷◌, Contains, refl, sym, ap, ◌∙◌, subst, false, None}
 use Rattle.std.proofs.lemmas.Bool.{false≢true}
-use Rattle.life_served.specs.Served.{is_element, is_served_made, is_unique_type}
+use Rattle.life_served.specs.Served.{is_element, is_unique_type}
 use Rattle.life_types.specs.TypeTests.{is_unique, is_value}
 use Rattle.life_types.specs.Types.{Types}
 use Rattle.life_types.specs.declared.place.Place.{Place}
@@ -28,20 +28,21 @@ use Rattle.life_well_typed.specs.Given.{is_given}
 use Rattle.life_writer.specs.Around.{Around, type_of}
 use Rattle.life_writer.specs.ExpressionForms.{form_uses, uses, uses_if}
 use Rattle.life_writer.specs.Giving as giving
-use Rattle.life_writer.specs.OwnerForms.{made_at, move_uses, moved_out_of, owned_operand}
+use Rattle.life_writer.specs.OwnerForms.{made_at, made_null, move_uses, moved_out_of, owned_operand}
 use Rattle.life_writer.specs.Uses.{Remaining, lived}
 use Rattle.life_writer.specs.Using.{location_in}
-use Rattle.life_writer.specs.Writing.{Gives, State, gives}
+use Rattle.life_writer.specs.Writing.{Gives, State, gives, mapped}
 use Rattle.life_elab_laws.proofs.ExpressionForms.{IsWhole, Standing}
 use Rattle.life_elab_laws.proofs.Gifts.{a_place, both, nothing as no_gift}
 use Rattle.life_elab_laws.proofs.MadeForms.{Builds, IsNew, lived_builds, of_target}
 use Rattle.life_elab_laws.proofs.MovedForms.{moved_builds}
 use Rattle.life_elab_laws.proofs.MovedOwners.{IsMovedFrom, given_moved}
+use Rattle.life_elab_laws.proofs.ContentBirths.{taken_builds}
+use Rattle.life_elab_laws.proofs.OwnedContents.{IsContentOf, IsGivingIfAny, content_as, is_found, is_over}
 use Rattle.life_elab_laws.proofs.Parts.{Makes, Part, leaf_part}
 use Rattle.life_elab_laws.proofs.PointerForms.{held_typed}
 use Rattle.life_elab_laws.proofs.Setting.{Setting}
 use Rattle.life_elab_laws.proofs.TypedKinds.{HasKind, a_null, a_number, a_pointer, a_text, a_view, no_value}
-use Rattle.life_elab_laws.proofs.UniqueMaking.{IsWholeIfAny, made_as}
 use Rattle.life_elab_laws.proofs.UniqueSteps.{a_made, made_uses_of, makes_part, null_fits}
 use Rattle.life_elab_laws.proofs.Values.{by_values}
 
@@ -55,7 +56,7 @@ module _ (a : Around) (visible : List ℕ) (types : Types) (texts : ℕ) (fs : L
   -- ---- it is made to own what was found first
 
   -- .. where it has come to life
-  owned_part : (target : TyId) (place : Place) (what : Made) (to : Operand) (s s' : State) → IsNew a visible types texts fs f setting s to
+  owned_part : (target : TyId) (place : Place) (what : Made) (to : Operand) (s s' : State) → IsNew a visible types texts fs f setting s s' to
       → Part types texts fs f (both types texts fs f (a_made types texts fs f target) (a_place types texts fs f (ty.Unique target) false)) (what, to) None s' (gives tt (made_at place what place to s')) (no_gift types texts fs f)
   owned_part target place what to s s' new =
       let P = both types texts fs f (a_made types texts fs f target) (a_place types texts fs f (ty.Unique target) false) in
@@ -76,6 +77,10 @@ module _ (a : Around) (visible : List ℕ) (types : Types) (texts : ℕ) (fs : L
       })
 
   -- ---- nullptr, which has a value
+
+  pub nothing_builds : (target : TyId) (s : State) → BuildsTo target s (gives (lived Plain made_null) s)
+  nothing_builds target s =
+      owned_builds target (λ place. place) (gives made.Null s) s (leaf_part types texts fs f made.Null s (a_made types texts fs f target) (λ b. null_fits types texts fs f target) (λ b k alive. tt))
 
   -- no other value is given to one
   pub given_null : (e : Typed) → HasKind a.program.types e → (target : TyId) → is_given a.program.types (ty.Unique target) e ≡ true → (e.ty ≡ NullPointer) × (e.category ≡ category.Value)
@@ -100,9 +105,7 @@ module _ (a : Around) (visible : List ℕ) (types : Types) (texts : ℕ) (fs : L
   null_builds form is target given behind s stands =
       let null = given_null (typed_in form) is.kind.kind target given in
       subst (λ (c : Category). BuildsTo target s (giving.object_by c (uses a form).at (uses a form).object s)) (sym null.1 ∙ held_typed a visible types texts fs f setting form)
-      (subst (λ (x : State → Gives Remaining). BuildsTo target s (x s)) (sym (is.as_null null.0).0)
-      (owned_builds target (λ place. place) (gives made.Null s) s
-      (leaf_part types texts fs f made.Null s (a_made types texts fs f target) (λ b. null_fits types texts fs f target) (λ b k alive. tt))))
+      (subst (λ (x : State → Gives Remaining). BuildsTo target s (x s)) (sym (is.as_null null.0).0) (nothing_builds target s))
 
   -- ---- an expression that makes one, or moves one out of a variable
 
@@ -129,15 +132,21 @@ module _ (a : Around) (visible : List ℕ) (types : Types) (texts : ℕ) (fs : L
       }
       go _ at u = absurd (false≢true u)
 
-  pub made_fresh : (id : TyId) (argument : Form) (closing : Place) (e : Typed) (place : Place) → is_served_made texts argument ≡ true → IsWholeIfAny a visible types texts fs f setting argument
+  -- whatever it is made to own
+  content_builds : (target id : TyId) (argument : Form) (closing place : Place) → IsContentOf a visible types texts fs f setting target id argument closing → (s : State) → Stood s
+      → BuildsTo target s (mapped (lived Plain) (mapped (made_at place) (owned_operand (type_of a id) (uses_if a argument) closing s)))
+  content_builds target id argument closing place (is_found owned) s stands = owned_builds target (λ at. place) (owned_operand (type_of a id) (uses_if a argument) closing s) s (owned.makes s stands)
+  content_builds target id argument closing place (is_over t plain holds makes) s stands =
+      let over = makes s stands in
+      subst (λ (w : Gives Made). BuildsTo target s (mapped (lived Plain) (mapped (made_at place) w))) (sym over.is) (taken_builds a visible types texts fs f setting t plain target holds place s over.given over.over)
+
+  pub made_fresh : (id : TyId) (argument : Form) (closing : Place) (e : Typed) (place : Place) → IsGivingIfAny a visible types texts fs f setting argument
       → IsMadeOf a.program a.function.locals visible e (make_unique id argument closing) → IsFreshAt e ((form_uses a (make_unique id argument closing) place e.ty e.category).object)
-  made_fresh id argument closing e place served whole h = record {
+  made_fresh id argument closing e place giving h = record {
     owned = id;
     is = ap (λ (y : Typed). y.ty) h.0;
     value = ap (λ (y : Typed). y.category) h.0;
-    builds = λ target worth given s stands.
-        owned_builds target (λ at. place) (owned_operand (type_of a id) (uses_if a argument) closing s) s
-        ((made_as a visible types texts fs f setting target worth id argument closing e served given h whole).makes s stands);
+    builds = λ target worth given s stands. content_builds target id argument closing place (content_as a visible types texts fs f setting target worth id argument closing e given h giving) s stands;
   }
 
   -- what is given it builds that

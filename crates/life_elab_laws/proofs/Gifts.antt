@@ -7,7 +7,6 @@ use Rattle.life_types.specs.declared.ty.TyId.{TyId}
 use Rattle.life_typed.specs.declared.typed_expr.ExprType.{ExprType}
 use Rattle.life_typed.specs.declared.typed_expr.ExprType.TheVariants.{NullPointer, Of, TextLiteral}
 use Rattle.life_core.specs.Function.{Function}
-use Rattle.life_core.specs.Kinds.{is_register_at}
 use Rattle.life_core.specs.Operands.{Argument, GivenOver, Location, Operand, PointerOf, Value}
 use Rattle.life_core.specs.Step.{Step}
 use Rattle.life_proper.specs.GivenOver.{given_argument}
@@ -19,7 +18,7 @@ use Rattle.life_proper.specs.declared.known.Known.{Known}
 use Rattle.life_proper.specs.declared.known.Known.TheVariants as known
 use Rattle.life_writer.specs.Pointers.{As, By, Pointing}
 use Rattle.life_elab_laws.proofs.Locations.{is_location}
-use Rattle.life_elab_laws.proofs.Making.{AreHeld, IsFilling, IsHeld, IsPlace, IsPointer, IsPointing, Keeps}
+use Rattle.life_elab_laws.proofs.Making.{AreHeld, IsFilling, IsHeld, IsPlace, IsPointer, IsPointing, Keeps, lies_in}
 use Rattle.life_elab_laws.proofs.Shaping.{IsFineStep}
 
 -- an object that is given over
@@ -91,11 +90,11 @@ module _ (types : Types) (texts : ℕ) (fs : List Function) (f : Function) where
   abbrev pub a_place : Ty → Bool → Gift Operand
   a_place t constant = record { typed = IsPlaceOf t constant; ready = IsPlace; stays = place_stays }
 
-  -- ---- a location that holds a pointer of a type: a register
+  -- ---- a location that holds a pointer of a type: a register, or a member of a variable
 
   pub record IsAt (t : Ty) (l : Location) : Type 0 where
     pub typed : type_in types f l ≡ t
-    pub kept : is_register_at f l.local ≡ true
+    pub kept : lies_in f l ≡ true
 
   pub pointer_stays : (l : Location) (n m : ℕ) (k j : List Known) → n ≤ m → IsPointer l n k → Keeps f n None k j → IsPointer l m j
   pointer_stays l n m k j h p keeps = record { local = p.local; is = p.is; below = omega (arith, p.below, h); held = keeps.below p.local p.below tt ∙ p.held }
@@ -107,7 +106,7 @@ module _ (types : Types) (texts : ℕ) (fs : List Function) (f : Function) where
 
   -- an instruction with a hole can stand for each pointer that takes what is given
   abbrev pub IsGivenAs : ExprType → Pointing → Type 0
-  IsGivenAs t (By step) = (u : Ty) (l : Location) → is_location u ≡ true → IsAt u l → IsTakenBy types u t → IsFineStep types texts fs f (step l)
+  IsGivenAs t (By step) = (u : Ty) (l : Location) → is_location u ≡ true → type_in types f l ≡ u → IsTakenBy types u t → IsFineStep types texts fs f (step l)
   IsGivenAs (Of t) (As l) = IsAt t l
   IsGivenAs NullPointer (As l) = ⊥
   IsGivenAs TextLiteral (As l) = ⊥
@@ -117,7 +116,7 @@ module _ (types : Types) (texts : ℕ) (fs : List Function) (f : Function) where
   all_stay (x ∷ xs) n m k j h p keeps = (held_stays x n m k j h p.0 keeps, all_stay xs n m k j h p.1 keeps)
 
   pub filling_stays : (step : Location → Step) (n m : ℕ) (k j : List Known) → n ≤ m → IsFilling f step n k → Keeps f n None k j → IsFilling f step m j
-  filling_stays step n m k j h p keeps = record { uses = p.uses; held = all_stay p.uses n m k j h p.held keeps; touches = p.touches }
+  filling_stays step n m k j h p keeps = record { uses = p.uses; held = all_stay p.uses n m k j h p.held keeps; touches = p.touches; parts = p.parts }
 
   pub pointing_stays : (p : Pointing) (n m : ℕ) (k j : List Known) → n ≤ m → IsPointing f p n k → Keeps f n None k j → IsPointing f p m j
   pointing_stays (By step) n m k j h p keeps = filling_stays step n m k j h p keeps

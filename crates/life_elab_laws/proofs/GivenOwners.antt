@@ -1,18 +1,18 @@
 -- An owner that is given over: it is built as a temporary that nothing looks at, and isn't pending.
-use Rattle.std.proofs.Common.{◌≡◌, ◌<◌, ◌≤◌, inl, inr, ℕ, suc, true, false, ◌||◌, not, List, [], ◌∷◌, ◌++◌, Contains, length, slice_set, None, refl, sym, ap, ◌∙◌, subst, arith, append_assoc}
+use Rattle.std.proofs.Common.{◌≡◌, ◌<◌, ◌≤◌, inl, inr, ℕ, suc, true, false, ◌||◌, not, List, [], ◌∷◌, ◌++◌, Contains, length, slice_get, slice_set, None, Some, refl, sym, ap, ◌∙◌, subst, arith, append_assoc}
 use Rattle.std.proofs.lemmas.Bool.{and_from, and_parts, cases_eq}
 use Rattle.std.proofs.lemmas.List.{append_cancel_left}
-use Rattle.std.proofs.lemmas.Option.{slice_get_within}
+use Rattle.std.proofs.lemmas.Option.{same_Some, slice_get_within}
 use Rattle.life_types.specs.TypeTests.{is_pointer}
 use Rattle.life_types.specs.Types.{Types}
 use Rattle.life_types.specs.declared.place.Place.{Place}
 use Rattle.life_types.specs.declared.ty.Ty.{Ty}
 use Rattle.life_core.specs.Function.{Function}
 use Rattle.life_core.specs.Operands.{Operand, Name, Through, object_named}
-use Rattle.life_core.specs.Tree.{Acts, Tree, trees}
+use Rattle.life_core.specs.Tree.{Tree, trees}
 use Rattle.life_core.specs.declared.program.Local.{Local}
 use Rattle.life_proper.specs.Knowing.{known_at}
-use Rattle.life_proper.specs.OperandTypes.{is_owner, same}
+use Rattle.life_proper.specs.OperandTypes.{is_composed, same}
 use Rattle.life_proper.specs.Placed.{is_given, object_at, result_at, slot_at}
 use Rattle.life_proper.specs.Placed as placed
 use Rattle.life_proper.specs.WellFormed.{can_end}
@@ -35,9 +35,10 @@ use Rattle.life_elab_laws.proofs.Growing.{Begins, Grows, begins_before, grows_th
 use Rattle.life_elab_laws.proofs.Handing.{GoesHanding, HandingAlone}
 use Rattle.life_elab_laws.proofs.UnseenLocals.{set_itself, set_twice}
 use Rattle.life_elab_laws.proofs.Knowledge.{at_set, beside_set, set_length}
-use Rattle.life_elab_laws.proofs.MadeForms.{Builds, Found, Making, Steady, act_part, born, born_further, born_part, built, built_part, gift_of, looked_found, of_call, of_copy, of_elements, of_moved, of_target, of_texts, of_view, steady_same}
+use Rattle.life_elab_laws.proofs.MadeForms.{Builds, Found, Making, Steady, act_part, born, born_further, born_part, built, built_part, gift_of, looked_found, of_call, of_copy, of_elements, of_moved, of_target, of_texts, of_view, steady_same, of_content}
 use Rattle.life_elab_laws.proofs.Making.{Alive, IsPlace, keeps_then}
-use Rattle.life_elab_laws.proofs.MoveSteps.{built_moves, moved_same, moved_there}
+use Rattle.life_elab_laws.proofs.HandedTypes.{built_composed}
+use Rattle.life_elab_laws.proofs.MoveSteps.{moved_same, moved_there}
 use Rattle.life_elab_laws.proofs.Parts.{Goes, Makes, Part, Runs}
 use Rattle.life_elab_laws.proofs.PendingTemporaries.{ArePendingIn, IsTemporary, temporary_later}
 use Rattle.life_elab_laws.proofs.PlainActs.{IsPlainAct, seen_names}
@@ -74,10 +75,11 @@ module _ (a : Around) (visible : List ℕ) (types : Types) (texts : ℕ) (fs : L
   found_below (of_call ids) x n k h y m = absurd m
   found_below (of_moved x t) z n k h y m = named_below (object_named z) n k h y m
   found_below (of_target target) x n k h y m = absurd m
+  found_below (of_content t) x n k h y m = absurd m
 
 -- what an act looks at is there
 module _ (a : Around) (visible : List ℕ) (types : Types) (texts : ℕ) (fs : List Function) (f : Function) (setting : Setting a types fs f) where
-  named_ready : (o : Operand) (n : ℕ) (k : List Known) → IsPlace o n k → (y : ℕ) → Among y (looked_place o) → known_at k y ≡ known.Ready
+  pub named_ready : (o : Operand) (n : ℕ) (k : List Known) → IsPlace o n k → (y : ℕ) → Among y (looked_place o) → known_at k y ≡ known.Ready
   named_ready (Name l) n k h y (inl e) = subst (λ (z : ℕ). known_at k z ≡ known.Ready) (sym (sym e ∙ head l.local h.local h.uses)) h.held
     where
       first : List ℕ → ℕ
@@ -102,9 +104,16 @@ module _ (a : Around) (visible : List ℕ) (types : Types) (texts : ℕ) (fs : L
   found_named (of_call ids) x n k h y m = absurd m
   found_named (of_moved x t) z n k h y m = named_ready (object_named z) n k h y m
   found_named (of_target target) x n k h y m = absurd m
+  found_named (of_content t) x n k h y m = absurd m
+
+-- a temporary has no name
+pub temporary_nameless : (low : ℕ) (locals : List Local) (table : List Ty) (x : ℕ) → IsTemporary low locals table x → (y : ℕ) → Among y (x ∷ []) → (l : Local) → slice_get locals y ≡ Some l → l.name ≡ None
+temporary_nameless low locals table x is y (inl e) l at =
+    sym (ap (λ (q : Local). q.name) (same_Some is.local l (sym is.there ∙ subst (λ (z : ℕ). slice_get locals z ≡ Some l) (sym e) at))) ∙ is.nameless
+temporary_nameless low locals table x is y (inr none) l at = absurd none
 
 -- a temporary of a type that owns may be given over
-pub temporary_given : (types : Types) (texts : ℕ) (fs : List Function) (f : Function) (t : Ty) (x : ℕ) → object_at types f x ≡ true → placed.type_at types f x ≡ t → is_owner t ≡ true → can_end types texts fs f x ≡ true → is_given types f t x ≡ true
+pub temporary_given : (types : Types) (texts : ℕ) (fs : List Function) (f : Function) (t : Ty) (x : ℕ) → object_at types f x ≡ true → placed.type_at types f x ≡ t → is_composed t ≡ true → can_end types texts fs f x ≡ true → is_given types f t x ≡ true
 temporary_given types texts fs f t x object typed moves ends =
     let free = and_parts (not (result_at types f x)) (not (slot_at types f x)) (and_parts (object_at types f x || is_pointer (placed.type_at types f x)) _ ends).1 in
     and_from (object_at types f x) _ object
@@ -138,8 +147,8 @@ module _ (a : Around) (visible : List ℕ) (types : Types) (texts : ℕ) (fs : L
     abbrev there : State
     there = built a visible types texts fs f setting t place s w owner is stands
 
-    moves : is_owner t ≡ true
-    moves = built_moves a.program.types t owner
+    moves : is_composed t ≡ true
+    moves = built_composed a.program.types t owner
 
     plain : IsPlainAct is.act (looked_found is.making is.found) (Steady a visible types texts fs f setting w.state)
     plain = is.alone refl
@@ -160,7 +169,7 @@ module _ (a : Around) (visible : List ℕ) (types : Types) (texts : ℕ) (fs : L
 
     consumed_is : w.given (consumed place t) w.state ≡ gives x gone
     consumed_is =
-        ap (λ (r : Remaining). r (consumed place t) w.state) is.lives
+        is.lives (consumed place t) w.state
         ∙ ap (gives x) (plain.free place (object_named x) begun w.state.pending ∙ sym (ap (λ (r : State). record r { pending = w.state.pending }) as_pending))
 
     -- ---- what is there
@@ -207,7 +216,7 @@ module _ (a : Around) (visible : List ℕ) (types : Types) (texts : ℕ) (fs : L
         (sym acts_there.written ∙ plain.written place (object_named x) (born a visible types texts fs f setting t place s w owner is stands).state)
 
     abbrev comes : List Tree
-    comes = Acts (is.comes.at place) (is.comes.step x) ∷ []
+    comes = is.comes.code place x
 
     born_code : born_there.code ≡ is.hands.code ++ comes
     born_code =
@@ -351,6 +360,7 @@ module _ (a : Around) (visible : List ℕ) (types : Types) (texts : ℕ) (fs : L
         fine = (r b).fine;
         typed = given b;
         objects = λ y m. elim m [ inl e ↦ subst (λ (v : ℕ). object_at types f v ≡ true) e (object b) | inr none ↦ absurd none ];
+        nameless = temporary_nameless (first_own a) f.locals types.types x (temporary_later (first_own a) there.locals f.locals there.types.types types.types x b.locals b.table temporary);
         goes = λ k alive q. goes_over b k alive;
       };
     }

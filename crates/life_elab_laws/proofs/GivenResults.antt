@@ -39,7 +39,7 @@ use Rattle.life_elab_laws.proofs.Aiming.{pointed_fills, pointed_fine}
 use Rattle.life_elab_laws.proofs.Doing.{DoesLevel}
 use Rattle.life_elab_laws.proofs.Emitting.{IsWanted, kept_targeted}
 use Rattle.life_elab_laws.proofs.ExpressionForms.{IsWhole}
-use Rattle.life_elab_laws.proofs.Expressions.{whole_expression, owner_expression, walker_expression, struct_expression, fresh_expression, named_unique}
+use Rattle.life_elab_laws.proofs.Expressions.{whole_expression, owner_expression, walker_expression, struct_expression, fresh_expression, holding_expression}
 use Rattle.life_elab_laws.proofs.ExpressionTypes.{seen_kind}
 use Rattle.life_elab_laws.proofs.Filling.{aimed_filling, filling_fills}
 use Rattle.life_elab_laws.proofs.Following.{Follows, HasRegister, IsResultRegister, IsResultLocal, IsResultObject}
@@ -54,21 +54,22 @@ use Rattle.life_elab_laws.proofs.Making.{IsHeld}
 use Rattle.life_elab_laws.proofs.NewVariables.{bound_given}
 use Rattle.life_elab_laws.proofs.OperandsThere.{register_there, type_there}
 use Rattle.life_elab_laws.proofs.Parts.{Makes, Part, then_part}
+use Rattle.life_elab_laws.proofs.HandingCalls.{call_received, register_receives}
+use Rattle.life_elab_laws.proofs.PointedCalls.{GivesPointer, gives_called, gives_plainly}
 use Rattle.life_elab_laws.proofs.PointerForms.{points_whole}
-use Rattle.life_elab_laws.proofs.ResultTypes.{IsResultType, gives_alias, gives_walker, gives_nothing, gives_raw, gives_reference, gives_value, gives_view, result_is, gives_struct, gives_owner, gives_unique}
+use Rattle.life_elab_laws.proofs.ResultTypes.{IsResultType, gives_alias, gives_walker, gives_nothing, gives_raw, gives_reference, gives_value, gives_view, result_is, gives_struct, gives_owner, gives_unique, gives_whole, gives_back}
 use Rattle.life_elab_laws.proofs.Returning.{back_given, result_returned, return_does}
 use Rattle.life_elab_laws.proofs.Setting.{Setting}
 use Rattle.life_elab_laws.proofs.TypedKinds.{place_same, value_place, value_simple, HasKind, a_null, a_number as is_number_kind, a_pointer as is_pointer_kind, a_text, a_view as is_view_kind, no_value}
 use Rattle.life_elab_laws.proofs.ValueTemporaries.{value_temporary}
 use Rattle.life_elab_laws.proofs.Values.{by_values}
-use Rattle.life_elab_laws.proofs.AliasForms.{IsAliased, owning_aliased, value_reference_refused, whole_aliased, to_built, to_place, walker_reference_refused, struct_reference_refused, no_owner_given, null_refused, owning_builds, value_builds}
+use Rattle.life_elab_laws.proofs.AliasForms.{IsAliased, owning_aliased, value_reference_refused, whole_aliased, to_built, to_place, walker_reference_refused, struct_reference_refused, no_owner_given, null_refused, owning_builds, value_builds, owner_no_struct_given, walker_no_struct_given}
 use Rattle.life_elab_laws.proofs.ObjectForms.{IsOwner}
 use Rattle.life_elab_laws.proofs.MadeForms.{IsOwning, owning_owner, temporary_made, Builds}
 use Rattle.life_typed.specs.declared.typed_expr.ExprType.TheVariants.{Of, NullPointer}
 use Rattle.life_elab_laws.proofs.ElementForms.{either_served}
-use Rattle.life_elab_laws.proofs.Targets.{owner_target, value_target, struct_target}
+use Rattle.life_elab_laws.proofs.Targets.{owner_target, value_target, struct_target, target_unslotted}
 use Rattle.life_elab_laws.proofs.SeenForms.{string_points}
-use Rattle.life_elab_laws.proofs.Shaped.{target_there}
 use Rattle.life_elab_laws.proofs.WalkerForms.{IsWalker, vector_points, walker_points}
 use Rattle.life_type_expr.specs.Lists.{fits_at_all}
 use Rattle.life_elab_laws.proofs.HandedForms.{no_walker_given}
@@ -76,15 +77,13 @@ use Rattle.life_elab_laws.proofs.HandedOwners.{owner_no_iterator, owner_no_uniqu
 use Rattle.life_elab_laws.proofs.RowTypes.{sees}
 use Rattle.life_elab_laws.proofs.VariablePlaces.{walker_is}
 use Rattle.life_typed.specs.declared.typed_expr.ExprType.{ExprType}
-use Rattle.life_elab_laws.proofs.StructReferences.{kind_no_struct, struct_alone, struct_aliased, IsStructAlias}
-use Rattle.life_elab_laws.proofs.StructForms.{IsStruct}
+use Rattle.life_elab_laws.proofs.StructReferences.{kind_no_struct, struct_alone, struct_aliased, IsStructAlias, struct_fits}
 use Rattle.life_elab_laws.proofs.HandedStructs.{struct_no_walker}
 use Rattle.life_elab_laws.proofs.ReturnedOwners.{owner_given_back}
-use Rattle.life_elab_laws.proofs.ReturnedUniques.{fresh_back, no_named_given, null_back, unique_back}
+use Rattle.life_elab_laws.proofs.ReturnedUniques.{fresh_back, no_named_given, null_back, unique_back, fresh_nameless}
 use Rattle.life_elab_laws.proofs.FreshUniques.{IsFresh}
 use Rattle.life_elab_laws.proofs.HandedUniques.{walker_no_unique_given}
-use Rattle.life_elab_laws.proofs.ServedTypes.{IsBuilt}
-use Rattle.life_elab_laws.proofs.UniqueForms.{IsUnique}
+use Rattle.life_elab_laws.proofs.ServedTypes.{IsBuilt, struct_built, IsTabled}
 use Rattle.life_typed.specs.declared.typed_expr.Category.TheVariants as category
 use Rattle.life_elab_laws.proofs.NamedResults.{is_object, named_builds, named_owner}
 use Rattle.life_elab.specs.ProgramForms.{result_kind}
@@ -96,6 +95,9 @@ use Rattle.life_writer.specs.Variables.{variable}
 use Rattle.std.proofs.lemmas.Option.{none-some}
 use Rattle.life_core.specs.declared.instr.Form.TheVariants.{Plain}
 use Rattle.life_elab.specs.StatementForms as statements
+use Rattle.life_elab_laws.proofs.AnsweredUniques.{IsHolding, holds_answer, holds_named, holding_lies}
+use Rattle.life_elab_laws.proofs.MadeStructs.{IsAnyStruct, struct_typed, as_struct}
+use Rattle.life_elab_laws.proofs.ReturnedStructs.{struct_back}
 
 owner_plain : (types : Types) (t : Ty) → is_owner_of_values types t ≡ true → is_unique t ≡ false
 owner_plain types ty.Text o = refl
@@ -174,29 +176,41 @@ module _ (a : Around) (types : Types) (texts : ℕ) (fs : List Function) (f : Fu
         typed_there b u same = b.table register.local.ty.0 u (grown.types register.local.ty.0 u (register.typed ∙ ap Some same))
 
       -- a pointer that is no reference, as what the expression gives a pointer
-      module _ (u : Ty) (own : t ≡ u) (loc : is_location u ≡ true) (source : ExprType) (first : Makes types texts fs f None s (pointing (uses a (whole_form e)) s) (a_pointing types texts fs f source)) (taken : takes_from types u source ≡ true) where
+      module _ (u : Ty) (own : t ≡ u) (loc : is_location u ≡ true) (source : ExprType) (first : GivesPointer types texts fs f source s (pointing (uses a (whole_form e)) s)) (taken : takes_from types u source ≡ true) where
         abbrev p : Gives Pointing
         p = pointing (uses a (whole_form e)) s
 
-        at : Begins types f p.state → IsAt types texts fs f u (whole (result_local a))
-        at b = record {
-          typed = type_there types f (result_local a) register.local u (b.locals (result_local a) register.local (there p.state first.grown)) (typed_there p.state first.grown b u own) (location_no_reference u loc);
-          kept = kept p.state first.grown b;
+        -- the result is where it was
+        at : (s' : State) → Grows s s' → Begins types f s' → IsAt types texts fs f u (whole (result_local a))
+        at s' grown b = record {
+          typed = type_there types f (result_local a) register.local u (b.locals (result_local a) register.local (there s' grown)) (typed_there s' grown b u own) (location_no_reference u loc);
+          kept = kept s' grown b;
         }
 
-        second : Part types texts fs f (a_pointing types texts fs f source) p.given into p.state (gives (result_local a) (emit e.place (pointed p.given (whole (result_local a))) p.state)) a_register
-        second =
+        abbrev pointed_back : Gives ℕ
+        pointed_back = gives (result_local a) (emit e.place (pointed p.given (whole (result_local a))) p.state)
+
+        pointed_part : Grows s p.state → Part types texts fs f (a_pointing types texts fs f source) p.given into p.state pointed_back a_register
+        pointed_part grown =
             emit_part types texts fs f (a_pointing types texts fs f source) p.given into p.state (gives (result_local a) p.state) e.place (λ x. pointed p.given (whole x)) (result_local a) a_register
-            (kept_targeted types f p.state (result_local a) register.local (there p.state first.grown) register.nameless register.kind)
-            (λ b q. (pointed_fine types texts fs f (whole (result_local a)) u source p.given loc (at b) taken q, tt))
+            (kept_targeted types f p.state (result_local a) register.local (there p.state grown) register.nameless register.kind)
+            (λ b q. (pointed_fine types texts fs f (whole (result_local a)) u source p.given loc (at p.state grown b).typed taken q, tt))
             (λ x n k is q. pointed_fills f x n p.given k q is)
             (λ k lt ready. (lt, ready))
 
+        pointed_written : GivesPointer types texts fs f source s p → Makes types texts fs f into s pointed_back a_register
+        pointed_written (gives_plainly one) = then_part types texts fs f (nothing types texts fs f) tt into s p pointed_back (a_pointing types texts fs f source) a_register h.stands.opened one (pointed_part one.grown)
+        pointed_written (gives_called c) =
+            let g = c.given in
+            let targets = kept_targeted types f g.state (result_local a) register.local (there g.state c.hands.grown) register.nameless register.kind in
+            subst (λ (q : Gives Pointing). Makes types texts fs f into s (gives (result_local a) (emit e.place (pointed q.given (whole (result_local a))) q.state)) a_register) (sym c.is)
+            (call_received types texts fs f c.function c.of c.callee s g c.hands into (result_local a) g.state (result_local a) a_register e.place (register_receives types texts fs f into g.state (gives (result_local a) g.state) targets)
+            (λ b. c.goes u (whole (result_local a)) (at g.state c.hands.grown b).typed (inr taken))
+            (λ b. tt)
+            (λ k ready. (targets.below, ready)))
+
         pointer_returned : given_back a e keyword token s ≡ emit e.place (pointed p.given (whole (result_local a))) p.state → Back GivenBack
-        pointer_returned same =
-            result_returned a types texts fs f setting v in_loop s h register keyword token (gives (result_local a) (emit e.place (pointed p.given (whole (result_local a))) p.state)) a_register
-            (then_part types texts fs f (nothing types texts fs f) tt into s p (gives (result_local a) (emit e.place (pointed p.given (whole (result_local a))) p.state)) (a_pointing types texts fs f source) a_register h.stands.opened first second)
-            (λ n k q. q.1) (given_back a e keyword token s) same
+        pointer_returned same = result_returned a types texts fs f setting v in_loop s h register keyword token pointed_back a_register (pointed_written first) (λ n k q. q.1) (given_back a e keyword token s) same
 
       raw_returned : Whole → (target : TyId) (constant : Bool) → t ≡ ty.Raw target constant → is_target a.program.types (type_at a.program.types target) ≡ true → Back GivenBack
       raw_returned whole_is target constant raw w =
@@ -212,7 +226,7 @@ module _ (a : Around) (types : Types) (texts : ℕ) (fs : List Function) (f : Fu
       string_returned : (from : IsOwner a v.visible types texts fs f setting (whole_form e)) → t ≡ ty.View → Back GivenBack
       string_returned from view =
           pointer_returned ty.View view refl (Of ty.View)
-          (string_points a v.visible types texts fs f setting (whole_form e) from (given_string a.program.types from.ty e from.owner from.is (given_as ty.View view refl)) s h.stands) refl (by_type ty.View view)
+          (gives_plainly (string_points a v.visible types texts fs f setting (whole_form e) from (given_string a.program.types from.ty e from.owner from.is (given_as ty.View view refl)) s h.stands)) refl (by_type ty.View view)
 
       -- a reference, at a place that is written first
       module _ (target : TyId) (constant : Bool) (refers_to : t ≡ ty.Reference target constant) (w : is_target a.program.types (type_at a.program.types target) ≡ true) where
@@ -230,7 +244,7 @@ module _ (a : Around) (types : Types) (texts : ℕ) (fs : List Function) (f : Fu
           refers_there : Begins types f o.state → type_in types f (whole (result_local a)) ≡ ty.Reference target constant
           refers_there b =
               reference_there types f (result_local a) register.local target constant (b.locals (result_local a) register.local (there o.state stands_at.grown)) (typed_there o.state stands_at.grown b (ty.Reference target constant) refers_to)
-              (target_there a.program.types types setting.front target w)
+              (target_unslotted a.program.types types setting.front target w)
 
           aims : Part types texts fs f (a_place types texts fs f (type_at a.program.types target) held) o.given into o.state (gives (result_local a) done) a_register
           aims =
@@ -268,12 +282,12 @@ module _ (a : Around) (types : Types) (texts : ℕ) (fs : List Function) (f : Fu
                 (value_temporary a v.visible types texts fs f setting (whole_form e) whole_is (type_at a.program.types target) worth (given_number a.program.types (type_at a.program.types target) e worth initial) token s h.stands)
                 (by_building none)
 
-        -- .. to an owner
-        alias_returned : is_owner_of_values a.program.types (type_at a.program.types target) ≡ true → IsAliased a v.visible types texts fs f setting (uses a (whole_form e)) target constant → Back GivenBack
+        -- .. to an owner or a struct
+        alias_returned : IsBuilt a.program.types (type_at a.program.types target) → IsAliased a v.visible types texts fs f setting (uses a (whole_form e)) target constant → Back GivenBack
         alias_returned o (to_place held here kept_const names) = aimed_back held kept_const ((uses a (whole_form e)).at s) (names s h.stands) (by_place here)
         alias_returned o (to_built none made) =
             aimed_back false (keeps_all constant) built
-            (temporary_made a v.visible types texts fs f setting (type_at a.program.types target) e.place s (giving.given (uses a (whole_form e)) (type_at a.program.types target) token s) (inl o) (made token s h.stands) h.stands) (by_building none)
+            (temporary_made a v.visible types texts fs f setting (type_at a.program.types target) e.place s (giving.given (uses a (whole_form e)) (type_at a.program.types target) token s) o (made token s h.stands) h.stands) (by_building none)
 
       -- a span of the whole of a vector
       walker_no_unique : (u : Ty) → is_walker_of_values a.program.types u ≡ true → is_unique u ≡ false
@@ -290,7 +304,7 @@ module _ (a : Around) (types : Types) (texts : ℕ) (fs : List Function) (f : Fu
       span_returned : (from : IsOwner a v.visible types texts fs f setting (whole_form e)) → (u : Ty) → t ≡ u → is_walker_of_values a.program.types u ≡ true → Back GivenBack
       span_returned from (ty.Span item constant) own w =
           let to = given_vector a.program.types item constant from.constant from.ty e from.owner from.is from.told (given_as (ty.Span item constant) own refl) in
-          pointer_returned (ty.Span item constant) own refl (Of (ty.Span item constant)) (vector_points a v.visible types texts fs f setting (whole_form e) from item constant to.is to.kept s h.stands)
+          pointer_returned (ty.Span item constant) own refl (Of (ty.Span item constant)) (gives_plainly (vector_points a v.visible types texts fs f setting (whole_form e) from item constant to.is to.kept s h.stands))
           (walker_itself a.program.types types setting.front (ty.Span item constant) w) (by_type (ty.Span item constant) own)
       span_returned from (ty.Iterator item constant) own w =
           absurd (owner_no_iterator a.program.types from.ty e from.owner item constant (subst (λ (x : ExprType). fits_at_all (fits a.program.types (ty.Iterator item constant) x e.category) ≡ true) from.is (given_as (ty.Iterator item constant) own refl)))
@@ -299,7 +313,10 @@ module _ (a : Around) (types : Types) (texts : ℕ) (fs : List Function) (f : Fu
       -- ---- by what is given back
 
       no_unique_result : (target : TyId) → t ≡ ty.Unique target → is_element a.program.types (type_at a.program.types target) ≡ true → ⊥
-      no_unique_result target unique w = unowned (inr (subst (λ (q : Ty). is_unique_of_element a.program.types q ≡ true) (sym unique) w))
+      no_unique_result target unique w = unowned (inr (inl (subst (λ (q : Ty). is_unique_of_element a.program.types q ≡ true) (sym unique) w)))
+
+      no_whole_result : (number : ℕ) → t ≡ ty.Struct number → ⊥
+      no_whole_result number whole = unowned (struct_built a.program.types a.function.result number whole)
 
       whole_returned : Whole → IsResultType a.program.types t → Back GivenBack
       whole_returned whole_is (gives_nothing void) = absurd (false≢true (sym r.0 ∙ ap is_void void))
@@ -307,14 +324,15 @@ module _ (a : Around) (types : Types) (texts : ℕ) (fs : List Function) (f : Fu
       whole_returned whole_is (gives_raw target constant raw w) = raw_returned whole_is target constant raw w
       whole_returned whole_is (gives_owner o) = absurd (unowned (inl o))
       whole_returned whole_is (gives_unique target unique w) = absurd (no_unique_result target unique w)
+      whole_returned whole_is (gives_whole number whole pointless) = absurd (no_whole_result number whole)
       whole_returned whole_is (gives_view view) = view_returned whole_is view
       whole_returned whole_is (gives_walker w) = absurd (no_walker_given a.program.types e whole_is.kind.kind t w (given_as t refl (walker_no_unique t w)))
       whole_returned whole_is (gives_reference target constant refers_to w) = reference_returned target constant refers_to (value_target a.program.types (type_at a.program.types target) w) whole_is w
       whole_returned whole_is (gives_alias target constant refers_to o) =
-          alias_returned target constant refers_to (owner_target a.program.types (type_at a.program.types target) o) o
+          alias_returned target constant refers_to (owner_target a.program.types (type_at a.program.types target) o) (inl o)
           (whole_aliased a v.visible types texts fs f setting (whole_form e) target constant o (given_as (ty.Reference target constant) refers_to refl) whole_is)
-      whole_returned whole_is (gives_struct target constant number refers_to structure) =
-          absurd (kind_no_struct a.program.types e whole_is.kind.kind (struct_alone a.program.types target constant number e structure (given_as (ty.Reference target constant) refers_to refl) (λ held. whole_is.kind.place target held)))
+      whole_returned whole_is (gives_struct target constant number refers_to structure pointless) =
+          absurd (kind_no_struct a.program.types e whole_is.kind.kind (struct_alone a.program.types target constant number e structure (struct_target a.program.types (type_at a.program.types target) pointless) (given_as (ty.Reference target constant) refers_to refl) (λ held. whole_is.kind.place target held)))
 
       owner_returned : IsOwning a v.visible types texts fs f setting (whole_form e) → IsResultType a.program.types t → Back GivenBack
       owner_returned from kind = go kind
@@ -330,13 +348,14 @@ module _ (a : Around) (types : Types) (texts : ℕ) (fs : List Function) (f : Fu
               absurd (owner_no_location a.program.types o.ty o.owner (subst (λ (x : ExprType). is_pointed x ≡ true) o.is (given_pointer a.program.types (ty.Raw target constant) e refl (given_as (ty.Raw target constant) raw refl))))
           go (gives_owner owned) = absurd (unowned (inl owned))
           go (gives_unique target unique w) = absurd (no_unique_result target unique w)
+          go (gives_whole number whole pointless) = absurd (no_whole_result number whole)
           go (gives_view view) = string_returned o view
           go (gives_walker w) = span_returned o t refl w
-          go (gives_struct target constant number refers_to structure) =
-              absurd (struct_reference_refused a v.visible types texts fs f setting (whole_form e) target constant number structure (given_as (ty.Reference target constant) refers_to refl) from)
+          go (gives_struct target constant number refers_to structure pointless) =
+              absurd (struct_reference_refused a v.visible types texts fs f setting (whole_form e) target constant number structure (struct_target a.program.types (type_at a.program.types target) pointless) (given_as (ty.Reference target constant) refers_to refl) from)
           go (gives_reference target constant refers_to w) = absurd (value_reference_refused a v.visible types texts fs f setting (whole_form e) target constant w (given_as (ty.Reference target constant) refers_to refl) from)
           go (gives_alias target constant refers_to owned) =
-              alias_returned target constant refers_to (owner_target a.program.types (type_at a.program.types target) owned) owned
+              alias_returned target constant refers_to (owner_target a.program.types (type_at a.program.types target) owned) (inl owned)
               (owning_aliased a v.visible types texts fs f setting (whole_form e) target constant owned (given_as (ty.Reference target constant) refers_to refl) from)
 
       -- an iterator or a span
@@ -355,43 +374,47 @@ module _ (a : Around) (types : Types) (texts : ℕ) (fs : List Function) (f : Fu
               (given_raw a.program.types types setting.front target constant w e (given_as (ty.Raw target constant) raw refl))))
           go (gives_owner owned) = absurd (unowned (inl owned))
           go (gives_unique target unique w) = absurd (no_unique_result target unique w)
+          go (gives_whole number whole pointless) = absurd (no_whole_result number whole)
           go (gives_view view) = absurd (walker_no_text a.program.types from.ty from.walker (subst (λ (x : ExprType). sees x ≡ true) from.is (given_view a.program.types e (given_as ty.View view refl))))
           go (gives_walker w) =
               let loc = (walker_is a.program.types t w).location in
               pointer_returned t refl loc (Of from.ty) (walker_points a v.visible types texts fs f setting (whole_form e) from s h.stands)
               (given_walker a.program.types types setting.front t from.ty e w from.walker from.is (given_as t refl (walker_no_unique t w))) (walks_as t w keyword token s)
           go (gives_reference target constant refers_to w) = absurd (walker_reference_refused a v.visible types texts fs f setting (whole_form e) target constant (value_target a.program.types (type_at a.program.types target) w) (given_as (ty.Reference target constant) refers_to refl) from)
-          go (gives_struct target constant number refers_to structure) =
-              absurd (walker_reference_refused a v.visible types texts fs f setting (whole_form e) target constant (struct_target a.program.types (type_at a.program.types target) number structure) (given_as (ty.Reference target constant) refers_to refl) from)
+          go (gives_struct target constant number refers_to structure pointless) =
+              absurd (walker_reference_refused a v.visible types texts fs f setting (whole_form e) target constant (struct_target a.program.types (type_at a.program.types target) pointless) (given_as (ty.Reference target constant) refers_to refl) from)
           go (gives_alias target constant refers_to o) = absurd (walker_reference_refused a v.visible types texts fs f setting (whole_form e) target constant (owner_target a.program.types (type_at a.program.types target) o) (given_as (ty.Reference target constant) refers_to refl) from)
 
       -- a reference to a struct
-      struct_returned : (from : IsStruct a v.visible types texts fs f setting (whole_form e)) → IsResultType a.program.types t → Back GivenBack
+      struct_returned : (from : IsAnyStruct a v.visible types texts fs f setting (whole_form e)) → IsResultType a.program.types t → Back GivenBack
       struct_returned from kind = go kind
         where
-          as_struct : (u : Ty) → t ≡ u → is_unique u ≡ false → fits_at_all (fits a.program.types u (Of (ty.Struct from.number)) e.category) ≡ true
-          as_struct u same plain = subst (λ (x : ExprType). fits_at_all (fits a.program.types u x e.category) ≡ true) from.is (given_as u same plain)
+          its : (number : ℕ) × (e.ty ≡ Of (ty.Struct number))
+          its = struct_typed a v.visible types texts fs f setting (whole_form e) from
+
+          told_as : (u : Ty) → t ≡ u → is_unique u ≡ false → fits_at_all (fits a.program.types u (Of (ty.Struct its.0)) e.category) ≡ true
+          told_as u same plain = subst (λ (x : ExprType). fits_at_all (fits a.program.types u x e.category) ≡ true) its.1 (given_as u same plain)
 
           aliased : (target : TyId) (constant : Bool) → t ≡ ty.Reference target constant → is_target a.program.types (type_at a.program.types target) ≡ true → IsStructAlias a v.visible types texts fs f setting (whole_form e) target constant
-          aliased target constant refers_to wide = struct_aliased a v.visible types texts fs f setting (whole_form e) from target constant wide (given_as (ty.Reference target constant) refers_to refl)
+          aliased target constant refers_to wide = struct_aliased a v.visible types texts fs f setting (whole_form e) target constant from wide (given_as (ty.Reference target constant) refers_to refl)
 
           go : IsResultType a.program.types t → Back GivenBack
           go (gives_nothing void) = absurd (false≢true (sym r.0 ∙ ap is_void void))
-          go (gives_value w) = absurd (false≢true (subst (λ (x : ExprType). is_number x ≡ true) from.is (given_number a.program.types t e w (given_as t refl (value_simple t w).unique))))
+          go (gives_value w) = absurd (false≢true (subst (λ (x : ExprType). is_number x ≡ true) its.1 (given_number a.program.types t e w (given_as t refl (value_simple t w).unique))))
           go (gives_raw target constant raw w) =
-              absurd (false≢true (subst (λ (x : ExprType). is_pointed x ≡ true) from.is (given_pointer a.program.types (ty.Raw target constant) e refl (given_as (ty.Raw target constant) raw refl))))
-          go (gives_view view) = absurd (false≢true (subst (λ (x : ExprType). sees x ≡ true) from.is (given_view a.program.types e (given_as ty.View view refl))))
-          go (gives_walker w) = absurd (struct_no_walker a.program.types t w from.number e.category (as_struct t refl (walker_no_unique t w)))
+              absurd (false≢true (subst (λ (x : ExprType). is_pointed x ≡ true) its.1 (given_pointer a.program.types (ty.Raw target constant) e refl (given_as (ty.Raw target constant) raw refl))))
+          go (gives_view view) = absurd (false≢true (subst (λ (x : ExprType). sees x ≡ true) its.1 (given_view a.program.types e (given_as ty.View view refl))))
+          go (gives_walker w) = absurd (struct_no_walker a.program.types t w its.0 e.category (told_as t refl (walker_no_unique t w)))
           go (gives_owner owned) = absurd (unowned (inl owned))
           go (gives_unique target unique w) = absurd (no_unique_result target unique w)
+          go (gives_whole number whole pointless) = absurd (no_whole_result number whole)
           go (gives_reference target constant refers_to w) =
               absurd (false≢true (sym (ap is_value (aliased target constant refers_to (value_target a.program.types (type_at a.program.types target) w)).structure) ∙ w))
           go (gives_alias target constant refers_to o) =
               absurd (false≢true (sym (ap (is_owner_of_values a.program.types) (aliased target constant refers_to (owner_target a.program.types (type_at a.program.types target) o)).structure) ∙ o))
-          go (gives_struct target constant number refers_to structure) =
-              let wide = struct_target a.program.types (type_at a.program.types target) number structure in
-              let to = aliased target constant refers_to wide in
-              aimed_back target constant refers_to wide to.held to.kept ((uses a (whole_form e)).at s) (to.names s h.stands) (by_place target constant refers_to wide to.here)
+          go (gives_struct target constant number refers_to structure pointless) =
+              let wide = struct_target a.program.types (type_at a.program.types target) pointless in
+              alias_returned target constant refers_to wide (struct_built a.program.types target number structure) (aliased target constant refers_to wide).aliased
 
       -- a unique_ptr is given to no such result
       unique_refused : (owned : TyId) → e.ty ≡ Of (ty.Unique owned) → ((target : TyId) (held : Bool) → e.category ≡ category.Place target held → is_target a.program.types (type_at a.program.types target) ≡ true → ⊥) → IsResultType a.program.types t → ⊥
@@ -410,6 +433,7 @@ module _ (a : Around) (types : Types) (texts : ℕ) (fs : List Function) (f : Fu
           go (gives_raw target constant raw w) = false≢true (subst (λ (x : ExprType). is_pointed x ≡ true) is (given_pointer a.program.types (ty.Raw target constant) e refl (given_as (ty.Raw target constant) raw refl)))
           go (gives_owner o) = unowned (inl o)
           go (gives_unique target unique w) = no_unique_result target unique w
+          go (gives_whole number whole pointless) = no_whole_result number whole
           go (gives_view view) = false≢true (subst (λ (x : ExprType). sees x ≡ true) is (given_view a.program.types e (given_as ty.View view refl)))
           go (gives_walker w) = walker_no_unique_given a.program.types t w owned e.category (told t (given_as t refl (walker_no_unique t w)))
           go (gives_reference target constant refers_to w) =
@@ -420,8 +444,8 @@ module _ (a : Around) (types : Types) (texts : ℕ) (fs : List Function) (f : Fu
               let wide = owner_target a.program.types (type_at a.program.types target) o in
               bound target constant wide (λ initial. no_owner_given a.program.types (type_at a.program.types target) o (ty.Unique owned) refl e.category (told (type_at a.program.types target) initial))
               (given_bound a.program.types target constant e wide (given_as (ty.Reference target constant) refers_to refl))
-          go (gives_struct target constant number refers_to structure) =
-              let wide = struct_target a.program.types (type_at a.program.types target) number structure in
+          go (gives_struct target constant number refers_to structure pointless) =
+              let wide = struct_target a.program.types (type_at a.program.types target) pointless in
               bound target constant wide (λ initial. false≢true (subst (λ (q : Ty). fits_at_all (fits a.program.types q (Of (ty.Unique owned)) e.category) ≡ true) structure (told (type_at a.program.types target) initial)))
               (given_bound a.program.types target constant e wide (given_as (ty.Reference target constant) refers_to refl))
 
@@ -476,30 +500,32 @@ module _ (a : Around) (types : Types) (texts : ℕ) (fs : List Function) (f : Fu
 
     -- ---- any return
 
-    -- the local of the result is an object where that is an owner or a unique_ptr, and else a register
-    result_sort : (t : Ty) → IsResultType a.program.types t → is_void t ≡ false → (IsBuilt a.program.types t × (result_kind (class (Some t)) ≡ Object)) ⊎ (result_kind (class (Some t)) ≡ Register)
-    result_sort t (gives_nothing void) some = absurd (false≢true (sym some ∙ ap is_void void))
-    result_sort t (gives_value v) some = inr (by_values (λ q. result_kind (class (Some q)) ≡ Register) refl refl refl refl refl t v)
-    result_sort t (gives_raw target constant raw w) some = inr (ap (λ (q : Ty). result_kind (class (Some q))) raw)
-    result_sort t (gives_view view) some = inr (ap (λ (q : Ty). result_kind (class (Some q))) view)
-    result_sort (ty.Iterator target constant) (gives_walker w) some = inr refl
-    result_sort (ty.Span target constant) (gives_walker w) some = inr refl
-    result_sort _ (gives_walker w) some = absurd (false≢true w)
-    result_sort ty.Text (gives_owner o) some = inl (inl o, refl)
-    result_sort (ty.Vector item) (gives_owner o) some = inl (inl o, refl)
-    result_sort _ (gives_owner o) some = absurd (false≢true o)
-    result_sort t (gives_unique target unique w) some = inl (inr (subst (λ (q : Ty). is_unique_of_element a.program.types q ≡ true) (sym unique) w), ap (λ (q : Ty). result_kind (class (Some q))) unique)
-    result_sort t (gives_reference target constant refers w) some = inr (ap (λ (q : Ty). result_kind (class (Some q))) refers)
-    result_sort t (gives_alias target constant refers o) some = inr (ap (λ (q : Ty). result_kind (class (Some q))) refers)
-    result_sort t (gives_struct target constant number refers structure) some = inr (ap (λ (q : Ty). result_kind (class (Some q))) refers)
+    -- the local of the result is an object where that is an owner, a unique_ptr or a struct, and else a register
+    result_sort : (t : Ty) → ((number : ℕ) → t ≡ ty.Struct number → IsBuilt a.program.types t) → IsResultType a.program.types t → is_void t ≡ false → (IsBuilt a.program.types t × (result_kind (class (Some t)) ≡ Object)) ⊎ (result_kind (class (Some t)) ≡ Register)
+    result_sort t tabled (gives_nothing void) some = absurd (false≢true (sym some ∙ ap is_void void))
+    result_sort t tabled (gives_value v) some = inr (by_values (λ q. result_kind (class (Some q)) ≡ Register) refl refl refl refl refl t v)
+    result_sort t tabled (gives_raw target constant raw w) some = inr (ap (λ (q : Ty). result_kind (class (Some q))) raw)
+    result_sort t tabled (gives_view view) some = inr (ap (λ (q : Ty). result_kind (class (Some q))) view)
+    result_sort (ty.Iterator target constant) tabled (gives_walker w) some = inr refl
+    result_sort (ty.Span target constant) tabled (gives_walker w) some = inr refl
+    result_sort _ tabled (gives_walker w) some = absurd (false≢true w)
+    result_sort ty.Text tabled (gives_owner o) some = inl (inl o, refl)
+    result_sort (ty.Vector item) tabled (gives_owner o) some = inl (inl o, refl)
+    result_sort _ tabled (gives_owner o) some = absurd (false≢true o)
+    result_sort t tabled (gives_unique target unique w) some = inl (inr (inl (subst (λ (q : Ty). is_unique_of_element a.program.types q ≡ true) (sym unique) w)), ap (λ (q : Ty). result_kind (class (Some q))) unique)
+    result_sort t tabled (gives_whole number whole pointless) some = inl (tabled number whole, ap (λ (q : Ty). result_kind (class (Some q))) whole)
+    result_sort t tabled (gives_reference target constant refers w) some = inr (ap (λ (q : Ty). result_kind (class (Some q))) refers)
+    result_sort t tabled (gives_alias target constant refers o) some = inr (ap (λ (q : Ty). result_kind (class (Some q))) refers)
+    result_sort t tabled (gives_struct target constant number refers structure pointless) some = inr (ap (λ (q : Ty). result_kind (class (Some q))) refers)
 
     -- a register holds none
     no_owner : (t : Ty) → result_kind (class (Some t)) ≡ Register → IsBuilt a.program.types t → ⊥
+    no_owner t is (inr (inr structure)) = no_register (sym (ap (λ (q : Ty). result_kind (class (Some q))) structure.is) ∙ is)
     no_owner ty.Text is b = no_register is
     no_owner (ty.Vector item) is b = no_register is
     no_owner (ty.Unique target) is b = no_register is
     no_owner _ is (inl o) = false≢true o
-    no_owner _ is (inr u) = false≢true u
+    no_owner _ is (inr (inl u)) = false≢true u
 
     -- what a literal is given by has no name, and no other value is given to an owner
     no_name : (e : Typed) → is_owner_of_values a.program.types t ≡ true → is_given a.program.types t e ≡ true → IsWhole a v.visible types texts fs f setting (whole_form e) → statements.object_named (uses a (whole_form e)).named s ≡ None
@@ -519,20 +545,27 @@ module _ (a : Around) (types : Types) (texts : ℕ) (fs : List Function) (f : Fu
     pub returned_does : HasRegister a s → (keyword : Place) (given : Option Typed) (token : Place) → is_served_returned texts given ≡ true → IsReturned a.program a.function.locals a.function.result v.visible given
         → Back (left 0 keyword (Returns keyword) (result_given a given keyword token s))
     returned_does register keyword None token b r = return_does a types texts fs f setting v in_loop s h (λ gives. false≢true (sym gives.0 ∙ r)) keyword
-    returned_does register keyword (Some e) token b r = sorted (result_sort t kind r.0)
+    returned_does register keyword (Some e) token b r = sorted (result_sort t (λ number whole. struct_built a.program.types a.function.result number whole) kind r.0)
       where
         kind : IsResultType a.program.types t
         kind = result_is a.program.types t setting.result
 
         -- a unique_ptr, which is made, moved or given, or is named
         uniques : Bool
-        uniques = is_served_fresh texts (whole_form e) || is_served_unique (whole_form e)
+        uniques = is_served_fresh texts (whole_form e) || is_served_unique texts (whole_form e)
 
         fresh : is_served_fresh texts (whole_form e) ≡ true → IsFresh a v.visible types texts fs f setting (whole_form e)
         fresh b = fresh_expression a v.visible types texts fs f setting (whole_form e) b r.2
 
-        named : is_served_unique (whole_form e) ≡ true → IsUnique a v.visible types texts fs f setting (whole_form e)
-        named b = named_unique a v.visible types texts fs f setting (whole_form e) b r.2
+        held : is_served_unique texts (whole_form e) ≡ true → IsHolding a v.visible types texts fs f setting (whole_form e)
+        held b = holding_expression a v.visible types texts fs f setting (whole_form e) b r.2
+
+        -- neither is given to a register
+        holding_refused : (IsBuilt a.program.types t → ⊥) → IsResultRegister a s → IsHolding a v.visible types texts fs f setting (whole_form e) → ⊥
+        holding_refused plain there (holds_named is) =
+            unique_refused there plain e keyword token r is.target is.is
+            (λ target held at w. false≢true (sym (ap (is_target a.program.types) (sym (ap (type_at a.program.types) (place_same is.id target is.constant held (sym is.place ∙ at))) ∙ is.owns)) ∙ w)) kind
+        holding_refused plain there (holds_answer is) = unique_refused there plain e keyword token r is.fresh.owned is.fresh.is (λ target held at w. value_place (sym is.fresh.value ∙ at)) kind
 
         in_register : (IsBuilt a.program.types t → ⊥) → IsResultRegister a s → Back (left 0 keyword (Returns keyword) (result_given a (Some e) keyword token s))
         in_register plain there =
@@ -545,12 +578,9 @@ module _ (a : Around) (types : Types) (texts : ℕ) (fs : List Function) (f : Fu
                 | inl walker ↦ walker_returned there plain e keyword token r (walker_expression a v.visible types texts fs f setting (whole_form e) walker r.2) kind
                 | inr others ↦ elim (or_cases (is_served_struct texts (whole_form e)) uniques others) [
                   | inl structure ↦ struct_returned there plain e keyword token r (struct_expression a v.visible types texts fs f setting (whole_form e) structure r.2) kind
-                  | inr unique ↦ elim (or_cases (is_served_fresh texts (whole_form e)) (is_served_unique (whole_form e)) unique) [
+                  | inr unique ↦ elim (or_cases (is_served_fresh texts (whole_form e)) (is_served_unique texts (whole_form e)) unique) [
                     | inl made ↦ let is = fresh made in absurd (unique_refused there plain e keyword token r is.owned is.is (λ target held at w. value_place (sym is.value ∙ at)) kind)
-                    | inr name ↦
-                        let is = named name in
-                        absurd (unique_refused there plain e keyword token r is.target is.is
-                        (λ target held at w. false≢true (sym (ap (is_target a.program.types) (sym (ap (type_at a.program.types) (place_same is.id target is.constant held (sym is.place ∙ at))) ∙ is.owns)) ∙ w)) kind)
+                    | inr holds ↦ absurd (holding_refused plain there (held holds))
                   ]
                 ]
               ]
@@ -571,10 +601,10 @@ module _ (a : Around) (types : Types) (texts : ℕ) (fs : List Function) (f : Fu
                     let is = walker_expression a v.visible types texts fs f setting (whole_form e) walker r.2 in
                     refused o there is.ty is.is (walker_is a.program.types is.ty is.walker).owner
                 | inr others ↦ elim (or_cases (is_served_struct texts (whole_form e)) uniques others) [
-                  | inl structure ↦ let is = struct_expression a v.visible types texts fs f setting (whole_form e) structure r.2 in refused o there (ty.Struct is.number) is.is refl
-                  | inr unique ↦ elim (or_cases (is_served_fresh texts (whole_form e)) (is_served_unique (whole_form e)) unique) [
+                  | inl structure ↦ let is = struct_typed a v.visible types texts fs f setting (whole_form e) (struct_expression a v.visible types texts fs f setting (whole_form e) structure r.2) in refused o there (ty.Struct is.0) is.1 refl
+                  | inr unique ↦ elim (or_cases (is_served_fresh texts (whole_form e)) (is_served_unique texts (whole_form e)) unique) [
                     | inl made ↦ let is = fresh made in refused o there (ty.Unique is.owned) is.is refl
-                    | inr name ↦ let is = named name in refused o there (ty.Unique is.target) is.is refl
+                    | inr holds ↦ let is = holding_lies a v.visible types texts fs f setting (whole_form e) (held holds) in refused o there (ty.Unique is.target) is.is refl
                   ]
                 ]
               ]
@@ -591,6 +621,10 @@ module _ (a : Around) (types : Types) (texts : ℕ) (fs : List Function) (f : Fu
             x : (target : TyId) × (t ≡ ty.Unique target) × (is_element a.program.types (type_at a.program.types target) ≡ true)
             x = unique_is a.program.types t one
 
+            holding_back : is_given a.program.types (ty.Unique x.0) e ≡ true → IsHolding a v.visible types texts fs f setting (whole_form e) → Back (left 0 keyword (Returns keyword) (result_given a (Some e) keyword token s))
+            holding_back given (holds_named is) = absurd (no_named_given a types texts fs f setting v in_loop s h there x.0 x.1 x.2 e keyword token r is given)
+            holding_back given (holds_answer is) = fresh_back a types texts fs f setting v in_loop s h there x.0 x.1 x.2 e keyword token r is.fresh is.nameless given
+
             by_form : is_given a.program.types (ty.Unique x.0) e ≡ true → Back (left 0 keyword (Returns keyword) (result_given a (Some e) keyword token s))
             by_form given =
                 elim (or_cases (is_served_any texts e) (is_served_walker texts (whole_form e) || (is_served_struct texts (whole_form e) || uniques)) b) [
@@ -605,18 +639,55 @@ module _ (a : Around) (types : Types) (texts : ℕ) (fs : List Function) (f : Fu
                         let is = walker_expression a v.visible types texts fs f setting (whole_form e) walker r.2 in
                         absurd (unique_no_walker_given a.program.types is.ty is.walker x.0 e.category (subst (λ (k : ExprType). fits_at_all (fits a.program.types (ty.Unique x.0) k e.category) ≡ true) is.is given))
                     | inr others ↦ elim (or_cases (is_served_struct texts (whole_form e)) uniques others) [
-                      | inl structure ↦ let is = struct_expression a v.visible types texts fs f setting (whole_form e) structure r.2 in absurd (false≢true (subst (λ (k : ExprType). fits_at_all (fits a.program.types (ty.Unique x.0) k e.category) ≡ true) is.is given))
-                      | inr unique ↦ elim (or_cases (is_served_fresh texts (whole_form e)) (is_served_unique (whole_form e)) unique) [
-                        | inl made ↦ fresh_back a types texts fs f setting v in_loop s h there x.0 x.1 x.2 e keyword token r (fresh made) (and_parts (is_unique_type e.ty) (is_served_fresh texts e.form) made).1 given
-                        | inr name ↦ absurd (no_named_given a types texts fs f setting v in_loop s h there x.0 x.1 x.2 e keyword token r (named name) given)
+                      | inl structure ↦ let is = struct_typed a v.visible types texts fs f setting (whole_form e) (struct_expression a v.visible types texts fs f setting (whole_form e) structure r.2) in
+                          absurd (false≢true (subst (λ (k : ExprType). fits_at_all (fits a.program.types (ty.Unique x.0) k e.category) ≡ true) is.1 given))
+                      | inr unique ↦ elim (or_cases (is_served_fresh texts (whole_form e)) (is_served_unique texts (whole_form e)) unique) [
+                        | inl made ↦ fresh_back a types texts fs f setting v in_loop s h there x.0 x.1 x.2 e keyword token r (fresh made) (fresh_nameless a v.visible texts e.form e (and_parts (is_unique_type e.ty) (is_served_fresh texts e.form) made).1 r.2 e.place) given
+                        | inr holds ↦ holding_back given (held holds)
                       ]
                     ]
                   ]
                 ]
 
+        -- .. and to a struct another one
+        as_struct_object : (number : ℕ) → t ≡ ty.Struct number → IsTabled a.program.types (ty.Struct number) → IsResultObject a s → Back (left 0 keyword (Returns keyword) (result_given a (Some e) keyword token s))
+        as_struct_object number whole tabled there =
+            elim (or_cases (is_served_any texts e) (is_served_walker texts (whole_form e) || (is_served_struct texts (whole_form e) || uniques)) b) [
+              | inl any ↦ elim (either_served (whole_form e) (is_served_owner texts (whole_form e)) (is_served_expression texts e) any) [
+                | inl value ↦
+                    absurd (kind_no_struct a.program.types e (whole_expression a v.visible types texts fs f setting (whole_form e) value r.2).kind.kind (struct_fits a.program.types number e.ty e.category taken))
+                | inr owner ↦
+                    let is = owning_owner a v.visible types texts fs f setting (whole_form e) (owner_expression a v.visible types texts fs f setting (whole_form e) owner.1 owner.0 r.2) in
+                    absurd (owner_no_struct_given a.program.types is.ty is.owner number e.category (as_told (Of is.ty) is.is))
+              ]
+              | inr others ↦ elim (or_cases (is_served_walker texts (whole_form e)) (is_served_struct texts (whole_form e) || uniques) others) [
+                | inl walker ↦
+                    let is = walker_expression a v.visible types texts fs f setting (whole_form e) walker r.2 in
+                    absurd (walker_no_struct_given a.program.types is.ty is.walker number e.category (as_told (Of is.ty) is.is))
+                | inr others ↦ elim (or_cases (is_served_struct texts (whole_form e)) uniques others) [
+                  | inl structure ↦
+                      struct_back a types texts fs f setting v in_loop s h there number whole tabled (subst (λ (x : Ty). gives_back a.program.types x ≡ true) whole setting.result) r.0 keyword token e
+                      ((as_struct a v.visible types texts fs f setting (whole_form e) number (struct_expression a v.visible types texts fs f setting (whole_form e) structure r.2) taken).unseen token)
+                  | inr unique ↦ elim (or_cases (is_served_fresh texts (whole_form e)) (is_served_unique texts (whole_form e)) unique) [
+                    | inl made ↦ absurd (false≢true (as_told (Of (ty.Unique (fresh made).owned)) (fresh made).is))
+                    | inr holds ↦ let is = holding_lies a v.visible types texts fs f setting (whole_form e) (held holds) in absurd (false≢true (as_told (Of (ty.Unique is.target)) is.is))
+                  ]
+                ]
+              ]
+            ]
+          where
+            taken : is_given a.program.types (ty.Struct number) e ≡ true
+            taken =
+                subst (λ (x : Ty). is_given a.program.types x e ≡ true) whole
+                (back_given t a.function.result (named_local a.function.locals (named_in e.form)) (is_given a.program.types t e) (ap is_unique whole) r.1)
+
+            as_told : (x : ExprType) → e.ty ≡ x → fits_at_all (fits a.program.types (ty.Struct number) x e.category) ≡ true
+            as_told x at = subst (λ (x : ExprType). fits_at_all (fits a.program.types (ty.Struct number) x e.category) ≡ true) at taken
+
         as_object : IsBuilt a.program.types t → IsResultObject a s → Back (left 0 keyword (Returns keyword) (result_given a (Some e) keyword token s))
         as_object (inl o) there = as_owner_object o there
-        as_object (inr one) there = as_unique_object one there
+        as_object (inr (inl one)) there = as_unique_object one there
+        as_object (inr (inr structure)) there = as_struct_object structure.number structure.is (subst (IsTabled a.program.types) structure.is structure) there
 
         sorted : (IsBuilt a.program.types t × (result_kind (class (Some t)) ≡ Object)) ⊎ (result_kind (class (Some t)) ≡ Register) → Back (left 0 keyword (Returns keyword) (result_given a (Some e) keyword token s))
         sorted (inl is) = as_object is.0 (subst (λ (k : LocalKind). IsResultLocal k a s) is.1 (register r.0))

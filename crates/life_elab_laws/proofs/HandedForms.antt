@@ -1,5 +1,5 @@
 -- What a parameter is handed: a value in a register, or a pointer, which is its own location or written to a register.
-use Rattle.std.proofs.Common.{◌≡◌, inl, inr, ℕ, Bool, true, false, List, ◌∷◌, None, Some, Option, length, slice_get, unwrap_or, refl, sym, ap, ◌∙◌, subst, cond}
+use Rattle.std.proofs.Common.{◌≡◌, inl, inr, ℕ, Bool, true, false, List, ◌∷◌, None, Some, Option, length, slice_get, unwrap_or, refl, sym, ap, ◌∙◌, subst, cond, []}
 use Rattle.std.proofs.lemmas.Bool.{and_from, false≢true}
 use Rattle.life_types.specs.Pointees.{or_void, ty_of}
 use Rattle.life_types.specs.TypeTests.{is_value}
@@ -38,24 +38,25 @@ use Rattle.life_elab_laws.proofs.Emitting.{new_targeted}
 use Rattle.life_elab_laws.proofs.ExpressionForms.{IsWhole, Standing}
 use Rattle.life_elab_laws.proofs.ExpressionTypes.{seen_kind}
 use Rattle.life_elab_laws.proofs.Filling.{aimed_filling, filling_fills}
-use Rattle.life_elab_laws.proofs.Targets.{reference_no_slot, one_target, owner_target, value_target}
+use Rattle.life_elab_laws.proofs.Targets.{reference_no_slot, one_target, owner_target, value_target, struct_target, target_unslotted}
 use Rattle.life_elab_laws.proofs.FormedFits.{IsBound, at_place, by_temporary, given_bound, given_raw}
 use Rattle.life_elab_laws.proofs.FormedVariables.{keeps_all, reference_there, type_later}
 use Rattle.life_elab_laws.proofs.Fronts.{IsFront, front_length, last_there}
-use Rattle.life_elab_laws.proofs.Gifts.{Gift, a_number, a_place, a_pointer, a_pointing, nothing as no_gift, takes_from}
+use Rattle.life_elab_laws.proofs.Gifts.{Gift, a_number, a_place, a_pointer, a_pointing, nothing as no_gift, takes_from, a_given}
 use Rattle.life_elab_laws.proofs.GivenKinds.{given_number, given_pointer, given_view}
 use Rattle.life_elab_laws.proofs.Growing.{Begins, added}
 use Rattle.life_elab_laws.proofs.GivenOwners.{given_handing}
 use Rattle.life_elab_laws.proofs.HandedArguments.{Hands as AllHanded, number_handed, owner_handed, pointer_handed}
-use Rattle.life_elab_laws.proofs.HandedTypes.{IsHandedType, a_raw, a_reference, a_unique, a_value, a_view, a_walker, an_alias, an_owner, built_composed, a_struct_alias}
+use Rattle.life_elab_laws.proofs.HandedTypes.{IsHandedType, a_raw, a_reference, a_unique, a_value, a_view, a_walker, an_alias, an_owner, built_composed, a_struct_alias, a_struct}
 use Rattle.life_elab_laws.proofs.Instructions.{emit_part, null_located_part}
 use Rattle.life_elab_laws.proofs.Locations.{IsPointed, at_location, by_literal, by_null, is_pointed, pointed_type}
 use Rattle.life_elab_laws.proofs.NewVariables.{bound_given}
 use Rattle.life_elab_laws.proofs.OperandsThere.{register_there}
 use Rattle.life_elab_laws.proofs.Parts.{Makes, Part, then_part}
+use Rattle.life_elab_laws.proofs.PointedCalls.{GivesPointer, gives_called, gives_plainly}
 use Rattle.life_elab_laws.proofs.PointerForms.{held_typed, own_typed, pointer_whole, points_whole, view_whole}
 use Rattle.life_elab_laws.proofs.Setting.{Setting}
-use Rattle.life_elab_laws.proofs.Shaped.{target_later, target_there}
+use Rattle.life_elab_laws.proofs.Shaped.{target_later, PlainStays}
 use Rattle.life_elab_laws.proofs.Types.{type_added}
 use Rattle.life_elab_laws.proofs.ValueTemporaries.{value_temporary}
 use Rattle.life_elab_laws.proofs.Values.{by_values}
@@ -67,7 +68,8 @@ use Rattle.life_type_expr.specs.Lists.{fits_at_all}
 use Rattle.life_elab_laws.proofs.TypedKinds.{HasKind, a_null, a_number as is_number_kind, a_pointer as is_pointer_kind, a_text, a_view as is_view_kind, no_value}
 use Rattle.life_elab_laws.proofs.AliasForms.{IsAliased, whole_aliased, to_built, to_place, value_builds}
 use Rattle.life_elab_laws.proofs.MadeForms.{Builds, temporary_made}
-use Rattle.life_elab_laws.proofs.StructReferences.{kind_no_struct, struct_alone}
+use Rattle.life_elab_laws.proofs.StructReferences.{kind_no_struct, struct_alone, struct_fits}
+use Rattle.life_elab_laws.proofs.Handing.{HandingAlone}
 
 -- what a table has has the type that is there
 found_type : (types : Types) (id : TyId) (t : Ty) → slice_get types.types id.0 ≡ Some t → type_at types id ≡ t
@@ -104,7 +106,7 @@ no_walker_given types e kind _ w given = false≢true w
 module _ (types : Types) (texts : ℕ) (fs : List Function) (f : Function) where
   -- ---- a reference, which is aimed by a register
 
-  module _ (a : Around) (front : IsFront a.program.types.types types.types) (target : TyId) (constant held : Bool) (place : Place) (o : Operand) (s : State) (table : IsFront a.program.types.types s.types.types)
+  module _ (a : Around) (front : IsFront a.program.types.types types.types) (stays : PlainStays a.program.types types) (target : TyId) (constant held : Bool) (place : Place) (o : Operand) (s : State) (table : IsFront a.program.types.types s.types.types)
       (worth : is_target a.program.types (type_at a.program.types target) ≡ true) (kept : keeps_const constant held ≡ true) where
     abbrev reference : Ty
     reference = ty.Reference target constant
@@ -115,12 +117,12 @@ module _ (types : Types) (texts : ℕ) (fs : List Function) (f : Function) where
     there : Begins types f w.state → type_in types f (whole w.given) ≡ reference
     there b =
         let l = added place reference s in
-        reference_there types f (length s.locals) l target constant (b.locals (length s.locals) l (last_there s.locals l)) (b.table l.ty.0 reference (type_added s.types.types reference)) (target_there a.program.types types front target worth)
+        reference_there types f (length s.locals) l target constant (b.locals (length s.locals) l (last_there s.locals l)) (b.table l.ty.0 reference (type_added s.types.types reference)) (target_unslotted a.program.types types front target worth)
 
     pub aimed_part : Part types texts fs f (a_place types texts fs f (type_at a.program.types target) held) o None s (gives (whole w.given) (emit place (Aim (whole w.given) (Aimed o)) w.state)) (a_pointer types texts fs f reference)
     aimed_part =
         emit_part types texts fs f (a_place types texts fs f (type_at a.program.types target) held) o None s w place (λ r. Aim (whole r) (Aimed o)) (whole w.given) (a_pointer types texts fs f reference)
-        (new_targeted types f place reference s (target_later a.program.types types front target worth) (fits_below a.program.types s.types (front_length a.program.types.types s.types.types table) reference worth))
+        (new_targeted types f place reference s (target_later a.program.types types front stays target worth) (fits_below a.program.types s.types (front_length a.program.types.types s.types.types table) reference worth))
         (λ b h. let at = there b in (
           record {
             given = refl;
@@ -153,21 +155,28 @@ module _ (a : Around) (visible : List ℕ) (types : Types) (texts : ℕ) (fs : L
       taken : takes_from types (ty.Raw target constant) (typed_in form).ty ≡ true
       taken = given_raw a.program.types types setting.front target constant worth (typed_in form) given
 
-      go : IsPointed (typed_in form).ty → (u : Ty) × (takes types (ty.Raw target constant) u ≡ true) × Makes types texts fs f None s (pointer (uses a form) (ty.Raw target constant) s) (a_pointer types texts fs f u)
-      go (at_location u at loc) = (u, ap (takes_from types (ty.Raw target constant)) (sym at) ∙ taken, pointer_whole a visible types texts fs f setting form is u at loc (ty.Raw target constant) s stands)
-      go (by_literal at) = absurd (false≢true (ap (takes_from types (ty.Raw target constant)) (sym at) ∙ taken))
-      go (by_null at) =
+      clash : (u : Ty) → NullPointer ≡ Of u → ⊥
+      clash u e = cc
+
+      -- no call gives one
+      of_null : (typed_in form).ty ≡ NullPointer → GivesPointer types texts fs f NullPointer s (pointing (uses a form) s) → (u : Ty) × (takes types (ty.Raw target constant) u ≡ true) × Makes types texts fs f None s (pointer (uses a form) (ty.Raw target constant) s) (a_pointer types texts fs f u)
+      of_null at (gives_called c) = absurd (clash (ty_of types c.of.result) c.own)
+      of_null at (gives_plainly first) =
           let w = pointing (uses a form) s in
-          let first = subst (λ (x : ExprType). Makes types texts fs f None s w (a_pointing types texts fs f x)) at (points_whole a visible types texts fs f setting form is pointed s stands) in
           let later = stands_later a visible s w.state first.grown stands in (
             ty.Raw target constant,
             and_from (same (ty_of types target) (ty_of types target)) (keeps_const constant constant) (one_target a.program.types types setting.front target worth) (keeps_itself constant),
             subst (λ (x : Ty). Makes types texts fs f None s (w >> λ p s. located (uses a form).place (register_type (ty.Raw target constant) x) p s) (a_pointer types texts fs f (ty.Raw target constant)))
                 (sym (ap own_type (sym (own_typed a visible types texts fs f setting form) ∙ at)))
                 (then_part types texts fs f (no_gift types texts fs f) tt None s w _ (a_pointing types texts fs f NullPointer) (a_pointer types texts fs f (ty.Raw target constant)) stands.opened first
-                (null_located_part types texts fs f w.given (ty.Raw target constant) (uses a form).place w.state refl refl (target_later a.program.types types setting.front target worth)
+                (null_located_part types texts fs f w.given (ty.Raw target constant) (uses a form).place w.state refl refl (target_later a.program.types types setting.front setting.plain target worth)
                 (fits_below a.program.types w.state.types (front_length a.program.types.types w.state.types.types later.table) (ty.Raw target constant) worth))),
           )
+
+      go : IsPointed (typed_in form).ty → (u : Ty) × (takes types (ty.Raw target constant) u ≡ true) × Makes types texts fs f None s (pointer (uses a form) (ty.Raw target constant) s) (a_pointer types texts fs f u)
+      go (at_location u at loc) = (u, ap (takes_from types (ty.Raw target constant)) (sym at) ∙ taken, pointer_whole a visible types texts fs f setting form is u at loc (ty.Raw target constant) s stands)
+      go (by_literal at) = absurd (false≢true (ap (takes_from types (ty.Raw target constant)) (sym at) ∙ taken))
+      go (by_null at) = of_null at (subst (λ (x : ExprType). GivesPointer types texts fs f x s (pointing (uses a form) s)) at (points_whole a visible types texts fs f setting form is pointed s stands))
 
   -- ---- any of them, before the others
 
@@ -192,34 +201,20 @@ module _ (a : Around) (visible : List ℕ) (types : Types) (texts : ℕ) (fs : L
   aimed_first u es d id ids target constant held w at worth kept rest s stands first =
       let t = ty.Reference target constant in
       let there = stands_later a visible s (w s).state first.grown stands in
-      let aim = aimed_part types texts fs f a setting.front target constant held u.place (w s).given (w s).state there.table worth kept in
+      let aim = aimed_part types texts fs f a setting.front setting.plain target constant held u.place (w s).given (w s).state there.table worth kept in
       let v = aimed_to u t (w s) in
       let all = then_part types texts fs f (no_gift types texts fs f) tt None s (w s) v (a_place types texts fs f (type_at a.program.types target) held) (a_pointer types texts fs f t) stands.opened first aim in
-      pointer_handed types texts fs f id t ids (others_of es d ids) s (ap or_void (setting.front id.0 t at)) t (λ s. aimed_to u t (w s)) (ap (is_slot_type types) (setting.front id.0 t at) ∙ reference_no_slot types target constant (target_later a.program.types types setting.front target worth))
+      pointer_handed types texts fs f id t ids (others_of es d ids) s (ap or_void (setting.front id.0 t at)) t (λ s. aimed_to u t (w s)) (ap (is_slot_type types) (setting.front id.0 t at) ∙ reference_no_slot types target constant (target_later a.program.types types setting.front setting.plain target worth))
       (and_from (same (ty_of types target) (ty_of types target)) (keeps_const constant constant) (one_target a.program.types types setting.front target worth) (keeps_itself constant)) all
       (rest v.state (stands_later a visible s v.state all.grown stands))
 
-  -- a reference to what stands at a place
-  pub placed_first : (e es : Form) (d : DelimitersForm) (id : TyId) (ids : List TyId) (target : TyId) (constant held : Bool) → is_place_of (typed_in e).category target ≡ true → slice_get a.program.types.types id.0 ≡ Some (ty.Reference target constant)
-      → is_target a.program.types (type_at a.program.types target) ≡ true → keeps_const constant held ≡ true → ((s : State) → Stood s → Hands ids s (others_of es d ids s))
-      → (s : State) → Stood s → Makes types texts fs f None s ((uses a e).at s) (a_place types texts fs f (type_at a.program.types target) held)
-      → Hands (id ∷ ids) s (giving.arguments a (all_uses a (e ⨟ es)) d (id ∷ ids) s)
-  placed_first e es d id ids target constant held here at wide kept rest s stands first =
-      subst (λ (x : Ty). Hands (id ∷ ids) s (giving.argument a (uses a e) x (behind_first d) s >> λ x s. mapped (λ xs. x ∷ xs) (others_of es d ids s))) (sym (found_type a.program.types id (ty.Reference target constant) at))
-      (subst (λ (c : Bool). Hands (id ∷ ids) s (bound_by (uses a e) target constant (behind_first d) s c >> λ x s. mapped (λ xs. x ∷ xs) (others_of es d ids s)))
-      (sym (ap (λ (c : Category). is_place_of c target) (sym (held_typed a visible types texts fs f setting e)) ∙ here))
-      (aimed_first (uses a e) es d id ids target constant held (uses a e).at at wide kept rest s stands first))
-
-  -- a reference to an owner
+  -- a reference to an owner or a struct
   pub alias_first : (e es : Form) (d : DelimitersForm) (id : TyId) (ids : List TyId) (target : TyId) (constant : Bool) → IsAliased a visible types texts fs f setting (uses a e) target constant → ((s : State) → Stood s → Hands ids s (others_of es d ids s))
-      → slice_get a.program.types.types id.0 ≡ Some (ty.Reference target constant) → is_owner_of_values a.program.types (type_at a.program.types target) ≡ true → (s : State) → Stood s
+      → slice_get a.program.types.types id.0 ≡ Some (ty.Reference target constant) → is_target a.program.types (type_at a.program.types target) ≡ true → IsBuilt a.program.types (type_at a.program.types target) → (s : State) → Stood s
       → Hands (id ∷ ids) s (giving.arguments a (all_uses a (e ⨟ es)) d (id ∷ ids) s)
-  alias_first e es d id ids target constant from rest at o s stands =
+  alias_first e es d id ids target constant from rest at wide o s stands =
       subst (λ (x : Ty). Hands (id ∷ ids) s (giving.argument a (uses a e) x (behind_first d) s >> λ x s. mapped (λ xs. x ∷ xs) (others_of es d ids s))) (sym (found_type a.program.types id (ty.Reference target constant) at)) (go from)
     where
-      wide : is_target a.program.types (type_at a.program.types target) ≡ true
-      wide = owner_target a.program.types (type_at a.program.types target) o
-
       as_bound : (c : Bool) → is_place_of (uses a e).category target ≡ c → Hands (id ∷ ids) s (bound_by (uses a e) target constant (behind_first d) s c >> λ x s. mapped (λ xs. x ∷ xs) (others_of es d ids s))
           → Hands (id ∷ ids) s (bound_by (uses a e) target constant (behind_first d) s (is_place_of (uses a e).category target) >> λ x s. mapped (λ xs. x ∷ xs) (others_of es d ids s))
       as_bound c same part = subst (λ (c : Bool). Hands (id ∷ ids) s (bound_by (uses a e) target constant (behind_first d) s c >> λ x s. mapped (λ xs. x ∷ xs) (others_of es d ids s))) (sym same) part
@@ -229,9 +224,9 @@ module _ (a : Around) (visible : List ℕ) (types : Types) (texts : ℕ) (fs : L
       go (to_built none made) =
           as_bound false none
           (aimed_first (uses a e) es d id ids target constant false (λ s. mapped object_named (giving.given (uses a e) (type_at a.program.types target) (behind_first d) s >> λ rest s. rest (temporary (uses a e).place (type_at a.program.types target)) s)) at wide (keeps_all constant) rest s stands
-          (temporary_made a visible types texts fs f setting (type_at a.program.types target) (uses a e).place s (giving.given (uses a e) (type_at a.program.types target) (behind_first d) s) (inl o) (made (behind_first d) s stands) stands))
+          (temporary_made a visible types texts fs f setting (type_at a.program.types target) (uses a e).place s (giving.given (uses a e) (type_at a.program.types target) (behind_first d) s) o (made (behind_first d) s stands) stands))
 
-  -- an owner or a unique_ptr that is built and given over
+  -- an owner, a unique_ptr or a struct that is built and given over
   over_built : (t : Ty) (u : Uses) (behind : Place) (s : State) → IsBuilt a.program.types t → giving.argument a u t behind s ≡ mapped GivenOver (giving.given u t behind s >> λ rest r. rest (consumed u.place t) r)
   over_built t u behind s (inl o) = go t o
     where
@@ -239,23 +234,32 @@ module _ (a : Around) (visible : List ℕ) (types : Types) (texts : ℕ) (fs : L
       go ty.Text o = refl
       go (ty.Vector item) o = refl
       go _ o = absurd (false≢true o)
-  over_built t u behind s (inr w) = go t w
+  over_built t u behind s (inr (inr structure)) =
+      subst (λ (x : Ty). giving.argument a u x behind s ≡ mapped GivenOver (giving.given u x behind s >> λ rest r. rest (consumed u.place x) r)) (sym structure.is) refl
+  over_built t u behind s (inr (inl w)) = go t w
     where
       go : (t : Ty) → is_unique_of_element a.program.types t ≡ true → giving.argument a u t behind s ≡ mapped GivenOver (giving.given u t behind s >> λ rest r. rest (consumed u.place t) r)
       go (ty.Unique target) w = refl
       go _ w = absurd (false≢true w)
 
-  pub owner_before : (e es : Form) (d : DelimitersForm) (id : TyId) (ids : List TyId) (t : Ty) → slice_get a.program.types.types id.0 ≡ Some t → IsBuilt a.program.types t
-      → ((s : State) → Stood s → Builds a visible types texts fs f setting t s (giving.given (uses a e) t (behind_first d) s)) → ((s : State) → Stood s → Hands ids s (others_of es d ids s)) → (s : State) → Stood s
-      → Hands (id ∷ ids) s (giving.arguments a (all_uses a (e ⨟ es)) d (id ∷ ids) s)
-  owner_before e es d id ids t at o builds rest s stands =
+  pub given_before : (e es : Form) (d : DelimitersForm) (id : TyId) (ids : List TyId) (t : Ty) → slice_get a.program.types.types id.0 ≡ Some t → IsBuilt a.program.types t
+      → ((s : State) → Stood s → (let w = giving.given (uses a e) t (behind_first d) s in let v = w.given (consumed (uses a e).place t) w.state in HandingAlone types texts fs f (v.given ∷ []) s v (a_given types texts fs f t)))
+      → ((s : State) → Stood s → Hands ids s (others_of es d ids s)) → (s : State) → Stood s → Hands (id ∷ ids) s (giving.arguments a (all_uses a (e ⨟ es)) d (id ∷ ids) s)
+  given_before e es d id ids t at o gives_over rest s stands =
       let w = giving.given (uses a e) t (behind_first d) s in
       let v = w.given (consumed (uses a e).place t) w.state in
-      let over = given_handing a visible types texts fs f setting t (uses a e).place s w o (builds s stands) stands in
+      let over = gives_over s stands in
       subst (λ (x : Ty). Hands (id ∷ ids) s (giving.argument a (uses a e) x (behind_first d) s >> λ x s. mapped (λ xs. x ∷ xs) (others_of es d ids s))) (sym (found_type a.program.types id t at))
       (subst (λ (g : Gives Argument). Hands (id ∷ ids) s (g >> λ x s. mapped (λ xs. x ∷ xs) (others_of es d ids s))) (sym (over_built t (uses a e) (behind_first d) s o))
       (owner_handed types texts fs f id t ids (others_of es d ids) s (ap or_void (setting.front id.0 t at)) (λ s. giving.given (uses a e) t (behind_first d) s >> λ rest r. rest (consumed (uses a e).place t) r) (built_composed a.program.types t o) over
       (rest v.state (stands_later a visible s v.state over.grown stands))))
+
+  -- .. by whatever builds it
+  pub owner_before : (e es : Form) (d : DelimitersForm) (id : TyId) (ids : List TyId) (t : Ty) → slice_get a.program.types.types id.0 ≡ Some t → IsBuilt a.program.types t
+      → ((s : State) → Stood s → Builds a visible types texts fs f setting t s (giving.given (uses a e) t (behind_first d) s)) → ((s : State) → Stood s → Hands ids s (others_of es d ids s)) → (s : State) → Stood s
+      → Hands (id ∷ ids) s (giving.arguments a (all_uses a (e ⨟ es)) d (id ∷ ids) s)
+  owner_before e es d id ids t at o builds rest s stands =
+      given_before e es d id ids t at o (λ s stands. given_handing a visible types texts fs f setting t (uses a e).place s (giving.given (uses a e) t (behind_first d) s) o (builds s stands) stands) rest s stands
 
   pub first_handed : (e es : Form) (d : DelimitersForm) (id : TyId) (ids : List TyId) → IsWhole a visible types texts fs f setting e → ((s : State) → Stood s → Hands ids s (giving.arguments a (all_uses a es) (behind_others d) ids s))
       → IsHandedType a.program.types id → is_given a.program.types (type_at a.program.types id) (typed_in e) ≡ true → (s : State) → Stood s → Hands (id ∷ ids) s (giving.arguments a (all_uses a (e ⨟ es)) d (id ∷ ids) s)
@@ -290,13 +294,14 @@ module _ (a : Around) (visible : List ℕ) (types : Types) (texts : ℕ) (fs : L
           as_type t at
           (pointer_handed types texts fs f id t ids (others_of es d ids) s (later t at) found.0 (pointer (uses a e) t) (plain t at refl) found.1 found.2
           (behind_first_part (pointer (uses a e) t s) (a_pointer types texts fs f found.0) found.2))
-      go (an_alias target constant at o) = alias_first e es d id ids target constant (whole_aliased a visible types texts fs f setting e target constant o (given_as (ty.Reference target constant) at) is) rest at o s stands
-      go (a_struct_alias target constant number at structure) =
-          absurd (kind_no_struct a.program.types (typed_in e) is.kind.kind (struct_alone a.program.types target constant number (typed_in e) structure (given_as (ty.Reference target constant) at) (λ held. is.kind.place target held)))
+      go (an_alias target constant at o) = alias_first e es d id ids target constant (whole_aliased a visible types texts fs f setting e target constant o (given_as (ty.Reference target constant) at) is) rest at (owner_target a.program.types (type_at a.program.types target) o) (inl o) s stands
+      go (a_struct_alias target constant number at structure pointless) =
+          absurd (kind_no_struct a.program.types (typed_in e) is.kind.kind (struct_alone a.program.types target constant number (typed_in e) structure (struct_target a.program.types (type_at a.program.types target) pointless) (given_as (ty.Reference target constant) at) (λ held. is.kind.place target held)))
       go (a_walker t at w) = absurd (no_walker_given a.program.types (typed_in e) is.kind.kind t w (given_as t at))
       go (an_owner t at o) = owner_before e es d id ids t at (inl o) (λ s stands. value_builds a visible types texts fs f setting e is t o (given_as t at) (behind_first d) s stands) rest s stands
+      go (a_struct number at pointless) = absurd (kind_no_struct a.program.types (typed_in e) is.kind.kind (struct_fits a.program.types number (typed_in e).ty (typed_in e).category (given_as (ty.Struct number) at)))
       go (a_unique target at w) =
-          owner_before e es d id ids (ty.Unique target) at (inr w) (λ s stands. null_builds a visible types texts fs f setting e is target (given_as (ty.Unique target) at) (behind_first d) s stands) rest s stands
+          owner_before e es d id ids (ty.Unique target) at (inr (inl w)) (λ s stands. null_builds a visible types texts fs f setting e is target (given_as (ty.Unique target) at) (behind_first d) s stands) rest s stands
       go (a_view at) =
           let seen = seen_kind a.program.types (typed_in e) is.kind.kind (given_view a.program.types (typed_in e) (given_as ty.View at)) in
           let first = view_whole a visible types texts fs f setting e is seen s stands in

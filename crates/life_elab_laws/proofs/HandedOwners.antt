@@ -34,11 +34,12 @@ use Rattle.life_elab_laws.proofs.Gifts.{a_pointer, a_pointing, takes_from}
 use Rattle.life_elab_laws.proofs.GivenKinds.{given_number, given_pointer, given_view}
 use Rattle.life_elab_laws.proofs.HandedForms.{alias_first, owner_before}
 use Rattle.life_elab_laws.proofs.HandedArguments.{Hands as AllHanded, pointer_handed}
-use Rattle.life_elab_laws.proofs.HandedTypes.{IsHandedType, an_alias, an_owner, a_raw, a_reference, a_unique, a_value, a_view, a_walker, a_struct_alias}
+use Rattle.life_elab_laws.proofs.HandedTypes.{IsHandedType, an_alias, an_owner, a_raw, a_reference, a_unique, a_value, a_view, a_walker, a_struct_alias, a_struct}
 use Rattle.life_elab_laws.proofs.Locations.{is_location, is_pointed}
 use Rattle.life_elab_laws.proofs.MadeForms.{IsOwning, owning_owner}
 use Rattle.life_elab_laws.proofs.ObjectForms.{IsOwner}
 use Rattle.life_elab_laws.proofs.Parts.{Makes}
+use Rattle.life_elab_laws.proofs.PointedCalls.{gives_plainly}
 use Rattle.life_elab_laws.proofs.PointerForms.{own_typed}
 use Rattle.life_elab_laws.proofs.RowTypes.{sees}
 use Rattle.life_elab_laws.proofs.SeenForms.{string_points}
@@ -47,7 +48,7 @@ use Rattle.life_elab_laws.proofs.VariablePlaces.{stands_later, walker_is}
 use Rattle.life_elab_laws.proofs.WalkerForms.{IsWalker, vector_points, walker_pointer}
 use Rattle.life_elab_laws.proofs.WalkerSteps.{keeps_itself}
 use Rattle.life_elab_laws.proofs.WrittenLocals.{fits_register}
-use Rattle.life_elab_laws.proofs.AliasForms.{no_owner_given, owning_aliased, owning_builds, value_reference_refused, walker_reference_refused, struct_reference_refused}
+use Rattle.life_elab_laws.proofs.AliasForms.{no_owner_given, owning_aliased, owning_builds, value_reference_refused, walker_reference_refused, struct_reference_refused, owner_no_struct_given, walker_no_struct_given}
 use Rattle.life_elab_laws.proofs.Targets.{owner_target, value_target, struct_target}
 use Rattle.life_elab_laws.proofs.Elements.{one_element}
 
@@ -108,7 +109,7 @@ module _ (a : Around) (visible : List ℕ) (types : Types) (texts : ℕ) (fs : L
       → Makes types texts fs f None s (pointing (uses a e) s) (a_pointing types texts fs f (Of t)) → Makes types texts fs f None s (pointer (uses a e) t s) (a_pointer types texts fs f t)
   owner_pointer e o t loc fits s stands made =
       subst (λ (x : Ty). Makes types texts fs f None s (pointing (uses a e) s >> λ p s. located (uses a e).place x p s) (a_pointer types texts fs f t)) (sym (register_is o.ty o.owner (ap own_type (sym (own_typed a visible types texts fs f setting e) ∙ o.is))))
-      (pointer_part a visible types texts fs f setting (pointing (uses a e)) (Of t) t (uses a e).place s refl loc fits stands made)
+      (pointer_part a visible types texts fs f setting (pointing (uses a e)) (Of t) t (uses a e).place s refl loc fits stands (gives_plainly made))
     where
       register_is : (u : Ty) → is_owner_of_values a.program.types u ≡ true → own (uses a e) ≡ u → register_type t (own (uses a e)) ≡ t
       register_is ty.Text owner same = ap (register_type t) same
@@ -146,9 +147,11 @@ module _ (a : Around) (visible : List ℕ) (types : Types) (texts : ℕ) (fs : L
       go (a_unique target at w) =
           absurd (owner_no_unique_given a.program.types o.ty o.owner target (typed_in e).category (subst (λ (x : ExprType). fits_at_all (fits a.program.types (ty.Unique target) x (typed_in e).category) ≡ true) o.is (given_as (ty.Unique target) at)))
       go (an_owner t at owned) = owner_before a visible types texts fs f setting e es d id ids t at (inl owned) (λ s stands. owning_builds a visible types texts fs f setting e from t owned (given_as t at) (behind_first d) s stands) rest s stands
-      go (an_alias target constant at owned) = alias_first a visible types texts fs f setting e es d id ids target constant (owning_aliased a visible types texts fs f setting e target constant owned (given_as (ty.Reference target constant) at) from) rest at owned s stands
+      go (an_alias target constant at owned) = alias_first a visible types texts fs f setting e es d id ids target constant (owning_aliased a visible types texts fs f setting e target constant owned (given_as (ty.Reference target constant) at) from) rest at (owner_target a.program.types (type_at a.program.types target) owned) (inl owned) s stands
       go (a_reference target constant at worth) = absurd (value_reference_refused a visible types texts fs f setting e target constant worth (given_as (ty.Reference target constant) at) from)
-      go (a_struct_alias target constant number at structure) = absurd (struct_reference_refused a visible types texts fs f setting e target constant number structure (given_as (ty.Reference target constant) at) from)
+      go (a_struct number at pointless) =
+          absurd (owner_no_struct_given a.program.types o.ty o.owner number (typed_in e).category (subst (λ (x : ExprType). fits_at_all (fits a.program.types (ty.Struct number) x (typed_in e).category) ≡ true) o.is (given_as (ty.Struct number) at)))
+      go (a_struct_alias target constant number at structure pointless) = absurd (struct_reference_refused a visible types texts fs f setting e target constant number structure (struct_target a.program.types (type_at a.program.types target) pointless) (given_as (ty.Reference target constant) at) from)
 
   -- ---- by an iterator or a span
 
@@ -184,5 +187,7 @@ module _ (a : Around) (visible : List ℕ) (types : Types) (texts : ℕ) (fs : L
           (subst (λ (x : ExprType). fits_at_all (fits a.program.types t x (typed_in e).category) ≡ true) from.is (given_as t at)))
       go (an_alias target constant at owned) = absurd (walker_reference_refused a visible types texts fs f setting e target constant (owner_target a.program.types (type_at a.program.types target) owned) (given_as (ty.Reference target constant) at) from)
       go (a_reference target constant at worth) = absurd (walker_reference_refused a visible types texts fs f setting e target constant (value_target a.program.types (type_at a.program.types target) worth) (given_as (ty.Reference target constant) at) from)
-      go (a_struct_alias target constant number at structure) =
-          absurd (walker_reference_refused a visible types texts fs f setting e target constant (struct_target a.program.types (type_at a.program.types target) number structure) (given_as (ty.Reference target constant) at) from)
+      go (a_struct number at pointless) =
+          absurd (walker_no_struct_given a.program.types from.ty from.walker number (typed_in e).category (subst (λ (x : ExprType). fits_at_all (fits a.program.types (ty.Struct number) x (typed_in e).category) ≡ true) from.is (given_as (ty.Struct number) at)))
+      go (a_struct_alias target constant number at structure pointless) =
+          absurd (walker_reference_refused a visible types texts fs f setting e target constant (struct_target a.program.types (type_at a.program.types target) pointless) (given_as (ty.Reference target constant) at) from)

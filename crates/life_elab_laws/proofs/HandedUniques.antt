@@ -1,5 +1,5 @@
 -- What a parameter is handed by a unique_ptr that is made or moved: it is given over, to a unique_ptr and to nothing else.
-use Rattle.std.proofs.Common.{◌≡◌, inr, ℕ, Bool, true, List, ◌∷◌, Some, Option, slice_get, refl, sym, ap, ◌∙◌, subst, unwrap_or}
+use Rattle.std.proofs.Common.{◌≡◌, inr, ℕ, Bool, true, List, ◌∷◌, Some, Option, slice_get, refl, sym, ap, ◌∙◌, subst, unwrap_or, inl}
 use Rattle.std.proofs.lemmas.Bool.{false≢true}
 use Rattle.life_types.specs.Types.{Types}
 use Rattle.life_types.specs.TypeTests.{is_value}
@@ -31,10 +31,10 @@ use Rattle.life_elab_laws.proofs.FreshUniques.{IsFresh, fresh_builds}
 use Rattle.life_elab_laws.proofs.GivenKinds.{given_number, given_pointer, given_view}
 use Rattle.life_elab_laws.proofs.HandedArguments.{Hands as AllHanded}
 use Rattle.life_elab_laws.proofs.HandedForms.{owner_before}
-use Rattle.life_elab_laws.proofs.HandedTypes.{IsHandedType, a_raw, a_reference, a_unique, a_value, a_view, a_walker, an_alias, an_owner, a_struct_alias}
+use Rattle.life_elab_laws.proofs.HandedTypes.{IsHandedType, a_raw, a_reference, a_unique, a_value, a_view, a_walker, an_alias, an_owner, a_struct_alias, a_struct}
 use Rattle.life_elab_laws.proofs.Locations.{is_pointed}
 use Rattle.life_elab_laws.proofs.Setting.{Setting}
-use Rattle.life_elab_laws.proofs.Targets.{owner_target, value_target}
+use Rattle.life_elab_laws.proofs.Targets.{owner_target, value_target, struct_target}
 use Rattle.life_elab_laws.proofs.TypedKinds.{value_place}
 use Rattle.life_elab_laws.proofs.StructReferences.{struct_alone}
 
@@ -89,9 +89,10 @@ module _ (a : Around) (visible : List ℕ) (types : Types) (texts : ℕ) (fs : L
       go (a_reference target constant at v) =
           absurd (no_place target constant (given_bound a.program.types target constant (typed_in e) (value_target a.program.types (type_at a.program.types target) v) (given_as (ty.Reference target constant) at))
           (no_number (type_at a.program.types target) v))
-      go (a_struct_alias target constant number at structure) =
+      go (a_struct_alias target constant number at structure pointless) =
           absurd (false≢true (subst (λ (x : ExprType). is_struct_type x ≡ true) from.is
-          (struct_alone a.program.types target constant number (typed_in e) structure (given_as (ty.Reference target constant) at) (λ held place. absurd (value_place (sym from.value ∙ place))))))
+          (struct_alone a.program.types target constant number (typed_in e) structure (struct_target a.program.types (type_at a.program.types target) pointless) (given_as (ty.Reference target constant) at) (λ held place. absurd (value_place (sym from.value ∙ place))))))
+      go (a_struct number at pointless) = absurd (false≢true (told (ty.Struct number) (given_as (ty.Struct number) at)))
       go (a_unique target at w) =
-          owner_before a visible types texts fs f setting e es d id ids (ty.Unique target) at (inr w)
+          owner_before a visible types texts fs f setting e es d id ids (ty.Unique target) at (inr (inl w))
           (λ s stands. fresh_builds a visible types texts fs f setting e from target w (given_as (ty.Unique target) at) (behind_first d) s stands) rest s stands

@@ -1,10 +1,11 @@
 -- Code that gives locals over to a call behind it: they are there behind the code, and what is known of the others doesn't see them.
-use Rattle.std.proofs.Common.{◌≡◌, ◌<◌, ◌≤◌, ◌⊎◌, inl, inr, ℕ, suc, true, List, [], ◌∷◌, ◌++◌, length, slice_set, None, refl, sym, ap, ◌∙◌, subst, arith, append_assoc, append-nil}
+use Rattle.std.proofs.Common.{◌≡◌, ◌<◌, ◌≤◌, ◌⊎◌, inl, inr, ℕ, suc, true, List, [], ◌∷◌, ◌++◌, length, slice_get, slice_set, None, Some, refl, sym, ap, ◌∙◌, subst, arith, append_assoc, append-nil}
 use Rattle.std.proofs.lemmas.Bool.{cases_eq}
 use Rattle.life_types.specs.Types.{Types}
 use Rattle.life_core.specs.Function.{Function}
 use Rattle.life_core.specs.Kinds.{is_object_at}
 use Rattle.life_core.specs.Tree.{Tree, trees}
+use Rattle.life_core.specs.declared.program.Local.{Local}
 use Rattle.life_proper.specs.GivenOver.{given_spot}
 use Rattle.life_proper.specs.Knowing.{known_at}
 use Rattle.life_proper.specs.ReadyKnown.{set_known}
@@ -70,6 +71,8 @@ module _ (types : Types) (texts : ℕ) (fs : List Function) (f : Function) where
     pub fine : IsFine types texts fs f code
     pub typed : Q.typed w.given
     pub objects : (x : ℕ) → Among x over → is_object_at f x ≡ true
+    -- which have no names
+    pub nameless : (x : ℕ) → Among x over → (l : Local) → slice_get f.locals x ≡ Some l → l.name ≡ None
     pub goes : (k : List Known) → Alive f s k → P.ready y (length s.locals) k → GoesHanding over s w Q code k
 
   -- behind what gave y
@@ -140,6 +143,7 @@ module _ (types : Types) (texts : ℕ) (fs : List Function) (f : Function) where
       fine = r.fine;
       typed = r.typed;
       objects = λ x m. absurd m;
+      nameless = λ x m l at. absurd m;
       goes = λ k alive q. let g = r.goes k alive q in record {
         after = g.after;
         falls = g.falls;
@@ -190,6 +194,7 @@ module _ (types : Types) (texts : ℕ) (fs : List Function) (f : Function) where
       fine = r.fine;
       typed = typed r.typed;
       objects = r.objects;
+      nameless = r.nameless;
       goes = λ k alive p. let q = r.goes k alive tt in record {
         after = q.after;
         falls = q.falls;
@@ -223,6 +228,7 @@ module _ (types : Types) (texts : ℕ) (fs : List Function) (f : Function) where
         fine = fine_append types texts fs f first.code second.code q.fine r.fine;
         typed = (q.typed, r.typed);
         objects = λ x m. elim (among_either one over x m) [ inl a ↦ q.objects x a | inr c ↦ r.objects x c ];
+        nameless = λ x m. elim (among_either one over x m) [ inl a ↦ q.nameless x a | inr c ↦ r.nameless x c ];
         goes = λ k alive p. go q r k (q.goes k alive tt);
       };
     }

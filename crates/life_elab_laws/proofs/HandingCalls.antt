@@ -37,7 +37,7 @@ use Rattle.life_elab_laws.proofs.GivenApart.{AreApart, Open, given_of, looked_ar
 use Rattle.life_elab_laws.proofs.Growing.{Begins, Grows, begins_before, grows_then}
 use Rattle.life_elab_laws.proofs.HandedArguments.{Hands}
 use Rattle.life_elab_laws.proofs.Handing.{GoesHanding, RunsHanding}
-use Rattle.life_elab_laws.proofs.Held.{blank_there, ready_there}
+use Rattle.life_elab_laws.proofs.Held.{blank_there, one_there, ready_there}
 use Rattle.life_elab_laws.proofs.UnseenLocals.{all_leave, set_there, used_there}
 use Rattle.life_elab_laws.proofs.Instructions.{IsIntoOf, into_of_later, is_into, target_number}
 use Rattle.life_elab_laws.proofs.Knowledge.{at_set}
@@ -51,14 +51,14 @@ use Rattle.life_elab_laws.proofs.WrittenLocals.{AddsRegisters, registers_then}
 
 module _ (f : Function) where
   -- what is given over are objects
-  abbrev AreObjects : List Argument → Type 0
+  abbrev pub AreObjects : List Argument → Type 0
   AreObjects xs = (x : ℕ) → Among x (flat_map given_argument xs) → is_object_at f x ≡ true
 
   handed_used : (ids : List TyId) (xs : List Argument) (n : ℕ) (k : List Known) → AreHandedFor ids xs n k → AreObjects xs → are_known known.Ready k (flat_map (argument_uses f) xs) ≡ true
   handed_used [] [] n k h o = refl
   handed_used (id ∷ ids) (Value r ∷ xs) n k h o = and_from (is_known known.Ready k r) (are_known known.Ready k (flat_map (argument_uses f) xs)) (ready_there k r h.0.1) (handed_used ids xs n k h.1 o)
   handed_used (id ∷ ids) (PointerOf l ∷ xs) n k h o =
-      and_from (is_known known.Ready k l.local) (are_known known.Ready k (flat_map (argument_uses f) xs)) (ready_there k l.local (ap (λ (q : Location). known_at k q.local) h.0.is ∙ h.0.held)) (handed_used ids xs n k h.1 o)
+      and_from (is_known known.Ready k l.local) (are_known known.Ready k (flat_map (argument_uses f) xs)) (ready_there k l.local (ap (known_at k) h.0.is ∙ h.0.held)) (handed_used ids xs n k h.1 o)
   handed_used (id ∷ ids) (GivenOver x ∷ xs) n k h o =
       ap (λ (b : Bool). are_known known.Ready k ((if b then [] else x ∷ []) ++ flat_map (argument_uses f) xs)) (o x (inl refl)) ∙ handed_used ids xs n k h.1 (λ y m. o y (inr m))
   handed_used _ _ n k h o = absurd h
@@ -72,7 +72,7 @@ module _ (f : Function) where
       ap (λ (b : Bool). (if b then x ∷ [] else []) ++ flat_map (argument_leaves f) xs) (o x (inl refl)) ∙ ap (λ (ys : List ℕ). x ∷ ys) (handed_leave xs (λ y m. o y (inr m)))
 
   -- no slot is handed
-  handed_looks : (ids : List TyId) (xs : List Argument) (n : ℕ) (k : List Known) → AreHandedFor ids xs n k → flat_map looked_argument xs ≡ []
+  pub handed_looks : (ids : List TyId) (xs : List Argument) (n : ℕ) (k : List Known) → AreHandedFor ids xs n k → flat_map looked_argument xs ≡ []
   handed_looks [] [] n k h = refl
   handed_looks (id ∷ ids) (Value r ∷ xs) n k h = handed_looks ids xs n k h.1
   handed_looks (id ∷ ids) (PointerOf l ∷ xs) n k h = handed_looks ids xs n k h.1
@@ -109,6 +109,16 @@ module _ (f : Function) where
     handed_after x =
         ap (set_known known.Ready (if_object f x ++ unless_object f x)) gone
         ∙ ap (λ (here : List ℕ). set_known known.Ready here k) (one_local (is_object_at f x) x)
+
+    -- .. or to a member of one, which is there before
+    pub handed_part_ready : (x m : ℕ) (ms : List ℕ) → known_at k x ≡ known.Ready → (Among x over → ⊥) → are_ready j (touched_by f (called g xs (record { local = x; members = m ∷ ms }))) ≡ true
+    handed_part_ready x m ms held aside =
+        all_ready j (touched_by f (called g xs (record { local = x; members = m ∷ ms })))
+        (both_known known.Ready j (flat_map (argument_uses f) xs) (x ∷ []) (used_there over apart k blank (flat_map (argument_uses f) xs) (handed_used ids xs n k numbers objects)) (one_there j x ((set_there x known.Ready k over aside).1 ∙ held)))
+        leaves refl
+
+    pub handed_part_after : (x m : ℕ) (ms : List ℕ) → known_after (touched_by f (called g xs (record { local = x; members = m ∷ ms }))) j ≡ k
+    handed_part_after x m ms = gone
 
     pub handed_alone_ready : are_ready j (touched_by f (called_alone g xs)) ≡ true
     handed_alone_ready = all_ready j (touched_by f (called_alone g xs)) used leaves refl

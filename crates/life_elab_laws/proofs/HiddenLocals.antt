@@ -3,7 +3,6 @@ use Rattle.std.proofs.Common.{◌≡◌, ℕ, true, List, [], ◌∷◌, length,
 use Rattle.std.proofs.lemmas.Bool.{and_parts, false≢true}
 use Rattle.std.proofs.lemmas.Option.{slice_get_within}
 use Rattle.std.specs.List.{list_all}
-use Rattle.life_served.specs.Served.{is_target}
 use Rattle.life_types.specs.Types.{Types}
 use Rattle.life_types.specs.declared.place.Place.{Place}
 use Rattle.life_types.specs.declared.ty.Ty.{Ty}
@@ -38,13 +37,13 @@ use Rattle.life_elab_laws.proofs.Growing.{Begins, Grows}
 use Rattle.life_elab_laws.proofs.HiddenStay.{IsHidden, hidden_passes}
 use Rattle.life_elab_laws.proofs.Knowledge.{at_set}
 use Rattle.life_elab_laws.proofs.Making.{AreHeld, IsHeld}
-use Rattle.life_elab_laws.proofs.OperandsThere.{type_either, type_there}
+use Rattle.life_elab_laws.proofs.OperandsThere.{type_there}
 use Rattle.life_elab_laws.proofs.OrderedTypes.{type_ordered}
 use Rattle.life_elab_laws.proofs.Parts.{Part}
 use Rattle.life_elab_laws.proofs.PendingTemporaries.{pending_later}
 use Rattle.life_elab_laws.proofs.Shaping.{IsFineStep, fine_acts, is_no_object, step_keeps}
 use Rattle.life_elab_laws.proofs.StillThere.{alive_grown, alive_passing}
-use Rattle.life_elab_laws.proofs.Targets.{owner_target}
+use Rattle.life_elab_laws.proofs.Targets.{owner_target, target_unslotted}
 use Rattle.life_elab_laws.proofs.Types.{type_added, types_before}
 use Rattle.life_elab_laws.proofs.WrittenLocals.{AddsRegisters, fits_hidden, hidden_below, hidden_later, register_pushed}
 use Rattle.life_elab_laws.proofs.BornLocals.{filled_bears}
@@ -70,19 +69,19 @@ hidden_grows place t s = record {
   outside = refl;
 }
 
-hidden_added : (types : Types) (place : Place) (t : Ty) (s : State) → fits_hidden s.types t ≡ true → AddsRegisters types s (with_hidden place t s).state
+hidden_added : (types : Types) (place : Place) (t : Ty) (s : State) → fits_hidden types s.types t ≡ true → AddsRegisters types s (with_hidden place t s).state
 hidden_added types place t s fits = (
   register_pushed types (with_hidden place t s).state.types s.locals (hidden_local place t s)
-      (record { nameless = refl; ty = t; typed = type_added s.types.types t; fits = inr (inr (refl, hidden_later s.types (with_hidden place t s).state.types (types_before s.types.types t) t fits)) }),
-  type_ordered s.types t (hidden_below s.types t fits),
+      (record { nameless = refl; ty = t; typed = type_added s.types.types t; fits = inr (inr (refl, hidden_later types s.types (with_hidden place t s).state.types (types_before s.types.types t) t fits)) }),
+  type_ordered s.types t (λ ordered. hidden_below types s.types t fits),
 )
 
 -- ---- its type in the finished function
 
 module _ (types : Types) (f : Function) where
-  pub hidden_typed : (x : ℕ) (l : Local) (t : Ty) → slice_get f.locals x ≡ Some l → slice_get types.types l.ty.0 ≡ Some t → fits_hidden types t ≡ true → placed.type_at types f x ≡ t
+  pub hidden_typed : (x : ℕ) (l : Local) (t : Ty) → slice_get f.locals x ≡ Some l → slice_get types.types l.ty.0 ≡ Some t → fits_hidden types types t ≡ true → placed.type_at types f x ≡ t
   hidden_typed x l (ty.Reference target constant) at typed h =
-      reference_there types f x l target constant at typed (ap (is_target types) (type_either types target) ∙ owner_target types (type_at types target) h)
+      reference_there types f x l target constant at typed (target_unslotted types types (λ n x e. e) target (owner_target types (type_at types target) h))
   hidden_typed x l (ty.Iterator target constant) at typed h = type_there types f x l (ty.Iterator target constant) at typed refl
   hidden_typed x l (ty.Span target constant) at typed h = type_there types f x l (ty.Span target constant) at typed refl
   hidden_typed x l ty.View at typed h = type_there types f x l ty.View at typed refl
@@ -111,7 +110,7 @@ module _ (types : Types) (texts : ℕ) (fs : List Function) (f : Function) where
   abbrev pub a_hidden : Ty → Gift types texts fs f ℕ
   a_hidden t = record { typed = IsHiddenOf t; ready = IsHeld; stays = held_stays types texts fs f }
 
-  module _ (place : Place) (t : Ty) (s : State) (fits : fits_hidden s.types t ≡ true) where
+  module _ (place : Place) (t : Ty) (s : State) (fits : fits_hidden types s.types t ≡ true) where
     abbrev w : Gives ℕ
     w = with_hidden place t s
 
@@ -122,7 +121,7 @@ module _ (types : Types) (texts : ℕ) (fs : List Function) (f : Function) where
     is_hidden b = record {
       is = record { local = hidden_local place t s; there = there b; nameless = refl; kind = refl };
       typed = hidden_typed types f (length s.locals) (hidden_local place t s) t (there b) (b.table (type_number t (typed_with t s)).0 t (type_added s.types.types t))
-          (hidden_later w.state.types types b.table t (hidden_later s.types w.state.types (types_before s.types.types t) t fits));
+          (hidden_later types w.state.types types b.table t (hidden_later types s.types w.state.types (types_before s.types.types t) t fits));
     }
 
     -- behind what gave x

@@ -297,7 +297,7 @@ module _ (types : Types) (texts : ℕ) (fs : List Function) (f : Function) where
       let w = new_register place t s in
       emit_part (a_pointing types texts fs f source) (By step) None s w place (λ r. step (whole r)) (whole w.given) (a_pointer types texts fs f t)
       (new_targeted types f place t s fits below)
-      (λ b h. let at = location_at place t s loc b in (h t (whole w.given) loc at taken, at))
+      (λ b h. let at = location_at place t s loc b in (h t (whole w.given) loc at.typed taken, at))
       (λ r n k e h. filling_fills f step n k h r e)
       (λ k lt e. record { local = w.given; is = refl; below = lt; held = e })
 
@@ -331,7 +331,7 @@ module _ (types : Types) (texts : ℕ) (fs : List Function) (f : Function) where
       })
     where
       pointer_held : (l : Location) (n : ℕ) (k : List Known) → IsPointer l n k → known_at k l.local ≡ known.Ready
-      pointer_held l n k p = ap (λ (q : Location). known_at k q.local) p.is ∙ p.held
+      pointer_held l n k p = ap (known_at k) p.is ∙ p.held
 
   -- ---- an instruction that leaves all that is known
 

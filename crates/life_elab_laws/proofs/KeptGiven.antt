@@ -15,7 +15,7 @@ use Rattle.life_elab_laws.proofs.Among.{Among, among_left, among_right}
 use Rattle.life_elab_laws.proofs.GivenApart.{given_of, looked_argument, looked_base, looked_change, looked_node, looked_of, looked_place, looked_source, looked_spot, looked_step}
 use Rattle.life_elab_laws.proofs.Shaping.{ends_lasting, keeps_its_target, node_keeps, spot_keeps, tree_keeps}
 
-any_among : (x : ℕ) (xs : List ℕ) → list_any (nat_eq x) xs ≡ true → Among x xs
+pub any_among : (x : ℕ) (xs : List ℕ) → list_any (nat_eq x) xs ≡ true → Among x xs
 any_among x [] h = absurd (false≢true h)
 any_among x (y ∷ xs) h = elim (or_cases (nat_eq x y) (list_any (nat_eq x) xs) h) [ inl e ↦ inl (sym (one x y e)) | inr more ↦ inr (any_among x xs more) ]
   where

@@ -2,6 +2,7 @@ pub mod AdvancedForms
 pub mod Aiming
 pub mod AliasForms
 pub mod Among
+pub mod AnsweredUniques
 pub mod AppendForms
 pub mod BaseSteps
 pub mod Beginning
@@ -22,7 +23,9 @@ pub mod ChangeSteps
 pub mod Coming
 pub mod ComparedForms
 pub mod Conditions
+pub mod ContentBirths
 pub mod DeclarationWriting
+pub mod ConsumedObjects
 pub mod Declaring
 pub mod Doing
 pub mod ElementForms
@@ -40,6 +43,8 @@ pub mod ExpressionKinds
 pub mod ExpressionTypes
 pub mod Expressions
 pub mod Falling
+pub mod FilledObjects
+pub mod FilledResults
 pub mod Filling
 pub mod Following
 pub mod FormedEnds
@@ -75,12 +80,12 @@ pub mod KeptGiven
 pub mod KeptTemporaries
 pub mod Knowledge
 pub mod Leaving
-pub mod LentArguments
 pub mod ListForms
 pub mod Locations
 pub mod Looping
 pub mod MadeForms
 pub mod MadeRanges
+pub mod MadeStructs
 pub mod Making
 pub mod MoveSteps
 pub mod MovedForms
@@ -99,15 +104,20 @@ pub mod Outputs
 pub mod OwnLocals
 pub mod OwnedContents
 pub mod OwnedSteps
-pub mod OwnedVariables
 pub mod OwnerBirths
 pub mod OwnerSteps
 pub mod Parts
 pub mod PartsUnder
+pub mod PassedNone
 pub mod Pending
 pub mod PendingTemporaries
 pub mod PlainActs
+pub mod PlainFills
+pub mod PlainStructs
+pub mod PointedCalls
 pub mod PointerForms
+pub mod PointerMembers
+pub mod PointlessStructs
 pub mod ProgramNames
 pub mod Programs
 pub mod ProperTranslations
@@ -123,6 +133,7 @@ pub mod ReferredStructs
 pub mod ReplacedOwners
 pub mod ResultTypes
 pub mod ReturnedOwners
+pub mod ReturnedStructs
 pub mod ReturnedUniques
 pub mod Returning
 pub mod RowTypes
@@ -145,7 +156,6 @@ pub mod Statements
 pub mod StillThere
 pub mod Stopping
 pub mod StringForms
-pub mod StructBirths
 pub mod StructForms
 pub mod StructLists
 pub mod StructMembers
@@ -177,4 +187,5 @@ pub mod WalkerForms
 pub mod WalkerSteps
 pub mod WellFormedTranslations
 pub mod WrittenLocals
+pub mod WrittenMembers
 pub mod WrittenResults

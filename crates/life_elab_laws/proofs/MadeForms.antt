@@ -1,7 +1,7 @@
 -- Owners that are made: what is found first, and the act that makes one of it, where a variable or a temporary has come to life.
-use Rattle.std.proofs.Common.{◌≡◌, ◌≤◌, inr, ℕ, Bool, true, false, List, [], ◌∷◌, ◌++◌, Contains, length, slice_get, None, refl, sym, ap, ◌∙◌, subst, arith, unwrap_or, not, inl, flat_map, slice_set}
+use Rattle.std.proofs.Common.{◌≡◌, ◌≤◌, inr, ℕ, Bool, true, false, List, [], ◌∷◌, ◌++◌, Contains, length, slice_get, None, refl, sym, ap, ◌∙◌, subst, arith, unwrap_or, not, inl, flat_map, slice_set, ◌<◌, length-append}
+use Rattle.std.proofs.lemmas.Bool.{false≢true}
 use Rattle.life_served.specs.Served.{is_owner_of_values}
-use Rattle.life_types.specs.Trees.{HasPartsBelow}
 use Rattle.life_types.specs.Types.{Types}
 use Rattle.life_types.specs.declared.place.Place.{Place}
 use Rattle.life_types.specs.declared.ty.Ty.{Ty}
@@ -14,28 +14,31 @@ use Rattle.life_typed.specs.declared.typed_expr.ExprType.TheVariants.{Of}
 use Rattle.life_type_expr.specs.Operands.{is_constant}
 use Rattle.life_core.specs.Function.{Function}
 use Rattle.life_core.specs.Operands.{Argument, Location, Operand, object_named, GivenOver, PointerOf, Value}
+use Rattle.life_core.specs.Step.{Live}
 use Rattle.life_core.specs.declared.instr.Form.{Form as LiveForm}
+use Rattle.life_core.specs.declared.instr.Form.TheVariants.{Plain}
 use Rattle.life_well_typed.specs.Expressions.{typed_in}
+use Rattle.life_writer.specs.Building.{Destination}
 use Rattle.life_writer.specs.Around.{Around, own_type}
 use Rattle.life_writer.specs.Characters.{Seen, InRegister, InString, InView}
 use Rattle.life_writer.specs.ExpressionForms.{uses}
-use Rattle.life_writer.specs.Temporaries.{temporary}
+use Rattle.life_writer.specs.Temporaries.{temporary, nameless_of}
 use Rattle.life_writer.specs.Uses.{Act, Remaining, Uses, lived, own}
 use Rattle.life_writer.specs.Using.{operand, operand_by, temporary_of}
-use Rattle.life_writer.specs.Writing.{Gives, State, ◌>>◌, emit, gives, mapped}
+use Rattle.life_writer.specs.Writing.{Gives, State, ◌>>◌, gives, mapped, with_code}
 use Rattle.life_core.specs.declared.instr.Made.{Made}
 use Rattle.life_elab_laws.proofs.UniqueSteps.{a_made, made_uses_of}
 use Rattle.life_elab_laws.proofs.ServedTypes.{IsBuilt}
 use Rattle.life_elab_laws.proofs.AppendForms.{a_found, IsFoundAt}
 use Rattle.life_elab_laws.proofs.Coming.{Comes, came, came_part, lived_comes}
 use Rattle.life_elab_laws.proofs.ExpressionForms.{Placed, Standing}
-use Rattle.life_elab_laws.proofs.Fronts.{front_length}
 use Rattle.life_proper.specs.WellFormed.{is_itself}
 use Rattle.life_writer.specs.Variables.{variable}
-use Rattle.life_elab_laws.proofs.Gifts.{Gift, a_place, a_pointer, all_handed, both, nothing as no_gift, AreHandedFor}
+use Rattle.life_elab_laws.proofs.Gifts.{Gift, a_given, a_place, a_pointer, all_handed, both, nothing as no_gift, AreHandedFor}
 use Rattle.life_elab_laws.proofs.Growing.{Grows}
 use Rattle.life_elab_laws.proofs.Handing.{HandingAlone, handing_none}
 use Rattle.life_elab_laws.proofs.ObjectForms.{IsObjectAt, IsOwner, object_owner, object_same, other_number}
+use Rattle.life_elab_laws.proofs.OrderedTypes.{HasPartsIn}
 use Rattle.life_elab_laws.proofs.Parts.{Makes, Part, keep_part, seen_part}
 use Rattle.life_elab_laws.proofs.PlainActs.{IsPlainAct, seen_names}
 use Rattle.life_elab_laws.proofs.PointerForms.{held_typed, own_typed}
@@ -55,9 +58,11 @@ use Rattle.life_proper.specs.declared.known.Known.TheVariants as known
 use Rattle.life_elab_laws.proofs.Among.{Among}
 use Rattle.life_elab_laws.proofs.Knowledge.{beside_set}
 use Rattle.life_elab_laws.proofs.Making.{AreHeld, IsHeld, IsOpen, IsPlace, IsPointer}
+use Rattle.life_core.specs.declared.program.LocalKind.TheVariants.{Object}
+use Rattle.life_writer.specs.Registers.{type_number, typed_with}
 
 -- of what an owner is made: of two texts, of another one of its type at a place, which is const or not, of what a view sees, of elements, which are found one after the other, or of what the
--- variable with a number owns; or a call gives it, which takes parameters of these types; or a unique_ptr to a type, of what it is made to own
+-- variable with a number owns; or a call gives it, which takes parameters of these types; or a unique_ptr to a type, of what it is made to own, or of an owner of a type that is given over to it
 pub data Making : Type 0 where
   of_texts : Making
   of_copy : (t : Ty) (constant : Bool) → Making
@@ -66,6 +71,7 @@ pub data Making : Type 0 where
   of_call : List TyId → Making
   of_moved : (x : ℕ) (t : Ty) → Making
   of_target : (target : TyId) → Making
+  of_content : (t : Ty) → Making
 
 -- .. which stand there
 abbrev pub Found : Making → Type 0
@@ -76,6 +82,7 @@ Found of_elements = Unit {0}
 Found (of_call ids) = List Argument
 Found (of_moved x t) = ℕ
 Found (of_target target) = Made
+Found (of_content t) = ℕ
 
 -- .. and may be looked at
 abbrev pub looked_found : (m : Making) → Found m → List ℕ
@@ -86,6 +93,7 @@ looked_found of_elements x = []
 looked_found (of_call ids) x = []
 looked_found (of_moved x t) y = y ∷ []
 looked_found (of_target target) what = []
+looked_found (of_content t) y = []
 
 module _ (a : Around) (visible : List ℕ) (types : Types) (texts : ℕ) (fs : List Function) (f : Function) (setting : Setting a types fs f) where
   abbrev Stood : State → Type 0
@@ -105,10 +113,12 @@ module _ (a : Around) (visible : List ℕ) (types : Types) (texts : ℕ) (fs : L
   gift_of (of_call ids) = all_handed types texts fs f ids
   gift_of (of_moved x t) = a_source types texts fs f t
   gift_of (of_target target) = a_made types texts fs f target
+  gift_of (of_content t) = a_given types texts fs f t
 
-  -- .. which is given over, where a call takes it
+  -- .. which is given over, where a call or a unique_ptr takes it
   abbrev pub given_found : (m : Making) → Found m → List ℕ
   given_found (of_call ids) xs = flat_map given_argument xs
+  given_found (of_content t) y = y ∷ []
   given_found _ x = []
 
   -- what is there is another local than one that isn't
@@ -118,14 +128,14 @@ module _ (a : Around) (visible : List ℕ) (types : Types) (texts : ℕ) (fs : L
       clash : ◌≡◌ {A = Known} known.Blank known.Ready → ⊥
       clash e = cc
 
-  held_stays : (x r n : ℕ) (k : List Known) → known_at k x ≡ known.Blank → IsHeld r n k → IsHeld r n (slice_set k x known.Ready)
+  pub held_stays : (x r n : ℕ) (k : List Known) → known_at k x ≡ known.Blank → IsHeld r n k → IsHeld r n (slice_set k x known.Ready)
   held_stays x r n k blank h = (h.0, ready_stays x r k blank h.1)
 
   all_held_stay : (x : ℕ) (rs : List ℕ) (n : ℕ) (k : List Known) → known_at k x ≡ known.Blank → AreHeld rs n k → AreHeld rs n (slice_set k x known.Ready)
   all_held_stay x [] n k blank h = tt
   all_held_stay x (r ∷ rs) n k blank h = (held_stays x r n k blank h.0, all_held_stay x rs n k blank h.1)
 
-  place_ready : (x : ℕ) (o : Operand) (n : ℕ) (k : List Known) → known_at k x ≡ known.Blank → IsPlace o n k → IsPlace o n (slice_set k x known.Ready)
+  pub place_ready : (x : ℕ) (o : Operand) (n : ℕ) (k : List Known) → known_at k x ≡ known.Blank → IsPlace o n k → IsPlace o n (slice_set k x known.Ready)
   place_ready x o n k blank h = record { local = h.local; uses = h.uses; below = h.below; held = ready_stays x h.local k blank h.held }
 
   pointer_ready : (x : ℕ) (l : Location) (n : ℕ) (k : List Known) → known_at k x ≡ known.Blank → IsPointer l n k → IsPointer l n (slice_set k x known.Ready)
@@ -152,6 +162,7 @@ module _ (a : Around) (visible : List ℕ) (types : Types) (texts : ℕ) (fs : L
   found_stays x (of_call ids) y n k blank aside h = handed_ready x ids y n k blank aside h
   found_stays x (of_moved z t) y n k blank aside h = place_ready x (object_named y) n k blank h
   found_stays x (of_target target) y n k blank aside h = all_held_stay x (made_uses_of y) n k blank h
+  found_stays x (of_content t) y n k blank aside h = (h.0, beside_set k x y known.Ready (λ e. aside (inl (sym e))) ∙ h.1)
 
   -- behind which each variable is the local that it was
   abbrev pub Steady : State → State → Type 0
@@ -161,16 +172,17 @@ module _ (a : Around) (visible : List ℕ) (types : Types) (texts : ℕ) (fs : L
   steady_same s s' e n c = ap (λ (vs : List ℕ). unwrap_or (slice_get vs n) 0) e
 
   -- what comes to life is a local, and none of the variables
-  pub record IsNew (s : State) (to : Operand) : Type 0 where
+  pub record IsNew (s s' : State) (to : Operand) : Type 0 where
     pub number : ℕ
     pub is : to ≡ object_named number
+    pub below : number < length s'.locals
     pub apart : (y : ℕ) → Contains s.living y → number ≡ y → ⊥
 
-  pub one_new : (s : State) (n : ℕ) → IsOpen s → length s.locals ≤ n → IsNew s (object_named n)
-  one_new s n opened h = record { number = n; is = refl; apart = λ y c e. let lt = opened y c in omega (arith, e, h, lt) }
+  pub one_new : (s s' : State) (n : ℕ) → IsOpen s → length s.locals ≤ n → n < length s'.locals → IsNew s s' (object_named n)
+  one_new s s' n opened h below = record { number = n; is = refl; below = below; apart = λ y c e. let lt = opened y c in omega (arith, e, h, lt) }
 
-  pub new_apart : (s : State) (to : Operand) → IsNew s to → (y : ℕ) → Contains s.living y → is_itself types texts fs f y to ≡ false
-  new_apart s to h y c = ap (is_itself types texts fs f y) h.is ∙ other_number h.number y (h.apart y c)
+  pub new_apart : (s s' : State) (to : Operand) → IsNew s s' to → (y : ℕ) → Contains s.living y → is_itself types texts fs f y to ≡ false
+  new_apart s s' to h y c = ap (is_itself types texts fs f y) h.is ∙ other_number h.number y (h.apart y c)
 
   -- plain is what no list builds
   pub record BuildsIn (plain : Bool) (t : Ty) (s : State) (w : Gives Remaining) : Type 0 where
@@ -181,8 +193,8 @@ module _ (a : Around) (visible : List ℕ) (types : Types) (texts : ℕ) (fs : L
     pub hands : HandingAlone types texts fs f over s (gives found w.state) (gift_of making)
     pub comes : Comes types texts fs f over s (gives found w.state) (gift_of making) hands t
     pub act : Act
-    pub lives : w.given ≡ (λ d r. d.begins r >> λ x r. gives x (act d.place (object_named x) (emit (comes.at d.place) (comes.step x) r)))
-    pub acts : (place : Place) (to : Operand) (s' : State) → Stood s' → Steady w.state s' → IsNew s to
+    pub lives : (d : Destination) (r : State) → w.given d r ≡ (d.begins r >> λ x r. gives x (act d.place (object_named x) (with_code (r.code ++ comes.code d.place x) r)))
+    pub acts : (place : Place) (to : Operand) (s' : State) → Stood s' → Steady w.state s' → IsNew s s' to
         → Part types texts fs f (both types texts fs f (gift_of making) (a_place types texts fs f t false)) (found, to) None s' (gives tt (act place to s')) (no_gift types texts fs f)
     pub alone : plain ≡ true → IsPlainAct act (looked_found making found) (Steady w.state)
     -- what is found stays ready where another local comes to life
@@ -190,7 +202,7 @@ module _ (a : Around) (visible : List ℕ) (types : Types) (texts : ℕ) (fs : L
 
   -- .. what comes to life by itself, and is filled then
   pub lived_builds : (plain : Bool) (t : Ty) (s r : State) (making : Making) (found : Found making) (form : LiveForm) (act : Act) → Makes types texts fs f None s (gives found r) (gift_of making) → given_found making found ≡ []
-      → ((place : Place) (to : Operand) (s' : State) → Stood s' → Steady r s' → IsNew s to → Part types texts fs f (both types texts fs f (gift_of making) (a_place types texts fs f t false)) (found, to) None s' (gives tt (act place to s')) (no_gift types texts fs f))
+      → ((place : Place) (to : Operand) (s' : State) → Stood s' → Steady r s' → IsNew s s' to → Part types texts fs f (both types texts fs f (gift_of making) (a_place types texts fs f t false)) (found, to) None s' (gives tt (act place to s')) (no_gift types texts fs f))
       → (plain ≡ true → IsPlainAct act (looked_found making found) (Steady r)) → BuildsIn plain t s (gives (lived form act) r)
   lived_builds plain t s r making found form act part none acts alone = record {
     making = making;
@@ -199,7 +211,7 @@ module _ (a : Around) (visible : List ℕ) (types : Types) (texts : ℕ) (fs : L
     hands = handing_none types texts fs f (no_gift types texts fs f) tt s (gives found r) (gift_of making) part;
     comes = lived_comes types texts fs f s (gives found r) (gift_of making) part form t;
     act = act;
-    lives = refl;
+    lives = λ d r. refl;
     acts = acts;
     alone = alone;
     stays = λ x n k blank aside ready. found_stays x making found n k blank (λ m. subst (Among x) none m) ready;
@@ -208,23 +220,41 @@ module _ (a : Around) (visible : List ℕ) (types : Types) (texts : ℕ) (fs : L
   abbrev pub Builds : Ty → State → Gives Remaining → Type 0
   Builds t s w = BuildsIn true t s w
 
+  -- which is one way of being built
+  pub less_plain : {plain : Bool} (t : Ty) (s : State) (w : Gives Remaining) → BuildsIn plain t s w → BuildsIn false t s w
+  less_plain t s w is = record {
+    making = is.making;
+    found = is.found;
+    over = is.over;
+    hands = is.hands;
+    comes = is.comes;
+    act = is.act;
+    lives = is.lives;
+    acts = is.acts;
+    alone = λ e. absurd (false≢true e);
+    stays = is.stays;
+  }
+
   -- .. as a temporary
   module _ {plain : Bool} (t : Ty) (place : Place) (s : State) (w : Gives Remaining) (owner : IsBuilt a.program.types t) (is : BuildsIn plain t s w) (stands : Stood s) where
     pub later : Stood w.state
     later = stands_later a visible s w.state is.hands.grown stands
 
     pub v : IsBuilt types t
-    v = built_later a.program.types types setting.front t owner
+    v = built_later a.program.types types setting.front setting.plain t owner
 
-    pub within : HasPartsBelow w.state.types (length w.state.types.types) t
-    within = built_below a.program.types w.state.types (front_length a.program.types.types w.state.types.types later.table) t owner
+    pub within : HasPartsIn w.state.types t
+    within = built_below a.program.types w.state.types later.table t owner
 
     -- it comes to life, and is pending
     abbrev pub born : Gives Operand
     born = came types texts fs f is.over s (gives is.found w.state) (gift_of is.making) is.hands t is.comes place (inr v) later.opened _ later.pends within
 
     pub born_further : Grows w.state born.state
-    born_further = born_grows types texts fs f place is.comes.step t w.state (inr v) later.opened _ later.pends within
+    born_further = born_grows types texts fs f place (λ y. Live y Plain) t w.state (inr v) later.opened _ later.pends within
+
+    born_there : length w.state.locals < length born.state.locals
+    born_there = omega (arith, length-append w.state.locals (nameless_of Object place (type_number t (typed_with t w.state)) ∷ []))
 
     -- .. behind what was found
     pub born_part : Makes types texts fs f None s (gives (is.found, born.given) born.state) (both types texts fs f (gift_of is.making) (a_place types texts fs f t false))
@@ -235,7 +265,7 @@ module _ (a : Around) (visible : List ℕ) (types : Types) (texts : ℕ) (fs : L
     built = is.act place born.given born.state
 
     pub act_part : Part types texts fs f (both types texts fs f (gift_of is.making) (a_place types texts fs f t false)) (is.found, born.given) None born.state (gives tt built) (no_gift types texts fs f)
-    act_part = is.acts place born.given born.state (stands_later a visible w.state born.state born_further later) (steady_same w.state born.state born_further.variables) (one_new s (length w.state.locals) stands.opened is.hands.grown.count)
+    act_part = is.acts place born.given born.state (stands_later a visible w.state born.state born_further later) (steady_same w.state born.state born_further.variables) (one_new s born.state (length w.state.locals) stands.opened is.hands.grown.count born_there)
 
     pub built_part : Makes types texts fs f None s (gives ((is.found, born.given), tt) built) (both types texts fs f (both types texts fs f (gift_of is.making) (a_place types texts fs f t false)) (no_gift types texts fs f))
     built_part =
@@ -249,20 +279,20 @@ module _ (a : Around) (visible : List ℕ) (types : Types) (texts : ℕ) (fs : L
         let G = no_gift types texts fs f in
         let Q = a_place types texts fs f t false in
         let B = both types texts fs f (gift_of is.making) Q in
-        subst (λ (r : Remaining). PlacedAs t false s (mapped object_named (r (temporary place t) w.state))) (sym is.lives)
+        subst (λ (g : Gives ℕ). PlacedAs t false s (mapped object_named g)) (sym (is.lives (temporary place t) w.state))
         (seen_part types texts fs f G tt None s (gives ((is.found, born.given), tt) built) (both types texts fs f B G) (λ y. y.0.1) Q built_part (λ b h. h.0.1) (λ n k h. h.0.1))
 
     -- it is no variable
     pub temporary_dead : (let r = w.given (temporary place t) w.state in Contains r.state.living r.given) → ⊥
     temporary_dead c =
-        let told = subst (λ (r : Remaining). let g = r (temporary place t) w.state in Contains g.state.living g.given) is.lives c in
+        let told = subst (λ (g : Gives ℕ). Contains g.state.living g.given) (is.lives (temporary place t) w.state) c in
         let far = later.opened (length w.state.locals) (subst (λ (xs : List ℕ). Contains xs (length w.state.locals)) (act_part.grown.living ∙ born_further.living) told) in
         omega (arith, far)
 
     -- .. nor the result
     pub temporary_spare : not (result_at types f (w.given (temporary place t) w.state).given) ≡ true
     temporary_spare =
-        subst (λ (r : Remaining). not (result_at types f (r (temporary place t) w.state).given) ≡ true) (sym is.lives)
+        subst (λ (g : Gives ℕ). not (result_at types f g.given) ≡ true) (sym (is.lives (temporary place t) w.state))
         (beyond_result types texts fs f (first_own a) (length w.state.locals) setting.own later.pends.past)
 
   -- ---- an expression that makes one

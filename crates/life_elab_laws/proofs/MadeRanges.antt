@@ -29,7 +29,7 @@ use Rattle.life_writer.specs.Writing.{Gives, State, gives, mapped, ◌>>◌}
 use Rattle.life_elab.specs.RangeForms.{element_of, hidden_by, opened, owner_range, range_type}
 use Rattle.life_elab_laws.proofs.Conditions.{Spares}
 use Rattle.life_elab_laws.proofs.Following.{Follows}
-use Rattle.life_elab_laws.proofs.Fronts.{IsFront, front_itself, front_length, front_then}
+use Rattle.life_elab_laws.proofs.Fronts.{IsFront, front_itself, front_length}
 use Rattle.life_elab_laws.proofs.Gifts.{Gift, a_place}
 use Rattle.life_elab_laws.proofs.GivenApart.{same_apart}
 use Rattle.life_elab_laws.proofs.Growing.{Begins, Grows}
@@ -70,7 +70,7 @@ module _ (types : Types) (texts : ℕ) (fs : List Function) (f : Function) where
   typed_part : {A : Type 0} (P : Gift types texts fs f A) (y : A) (t : Ty) (s : State) → HasPartsBelow s.types (length s.types.types) t → Part types texts fs f P y None s (gives y (typed_with t s)) P
   typed_part P y t s within = record {
     grown = typed_grows t s;
-    registers = (λ z l at. inl at, type_ordered s.types t within);
+    registers = (λ z l at. inl at, type_ordered s.types t (λ ordered. within));
     code = [];
     written = sym (append-nil s.code);
     runs = λ b p. record {
@@ -131,10 +131,8 @@ module _ (a : Around) (types : Types) (texts : ℕ) (fs : List Function) (f : Fu
   here : Begins types f told → ty_of types id ≡ t
   here b = ap or_void (b.table id.0 t (type_added there.types.types t))
 
-  fits : fits_hidden told.types (ty.Reference id false) ≡ true
-  fits =
-      ap (λ (o : Option Ty). is_owner_of_values told.types (unwrap_or o ty.Void)) (type_added there.types.types t)
-      ∙ owner_later a.program.types told.types (front_then a.program.types.types there.types.types told.types.types table (types_before there.types.types t)) t is.owner
+  fits : fits_hidden types told.types (ty.Reference id false) ≡ true
+  fits = ap (λ (o : Option Ty). is_owner_of_values types (unwrap_or o ty.Void)) (type_added there.types.types t) ∙ owner_later a.program.types types setting.front setting.plain t is.owner
 
   referred : Part types texts fs f (a_place types texts fs f t false) at None there last H
   referred =
@@ -152,8 +150,8 @@ module _ (a : Around) (types : Types) (texts : ℕ) (fs : List Function) (f : Fu
       (sym (held_typed a v.visible types texts fs f setting form) ∙ is.value)
       ∙ ap (λ (q : Ty). mapped object_named (w.given (scoped e.place q) w.state) >> λ o s. range_type category.Value q s >> λ u s. mapped (λ r. Owner (behind r)) (built (Fill colon (pointed (aimed (Aimed o)))) (hidden colon u) s))
       (own_as a v.visible types texts fs f setting form t is.is)
-      ∙ ap (λ (r : Remaining). mapped object_named (r (scoped e.place t) w.state) >> λ o s. range_type category.Value t s >> λ u s. mapped (λ r. Owner (behind r)) (built (Fill colon (pointed (aimed (Aimed o)))) (hidden colon u) s))
-      builds.lives
+      ∙ ap (λ (g : Gives ℕ). mapped object_named g >> λ o s. range_type category.Value t s >> λ u s. mapped (λ r. Owner (behind r)) (built (Fill colon (pointed (aimed (Aimed o)))) (hidden colon u) s))
+      (builds.lives (scoped e.place t) w.state)
 
   spared : (n : ℕ) (k j : List Known) → H.typed last.given → H.ready last.given n k → Spares types texts fs f k j → H.ready last.given n j
   spared n k j p q spares = base_spared types texts fs f (element_type a.program.types t) false last.given n k j p q spares

@@ -1,5 +1,5 @@
 -- What a part of an expression gives where so much is known, where it begins, and what of that it keeps.
-use Rattle.std.proofs.Common.{◌≡◌, ◌<◌, ◌≤◌, ℕ, true, false, List, [], ◌∷◌, Contains, length, slice_get, Option, Some, None, refl, ◌∙◌, arith, subst}
+use Rattle.std.proofs.Common.{◌≡◌, ◌<◌, ◌≤◌, ℕ, Bool, true, false, is_some, List, [], ◌∷◌, ◌++◌, Contains, length, slice_get, Option, Some, None, refl, ◌∙◌, arith, subst}
 use Rattle.life_core.specs.Function.{Function}
 use Rattle.life_core.specs.Kinds.{is_register_at}
 use Rattle.life_core.specs.Operands.{Location, Operand, whole}
@@ -21,12 +21,35 @@ use Rattle.life_elab_laws.proofs.Shaped.{is_passing}
 abbrev pub IsHeld : ℕ → ℕ → List Known → Type 0
 IsHeld r n k = (r < n) × (known_at k r ≡ known.Ready)
 
--- a pointer or a reference
+-- a pointer or a reference, in a local or in a member of one
 pub record IsPointer (l : Location) (n : ℕ) (k : List Known) : Type 0 where
   pub local : ℕ
-  pub is : l ≡ whole local
+  pub is : l.local ≡ local
   pub below : local < n
   pub held : known_at k local ≡ known.Ready
+
+-- a pointer lies in a register, or in a member of a variable
+abbrev pub is_named : Option Local → Bool
+is_named None = false
+is_named (Some l) = is_some l.name
+
+abbrev pub lies_by : (members : List ℕ) → (whole part : Bool) → Bool
+lies_by [] whole part = whole
+lies_by (m ∷ ms) whole part = part
+
+abbrev pub lies_in : Function → Location → Bool
+lies_in f l = lies_by l.members (is_register_at f l.local) (is_named (slice_get f.locals l.local))
+
+-- it is given something there, whatever the member is of
+abbrev pub fills_in : Function → Location → Bool
+fills_in f l = lies_by l.members (is_register_at f l.local) true
+
+pub lies_fills : (f : Function) (l : Location) → lies_in f l ≡ true → fills_in f l ≡ true
+lies_fills f l lies = go l.members lies
+  where
+    go : (members : List ℕ) → lies_by members (is_register_at f l.local) (is_named (slice_get f.locals l.local)) ≡ true → lies_by members (is_register_at f l.local) true ≡ true
+    go [] lies = lies
+    go (m ∷ members) lies = refl
 
 -- a place: an object itself, or what a pointer points to
 pub record IsPlace (o : Operand) (n : ℕ) (k : List Known) : Type 0 where
@@ -40,11 +63,12 @@ abbrev pub AreHeld : List ℕ → ℕ → List Known → Type 0
 AreHeld [] n k = Unit {0}
 AreHeld (x ∷ xs) n k = IsHeld x n k × AreHeld xs n k
 
--- an instruction with a hole uses locals that are there, and writes the register in the hole
+-- an instruction with a hole uses locals that are there, and writes the register in the hole, or a member of a local that is there too
 pub record IsFilling (f : Function) (step : Location → Step) (n : ℕ) (k : List Known) : Type 0 where
   pub uses : List ℕ
   pub held : AreHeld uses n k
   pub touches : (x : ℕ) → is_register_at f x ≡ true → touched_by f (step (whole x)) ≡ record nothing { uses = uses; writes = x ∷ [] }
+  pub parts : (x m : ℕ) (ms : List ℕ) → touched_by f (step (record { local = x; members = m ∷ ms })) ≡ record nothing { uses = uses ++ x ∷ [] }
 
 -- what a pointer may be given
 abbrev pub IsPointing : Function → Pointing → ℕ → List Known → Type 0

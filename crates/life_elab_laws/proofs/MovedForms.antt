@@ -49,12 +49,12 @@ module _ (a : Around) (visible : List ℕ) (types : Types) (texts : ℕ) (fs : L
     }
 
     -- what it owns goes to what has come to life
-    moving_part : (place : Place) (s : State) → Stood s → (to : Operand) (s' : State) → Steady a visible types texts fs f setting s s' → IsNew a visible types texts fs f setting s to
+    moving_part : (place : Place) (s : State) → Stood s → (to : Operand) (s' : State) → Steady a visible types texts fs f setting s s' → IsNew a visible types texts fs f setting s s' to
         → Part types texts fs f (both types texts fs f (a_source types texts fs f is.ty) (a_place types texts fs f is.ty false)) (variable s x, to) None s' (gives tt (emit place (Move to (variable s' x)) s')) (no_gift types texts fs f)
     moving_part place s stands to s' still new =
         let P = both types texts fs f (a_source types texts fs f is.ty) (a_place types texts fs f is.ty false) in
         subst (λ (y : ℕ). Part types texts fs f P (variable s x, to) None s' (gives tt (emit place (Move to y) s')) (no_gift types texts fs f)) (sym (still x c))
-        (moves_part types texts fs f P (variable s x, to) is.ty to (variable s x) place s' is.owner (λ h. (h.1, h.0)) (λ n k q. (q.1, q.0)) (new_apart a visible types texts fs f setting s to new (variable s x) (lives s stands)))
+        (moves_part types texts fs f P (variable s x, to) is.ty to (variable s x) place s' is.owner (λ h. (h.1, h.0)) (λ n k q. (q.1, q.0)) (new_apart a visible types texts fs f setting s s' to new (variable s x) (lives s stands)))
 
     pub moved_builds : (place : Place) (s : State) → Stood s → Builds a visible types texts fs f setting is.ty s (gives (lived Plain (moved_out_of place x)) s)
     moved_builds place s stands =

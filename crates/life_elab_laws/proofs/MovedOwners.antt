@@ -128,7 +128,7 @@ module _ (a : Around) (visible : List ℕ) (types : Types) (texts : ℕ) (fs : L
           kind (a_raw target constant at w) = absurd (refused l.constant kinds.Unsupported (moves (ty.Raw target constant) at))
           kind (a_reference target constant at w) = absurd (refused constant kinds.Unsupported (moves (ty.Reference target constant) at))
           kind (an_alias target constant at o) = absurd (refused constant kinds.Unsupported (moves (ty.Reference target constant) at))
-          kind (a_struct_alias target constant number at structure) = absurd (refused constant kinds.Unsupported (moves (ty.Reference target constant) at))
+          kind (a_struct_alias target constant number at structure pointless) = absurd (refused constant kinds.Unsupported (moves (ty.Reference target constant) at))
           kind (a_view at) = absurd (refused l.constant kinds.Unsupported (moves ty.View at))
           kind (a_walker t at w) = absurd (no_walker t w (moves t at))
           kind (a_struct number at) = absurd (refused l.constant kinds.Unsupported (moves (ty.Struct number) at))

@@ -153,7 +153,7 @@ module _ (a : Around) (visible : List ℕ) (types : Types) (texts : ℕ) (fs : L
           (λ n k h. subst (λ (o : Operand). IsPlace o n k) here h))
           refl
           (λ place to s' there still new.
-          moves_part types texts fs f P (variable s x, to) t to (variable s x) place s' (owner_moves a.program.types t is.object.owner) (λ h. (h.1, h.0)) (λ n k q. (q.1, q.0)) (new_apart a visible types texts fs f setting s to new (variable s x) v.lives))
+          moves_part types texts fs f P (variable s x, to) t to (variable s x) place s' (owner_moves a.program.types t is.object.owner) (λ h. (h.1, h.0)) (λ n k q. (q.1, q.0)) (new_apart a visible types texts fs f setting s s' to new (variable s x) v.lives))
           (λ plain. record {
             free = λ place to s' pending. refl;
             kept = λ place to s' living. refl;

@@ -14,7 +14,7 @@ use Rattle.life_writer.specs.Around.{Around}
 use Rattle.life_writer.specs.ExpressionForms.{form_uses, uses}
 use Rattle.life_writer.specs.Using.{operand}
 use Rattle.life_writer.specs.Variables.{variable}
-use Rattle.life_elab_laws.proofs.Expressions.{behind_reached, edge_of, indexed_of, owner_expression, walker_expression, whole_expression}
+use Rattle.life_elab_laws.proofs.Expressions.{behind_reached, edge_of, indexed_of, owner_expression, walker_expression, whole_expression, holding_expression}
 use Rattle.life_elab_laws.proofs.MovedOwners.{IsNamedAt, variable_named}
 use Rattle.life_elab_laws.proofs.ObjectForms.{IsReached}
 use Rattle.life_elab_laws.proofs.BehindPointers.{behind_apart, behind_pointer}
@@ -40,9 +40,9 @@ module _ (a : Around) (visible : List ℕ) (types : Types) (texts : ℕ) (fs : L
     named_made (paren inner closing) e b n h place = named_target inner b (ap (λ (y : Typed). is_owner_type y.ty) (ok_same h.0) ∙ n) h.1
     named_made (call g given delimiters) e b n h place = record { apart = λ x v c found free s stands. refl }
     named_made (dereference inner) e b n h place =
-        elim (or_cases (is_served_form texts inner) (is_served_walker texts inner || is_served_unique inner) b) [
+        elim (or_cases (is_served_form texts inner) (is_served_walker texts inner || is_served_unique texts inner) b) [
           | inl v ↦ let is = whole_expression a visible types texts fs f setting inner v h.1 in record { apart = λ x l c found free s stands. behind_apart a visible types texts fs f setting inner e place is (behind_pointer a.program.types (typed_in inner) e is.kind.kind h.0) s (variable s x) }
-          | inr others ↦ reached_apart (dereference inner) e place (behind_reached a visible types texts fs f setting inner e others h (λ w. walker_expression a visible types texts fs f setting inner w h.1))
+          | inr others ↦ reached_apart (dereference inner) e place (behind_reached a visible types texts fs f setting inner e others h (λ w. walker_expression a visible types texts fs f setting inner w h.1) (λ u. holding_expression a visible types texts fs f setting inner u h.1))
         ]
     named_made (index base position closing) e b n h place =
         let parts = and_parts (is_served_either base (is_served_owner texts base) (is_served_form texts base) || is_served_walker texts base) (is_served_form texts position) b in
@@ -56,12 +56,13 @@ module _ (a : Around) (visible : List ℕ) (types : Types) (texts : ℕ) (fs : L
 
   -- .. so for a unique_ptr
   mutual
-    pub named_unique_target : (form : Form) → is_served_unique form ≡ true → IsExpression a.program a.function.locals visible form → IsNamedAt a visible types texts fs f setting (named_in form) ((uses a form).at)
-    named_unique_target (typed place t c form) b h = named_unique_made form (record { place = place; ty = t; category = c; form = form }) (and_parts (is_unique_type t) (is_served_unique form) b).1 h place
+    pub named_unique_target : (form : Form) → is_served_unique texts form ≡ true → IsExpression a.program a.function.locals visible form → IsNamedAt a visible types texts fs f setting (named_in form) ((uses a form).at)
+    named_unique_target (typed place t c form) b h = named_unique_made form (record { place = place; ty = t; category = c; form = form }) (and_parts (is_unique_type t) (is_served_unique texts form) b).1 h place
     named_unique_target _ b h = absurd h
 
-    named_unique_made : (form : Form) (e : Typed) → is_served_unique form ≡ true → IsMadeOf a.program a.function.locals visible e form → (place : Place) → IsNamedAt a visible types texts fs f setting (named_in form) ((form_uses a form place e.ty e.category).at)
+    named_unique_made : (form : Form) (e : Typed) → is_served_unique texts form ≡ true → IsMadeOf a.program a.function.locals visible e form → (place : Place) → IsNamedAt a visible types texts fs f setting (named_in form) ((form_uses a form place e.ty e.category).at)
     named_unique_made (local x) e b h place = variable_named a visible types texts fs f setting x e h.0 h.1
     named_unique_made (paren inner closing) e b h place = named_unique_target inner b h.1
+    named_unique_made (call g given delimiters) e b h place = record { apart = λ x v c found free s stands. refl }
     named_unique_made (typed at t c form) e b h place = absurd h
     named_unique_made _ e b h place = absurd (false≢true b)

@@ -33,8 +33,7 @@ use Rattle.life_elab_laws.proofs.OperandsThere.{object_there, register_there, ty
 use Rattle.life_elab_laws.proofs.Shaping.{IsFineStep}
 use Rattle.life_elab_laws.proofs.Types.{value_kind}
 use Rattle.life_elab_laws.proofs.VariablePlaces.{owner_kind}
-use Rattle.life_elab_laws.proofs.Targets.{one_target, target_type}
-use Rattle.life_elab_laws.proofs.Shaped.{target_there}
+use Rattle.life_elab_laws.proofs.Targets.{one_target, target_type, target_unslotted}
 
 module _ (a : Around) (types : Types) (texts : ℕ) (fs : List Function) (f : Function) (front : IsFront a.program.types.types types.types) where
   -- what a reference is bound to fits it
@@ -124,7 +123,7 @@ module _ (a : Around) (types : Types) (texts : ℕ) (fs : List Function) (f : Fu
       pub reference_declared : type_in types f (whole (length s.locals)) ≡ ty.Reference target constant
       reference_declared =
           reference_there types f (length s.locals) (variable_local a v) target constant there (front v.ty.0 (ty.Reference target constant) found)
-          (target_there a.program.types types front target worth)
+          (target_unslotted a.program.types types front target worth)
 
       pub reference_kept : register_at types f (length s.locals) ≡ true
       reference_kept = register_there types f (length s.locals) (variable_local a v) there (ap (λ (o : Option Ty). kind (class o)) found)

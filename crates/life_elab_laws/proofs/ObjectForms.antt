@@ -19,7 +19,7 @@ use Rattle.life_typed.specs.declared.typed_expr.ExprType.TheVariants.{NullPointe
 use Rattle.life_typed.specs.declared.typed_program.TypedLocal.{TypedLocal}
 use Rattle.life_type_expr.specs.Operands.{is_constant, place_of as place_typed, variable_of}
 use Rattle.life_core.specs.Function.{Function}
-use Rattle.life_core.specs.Operands.{Base, Operand, Owner, Pointer, Location}
+use Rattle.life_core.specs.Operands.{Base, Operand, Owner, Pointer}
 use Rattle.life_core.specs.declared.operand.Which.{Which}
 use Rattle.life_proper.specs.OperandTypes.{owned_element, seen_element}
 use Rattle.life_core.specs.declared.program.LocalKind.TheVariants.{Object, Register}
@@ -189,7 +189,7 @@ module _ (a : Around) (visible : List ℕ) (types : Types) (texts : ℕ) (fs : L
               }
           kind (a_unique target at w) = other (ty.Unique target) (ap (λ (y : Typed). y.ty) (named (ty.Unique target) at) ∙ ap Of (typed (ty.Unique target) at)) refl
           kind (a_struct number at) = other (ty.Struct number) (ap (λ (y : Typed). y.ty) (named (ty.Struct number) at) ∙ ap Of (typed (ty.Struct number) at)) refl
-          kind (a_struct_alias target constant number at structure) = other (ty.Struct number) (ap (λ (y : Typed). y.ty) (named (ty.Reference target constant) at) ∙ ap Of structure) refl
+          kind (a_struct_alias target constant number at structure pointless) = other (ty.Struct number) (ap (λ (y : Typed). y.ty) (named (ty.Reference target constant) at) ∙ ap Of structure) refl
           kind (a_walker t at w) = other t (ap (λ (y : Typed). y.ty) (walker_named a.program.types e l.ty l.constant (local x) t w (named t at)) ∙ ap Of (typed t at)) (walker_is a.program.types t w).owner
           kind (an_owner t at o) = record {
             ty = t;
@@ -226,7 +226,7 @@ module _ (a : Around) (visible : List ℕ) (types : Types) (texts : ℕ) (fs : L
         (seen_part types texts fs f (no_gift types texts fs f) tt None s (pointer (uses a base) (own (uses a base)) s) (a_pointer types texts fs f ty.View) Pointer (a_base types texts fs f ty.Char true)
         (pointer_whole a visible types texts fs f setting base is ty.View at refl (own (uses a base)) s stands)
         (λ b h. record { element = ap (seen_element types) h.typed; held = refl })
-        (λ n k q. record { local = q.local; uses = ap (λ (l : Location). l.local ∷ []) q.is; below = q.below; held = q.held }));
+        (λ n k q. record { local = q.local; uses = ap (λ (x : ℕ). x ∷ []) q.is; below = q.below; held = q.held }));
   }
 
   -- an owner
@@ -290,7 +290,7 @@ module _ (a : Around) (visible : List ℕ) (types : Types) (texts : ℕ) (fs : L
         let both_stand = stands_later a visible b.state w.state other.grown later in
         then_part types texts fs f (no_gift types texts fs f) tt None s (gives (b.given, w.given) w.state) _ (both types texts fs f P Q) (a_place types texts fs f t constant) stands.opened
         (and_part types texts fs f (no_gift types texts fs f) tt s b w P Q stands.opened first other)
-        (element_part types texts fs f a.program.types place id constant t (b.given, w.given) w.state setting.front both_stand.table here is.worth)
+        (element_part types texts fs f a.program.types place id constant t (b.given, w.given) w.state setting.front setting.plain both_stand.table here is.worth)
 
   -- a value at a place, which is named whatever it is made by
   pub element_form : (form : Form) (e : Typed) (id : TyId) (constant : Bool) (t : Ty) → e.ty ≡ Of t → e.category ≡ category.Place id constant → type_at a.program.types id ≡ t → is_value t ≡ true → form_call form ≡ None

@@ -33,11 +33,11 @@ use Rattle.life_elab_laws.proofs.PartsUnder.{ended_part}
 use Rattle.life_elab_laws.proofs.RangeBases.{a_hidden_base, base_spared}
 use Rattle.life_elab_laws.proofs.RangeOpening.{AreIterators, IsRange, cursor_part, iterators}
 use Rattle.life_elab_laws.proofs.Setting.{Setting}
-use Rattle.life_elab_laws.proofs.Shaped.{element_later}
+use Rattle.life_elab_laws.proofs.Shaped.{element_further}
 use Rattle.life_elab_laws.proofs.Targets.{target_same}
 use Rattle.life_elab_laws.proofs.TemporaryEnds.{TemporariesEnd, temporary_ends}
 use Rattle.life_elab_laws.proofs.Under.{both_there}
-use Rattle.life_elab_laws.proofs.WrittenLocals.{fits_hidden}
+use Rattle.life_elab_laws.proofs.WrittenLocals.{fits_hidden, there_later}
 use Rattle.life_elab_laws.proofs.OwnLocals.{first_own}
 
 module _ (a : Around) (types : Types) (texts : ℕ) (fs : List Function) (f : Function) (setting : Setting a types fs f) (v : Visible) where
@@ -85,8 +85,8 @@ module _ (a : Around) (types : Types) (texts : ℕ) (fs : List Function) (f : Fu
       opened_there : IsOpen hid.state
       opened_there = range.follows.stands.opened
 
-      fits : (r : State) → IsFront a.program.types.types r.types.types → fits_hidden r.types (ty.Iterator id constant) ≡ true
-      fits r front = element_later a.program.types r.types front id worth
+      fits : (r : State) → IsFront a.program.types.types r.types.types → fits_hidden types r.types (ty.Iterator id constant) ≡ true
+      fits r front = there_later a.program.types r.types front (is_element types) refl id (element_further a.program.types types setting.front setting.plain (type_at a.program.types id) worth)
 
       first : Part types texts fs f Q hid.given None hid.state (gives (hid.given, one.given) one.state) (both types texts fs f Q I)
       first =

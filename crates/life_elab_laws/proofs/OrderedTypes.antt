@@ -1,8 +1,8 @@
 -- A table stays ordered as the types of registers are added: each type comes behind its parts and stands once, and no struct comes in.
-use Rattle.std.proofs.Common.{◌≡◌, ◌≤◌, ◌⊎◌, inl, inr, ℕ, zero, suc, Bool, true, false, List, [], ◌∷◌, ◌++◌, length, slice_get, Some, if◌then◌else◌, refl, sym, ap, ◌∙◌, subst, arith, length-append}
+use Rattle.std.proofs.Common.{◌≡◌, ◌≤◌, ◌⊎◌, inl, inr, ℕ, zero, suc, Bool, true, false, List, [], ◌∷◌, ◌++◌, length, slice_get, Some, if◌then◌else◌, refl, sym, ap, ◌∙◌, subst, arith, length-append, unwrap_or}
 use Rattle.std.specs.List.{list_any}
 use Rattle.std.proofs.lemmas.Option.{none-some, same_Some}
-use Rattle.life_types.specs.Trees.{AllBelow, HasPartsBelow, IsOrdered}
+use Rattle.life_types.specs.Trees.{AllBelow, HasPartsBelow, IsOrdered, members_at}
 use Rattle.life_types.specs.Types.{Types, HasEachOnce, with_type}
 use Rattle.life_types.specs.contracts.ty.TyPartialEq.TheImpl.{ghosts as compared}
 use Rattle.life_types.specs.declared.ty.Ty.{Ty}
@@ -20,6 +20,10 @@ order_none table = record { structs = refl; ordered = λ h. h; once = λ h. h }
 
 pub order_then : (a b c : Types) → KeepsOrder a b → KeepsOrder b c → KeepsOrder a c
 order_then a b c first second = record { structs = second.structs ∙ first.structs; ordered = λ h. second.ordered (first.ordered h); once = λ h. second.once (first.once h) }
+
+-- structs have the members that they had
+pub members_later : (few more : Types) → KeepsOrder few more → (number : ℕ) → members_at more number ≡ members_at few number
+members_later few more order number = ap (λ (ss : List (List TyId)). unwrap_or (slice_get ss number) []) order.structs
 
 -- ---- one more type
 
@@ -39,12 +43,16 @@ pushed_at [] t (suc n) u at = absurd (none-some u at)
 pushed_at (x ∷ xs) t zero u at = inl at
 pushed_at (x ∷ xs) t (suc n) u at = elim (pushed_at xs t n u at) [ inl before ↦ inl before | inr last ↦ inr (ap suc last.0, last.1) ]
 
-module _ (table : Types) (t : Ty) (below : HasPartsBelow table (length table.types) t) where
+-- the parts of a type that comes in are there before it
+abbrev pub HasPartsIn : Types → Ty → Type 0
+HasPartsIn table t = IsOrdered table → HasPartsBelow table (length table.types) t
+
+module _ (table : Types) (t : Ty) (within : HasPartsIn table t) where
   pushed_ordered : IsOrdered table → IsOrdered (record table { types = table.types ++ t ∷ [] })
   pushed_ordered h = record {
     parts = λ n u at. elim (pushed_at table.types t n u at) [
       | inl before ↦ parts_beside table (table.types ++ t ∷ []) n u (h.parts n u before)
-      | inr last ↦ parts_beside table (table.types ++ t ∷ []) n u (subst (λ (v : Ty). HasPartsBelow table n v) (sym last.1) (subst (λ (m : ℕ). HasPartsBelow table m t) (sym last.0) below))
+      | inr last ↦ parts_beside table (table.types ++ t ∷ []) n u (subst (λ (v : Ty). HasPartsBelow table n v) (sym last.1) (subst (λ (m : ℕ). HasPartsBelow table m t) (sym last.0) (within h)))
     ];
     members = λ n ids at. all_below (length table.types) (length (table.types ++ t ∷ [])) (omega (arith, length-append table.types (t ∷ []))) ids (h.members n ids at);
   }

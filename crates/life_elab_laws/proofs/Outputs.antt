@@ -12,7 +12,7 @@ use Rattle.life_typed.specs.TypedStatement.{ItemForm, line_end, printed}
 use Rattle.life_typed.specs.declared.typed_expr.ExprType.{ExprType}
 use Rattle.life_typed.specs.declared.typed_expr.ExprType.TheVariants.{NullPointer, Of, TextLiteral}
 use Rattle.life_core.specs.Function.{Function}
-use Rattle.life_core.specs.Operands.{Location, Text, whole as whole_local}
+use Rattle.life_core.specs.Operands.{Text, whole as whole_local}
 use Rattle.life_core.specs.Step.{Aim, Ports, Writes, WritesView}
 use Rattle.life_proper.specs.Knowing.{known_at}
 use Rattle.life_proper.specs.Placed.{type_in}
@@ -109,7 +109,7 @@ module _ (a : Around) (visible : List ℕ) (types : Types) (texts : ℕ) (fs : L
       (then_part types texts fs f (nothing types texts fs f) tt None s l _ Q (nothing types texts fs f) stands.opened
       (then_part types texts fs f (nothing types texts fs f) tt None s x l P Q stands.opened (shows s stands) (viewed_part types texts fs f x.given x.state))
       (acted_part types texts fs f Q l.given e.place (Ports (WritesView l.given)) l.state (λ h. record { given = refl; formed = ap is_view h.typed })
-      (λ n k p. uses_ready k (l.given.local ∷ []) [] (one_there k l.given.local (ap (λ (q : Location). known_at k q.local) p.is ∙ p.held))) (λ n m k p. keeps_all f m None k)))
+      (λ n k p. uses_ready k (l.given.local ∷ []) [] (one_there k l.given.local (ap (known_at k) p.is ∙ p.held))) (λ n m k p. keeps_all f m None k)))
 
   -- what is printed and is no number has no value
   seen_no_value : (t : ExprType) → is_seen t ≡ true → is_value (own_type t) ≡ false

@@ -1,7 +1,7 @@
 -- A unique_ptr comes to life, and is made to own an owner that is given over to it: that stands before, and is gone behind.
-use Rattle.std.proofs.Common.{◌≡◌, ◌<◌, inl, inr, ℕ, Bool, true, List, [], ◌∷◌, ◌++◌, length, slice_set, refl, sym, ap, ◌∙◌, subst, arith, if◌then◌else◌}
-use Rattle.life_served.specs.Served.{is_owner_of_values}
+use Rattle.std.proofs.Common.{◌≡◌, ◌<◌, inl, inr, ℕ, Bool, true, false, List, [], ◌∷◌, ◌++◌, length, slice_set, refl, sym, ap, ◌∙◌, subst, arith, if◌then◌else◌}
 use Rattle.life_types.specs.Pointees.{ty_of}
+use Rattle.life_types.specs.TypeTests.{is_value}
 use Rattle.life_types.specs.Types.{Types}
 use Rattle.life_types.specs.declared.place.Place.{Place}
 use Rattle.life_types.specs.declared.ty.Ty.{Ty}
@@ -27,7 +27,7 @@ use Rattle.life_elab_laws.proofs.Falling.{Falls, falls_acts, falls_append, falls
 use Rattle.life_elab_laws.proofs.Knowledge.{at_set, beside_set}
 use Rattle.life_elab_laws.proofs.Saving.{live_fills}
 use Rattle.life_elab_laws.proofs.Shaping.{IsFine, fine_acts, fine_append, fine_gives}
-use Rattle.life_elab_laws.proofs.TakenOwners.{owner_consumed}
+use Rattle.life_elab_laws.proofs.TakenOwners.{object_consumed}
 use Rattle.life_elab_laws.proofs.UnseenLocals.{all_leave, set_swap}
 
 module _ (types : Types) (texts : ℕ) (fs : List Function) (f : Function) (n x : ℕ) (begins place : Place) where
@@ -41,11 +41,11 @@ module _ (types : Types) (texts : ℕ) (fs : List Function) (f : Function) (n x 
   owned_code = lives ++ makes
 
   -- it is well formed
-  pub owned_fine : (few : Types) (target : TyId) (t : Ty) → is_owner_of_values few t ≡ true → ty_of types target ≡ t → can_live types texts fs f n ≡ true → type_in types f (whole n) ≡ ty.Unique target → is_given types f t x ≡ true → IsFine types texts fs f owned_code
-  owned_fine few target t owner holds can typed given =
+  pub owned_fine : (target : TyId) (t : Ty) → is_value t ≡ false → ty_of types target ≡ t → can_live types texts fs f n ≡ true → type_in types f (whole n) ≡ ty.Unique target → is_given types f t x ≡ true → IsFine types texts fs f owned_code
+  owned_fine target t plain holds can typed given =
       fine_append types texts fs f lives makes (fine_acts types texts fs f begins (Live n Plain) (record { given = refl; formed = can }))
       (fine_gives types texts fs f place (Make (whole n) (made.Of x)) refl
-      (ap (λ (b : Ty). is_made_for types texts fs f b (made.Of x)) typed ∙ owner_consumed few types f t (ty_of types target) x owner holds given))
+      (ap (λ (b : Ty). is_made_for types texts fs f b (made.Of x)) typed ∙ object_consumed types f t (ty_of types target) x plain holds given))
 
   -- on a way, where x has come
   module _ (older : x ≡ n → ⊥) (object : is_object_at f x ≡ true) (k : List Known) (within : n < length k) (none : known_at k x ≡ known.Blank) (born : known_at k n ≡ known.Blank) where

@@ -1,5 +1,5 @@
 -- Copies of owners at a place, and views of the whole of a string.
-use Rattle.std.proofs.Common.{◌≡◌, ◌++◌, ℕ, Bool, true, false, not, if◌then◌else◌, List, [], None, Some, Option, refl, sym, ap, ◌∙◌, subst, slice_get}
+use Rattle.std.proofs.Common.{◌≡◌, ◌++◌, ℕ, Bool, true, false, not, if◌then◌else◌, List, [], None, Some, Option, refl, sym, ap, ◌∙◌, subst, slice_get, append_assoc, ◌∷◌}
 use Rattle.std.proofs.lemmas.Bool.{and_from, false≢true}
 use Rattle.life_served.specs.Served.{is_owner_of_values}
 use Rattle.life_types.specs.Pointees.{or_void}
@@ -32,6 +32,7 @@ use Rattle.life_elab_laws.proofs.Parts.{Part}
 use Rattle.life_elab_laws.proofs.Shaping.{IsFineStep}
 use Rattle.life_elab_laws.proofs.Types.{same_type}
 use Rattle.life_elab_laws.proofs.ViewSteps.{view_taker}
+use Rattle.life_elab_laws.proofs.Filling.{only_uses}
 
 -- ---- the types of owners
 
@@ -92,7 +93,7 @@ module _ (types : Types) (texts : ℕ) (fs : List Function) (f : Function) where
   whole_given o text = λ u l loc at taken. record {
     given = refl;
     formed =
-        ap (λ (t : Ty). is_source_of types texts fs f t (Whole o)) (at.typed ∙ view_taker types u loc taken)
+        ap (λ (t : Ty). is_source_of types texts fs f t (Whole o)) (at ∙ view_taker types u loc taken)
         ∙ and_from (spans types ty.View (type_of types f o)) true (ap (spans types ty.View) text) refl;
   }
 
@@ -101,4 +102,5 @@ module _ (types : Types) (texts : ℕ) (fs : List Function) (f : Function) where
     uses = place_uses o ++ [];
     held = subst (λ (xs : List ℕ). AreHeld (xs ++ []) n k) (sym h.uses) ((h.below, h.held), tt);
     touches = λ x e. refl;
+    parts = λ x m ms. only_uses (sym (append_assoc (place_uses o) [] (x ∷ [])));
   }

@@ -1,9 +1,9 @@
 -- Variables, calls, pointers, places behind them, literals, and what is seen: how each is written.
-use Rattle.std.proofs.Common.{◌≡◌, ◌⊎◌, inl, inr, ℕ, Bool, true, List, [], ◌∷◌, Contains, length, nat_lt, slice_get, Option, Some, None, refl, sym, ap, ◌∙◌, subst, unwrap_or, false, ◌||◌}
+use Rattle.std.proofs.Common.{◌≡◌, ◌⊎◌, inl, inr, ℕ, Bool, true, List, [], ◌∷◌, Contains, length, nat_lt, slice_get, Option, Some, None, refl, sym, ap, ◌∙◌, subst, unwrap_or}
 use Rattle.std.proofs.lemmas.Bool.{and_from, false≢true}
-use Rattle.life_served.specs.Served.{is_plain_type, is_walker_of_values, is_owning}
+use Rattle.life_served.specs.Served.{is_plain_type}
 use Rattle.life_types.specs.Pointees.{or_void, ty_of}
-use Rattle.life_types.specs.TypeTests.{is_raw, is_value, is_void}
+use Rattle.life_types.specs.TypeTests.{is_raw, is_value}
 use Rattle.life_types.specs.Types.{Types}
 use Rattle.life_types.specs.declared.place.Place.{Place}
 use Rattle.life_types.specs.declared.ty.Ty.{Ty}
@@ -43,11 +43,11 @@ use Rattle.life_writer.specs.Writing.{Gives, State, ◌>>◌, gives, mapped}
 use Rattle.life_elab_laws.proofs.Aiming.{literal_given, null_given, place_given}
 use Rattle.life_elab_laws.proofs.HandedArguments.{Hands as AllHanded}
 use Rattle.life_elab_laws.proofs.HandingCalls.{call_part}
-use Rattle.life_elab_laws.proofs.LentArguments.{plain_hands}
+use Rattle.life_elab_laws.proofs.PointedCalls.{GivesPointer, gives_called, gives_plainly}
 use Rattle.life_elab_laws.proofs.CalledPointers.{pointed_call, referred_call, viewed_call, walked_call}
 use Rattle.life_elab_laws.proofs.ExpressionForms.{IsCall, IsForm, IsWhole, nullable_raw, of_number, place_form, pointer_form, pointer_own, pointing_itself, no_literal, no_null}
 use Rattle.life_elab_laws.proofs.ExpressionKinds.{IsAddressed, IsDereferenced, kind_local, variable_built}
-use Rattle.life_elab_laws.proofs.ExpressionTypes.{IsAnswered, answered_as, answers_nothing, answers_place, answers_raw, answers_struct, answers_value, answers_view, own_value, answers_owner, answers_walker, answers_made, answers_unique}
+use Rattle.life_elab_laws.proofs.ExpressionTypes.{IsAnswered, answered_as, answers_nothing, answers_place, answers_raw, answers_struct, answers_value, answers_view, own_value, answers_owner, answers_walker, answers_made, answers_unique, answers_whole}
 use Rattle.life_elab_laws.proofs.Filling.{aimed_filling, null_filling, text_filling}
 use Rattle.life_elab_laws.proofs.FormedVariables.{behind_place, const_same, pointer_formed, type_later, variable_formed, owner_no_value, value_no_void, owner_no_location}
 use Rattle.life_elab_laws.proofs.Gifts.{IsGivenAs, a_number, a_place, a_pointer, a_pointing, arguments}
@@ -76,6 +76,9 @@ module _ (a : Around) (visible : List ℕ) (types : Types) (texts : ℕ) (fs : L
 
   abbrev Points : ExprType → State → Gives Pointing → Type 0
   Points t s w = Makes types texts fs f None s w (a_pointing types texts fs f t)
+
+  abbrev PointsAt : ExprType → State → Gives Pointing → Type 0
+  PointsAt t s w = GivesPointer types texts fs f t s w
 
   abbrev Hands : FunctionForm → State → Gives (List Argument) → Type 0
   Hands of s w = AllHanded types texts fs f (parameter_types (Some of)) s w
@@ -155,11 +158,6 @@ module _ (a : Around) (visible : List ℕ) (types : Types) (texts : ℕ) (fs : L
       let t = setting.results g of there in
       ap or_void (setting.front of.result.0 t.0 t.1) ∙ sym (ap (λ (o : Option Ty). unwrap_or o ty.Void) t.1)
 
-  pub walker_lent : (t : Ty) → is_walker_of_values a.program.types t ≡ true → (is_void t || (is_value t || is_owning a.program.types t)) ≡ false
-  walker_lent (ty.Iterator target constant) w = refl
-  walker_lent (ty.Span target constant) w = refl
-  walker_lent _ w = absurd (false≢true w)
-
   module _ (g : ℕ) (given : Form) (delimiters : DelimitersForm) (e : Typed) (is : IsCall a visible types texts fs f setting (record { function = g; arguments = given; delimiters = delimiters }) e.ty e.category) where
     abbrev Answers : Type 0
     Answers = IsAnswered a.program.types (type_at a.program.types is.of.result) e.ty e.category
@@ -170,10 +168,6 @@ module _ (a : Around) (visible : List ℕ) (types : Types) (texts : ℕ) (fs : L
     later : ty_of types is.of.result ≡ type_at a.program.types is.of.result
     later = result_later g is.of is.there
 
-    -- where no owner is given over
-    lent : (t : Ty) → type_at a.program.types is.of.result ≡ t → (is_void t || (is_value t || is_owning a.program.types t)) ≡ false → (s : State) → Standing s → Makes types texts fs f None s (handed s) (arguments types texts fs f (parameter_types (Some is.of)))
-    lent t same plain s stands = plain_hands a types texts fs f setting g is.of is.there (ap (λ (t : Ty). is_void t || (is_value t || is_owning a.program.types t)) same ∙ plain) s (handed s) (is.hands s stands)
-
     computed : Answers → e.category ≡ category.Value → is_number e.ty ≡ true → (place : Place) (into : Option ℕ) (s : State) → IsIntoOf (own_type e.ty) s into → Standing s
         → Makes types texts fs f into s (computed_by into (own_type e.ty) place (λ r. called g (handed s).given (whole r)) (handed s).state) (a_number types texts fs f (own_type e.ty))
     computed (answers_nothing void own held) c n place into s wanted stands = absurd (false≢true (sym (ap is_number own) ∙ n))
@@ -182,11 +176,12 @@ module _ (a : Around) (visible : List ℕ) (types : Types) (texts : ℕ) (fs : L
     computed (answers_raw target constant raw w own held) c n place into s wanted stands = absurd (false≢true (sym (ap is_number own) ∙ n))
     computed (answers_walker w own held) c n place into s wanted stands = absurd (false≢true (sym (walker_is a.program.types (type_at a.program.types is.of.result) w).value ∙ sym (ap is_number own) ∙ n))
     computed (answers_unique target unique w own held) c n place into s wanted stands = absurd (false≢true (sym (ap is_number own) ∙ n))
+    computed (answers_whole number whole pointless own held) c n place into s wanted stands = absurd (false≢true (sym (ap is_number own) ∙ n))
     computed (answers_made o own held) c n place into s wanted stands = absurd (owner_no_value a.program.types (type_at a.program.types is.of.result) o (sym (ap is_number own) ∙ n))
     computed (answers_view view own held) c n place into s wanted stands = absurd (false≢true (sym (ap is_number own) ∙ n))
     computed (answers_place target constant refers w own held) c n place into s wanted stands = absurd (value_place (sym c ∙ held))
     computed (answers_owner target constant refers o own held) c n place into s wanted stands = absurd (value_place (sym c ∙ held))
-    computed (answers_struct target constant number refers structure own held) c n place into s wanted stands = absurd (value_place (sym c ∙ held))
+    computed (answers_struct target constant number refers structure pointless own held) c n place into s wanted stands = absurd (value_place (sym c ∙ held))
 
     named : Answers → (id : TyId) (constant : Bool) → e.category ≡ category.Place id constant → is_value (type_at a.program.types id) ≡ true → (place : Place) (s : State) → Standing s
         → Placed (type_at a.program.types id) constant s ((form_uses a (call g given delimiters) place e.ty e.category).at s)
@@ -195,34 +190,36 @@ module _ (a : Around) (visible : List ℕ) (types : Types) (texts : ℕ) (fs : L
     named (answers_raw target d raw w own held) id constant at v place s stands = absurd (value_place (sym held ∙ at))
     named (answers_walker w own held) id constant at v place s stands = absurd (value_place (sym held ∙ at))
     named (answers_unique target unique w own held) id constant at v place s stands = absurd (value_place (sym held ∙ at))
+    named (answers_whole number whole pointless own held) id constant at v place s stands = absurd (value_place (sym held ∙ at))
     named (answers_made o own held) id constant at v place s stands = absurd (value_place (sym held ∙ at))
     named (answers_view view own held) id constant at v place s stands = absurd (value_place (sym held ∙ at))
-    named (answers_struct target d number refers structure own held) id constant at v place s stands =
+    named (answers_struct target d number refers structure pointless own held) id constant at v place s stands =
         absurd (false≢true (sym (ap is_value structure) ∙ ap (λ (i : TyId). is_value (type_at a.program.types i)) (place_same target id d constant (sym held ∙ at)) ∙ v))
     named (answers_owner target d refers o own held) id constant at v place s stands = absurd (owner_no_value a.program.types (type_at a.program.types target) o (ap (λ (i : TyId). is_value (type_at a.program.types i)) (place_same target id d constant (sym held ∙ at)) ∙ v))
     named (answers_place target d refers w own held) id constant at v place s stands =
-        let first = lent (ty.Reference target d) refers refl s stands in
+        let hands = is.hands s stands in
         subst (λ (t : Ty). Placed (type_at a.program.types id) constant s (mapped through (built (Fill place (called g (handed s).given)) (wanted place None t) (handed s).state))) (sym (ap reference_to at))
-        (referred_call types texts fs f g is.of (setting.callees g is.of is.there) s (handed s) first a.program.types setting.front id constant (value_target a.program.types (type_at a.program.types id) v) (later ∙ refers ∙ ap reference_to (sym held ∙ at)) place stands.opened
-        (stands_later a visible s (handed s).state first.grown stands).table)
+        (referred_call types texts fs f g is.of (setting.callees g is.of is.there) s (handed s) hands a.program.types setting.front id constant (value_target a.program.types (type_at a.program.types id) v) (later ∙ refers ∙ ap reference_to (sym held ∙ at)) place
+        (stands_later a visible s (handed s).state hands.grown stands).table setting.plain)
 
-    pointed : Answers → is_pointed e.ty ≡ true → (place : Place) (s : State) → Standing s → Points e.ty s ((form_uses a (call g given delimiters) place e.ty e.category).pointing s)
+    pointed : Answers → is_pointed e.ty ≡ true → (place : Place) (s : State) → Standing s → PointsAt e.ty s ((form_uses a (call g given delimiters) place e.ty e.category).pointing s)
     pointed (answers_nothing void own held) p place s stands = absurd (false≢true (sym (ap is_pointed own) ∙ p))
     pointed (answers_value v own held) p place s stands = absurd (number_no_pointer e.ty (ap is_number own ∙ v) p)
     pointed (answers_place target constant refers w own held) p place s stands = absurd (number_no_pointer e.ty (ap is_number own ∙ w) p)
     pointed (answers_owner target constant refers o own held) p place s stands = absurd (owner_no_location a.program.types (type_at a.program.types target) o (sym (ap is_pointed own) ∙ p))
     pointed (answers_unique target unique w own held) p place s stands = absurd (false≢true (sym (ap is_pointed own) ∙ p))
-    pointed (answers_struct target constant number refers structure own held) p place s stands = absurd (false≢true (sym (ap is_pointed own) ∙ p))
+    pointed (answers_struct target constant number refers structure pointless own held) p place s stands = absurd (false≢true (sym (ap is_pointed own) ∙ p))
+    pointed (answers_whole number whole pointless own held) p place s stands = absurd (false≢true (sym (ap is_pointed own) ∙ p))
     pointed (answers_made o own held) p place s stands = absurd (owner_no_location a.program.types (type_at a.program.types is.of.result) o (sym (ap is_pointed own) ∙ p))
     pointed (answers_raw target constant raw w own held) p place s stands =
-        subst (λ (t : ExprType). Points t s (mapped (λ (xs : List Argument). By (called g xs)) (handed s))) (sym own)
-        (pointed_call types texts fs f g is.of (setting.callees g is.of is.there) s (handed s) (lent (ty.Raw target constant) raw refl s stands) a.program.types setting.front target constant w (later ∙ raw))
+        subst (λ (t : ExprType). PointsAt t s (mapped (λ (xs : List Argument). By (called g xs)) (handed s))) (sym own)
+        (gives_called (pointed_call types texts fs f g is.of (setting.callees g is.of is.there) s (handed s) (is.hands s stands) a.program.types setting.front target constant w (later ∙ raw)))
     pointed (answers_walker w own held) p place s stands =
-        subst (λ (t : ExprType). Points t s (mapped (λ (xs : List Argument). By (called g xs)) (handed s))) (sym own)
-        (walked_call types texts fs f g is.of (setting.callees g is.of is.there) s (handed s) (lent (type_at a.program.types is.of.result) refl (walker_lent (type_at a.program.types is.of.result) w) s stands) a.program.types (type_at a.program.types is.of.result) w later (walker_itself a.program.types types setting.front (type_at a.program.types is.of.result) w))
+        subst (λ (t : ExprType). PointsAt t s (mapped (λ (xs : List Argument). By (called g xs)) (handed s))) (sym own)
+        (gives_called (walked_call types texts fs f g is.of (setting.callees g is.of is.there) s (handed s) (is.hands s stands) a.program.types (type_at a.program.types is.of.result) w later (walker_itself a.program.types types setting.front (type_at a.program.types is.of.result) w)))
     pointed (answers_view view own held) p place s stands =
-        subst (λ (t : ExprType). Points t s (mapped (λ (xs : List Argument). By (called g xs)) (handed s))) (sym own)
-        (viewed_call types texts fs f g is.of (setting.callees g is.of is.there) s (handed s) (lent ty.View view refl s stands) (later ∙ view))
+        subst (λ (t : ExprType). PointsAt t s (mapped (λ (xs : List Argument). By (called g xs)) (handed s))) (sym own)
+        (gives_called (viewed_call types texts fs f g is.of (setting.callees g is.of is.there) s (handed s) (is.hands s stands) (later ∙ view)))
 
     answers_no_literal : Answers → e.ty ≡ TextLiteral → ⊥
     answers_no_literal (answers_nothing void own held) at = no_literal a visible types texts fs f setting ty.Void (sym own ∙ at)
@@ -230,11 +227,12 @@ module _ (a : Around) (visible : List ℕ) (types : Types) (texts : ℕ) (fs : L
     answers_no_literal (answers_raw target constant raw w own held) at = no_literal a visible types texts fs f setting (ty.Raw target constant) (sym own ∙ at)
     answers_no_literal (answers_walker w own held) at = no_literal a visible types texts fs f setting (type_at a.program.types is.of.result) (sym own ∙ at)
     answers_no_literal (answers_unique target unique w own held) at = no_literal a visible types texts fs f setting (ty.Unique target) (sym own ∙ at)
+    answers_no_literal (answers_whole number whole pointless own held) at = no_literal a visible types texts fs f setting (ty.Struct number) (sym own ∙ at)
     answers_no_literal (answers_made o own held) at = no_literal a visible types texts fs f setting (type_at a.program.types is.of.result) (sym own ∙ at)
     answers_no_literal (answers_view view own held) at = no_literal a visible types texts fs f setting ty.View (sym own ∙ at)
     answers_no_literal (answers_place target constant refers w own held) at = no_literal a visible types texts fs f setting (type_at a.program.types target) (sym own ∙ at)
     answers_no_literal (answers_owner target constant refers o own held) at = no_literal a visible types texts fs f setting (type_at a.program.types target) (sym own ∙ at)
-    answers_no_literal (answers_struct target constant number refers structure own held) at = no_literal a visible types texts fs f setting (ty.Struct number) (sym own ∙ at)
+    answers_no_literal (answers_struct target constant number refers structure pointless own held) at = no_literal a visible types texts fs f setting (ty.Struct number) (sym own ∙ at)
 
     answers_no_null : Answers → e.ty ≡ NullPointer → ⊥
     answers_no_null (answers_nothing void own held) at = no_null a visible types texts fs f setting ty.Void (sym own ∙ at)
@@ -242,11 +240,12 @@ module _ (a : Around) (visible : List ℕ) (types : Types) (texts : ℕ) (fs : L
     answers_no_null (answers_raw target constant raw w own held) at = no_null a visible types texts fs f setting (ty.Raw target constant) (sym own ∙ at)
     answers_no_null (answers_walker w own held) at = no_null a visible types texts fs f setting (type_at a.program.types is.of.result) (sym own ∙ at)
     answers_no_null (answers_unique target unique w own held) at = no_null a visible types texts fs f setting (ty.Unique target) (sym own ∙ at)
+    answers_no_null (answers_whole number whole pointless own held) at = no_null a visible types texts fs f setting (ty.Struct number) (sym own ∙ at)
     answers_no_null (answers_made o own held) at = no_null a visible types texts fs f setting (type_at a.program.types is.of.result) (sym own ∙ at)
     answers_no_null (answers_view view own held) at = no_null a visible types texts fs f setting ty.View (sym own ∙ at)
     answers_no_null (answers_place target constant refers w own held) at = no_null a visible types texts fs f setting (type_at a.program.types target) (sym own ∙ at)
     answers_no_null (answers_owner target constant refers o own held) at = no_null a visible types texts fs f setting (type_at a.program.types target) (sym own ∙ at)
-    answers_no_null (answers_struct target constant number refers structure own held) at = no_null a visible types texts fs f setting (ty.Struct number) (sym own ∙ at)
+    answers_no_null (answers_struct target constant number refers structure pointless own held) at = no_null a visible types texts fs f setting (ty.Struct number) (sym own ∙ at)
 
     call_of : IsKind a.program.types e → IsForm a visible types texts fs f setting (call g given delimiters) e
     call_of kind = record {
@@ -296,9 +295,9 @@ module _ (a : Around) (visible : List ℕ) (types : Types) (texts : ℕ) (fs : L
       ap (λ (c : Category). operand_by c e.at (temporary_of e (own e)) s) (sym (held_typed form) ∙ at)
 
   -- what a pointer gives
-  pub points_whole : (form : Form) → IsWhole a visible types texts fs f setting form → is_pointed (typed_in form).ty ≡ true → (s : State) → Standing s → Points (typed_in form).ty s (pointing (uses a form) s)
+  pub points_whole : (form : Form) → IsWhole a visible types texts fs f setting form → is_pointed (typed_in form).ty ≡ true → (s : State) → Standing s → PointsAt (typed_in form).ty s (pointing (uses a form) s)
   points_whole form is p s stands =
-      subst (Points (typed_in form).ty s) (sym (pointing_itself a visible types texts fs f setting (uses a form) s (ap is_pointed (sym (own_typed form)) ∙ p))) (is.points p s stands)
+      subst (PointsAt (typed_in form).ty s) (sym (pointing_itself a visible types texts fs f setting (uses a form) s (ap is_pointed (sym (own_typed form)) ∙ p))) (is.points p s stands)
 
   -- where a raw pointer or a view lies
   pub pointer_whole : (form : Form) → IsWhole a visible types texts fs f setting form → (u : Ty) → (typed_in form).ty ≡ Of u → is_location u ≡ true → (wanted : Ty) (s : State) → Standing s → Pointed u s (pointer (uses a form) wanted s)
@@ -355,7 +354,7 @@ module _ (a : Around) (visible : List ℕ) (types : Types) (texts : ℕ) (fs : L
           (is.pointers (ty.Raw d.target d.constant) d.pointer refl s stands)
           (λ b h. behind_place types texts fs f l.given (ty.Raw d.target d.constant) d.target d.constant (type_at a.program.types id) h refl refl refl
           (type_later a.program.types types setting.front d.target d.value ∙ ap (type_at a.program.types) (place_same d.target id d.constant constant same)) (value_no_void (type_at a.program.types id) v))
-          (λ n k q. record { local = q.local; uses = ap (λ (m : Location). m.local ∷ []) q.is; below = q.below; held = q.held })))
+          (λ n k q. record { local = q.local; uses = ap (λ (x : ℕ). x ∷ []) q.is; below = q.below; held = q.held })))
 
   pub address_form : (inner : Form) (e : Typed) → (d : IsAddressed a.program.types (typed_in inner) e) → IsWhole a visible types texts fs f setting inner → IsForm a visible types texts fs f setting (address_of inner) e
   address_form inner e d is =
@@ -399,13 +398,21 @@ module _ (a : Around) (visible : List ℕ) (types : Types) (texts : ℕ) (fs : L
   pub view_whole : (form : Form) → IsWhole a visible types texts fs f setting form → is_seen (typed_in form).ty ≡ true → (s : State) → Standing s → Pointed ty.View s (pointer (uses a form) ty.View s)
   view_whole form is sees s stands = go (seen_type (typed_in form).ty sees)
     where
+      clash : (t : Ty) → TextLiteral ≡ Of t → ⊥
+      clash t e = cc
+
+      -- no call gives one
+      seen_literal : PointsAt TextLiteral s (pointing (uses a form) s) → Pointed ty.View s (pointing (uses a form) s >> λ p s. located (uses a form).place ty.View p s)
+      seen_literal (gives_plainly first) =
+          then_part types texts fs f (gifts.nothing types texts fs f) tt None s (pointing (uses a form) s) _ (a_pointing types texts fs f TextLiteral) (a_pointer types texts fs f ty.View) stands.opened first
+          (literal_located_part types texts fs f (pointing (uses a form) s).given (uses a form).place (pointing (uses a form) s).state)
+      seen_literal (gives_called c) = absurd (clash (ty_of types c.of.result) c.own)
+
       go : ((typed_in form).ty ≡ Of ty.View) ⊎ ((typed_in form).ty ≡ TextLiteral) → Pointed ty.View s (pointer (uses a form) ty.View s)
       go (inl at) = pointer_whole form is ty.View at refl ty.View s stands
       go (inr at) =
           subst (Pointed ty.View s) (sym (ap (λ (x : Ty). pointing (uses a form) s >> λ p s. located (uses a form).place (register_type ty.View x) p s) (ap own_type (sym (own_typed form) ∙ at))))
-          (then_part types texts fs f (gifts.nothing types texts fs f) tt None s (pointing (uses a form) s) _ (a_pointing types texts fs f TextLiteral) (a_pointer types texts fs f ty.View) stands.opened
-          (subst (λ (x : ExprType). Points x s (pointing (uses a form) s)) at (points_whole form is (ap is_pointed at) s stands))
-          (literal_located_part types texts fs f (pointing (uses a form) s).given (uses a form).place (pointing (uses a form) s).state))
+          (seen_literal (subst (λ (x : ExprType). PointsAt x s (pointing (uses a form) s)) at (points_whole form is (ap is_pointed at) s stands)))
 
   pub seen_view : (form : Form) → is_seen (typed_in form).ty ≡ true → (s : State) → seen (uses a form) s ≡ mapped InView (pointer (uses a form) ty.View s)
   seen_view form sees s = go (seen_type (typed_in form).ty sees)

@@ -8,7 +8,7 @@ use Rattle.life_types.specs.TypeTests.{is_void}
 use Rattle.life_types.specs.Types.{Types, class}
 use Rattle.life_types.specs.declared.ty.Ty.{Ty}
 use Rattle.life_types.specs.declared.ty.TyId.{TyId}
-use Rattle.life_served.specs.Served.{are_served_functions, takes_owners, are_served_parameters}
+use Rattle.life_served.specs.Served.{are_served_functions}
 use Rattle.life_typed.specs.BaseTypes.{type_at}
 use Rattle.life_typed.specs.Programs.{FunctionForm, ProgramForm, is_main}
 use Rattle.life_core.specs.Function.{Function}
@@ -18,6 +18,8 @@ use Rattle.life_core_served.specs.ProperPrograms.{has_own_breaks, have_own_break
 use Rattle.life_pset.specs.Elements.{AreShort, elements_of}
 use Rattle.life_well_typed.specs.Functions.{AreWellTyped, IsWellTyped, IsWellTypedFunction}
 use Rattle.life_elab.specs.Bounds.{HaveShortPlaces}
+use Rattle.life_elab.specs.Over.{over_function, over_functions, over_locals, over_parts}
+use Rattle.life_elab_laws.proofs.PassedNone.{first_none}
 use Rattle.life_elab.specs.Functions.{function_from}
 use Rattle.life_elab.specs.ProgramForms.{all_functions, first_state, functions, translated, written}
 use Rattle.life_elab.specs.Programs.{Functions, around, texts_of, with_function}
@@ -32,15 +34,15 @@ use Rattle.life_elab_laws.proofs.FormedLocals.{HasFormedHead, head_formed}
 use Rattle.life_elab_laws.proofs.Fronts.{IsFront, each_at, front_itself, front_then, passed_at}
 use Rattle.life_elab_laws.proofs.FunctionWriting.{IsProperBody, function_finished, function_proper}
 use Rattle.life_elab_laws.proofs.Growing.{Begins}
-use Rattle.life_elab_laws.proofs.OrderedTypes.{KeepsOrder, order_none, order_then}
+use Rattle.life_elab_laws.proofs.OrderedTypes.{KeepsOrder, order_none, order_then, members_later}
 use Rattle.life_elab_laws.proofs.Setting.{GivesBack, Setting, unasked}
 use Rattle.life_elab_laws.proofs.Shaped.{AreShaped}
 use Rattle.life_elab_laws.proofs.ShapedLocals.{written_shaped}
 use Rattle.life_elab_laws.proofs.ShortPlaces.{short_function}
-use Rattle.life_elab_laws.proofs.StructTypes.{HasStructs, IsServedTable, members_later, structs_later}
+use Rattle.life_elab_laws.proofs.StructTypes.{HasStructs, IsServedTable, structs_later, plain_later}
 use Rattle.life_elab_laws.proofs.WrittenLocals.{AreWrittenLocals}
 use Rattle.life_types.specs.declared.ty.Ty.TheVariants as ty
-use Rattle.life_elab_laws.proofs.HandedTypes.{handed_type, plain_parameter}
+use Rattle.life_elab_laws.proofs.HandedTypes.{handed_type}
 use Rattle.life_elab_laws.proofs.OwnLocals.{first_own}
 
 -- ---- one function among others
@@ -118,16 +120,13 @@ module _ (p : ProgramForm) (typed : IsWellTyped p) (built : are_served_functions
     variables = is.built.variables;
     values = told.structs;
     structs = structs_later p.types types front order told.structs;
-    members = members_later p.types types front order;
+    members = members_later p.types types order;
+    plain = plain_later p.types types front order told.structs;
     chars = told.chars;
     returned = λ g of there. (of_program g of there).built.result;
     result = is.built.result;
     taken = λ g of there m id at.
-        handed_type p.types (takes_owners p.types of.result) id
-        (parameter_at p.types (takes_owners p.types of.result) (take (length of.parameters) of.locals) (of_program g of there).built.parameters m id at);
-    lent = λ g of there none m id at.
-        plain_parameter p.types id
-        (parameter_at p.types false (take (length of.parameters) of.locals) (subst (λ (b : Bool). are_served_parameters p.types b (take (length of.parameters) of.locals) ≡ true) none (of_program g of there).built.parameters) m id at);
+        handed_type p.types id (parameter_at p.types (take (length of.parameters) of.locals) (of_program g of there).built.parameters m id at);
     callees = callees;
     results = λ g of there. result_at p.types p.functions g of results there;
     gives = gives;
@@ -145,7 +144,7 @@ module _ (p : ProgramForm) (typed : IsWellTyped p) (built : are_served_functions
   begun_there n f at = slice_get-map begun p.functions n ∙ ap (option_map begun) at
 
   begun_so : (f : FunctionForm) → IsBegun p f p.types p.types (begun f)
-  begun_so f = record { table = front_itself p.types.types; later = front_itself p.types.types; count = refl; same = refl; locals = front_itself (first_state (around p f) p.types).locals }
+  begun_so f = record { table = front_itself p.types.types; later = front_itself p.types.types; plain = λ number pointless. pointless; count = refl; same = refl; locals = front_itself (first_state (around p f) p.types).locals }
 
   begun_callee : (g : ℕ) (of : FunctionForm) → slice_get p.functions g ≡ Some of → IsCallee p.types (map begun p.functions) g of
   begun_callee g of at = callee_from p of p.types p.types (begun of) (of_program g of at) (begun_so of) (map begun p.functions) g (begun_there g of at)
@@ -163,7 +162,7 @@ module _ (p : ProgramForm) (typed : IsWellTyped p) (built : are_served_functions
       let table = front_itself p.types.types in
       let first = subst (λ (x : Types). IsFront x.types p.types.types) (sym (first_types (around p f) p.types is.typed.parameters table)) table in
       setting_of p.types (map begun p.functions) f (mute f) n at table (order_none p.types) (unasked (ap class (nothing_past p.types.types))) (λ l there some. absurd (none_back some)) (λ some. absurd (none_back some)) begun_callee
-      (written_shaped (around p f) (first_state (around p f) p.types) p.types table first is.built.variables (first_locals (around p f) p.types is.typed.parameters table is.ty is.result is.built.result))
+      (written_shaped (around p f) (first_state (around p f) p.types) p.types table (λ number pointless. pointless) first is.built.variables (first_locals (around p f) p.types is.typed.parameters table is.ty is.result is.built.result))
 
   pub grows : (n : ℕ) (f : FunctionForm) → slice_get p.functions n ≡ Some f → (T : Types) → IsFront p.types.types T.types → FunctionGrows p f T
   grows n f at T table =
@@ -200,6 +199,7 @@ module _ (p : ProgramForm) (typed : IsWellTyped p) (built : are_served_functions
     as_begun = let g = grows n f at w.before w.table in record {
       table = w.table;
       later = front_then w.before.types (written (around p f) w.before).types.types whole.types.types g.table w.later;
+      plain = plain_later p.types whole.types whole_front whole_order told.structs;
       count = ap (λ (c : Function). c.parameters) w.is;
       same = ap (λ (c : Function). c.result) w.is;
       locals = subst (λ (c : Function). IsFront (first_state (around p f) w.before).locals c.locals) (sym w.is) g.locals;
@@ -215,7 +215,7 @@ module _ (p : ProgramForm) (typed : IsWellTyped p) (built : are_served_functions
     shaped : AreShaped whole.types core.locals
     shaped =
         subst (λ (c : Function). AreShaped whole.types c.locals) (sym w.is)
-        (written_shaped (around p f) (written (around p f) w.before) whole.types front w.later (of_program n f at).built.variables (grows n f at w.before w.table).own)
+        (written_shaped (around p f) (written (around p f) w.before) whole.types front (plain_later p.types whole.types whole_front whole_order told.structs) w.later (of_program n f at).built.variables (grows n f at w.before w.table).own)
 
     -- the type of what it gives back
     pub written_result : slice_get whole.types.types core.result.0 ≡ Some (type_at p.types f.result)
@@ -247,8 +247,8 @@ module _ (p : ProgramForm) (typed : IsWellTyped p) (built : are_served_functions
         setting_of whole.types whole.functions f core n at (front n f at core w) whole_order (gives_from p f w.before whole.types core is begun_so (int_at p p.functions n f mains at)) (result_nameless p f w.before whole.types core is begun_so) (result_before p f w.before whole.types core is begun_so) callee (shaped n f at core w) in
         function_proper p f w.before whole.types whole.functions core setting is w.table (as_begun n f at core w) (written_begins n f at core w) (ap (λ (c : Function). c.body) w.is)
 
-    one_short : AreShort (elements_of whole.types core)
-    one_short = short_function whole.types (held n f at core w) core (shaped n f at core w) (takes_handed p f w.before whole.types core is (as_begun n f at core w))
+    one_short : over_parts whole.types core ≡ None → AreShort (elements_of whole.types core)
+    one_short none = short_function whole.types (held n f at core w) core (first_none (over_locals whole.types core.locals) (over_function whole.types core) none).0 (shaped n f at core w) (takes_handed p f w.before whole.types core is (as_begun n f at core w))
 
     -- the locals are well formed, and what else stands beside the body
     pub one_head : HasNames p → HasFormedHead whole.types (length p.names) core
@@ -256,7 +256,7 @@ module _ (p : ProgramForm) (typed : IsWellTyped p) (built : are_served_functions
         let g = grows n f at w.before w.table in
         subst (HasFormedHead whole.types (length p.names)) (sym w.is)
         (head_formed p f w.before whole.types (length p.names) is w.table (front n f at core w) g.locals w.later g.own
-        (passed_at (is_function_named (length p.names)) (list_all (is_function_named (length p.names))) (λ g gs. refl) p.functions n f names.named at) (held n f at core w))
+        (passed_at (is_function_named (length p.names)) (list_all (is_function_named (length p.names))) (λ g gs. refl) p.functions n f names.named at) (held n f at core w) (plain_later p.types whole.types whole_front whole_order told.structs))
 
   -- ---- what is so of each function is so of all
 
@@ -282,5 +282,8 @@ module _ (p : ProgramForm) (typed : IsWellTyped p) (built : are_served_functions
   pub program_breaks : HasIntMain p → have_own_breaks (translated p) ≡ true
   program_breaks mains = passed_by_all has_own_breaks (list_all has_own_breaks) refl (λ core cores. refl) (λ n f at core w. (one_body n f at core w mains).stated.breaks)
 
-  pub program_short : HaveShortPlaces whole.types whole.functions
-  program_short = of_all (λ core. AreShort (elements_of whole.types core)) (HaveShortPlaces whole.types) tt (λ core cores one others. (one, others)) one_short
+  -- where it passes no limit
+  pub program_short : over_functions whole.types whole.functions ≡ None → HaveShortPlaces whole.types whole.functions
+  program_short =
+      of_all (λ core. over_parts whole.types core ≡ None → AreShort (elements_of whole.types core)) (λ cores. over_functions whole.types cores ≡ None → HaveShortPlaces whole.types cores) (λ none. tt)
+      (λ core cores one others none. let both = first_none (over_parts whole.types core) (over_functions whole.types cores) none in (one both.0, others both.1)) one_short

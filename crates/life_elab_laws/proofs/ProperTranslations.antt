@@ -1,5 +1,5 @@
 -- The core program of a well typed program that is served and that passes no limit is proper, and is served itself.
-use Rattle.std.proofs.Common.{◌≡◌, ◌&&◌, ◌+◌, true, [], ◌∷◌, length, sym, subst, ℕ, length-append}
+use Rattle.std.proofs.Common.{◌≡◌, ◌&&◌, ◌+◌, true, None, [], ◌∷◌, length, sym, subst, ℕ, length-append}
 use Rattle.std.proofs.lemmas.Bool.{and_parts}
 use Rattle.life_served.specs.Served.{are_served_functions, has_served_types, has_fine_structs, is_served}
 use Rattle.life_typed.specs.Programs.{ProgramForm}
@@ -11,11 +11,14 @@ use Rattle.life_well_typed.specs.Mains.{HasIntMain}
 use Rattle.life_well_typed.specs.Names.{HasNames}
 use Rattle.life_well_typed.specs.Results.{HasResults, HasTable}
 use Rattle.life_elab.specs.Bounds.{HaveShortPlaces}
+use Rattle.life_elab.specs.Over as over
+use Rattle.life_elab.specs.Over.{over_each, over_functions, over_structs, too_many}
 use Rattle.life_elab.specs.ProgramForms.{translated}
 use Rattle.life_elab.specs.Programs.{texts_of}
+use Rattle.life_elab_laws.proofs.PassedNone.{first_none}
 use Rattle.life_elab_laws.proofs.Programs.{program_breaks, program_checked, program_short}
 use Rattle.life_elab_laws.proofs.StructTypes.{IsServedTable, structs_told}
-use Rattle.life_elab_laws.proofs.WellFormedTranslations.{program_formed, program_keeps, program_serves, program_structs}
+use Rattle.life_elab_laws.proofs.WellFormedTranslations.{program_formed, program_keeps, program_serves}
 use Rattle.life_elab_laws.proofs.WrittenResults.{program_writes_results}
 
 module _ (p : ProgramForm) (built : is_served p ≡ true) where
@@ -34,8 +37,11 @@ module _ (p : ProgramForm) (built : is_served p ≡ true) where
   told : HasTable p → IsServedTable p.types
   told table = record { chars = table.chars; structs = structs_told p.types table.ordered table.once structs }
 
-  pub served_short : IsWellTyped p → HasResults p → HasTable p → HaveShortPlaces (translated p).types (translated p).functions
-  served_short typed results table = program_short p typed served results (told table)
+  pub served_short : IsWellTyped p → HasResults p → HasTable p → over.over p (translated p) ≡ None → HaveShortPlaces (translated p).types (translated p).functions
+  served_short typed results table none =
+      let core = translated p in
+      let each = over_each core.types p.structs core.functions in
+      program_short p typed served results (told table) (first_none (over_structs core.types 0 p.structs) (over_functions core.types core.functions) (first_none (too_many p) each none).1).1
 
   pub served_proper : IsWellTyped p → HasResults p → HasTable p → HasNames p → HasIntMain p → IsProgramWithinLimits (translated p) → IsProperProgram (translated p)
   served_proper typed results table names mains limits = record {
@@ -49,7 +55,6 @@ module _ (p : ProgramForm) (built : is_served p ≡ true) where
 
   pub served_served : IsWellTyped p → HasResults p → HasTable p → HasIntMain p → IsServedProgram (translated p)
   served_served typed results table mains = record {
-    structs = program_structs p typed served results (told table) mains;
     serves = program_serves p typed served results (told table) mains;
   }
 
@@ -59,5 +64,5 @@ translation_proper p typed results table names mains built limits = served_prope
 pub translation_served : (p : ProgramForm) → IsWellTyped p → HasResults p → HasTable p → HasIntMain p → is_served p ≡ true → IsServedProgram (translated p)
 translation_served p typed results table mains built = served_served p built typed results table mains
 
-pub translation_short : (p : ProgramForm) → IsWellTyped p → HasResults p → HasTable p → is_served p ≡ true → HaveShortPlaces (translated p).types (translated p).functions
+pub translation_short : (p : ProgramForm) → IsWellTyped p → HasResults p → HasTable p → is_served p ≡ true → over.over p (translated p) ≡ None → HaveShortPlaces (translated p).types (translated p).functions
 translation_short p typed results table built = served_short p built typed results table

@@ -1,8 +1,8 @@
--- An owner is given over to a vector: what is given over stands before the push, and is gone behind it.
-use Rattle.std.proofs.Common.{◌≡◌, ℕ, Bool, true, false, not, List, [], ◌∷◌, ◌++◌, None, refl, ap, ◌∙◌, if◌then◌else◌}
+-- An owner or a struct is given over to a vector: what is given over stands before the push, and is gone behind it.
+use Rattle.std.proofs.Common.{◌≡◌, ℕ, Bool, false, not, List, [], ◌∷◌, ◌++◌, None, refl, ap, ◌∙◌, if◌then◌else◌}
 use Rattle.std.proofs.lemmas.Bool.{and_from}
-use Rattle.life_served.specs.Served.{is_owner_of_values}
 use Rattle.life_types.specs.Pointees.{ty_of}
+use Rattle.life_types.specs.TypeTests.{is_value}
 use Rattle.life_types.specs.Types.{Types}
 use Rattle.life_types.specs.declared.place.Place.{Place}
 use Rattle.life_types.specs.declared.ty.Ty.{Ty}
@@ -23,13 +23,13 @@ use Rattle.life_elab_laws.proofs.Handing.{HandingAlone}
 use Rattle.life_elab_laws.proofs.Held.{place_there}
 use Rattle.life_elab_laws.proofs.Making.{IsPlace}
 use Rattle.life_elab_laws.proofs.Parts.{Part}
-use Rattle.life_elab_laws.proofs.TakenOwners.{owner_consumed, taken_part}
+use Rattle.life_elab_laws.proofs.TakenOwners.{object_consumed, taken_part}
 
 -- behind what gave the vector
-pub pushed_part : (few types : Types) (texts : ℕ) (fs : List Function) (f : Function) (t : Ty) → is_owner_of_values few t ≡ true → (s : State) (v : Gives ℕ) → HandingAlone types texts fs f (v.given ∷ []) s v (a_given types texts fs f t)
+pub pushed_part : (types : Types) (texts : ℕ) (fs : List Function) (f : Function) (t : Ty) → is_value t ≡ false → (s : State) (v : Gives ℕ) → HandingAlone types texts fs f (v.given ∷ []) s v (a_given types texts fs f t)
     → {A : Type 0} (P : Gift types texts fs f A) (z : A) (to : Operand) (item : TyId) (at : Place) → (P.typed z → IsPlaceOf types texts fs f (ty.Vector item) false to) → ((n : ℕ) (k : List Known) → P.ready z n k → IsPlace to n k) → ty_of types item ≡ t
     → Part types texts fs f P z None s (gives tt (emit at (Changes to (PushBack v.given)) v.state)) (no_gift types texts fs f)
-pushed_part few types texts fs f t owner s v over P z to item at typed ready holds =
+pushed_part types texts fs f t plain s v over P z to item at typed ready holds =
     taken_part types texts fs f t s v over P z (place_uses to ++ []) (Changes to (PushBack v.given)) at
     (record {
       keeps = refl;
@@ -39,6 +39,6 @@ pushed_part few types texts fs f t owner s v over P z to item at typed ready hol
     })
     (λ p object given.
     and_from (is_change_of types texts fs f (type_of types f to) (PushBack v.given)) (not (is_const_place types f to))
-    (ap (λ (u : Ty). is_change_of types texts fs f u (PushBack v.given)) (typed p).typed ∙ owner_consumed few types f t (ty_of types item) v.given owner holds given)
+    (ap (λ (u : Ty). is_change_of types texts fs f u (PushBack v.given)) (typed p).typed ∙ object_consumed types f t (ty_of types item) v.given plain holds given)
     (typed p).held)
     (λ n k q. both_known known.Ready k (place_uses to) [] (place_there to n k (ready n k q)) refl)

@@ -82,7 +82,7 @@ module _ (types : Types) (texts : ℕ) (fs : List Function) (f : Function) where
 
   -- a reference to an owner, at a place or made
   pub hidden_owner_part : (few : Types) → IsFront few.types types.types → (id : TyId) (constant : Bool) (t : Ty) (o : Operand) (colon : Place) (s : State) → is_owner_of_values few t ≡ true
-      → (Begins types f s → ty_of types id ≡ t) → fits_hidden s.types (ty.Reference id constant) ≡ true
+      → (Begins types f s → ty_of types id ≡ t) → fits_hidden types s.types (ty.Reference id constant) ≡ true
       → Part types texts fs f (a_place types texts fs f t constant) o None s (mapped (λ r. Owner (behind r)) (built (Fill colon (pointed (aimed (Aimed o)))) (hidden colon (ty.Reference id constant)) s))
       (a_hidden_base (element_type few t) constant)
   hidden_owner_part few front id constant t o colon s own here fits =
@@ -108,7 +108,7 @@ module _ (types : Types) (texts : ℕ) (fs : List Function) (f : Function) where
       later b = here (begins_before types f s (with_hidden colon (ty.Reference id constant) s).state (hidden_grows colon (ty.Reference id constant) s) b)
 
   -- another view or span
-  pub hidden_pointer_part : (t element : Ty) (constant : Bool) (l : Location) (colon : Place) (s : State) → takes types t t ≡ true → seen_element types t ≡ element → is_constant t ≡ constant → fits_hidden s.types t ≡ true
+  pub hidden_pointer_part : (t element : Ty) (constant : Bool) (l : Location) (colon : Place) (s : State) → takes types t t ≡ true → seen_element types t ≡ element → is_constant t ≡ constant → fits_hidden types s.types t ≡ true
       → Part types texts fs f (a_pointer types texts fs f t) l None s (mapped (λ r. Pointer (whole r)) (built (Fill colon (pointed (As l))) (hidden colon t) s)) (a_hidden_base element constant)
   hidden_pointer_part t element constant l colon s taken elements const fits =
       seen_part types texts fs f (a_pointer types texts fs f t) l None s (built (Fill colon (pointed (As l))) (hidden colon t) s) (a_hidden types texts fs f t) (λ r. Pointer (whole r)) (a_hidden_base element constant)

@@ -49,8 +49,8 @@ use Rattle.life_elab_laws.proofs.RangeBases.{a_hidden_base, hidden_owner_part, h
 use Rattle.life_elab_laws.proofs.Setting.{Setting}
 use Rattle.life_elab_laws.proofs.WalkerForms.{IsWalker, walker_pointer}
 use Rattle.life_elab_laws.proofs.WalkerSteps.{keeps_itself}
-use Rattle.life_elab_laws.proofs.WrittenLocals.{fits_hidden, owner_there_later}
-use Rattle.life_elab_laws.proofs.Shaped.{element_later}
+use Rattle.life_elab_laws.proofs.WrittenLocals.{fits_hidden, there_later}
+use Rattle.life_elab_laws.proofs.Shaped.{element_further, owner_later}
 use Rattle.life_elab_laws.proofs.Targets.{owner_target, target_type}
 
 -- the elements of an owner
@@ -73,7 +73,7 @@ module _ (types : Types) (texts : ℕ) (fs : List Function) (f : Function) where
   }
 
   -- one of them
-  pub cursor_part : (id : TyId) (constant : Bool) (t : Ty) (colon : Place) (b : Base) (end : RangeEnd) (s : State) → ty_of types id ≡ t → same t t ≡ true → fits_hidden s.types (ty.Iterator id constant) ≡ true
+  pub cursor_part : (id : TyId) (constant : Bool) (t : Ty) (colon : Place) (b : Base) (end : RangeEnd) (s : State) → ty_of types id ≡ t → same t t ≡ true → fits_hidden types s.types (ty.Iterator id constant) ≡ true
       → Part types texts fs f (a_hidden_base types texts fs f t constant) b None s (cursor_at colon (ty.Iterator id constant) b end s) (a_hidden types texts fs f (ty.Iterator id constant))
   cursor_part id constant t colon b end s later one fits =
       hidden_part types texts fs f colon (ty.Iterator id constant) s fits (a_hidden_base types texts fs f t constant) b (λ p. Cursor p b end)
@@ -147,7 +147,8 @@ module _ (a : Around) (visible : List ℕ) (types : Types) (texts : ℕ) (fs : L
           (subst (λ (t : Ty). Part types texts fs f (a_place types texts fs f is.ty is.constant) w.given None w.state (mapped (λ r. Owner (behind r)) (built (Fill colon (pointed (aimed (Aimed w.given)))) (hidden colon (ty.Reference is.id is.constant)) w.state)) (a_hidden_base types texts fs f t is.constant))
           (sym (number_here is.ty is.owner))
           (hidden_owner_part types texts fs f a.program.types setting.front is.id is.constant is.ty w.given colon w.state is.owner (λ b. later)
-          (owner_there_later a.program.types w.state.types (front_then a.program.types.types s.types.types w.state.types.types stands.table first.grown.types) is.id (ap (is_owner_of_values a.program.types) is.here ∙ is.owner)))));
+          (there_later a.program.types w.state.types (front_then a.program.types.types s.types.types w.state.types.types stands.table first.grown.types) (is_owner_of_values types) refl is.id
+          (owner_later a.program.types types setting.front setting.plain (type_at a.program.types is.id) (ap (is_owner_of_values a.program.types) is.here ∙ is.owner))))));
     }
       where
         later : ty_of types is.id ≡ is.ty
@@ -184,7 +185,8 @@ module _ (a : Around) (visible : List ℕ) (types : Types) (texts : ℕ) (fs : L
         (hidden_pointer_part types texts fs f t (type_at a.program.types item) constant w.given colon w.state
         (and_from (same (ty_of types item) (ty_of types item)) (keeps_const constant constant) (one_element a.program.types types setting.front item worth) (keeps_itself constant))
         later refl
-        (element_later a.program.types w.state.types (front_then a.program.types.types s.types.types w.state.types.types stands.table first.grown.types) item worth))));
+        (there_later a.program.types w.state.types (front_then a.program.types.types s.types.types w.state.types.types stands.table first.grown.types) (is_element types) refl item
+        (element_further a.program.types types setting.front setting.plain (type_at a.program.types item) worth)))));
   }
     where
       typed : (typed_in form).ty ≡ Of (ty.Span item constant)

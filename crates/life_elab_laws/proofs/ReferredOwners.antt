@@ -28,9 +28,9 @@ use Rattle.life_writer.specs.Writing.{Gives, State}
 use Rattle.life_elab_laws.proofs.BehindPointers.{IsBehind, behind_apart, behind_named, behind_pointer, call_named, place_address_form}
 use Rattle.life_elab_laws.proofs.CalledPointers.{walked_call}
 use Rattle.life_elab_laws.proofs.ExpressionForms.{Hands, IsForm, IsWhole, Placed, Standing}
-use Rattle.life_elab_laws.proofs.ExpressionTypes.{IsAnswered, answered_as, answers_nothing, answers_owner, answers_place, answers_raw, answers_value, answers_view, answers_walker, answers_struct, answers_made, answers_unique}
+use Rattle.life_elab_laws.proofs.ExpressionTypes.{IsAnswered, answered_as, answers_nothing, answers_owner, answers_place, answers_raw, answers_value, answers_view, answers_walker, answers_struct, answers_made, answers_unique, answers_whole}
 use Rattle.life_elab_laws.proofs.ObjectForms.{IsObject, IsObjectAt}
-use Rattle.life_elab_laws.proofs.PointerForms.{result_later, walker_lent}
+use Rattle.life_elab_laws.proofs.PointerForms.{result_later}
 use Rattle.life_elab_laws.proofs.ResultTypes.{result_is}
 use Rattle.life_elab_laws.proofs.Setting.{Setting}
 use Rattle.life_elab_laws.proofs.Targets.{IsTarget, owner_target, target_is, to_owner, to_struct, to_value}
@@ -39,7 +39,7 @@ use Rattle.life_elab_laws.proofs.Values.{by_values}
 use Rattle.life_elab_laws.proofs.VariablePlaces.{walker_is}
 use Rattle.life_elab_laws.proofs.WalkerForms.{IsWalkerAt}
 use Rattle.life_elab_laws.proofs.FormedFits.{walker_itself}
-use Rattle.life_elab_laws.proofs.LentArguments.{plain_hands}
+use Rattle.life_elab_laws.proofs.PointedCalls.{gives_called}
 use Rattle.life_elab_laws.proofs.CalledOwners.{call_builds}
 use Rattle.life_elab_laws.proofs.MadeForms.{IsMadeAt}
 use Rattle.life_typed.specs.Conversions.{is_place}
@@ -58,7 +58,7 @@ owner_behind types inner e d n = owns (target_is types (type_at types d.target) 
     owns : IsTarget types (type_at types d.target) → is_owner_of_values types (type_at types d.target) ≡ true
     owns (to_owner o) = o
     owns (to_value v) = absurd (false≢true (sym (no_owner (type_at types d.target) v) ∙ told))
-    owns (to_struct number s) = absurd (false≢true (sym (ap owns_elements s) ∙ told))
+    owns (to_struct number s pointless) = absurd (false≢true (sym (ap owns_elements s) ∙ told))
 
 module _ (a : Around) (visible : List ℕ) (types : Types) (texts : ℕ) (fs : List Function) (f : Function) (setting : Setting a types fs f) where
   abbrev Stood : State → Type 0
@@ -95,13 +95,14 @@ module _ (a : Around) (visible : List ℕ) (types : Types) (texts : ℕ) (fs : L
   owner_answered result t k (answers_value v own held) n p = absurd (false≢true (sym (by_values (λ t. owns_elements t ≡ false) refl refl refl refl refl result v) ∙ sym (ap is_owner_type own) ∙ n))
   owner_answered result t k (answers_raw target constant raw w own held) n p = absurd (false≢true (sym (ap is_owner_type own) ∙ n))
   owner_answered result t k (answers_walker w own held) n p = absurd (false≢true (sym (walker_is a.program.types result w).owner ∙ sym (ap is_owner_type own) ∙ n))
+  owner_answered result t k (answers_whole number whole pointless own held) n p = absurd (false≢true (sym (ap is_owner_type own) ∙ n))
   owner_answered result t k (answers_unique target unique w own held) n p = absurd (false≢true (sym (ap is_owner_type own) ∙ n))
   owner_answered result t k (answers_made o own held) n p = absurd (false≢true (sym (ap is_place held) ∙ p))
   owner_answered result t k (answers_view view own held) n p = absurd (false≢true (sym (ap is_owner_type own) ∙ n))
   owner_answered result t k (answers_place target constant refers w own held) n p =
       absurd (false≢true (sym (by_values (λ t. owns_elements t ≡ false) refl refl refl refl refl (type_at a.program.types target) w) ∙ sym (ap is_owner_type own) ∙ n))
   owner_answered result t k (answers_owner target constant refers o own held) n p = (target, constant, refers, o, own, held)
-  owner_answered result t k (answers_struct target constant number refers structure own held) n p = absurd (false≢true (sym (ap is_owner_type own) ∙ n))
+  owner_answered result t k (answers_struct target constant number refers structure pointless own held) n p = absurd (false≢true (sym (ap is_owner_type own) ∙ n))
 
   pub call_object : (g : ℕ) (given : Form) (delimiters : DelimitersForm) (e : Typed) (place : Place) → is_owner_type e.ty ≡ true → is_place e.category ≡ true → HasResult a.program.types (slice_get a.program.functions g) e
       → ((of : FunctionForm) → slice_get a.program.functions g ≡ Some of → (s : State) → Stood s → Hands a visible types texts fs f setting of s (giving.arguments a (all_uses a given) delimiters (parameter_types (Some of)) s))
@@ -144,11 +145,12 @@ module _ (a : Around) (visible : List ℕ) (types : Types) (texts : ℕ) (fs : L
   made_answered result t k (answers_raw target constant raw w own held) n p = absurd (false≢true (sym (ap is_owner_type own) ∙ n))
   made_answered result t k (answers_walker w own held) n p = absurd (false≢true (sym (walker_is a.program.types result w).owner ∙ sym (ap is_owner_type own) ∙ n))
   made_answered result t k (answers_view view own held) n p = absurd (false≢true (sym (ap is_owner_type own) ∙ n))
+  made_answered result t k (answers_whole number whole pointless own held) n p = absurd (false≢true (sym (ap is_owner_type own) ∙ n))
   made_answered result t k (answers_unique target unique w own held) n p = absurd (false≢true (sym (ap is_owner_type own) ∙ n))
   made_answered result t k (answers_made o own held) n p = (o, own, held)
   made_answered result t k (answers_place target constant refers w own held) n p = absurd (false≢true (sym p ∙ ap is_place held))
   made_answered result t k (answers_owner target constant refers o own held) n p = absurd (false≢true (sym p ∙ ap is_place held))
-  made_answered result t k (answers_struct target constant number refers structure own held) n p = absurd (false≢true (sym p ∙ ap is_place held))
+  made_answered result t k (answers_struct target constant number refers structure pointless own held) n p = absurd (false≢true (sym p ∙ ap is_place held))
 
   pub call_made : (g : ℕ) (given : Form) (delimiters : DelimitersForm) (e : Typed) (place : Place) → is_owner_type e.ty ≡ true → is_place e.category ≡ false → HasResult a.program.types (slice_get a.program.functions g) e
       → ((of : FunctionForm) → slice_get a.program.functions g ≡ Some of → (s : State) → Stood s → Hands a visible types texts fs f setting of s (giving.arguments a (all_uses a given) delimiters (parameter_types (Some of)) s))
@@ -179,8 +181,9 @@ module _ (a : Around) (visible : List ℕ) (types : Types) (texts : ℕ) (fs : L
   walker_answered result t k (answers_raw target constant raw w own held) n = absurd (false≢true (sym (ap is_walker_type own) ∙ n))
   walker_answered result t k (answers_view view own held) n = absurd (false≢true (sym (ap is_walker_type own) ∙ n))
   walker_answered result t k (answers_walker w own held) n = (w, own, held)
+  walker_answered result t k (answers_whole number whole pointless own held) n = absurd (false≢true (sym (ap is_walker_type own) ∙ n))
   walker_answered result t k (answers_unique target unique w own held) n = absurd (false≢true (sym (ap is_walker_type own) ∙ n))
-  walker_answered result t k (answers_struct target constant number refers structure own held) n = absurd (false≢true (sym (ap is_walker_type own) ∙ n))
+  walker_answered result t k (answers_struct target constant number refers structure pointless own held) n = absurd (false≢true (sym (ap is_walker_type own) ∙ n))
   walker_answered result t k (answers_made o own held) n = absurd (false≢true (sym (made_alone result o) ∙ sym (ap is_walker_type own) ∙ n))
     where
       made_alone : (t : Ty) → is_owner_of_values a.program.types t ≡ true → is_walker t ≡ false
@@ -220,11 +223,11 @@ module _ (a : Around) (visible : List ℕ) (types : Types) (texts : ℕ) (fs : L
             walker = x.0;
             place = λ id constant held. absurd (value_place (sym x.2 ∙ held));
             points = λ s stands.
-                let first =
-                plain_hands a types texts fs f setting g of at (walker_lent a visible types texts fs f setting (type_at a.program.types of.result) x.0) s (giving.arguments a (all_uses a given) delimiters (around.parameter_types a g) s)
-                (subst (λ (ids : List TyId). Hands a visible types texts fs f setting of s (giving.arguments a (all_uses a given) delimiters ids s)) (sym (ap parameters_of at)) (hands of at s stands)) in
-                walked_call types texts fs f g of (setting.callees g of at) s (giving.arguments a (all_uses a given) delimiters (around.parameter_types a g) s) first a.program.types (type_at a.program.types of.result) x.0
-                (result_later a visible types texts fs f setting g of at) (walker_itself a.program.types types setting.front (type_at a.program.types of.result) x.0);
+                gives_called
+                (walked_call types texts fs f g of (setting.callees g of at) s (giving.arguments a (all_uses a given) delimiters (around.parameter_types a g) s)
+                (subst (λ (ids : List TyId). Hands a visible types texts fs f setting of s (giving.arguments a (all_uses a given) delimiters ids s)) (sym (ap parameters_of at)) (hands of at s stands))
+                a.program.types (type_at a.program.types of.result) x.0
+                (result_later a visible types texts fs f setting g of at) (walker_itself a.program.types types setting.front (type_at a.program.types of.result) x.0));
           }
 
   -- ---- the address of an owner

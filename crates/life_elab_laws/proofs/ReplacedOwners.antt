@@ -1,25 +1,25 @@
 -- What an owner that is a value is assigned by: it is moved from a temporary, but for one that is moved out of a variable, which needs none.
-use Rattle.std.proofs.Common.{◌≡◌, ◌⊎◌, inl, inr, ℕ, true, List, Contains, Option, Some, None, refl, sym, ap, ◌∙◌, subst}
+use Rattle.std.proofs.Common.{◌≡◌, ◌⊎◌, inl, inr, ℕ, true, List, Contains, Option, Some, None, refl, sym, ap, ◌∙◌, subst, false}
 use Rattle.std.proofs.lemmas.Bool.{and_parts, false≢true}
-use Rattle.life_served.specs.Served.{is_edge, is_owner_type, is_served_form, is_served_owner}
+use Rattle.life_served.specs.Served.{is_edge, is_owner_type, is_served_form, is_served_owner, is_plain_type}
 use Rattle.life_types.specs.TypeTests.{is_text}
 use Rattle.life_types.specs.Types.{Types}
 use Rattle.life_types.specs.declared.place.Place.{Place}
 use Rattle.life_types.specs.declared.ty.Ty.{Ty}
 use Rattle.life_types.specs.declared.ty.Ty.TheVariants as ty
 use Rattle.life_typed.specs.Delimiters.{DelimitersForm}
-use Rattle.life_typed.specs.TypedForm.{Form, Typed, binary, call, dereference, index, local, member, method, move, paren, text_of, typed}
+use Rattle.life_typed.specs.TypedForm.{Form, Typed, binary, call, dereference, index, local, member, method, move, paren, text_of, typed, make_unique, null}
 use Rattle.life_typed.specs.declared.typed_expr.Category.{Category}
 use Rattle.life_typed.specs.declared.typed_expr.Category.TheVariants as category
 use Rattle.life_typed.specs.declared.typed_expr.ExprType.{ExprType}
-use Rattle.life_typed.specs.declared.typed_expr.ExprType.TheVariants.{Of}
+use Rattle.life_typed.specs.declared.typed_expr.ExprType.TheVariants.{Of, NullPointer, TextLiteral}
 use Rattle.life_typed.specs.declared.typed_expr.Method.{Method}
 use Rattle.life_typed.specs.declared.typed_expr.Method.TheVariants as methods
 use Rattle.life_type_stmt.specs.Simples.{moved_in}
 use Rattle.life_core.specs.Function.{Function}
 use Rattle.life_well_typed.specs.Expressions.{IsExpression, IsMadeOf, typed_in}
 use Rattle.life_writer.specs.Around.{Around, own_type}
-use Rattle.life_writer.specs.ExpressionForms.{binary_uses, form_uses, uses}
+use Rattle.life_writer.specs.ExpressionForms.{binary_uses, form_uses, uses, all_uses}
 use Rattle.life_writer.specs.OwnerForms.{moved_from, string_of, string_of_string}
 use Rattle.life_writer.specs.Rows.{row_between}
 use Rattle.life_writer.specs.Uses.{Act, Uses, own}
@@ -27,13 +27,12 @@ use Rattle.life_writer.specs.Writing.{Gives, State}
 use Rattle.life_writer.specs.declared.rows.Row.{Row}
 use Rattle.life_writer.specs.declared.rows.Row.TheVariants.{Advanced, Compared, Computed, Concatenated, IsNull, Joined, NotNull}
 use Rattle.life_elab_laws.proofs.ElementForms.{either_served}
-use Rattle.life_elab_laws.proofs.ExpressionTypes.{own_no_text}
-use Rattle.life_elab_laws.proofs.Expressions.{whole_expression}
 use Rattle.life_elab_laws.proofs.MovedOwners.{IsMovedFrom, moved_from_variable}
 use Rattle.life_elab_laws.proofs.PointerForms.{own_typed}
 use Rattle.life_elab_laws.proofs.Setting.{Setting}
 use Rattle.life_elab_laws.proofs.StringForms.{makes_a_text}
 use Rattle.life_elab_laws.proofs.TypedKinds.{ok_same}
+use Rattle.life_writer.specs.MethodForms.{method_uses}
 
 -- nothing between operands needs none
 pub row_plain : (w : Row) (left right : Uses) (place : Place) (t : ExprType) (c : Category) → (binary_uses w left right place t c).replacing ≡ None
@@ -44,6 +43,15 @@ row_plain (NotNull side) left right place t c = refl
 row_plain (Compared equal) left right place t c = refl
 row_plain Concatenated left right place t c = refl
 row_plain (Advanced direction) left right place t c = refl
+
+plain_no_text : (t : ExprType) → is_plain_type t ≡ true → is_text (own_type t) ≡ false
+plain_no_text (Of ty.Text) p = absurd (false≢true p)
+plain_no_text (Of _) p = refl
+plain_no_text NullPointer p = refl
+plain_no_text TextLiteral p = refl
+
+null_no_literal : NullPointer ≡ TextLiteral → ⊥
+null_no_literal e = cc
 
 module _ (a : Around) (visible : List ℕ) (types : Types) (texts : ℕ) (fs : List Function) (f : Function) (setting : Setting a types fs f) where
   -- the variable with this number, if there is one, is moved from, which has this type
@@ -93,6 +101,34 @@ module _ (a : Around) (visible : List ℕ) (types : Types) (texts : ℕ) (fs : L
   edge_plain methods.Back base given d place t c edge = refl
   edge_plain _ base given d place t c edge = absurd (false≢true edge)
 
+  -- what is served as a value is no string
+  value_no_text : (form : Form) → is_served_form texts form ≡ true → IsExpression a.program a.function.locals visible form → is_text (own_type (typed_in form).ty) ≡ false
+  value_no_text (typed place t c form) b h = plain_no_text t (and_parts (is_plain_type t) (is_served_form texts form) b).0
+  value_no_text _ b h = absurd h
+
+  -- ---- a literal replaces nothing: it is assigned by way of a temporary
+
+  method_plain : (m : Method) (e : Uses) (es : List Uses) (d : DelimitersForm) (place : Place) (t : ExprType) (c : Category) → (method_uses a e m es d place t c).replacing ≡ None
+  method_plain methods.Size e es d place t c = refl
+  method_plain _ e es d place t c = refl
+
+  mutual
+    pub literal_plain : (form : Form) → is_served_form texts form ≡ true → IsExpression a.program a.function.locals visible form → (typed_in form).ty ≡ TextLiteral → (uses a form).replacing ≡ None
+    literal_plain (typed place t c form) b h l = made_plain form (record { place = place; ty = t; category = c; form = form }) (and_parts (is_plain_type t) (is_served_form texts form) b).1 h l place
+    literal_plain _ b h l = absurd h
+
+    made_plain : (form : Form) (e : Typed) → is_served_form texts form ≡ true → IsMadeOf a.program a.function.locals visible e form → e.ty ≡ TextLiteral → (place : Place) → (form_uses a form place e.ty e.category).replacing ≡ None
+    made_plain null e b h l place = absurd (null_no_literal (sym h.0 ∙ l))
+    made_plain (paren inner closing) e b h l place = literal_plain inner b h.1 (ap (λ (y : Typed). y.ty) (ok_same h.0) ∙ l)
+    made_plain (binary o left right) e b h l place = row_plain (row_between o left right) (uses a left) (uses a right) place e.ty e.category
+    made_plain (method base m given d) e b h l place = method_plain m (uses a base) (all_uses a given) d place e.ty e.category
+    made_plain (move x) e b h l place = absurd (false≢true b)
+    made_plain (make_unique target argument closing) e b h l place = absurd (false≢true b)
+    made_plain (text_of inner closing) e b h l place = absurd (false≢true b)
+    made_plain _ e b h l place = refl
+
+  -- ---- owners
+
   mutual
     pub replaced : (form : Form) → is_served_owner texts form ≡ true → is_owner_type (typed_in form).ty ≡ true → IsExpression a.program a.function.locals visible form → IsReplaced form
     replaced (typed place t c form) b n h = replaced_made form (record { place = place; ty = t; category = c; form = form }) b n h place
@@ -115,9 +151,7 @@ module _ (a : Around) (visible : List ℕ) (types : Types) (texts : ℕ) (fs : L
     replaced_made (text_of inner closing) e b n h place =
         text_replaced inner closing e place (makes_a_text closing (typed_in inner) e h.0).is
         (λ text. elim (either_served inner (is_served_owner texts inner) (is_served_form texts inner) b) [
-          | inl value ↦
-              let is = whole_expression a visible types texts fs f setting inner value h.1 in
-              absurd (false≢true (sym (own_no_text a.program.types (typed_in inner) is.kind.kind) ∙ ap (λ (x : ExprType). is_text (own_type x)) (own_typed a visible types texts fs f setting inner) ∙ ap is_text text))
+          | inl value ↦ absurd (false≢true (sym (value_no_text inner value h.1) ∙ ap (λ (x : ExprType). is_text (own_type x)) (own_typed a visible types texts fs f setting inner) ∙ ap is_text text))
           | inr owner ↦ replaced inner owner.1 owner.0 h.1
         ])
     replaced_made (typed at t c form) e b n h place = absurd h

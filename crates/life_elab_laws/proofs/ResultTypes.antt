@@ -1,4 +1,4 @@
--- What a function gives back: nothing, a value, an owner, a unique_ptr, a raw pointer or a reference to a value, an owner or a struct, a view, an iterator or a span; control doesn't run past the end of one that gives something back.
+-- What a function gives back: nothing, a value, an owner, a unique_ptr, a struct, a raw pointer or a reference to a value, an owner or a struct, a view, an iterator or a span; control doesn't run past the end of one that gives something back.
 use Rattle.std.proofs.Common.{◌≡◌, ℕ, Bool, true, false, ◌||◌, None, refl, sym}
 use Rattle.std.proofs.lemmas.Bool.{false≢true}
 use Rattle.life_types.specs.TypeTests.{is_value, is_void}
@@ -6,10 +6,10 @@ use Rattle.life_types.specs.Types.{Types}
 use Rattle.life_types.specs.declared.ty.Ty.{Ty}
 use Rattle.life_types.specs.declared.ty.Ty.TheVariants as ty
 use Rattle.life_types.specs.declared.ty.TyId.{TyId}
-use Rattle.life_served.specs.Served.{is_element, is_owner_of_values, is_owning, is_pointing, is_target, is_walker_of_values}
+use Rattle.life_served.specs.Served.{is_element, is_owner_of_values, is_owning, is_pointing, is_target, is_walker_of_values, is_plain_struct}
 use Rattle.life_typed.specs.BaseTypes.{type_at}
 use Rattle.life_type_stmt.specs.Bodies.{return_fault}
-use Rattle.life_elab_laws.proofs.Targets.{IsTarget, target_is, to_owner, to_struct, to_value}
+use Rattle.life_elab_laws.proofs.Targets.{IsTarget, target_is, to_owner, to_struct, to_value, or_false}
 
 abbrev pub gives_back : Types → Ty → Bool
 gives_back types t = is_void t || (is_value t || (is_pointing types t || (is_walker_of_values types t || is_owning types t)))
@@ -22,13 +22,10 @@ pub data IsResultType (types : Types) (t : Ty) : Type 0 where
   gives_walker : is_walker_of_values types t ≡ true → IsResultType types t
   gives_owner : is_owner_of_values types t ≡ true → IsResultType types t
   gives_unique : (target : TyId) → t ≡ ty.Unique target → is_element types (type_at types target) ≡ true → IsResultType types t
+  gives_whole : (number : ℕ) → t ≡ ty.Struct number → is_plain_struct types (ty.Struct number) ≡ true → IsResultType types t
   gives_reference : (target : TyId) (constant : Bool) → t ≡ ty.Reference target constant → is_value (type_at types target) ≡ true → IsResultType types t
   gives_alias : (target : TyId) (constant : Bool) → t ≡ ty.Reference target constant → is_owner_of_values types (type_at types target) ≡ true → IsResultType types t
-  gives_struct : (target : TyId) (constant : Bool) (number : ℕ) → t ≡ ty.Reference target constant → type_at types target ≡ ty.Struct number → IsResultType types t
-
-or_false : (b : Bool) → (b || false) ≡ true → b ≡ true
-or_false true e = refl
-or_false false e = e
+  gives_struct : (target : TyId) (constant : Bool) (number : ℕ) → t ≡ ty.Reference target constant → type_at types target ≡ ty.Struct number → is_plain_struct types (type_at types target) ≡ true → IsResultType types t
 
 pub result_is : (types : Types) (t : Ty) → gives_back types t ≡ true → IsResultType types t
 result_is types ty.Void b = gives_nothing refl
@@ -43,14 +40,14 @@ result_is types (ty.Iterator target constant) b = gives_walker (or_false (is_ele
 result_is types (ty.Span target constant) b = gives_walker (or_false (is_element types (type_at types target)) b)
 result_is types ty.Text b = gives_owner b
 result_is types (ty.Vector item) b = gives_owner (or_false (is_owner_of_values types (ty.Vector item)) b)
-result_is types (ty.Unique target) b = gives_unique target refl b
+result_is types (ty.Unique target) b = gives_unique target refl (or_false (is_element types (type_at types target)) b)
+result_is types (ty.Struct number) b = gives_whole number refl b
 result_is types (ty.Reference target constant) b = refers (target_is types (type_at types target) (or_false (is_target types (type_at types target)) b))
   where
     refers : IsTarget types (type_at types target) → IsResultType types (ty.Reference target constant)
     refers (to_value v) = gives_reference target constant refl v
     refers (to_owner o) = gives_alias target constant refl o
-    refers (to_struct number s) = gives_struct target constant number refl s
-result_is types _ b = absurd (false≢true b)
+    refers (to_struct number s pointless) = gives_struct target constant number refl s pointless
 
 -- ---- the end of the text
 

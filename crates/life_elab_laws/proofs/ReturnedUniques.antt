@@ -90,7 +90,7 @@ module _ (a : Around) (visible : List ℕ) (types : Types) (texts : ℕ) (fs : L
       let v : IsVariableAt a s x is.source = stands.seen x is.source c is.found in
       lived_builds a visible types texts fs f setting true is.ty s s (of_moved x is.ty) (variable s x) Plain (moved (variable s x)) (source_part a visible types texts fs f setting x e is c s stands) refl
       (λ place to s' there still new.
-      moves_part types texts fs f P (variable s x, to) is.ty to (variable s x) place s' is.owner (λ h. (h.1, h.0)) (λ n k q. (q.1, q.0)) (new_apart a visible types texts fs f setting s to new (variable s x) v.lives))
+      moves_part types texts fs f P (variable s x, to) is.ty to (variable s x) place s' is.owner (λ h. (h.1, h.0)) (λ n k q. (q.1, q.0)) (new_apart a visible types texts fs f setting s s' to new (variable s x) v.lives))
       (λ plain. record {
         free = λ place to s' pending. refl;
         kept = λ place to s' living. refl;
@@ -142,7 +142,7 @@ module _ (a : Around) (types : Types) (texts : ℕ) (fs : List Function) (f : Fu
 
   built_back : (w : Gives Remaining) → BuildsThat w → (w.given (result a keyword) w.state).state ≡ by_name (statements.object_named u.named s) → Back
   built_back w is same =
-      owner_given_back a types texts fs f setting v in_loop s h object (inr (subst (λ (q : Ty). is_unique_of_element a.program.types q ≡ true) (sym unique) worth)) r.0 keyword token w
+      owner_given_back a types texts fs f setting v in_loop s h object (inr (inl (subst (λ (q : Ty). is_unique_of_element a.program.types q ≡ true) (sym unique) worth))) r.0 keyword token w
       (subst (λ (q : Ty). Builds a v.visible types texts fs f setting q s w) (sym unique) is) (given_back a e keyword token s) (by_unique ∙ sym same)
 
   -- where nothing is named
@@ -193,8 +193,8 @@ module _ (a : Around) (types : Types) (texts : ℕ) (fs : List Function) (f : Fu
       elim (or_cases (moves_out (ty.Unique target) a.function.result (named_local a.function.locals (named_in e.form))) (is_given a.program.types (ty.Unique target) e)
       (subst (λ (q : Ty). (moves_out q a.function.result (named_local a.function.locals (named_in e.form)) || is_given a.program.types q e) ≡ true) unique r.1)) [ inl moves ↦ moved_back moves | inr gives ↦ given gives ]
 
-  pub fresh_back : IsFresh a v.visible types texts fs f setting (whole_form e) → is_served_fresh texts e.form ≡ true → IsGiven → Back
-  fresh_back from b given = plain_back (fresh_builds a v.visible types texts fs f setting (whole_form e) from target worth given token s h.stands) (fresh_nameless a v.visible texts e.form e b r.2 e.place)
+  pub fresh_back : IsFresh a v.visible types texts fs f setting (whole_form e) → u.named ≡ None → IsGiven → Back
+  fresh_back from none given = plain_back (fresh_builds a v.visible types texts fs f setting (whole_form e) from target worth given token s h.stands) none
 
   pub null_back : IsWhole a v.visible types texts fs f setting (whole_form e) → IsGiven → Back
   null_back is given =

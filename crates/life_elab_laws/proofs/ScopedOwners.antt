@@ -3,13 +3,12 @@ use Rattle.std.proofs.Common.{◌≡◌, ◌<◌, ◌⊎◌, inl, inr, ℕ, true
 use Rattle.std.proofs.lemmas.List.Elements.{Contains-push_cases}
 use Rattle.std.proofs.lemmas.Option.{slice_get_within}
 use Rattle.life_served.specs.Served.{is_owner_of_values}
-use Rattle.life_types.specs.Trees.{HasPartsBelow}
 use Rattle.life_types.specs.Types.{Types}
 use Rattle.life_types.specs.declared.place.Place.{Place}
 use Rattle.life_types.specs.declared.ty.Ty.{Ty}
 use Rattle.life_core.specs.Function.{Function}
 use Rattle.life_core.specs.Operands.{Operand, object_named}
-use Rattle.life_core.specs.Tree.{Acts as Act, Tree, trees}
+use Rattle.life_core.specs.Tree.{Tree, trees}
 use Rattle.life_core.specs.declared.program.Local.{Local}
 use Rattle.life_proper.specs.Knowing.{known_at}
 use Rattle.life_proper.specs.ReadyKnown.{can_leave, set_known}
@@ -19,7 +18,7 @@ use Rattle.life_well_typed.specs.Visible.{Visible}
 use Rattle.life_writer.specs.Around.{Around}
 use Rattle.life_writer.specs.Uses.{Remaining}
 use Rattle.life_writer.specs.Variables.{end_pending}
-use Rattle.life_writer.specs.Writing.{Gives, State, emit, gives}
+use Rattle.life_writer.specs.Writing.{Gives, State, gives, with_code}
 use Rattle.life_elab_laws.proofs.Among.{Among, all_among, among_contains, among_drop, among_left, among_or, among_reverse, among_right, among_take, apart_reverse, ascend_apart, ascend_drop, reverse_among}
 use Rattle.life_elab_laws.proofs.BoundVariables.{adds_temporary, begins_before_it, follows_temporary, kept_none, kept_place, temporary_lives, temporary_local, temporary_written, with_temporary}
 use Rattle.life_elab_laws.proofs.Conditions.{Spares}
@@ -37,7 +36,7 @@ use Rattle.life_elab_laws.proofs.Knowledge.{at_set, beside_set, set_length}
 use Rattle.life_elab_laws.proofs.MadeForms.{Builds, Found, gift_of, one_new}
 use Rattle.life_elab_laws.proofs.Making.{Alive, IsOpen, opened_later}
 use Rattle.life_elab_laws.proofs.Opens.{Opening, Opens}
-use Rattle.life_elab_laws.proofs.OrderedTypes.{order_then, type_ordered}
+use Rattle.life_elab_laws.proofs.OrderedTypes.{HasPartsIn, order_then, type_ordered}
 use Rattle.life_elab_laws.proofs.Parts.{Goes, Part, Runs, gives_part, keep_part, then_part, under_part}
 use Rattle.life_elab_laws.proofs.PendingTemporaries.{ArePending, temporary_later}
 use Rattle.life_elab_laws.proofs.Setting.{Setting}
@@ -62,7 +61,7 @@ module _ (a : Around) (types : Types) (texts : ℕ) (fs : List Function) (f : Fu
   -- ---- what is built
 
   pub fits : FitsTemporary types t
-  fits = inr (inl (owner_later a.program.types types setting.front t owner))
+  fits = inr (inl (owner_later a.program.types types setting.front setting.plain t owner))
 
   -- behind what is found, without the temporaries of that
   abbrev there : State
@@ -71,8 +70,8 @@ module _ (a : Around) (types : Types) (texts : ℕ) (fs : List Function) (f : Fu
   first : Follows types f a v there
   first = follows_settled types f a v s w.state is.hands.grown h
 
-  pub within : HasPartsBelow w.state.types (length w.state.types.types) t
-  within = owner_below a.program.types w.state.types (front_length a.program.types.types w.state.types.types first.stands.table) t owner
+  pub within : HasPartsIn w.state.types t
+  within ordered = owner_below a.program.types w.state.types (front_length a.program.types.types w.state.types.types first.stands.table) t owner
 
   abbrev pub x : ℕ
   x = length w.state.locals
@@ -85,7 +84,7 @@ module _ (a : Around) (types : Types) (texts : ℕ) (fs : List Function) (f : Fu
 
   -- it has come to life
   abbrev begun : State
-  begun = emit (is.comes.at place) (is.comes.step x) kept
+  begun = with_code (kept.code ++ is.comes.code place x) kept
 
   abbrev there_kept : State
   there_kept = with_temporary a types texts fs f place t fits there within
@@ -123,7 +122,7 @@ module _ (a : Around) (types : Types) (texts : ℕ) (fs : List Function) (f : Fu
   acted = is.act place (object_named x) begun
 
   acts : Part types texts fs f P (is.found, object_named x) None begun (gives tt acted) (no_gift types texts fs f)
-  acts = is.acts place (object_named x) begun stood (λ n c. refl) (one_new a v.visible types texts fs f setting s x h.stands.opened is.hands.grown.count)
+  acts = is.acts place (object_named x) begun stood (λ n c. refl) (one_new a v.visible types texts fs f setting s begun x h.stands.opened is.hands.grown.count (omega (arith, length-append w.state.locals (tl ∷ []))))
 
   pub acted_table : IsFront a.program.types.types acted.types.types
   acted_table = front_then a.program.types.types begun.types.types acted.types.types stood.table acts.grown.types
@@ -200,7 +199,7 @@ module _ (a : Around) (types : Types) (texts : ℕ) (fs : List Function) (f : Fu
         }))
 
     abbrev comes : List Tree
-    comes = Act (is.comes.at place) (is.comes.step x) ∷ []
+    comes = is.comes.code place x
 
     abbrev all_code : List Tree
     all_code = is.hands.code ++ (comes ++ (R.code ++ e.code))

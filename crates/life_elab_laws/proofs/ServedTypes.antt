@@ -1,11 +1,12 @@
 -- The types of variables that are served: values, what points to them, owners, iterators and spans, unique_ptrs, and structs.
-use Rattle.std.proofs.Common.{◌≡◌, ◌⊎◌, inl, inr, Bool, true, ◌||◌, slice_get, Option, Some, None, refl, unwrap_or}
+use Rattle.std.proofs.Common.{◌≡◌, ◌⊎◌, inl, inr, ℕ, Bool, true, ◌||◌, slice_get, Option, Some, None, refl, sym, ap, ◌∙◌, subst, unwrap_or}
 use Rattle.std.proofs.lemmas.Bool.{false≢true, or_cases, or_left, or_right}
 use Rattle.life_types.specs.TypeTests.{is_value}
 use Rattle.life_types.specs.Types.{Types}
 use Rattle.life_types.specs.declared.ty.Ty.{Ty}
 use Rattle.life_types.specs.declared.ty.Ty.TheVariants as ty
 use Rattle.life_types.specs.declared.ty.TyId.{TyId}
+use Rattle.life_typed.specs.BaseTypes.{type_at}
 use Rattle.life_served.specs.Served.{is_owner_of_values, is_pointing, is_served_type, is_served_variable, is_struct, is_unique_of_element, is_walker_of_values}
 
 -- the test of a type
@@ -47,9 +48,29 @@ type_serves types t (inr more) =
     go (inr (inr (inr structure))) =
         or_right (is_owner_of_values types t) (is_walker_of_values types t || (is_unique_of_element types t || is_struct t)) (or_right (is_walker_of_values types t) (is_unique_of_element types t || is_struct t) (or_right (is_unique_of_element types t) (is_struct t) structure))
 
--- what is built where it has come to life, by an act of its own: an owner, or a unique_ptr
+-- a struct that the table has
+pub record IsTabled (types : Types) (t : Ty) : Type 0 where
+  pub number : ℕ
+  pub is : t ≡ ty.Struct number
+  pub at : ℕ
+  pub there : slice_get types.types at ≡ Some t
+
+pub struct_tabled : (types : Types) (id : TyId) (number : ℕ) → type_at types id ≡ ty.Struct number → IsTabled types (ty.Struct number)
+struct_tabled types id number is = go (slice_get types.types id.0) refl is
+  where
+    go : (o : Option Ty) → slice_get types.types id.0 ≡ o → unwrap_or o ty.Void ≡ ty.Struct number → IsTabled types (ty.Struct number)
+    go None at same = absurd (no_struct same)
+      where
+        no_struct : ty.Void ≡ ty.Struct number → ⊥
+        no_struct e = cc
+    go (Some t) at same = record { number = number; is = refl; at = id.0; there = at ∙ ap Some same }
+
+-- what is built where it has come to life, by an act of its own: an owner, a unique_ptr, or a struct
 abbrev pub IsBuilt : Types → Ty → Type 0
-IsBuilt types t = (is_owner_of_values types t ≡ true) ⊎ (is_unique_of_element types t ≡ true)
+IsBuilt types t = (is_owner_of_values types t ≡ true) ⊎ ((is_unique_of_element types t ≡ true) ⊎ IsTabled types t)
+
+pub struct_built : (types : Types) (id : TyId) (number : ℕ) → type_at types id ≡ ty.Struct number → IsBuilt types (type_at types id)
+struct_built types id number is = inr (inr (subst (IsTabled types) (sym is) (struct_tabled types id number is)))
 
 -- it is in the table
 pub variable_found : (types : Types) (id : TyId) → is_served_variable types id ≡ true → (t : Ty) × (slice_get types.types id.0 ≡ Some t) × IsServedType types t

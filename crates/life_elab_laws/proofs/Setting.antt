@@ -8,7 +8,7 @@ use Rattle.life_types.specs.declared.ty.Class.TheVariants.{Value}
 use Rattle.life_types.specs.declared.ty.Ty.{Ty}
 use Rattle.life_types.specs.declared.ty.Ty.TheVariants as ty
 use Rattle.life_types.specs.declared.ty.TyId.{TyId}
-use Rattle.life_served.specs.Served.{are_served_variables, is_served_result, takes_owners}
+use Rattle.life_served.specs.Served.{are_served_variables, is_served_result}
 use Rattle.life_typed.specs.BaseTypes.{type_at}
 use Rattle.life_typed.specs.Ends.{ends}
 use Rattle.life_typed.specs.Programs.{FunctionForm}
@@ -17,11 +17,10 @@ use Rattle.life_core.specs.Function.{Function}
 use Rattle.life_core.specs.declared.program.Local.{Local}
 use Rattle.life_well_typed.specs.Expressions.{parameter_types}
 use Rattle.life_writer.specs.Around.{Around, result_local}
-use Rattle.life_proper.specs.OperandTypes.{is_composed}
 use Rattle.life_elab_laws.proofs.Calls.{IsCallee}
 use Rattle.life_elab_laws.proofs.Fronts.{IsFront}
 use Rattle.life_elab_laws.proofs.HandedTypes.{IsHandedType}
-use Rattle.life_elab_laws.proofs.Shaped.{AreShaped}
+use Rattle.life_elab_laws.proofs.Shaped.{AreShaped, PlainStays}
 use Rattle.life_elab_laws.proofs.StructTypes.{HasStructs}
 use Rattle.life_elab_laws.proofs.OwnLocals.{first_own}
 
@@ -37,13 +36,12 @@ pub record Setting (a : Around) (types : Types) (fs : List Function) (f : Functi
   pub values : HasStructs a.program.types
   pub structs : HasStructs types
   pub members : (number : ℕ) → members_at types number ≡ members_at a.program.types number
+  pub plain : PlainStays a.program.types types
   -- the table has chars, where views have elements
   pub chars : type_at a.program.types CHAR ≡ ty.Char
   pub returned : (g : ℕ) (of : FunctionForm) → slice_get a.program.functions g ≡ Some of → is_served_result a.program.types of.result ≡ true
   pub result : is_served_result a.program.types a.function.result ≡ true
   pub taken : (g : ℕ) (of : FunctionForm) → slice_get a.program.functions g ≡ Some of → (n : ℕ) (id : TyId) → slice_get (parameter_types (Some of)) n ≡ Some id → IsHandedType a.program.types id
-  -- .. and nothing that is given over, but where the function gives a value or nothing
-  pub lent : (g : ℕ) (of : FunctionForm) → slice_get a.program.functions g ≡ Some of → takes_owners a.program.types of.result ≡ false → (n : ℕ) (id : TyId) → slice_get (parameter_types (Some of)) n ≡ Some id → is_composed (type_at a.program.types id) ≡ false
   pub callees : (g : ℕ) (of : FunctionForm) → slice_get a.program.functions g ≡ Some of → IsCallee types fs g of
   -- .. and the table has the types of what they give back
   pub results : (g : ℕ) (of : FunctionForm) → slice_get a.program.functions g ≡ Some of → (t : Ty) × (slice_get a.program.types.types of.result.0 ≡ Some t)

@@ -6,7 +6,7 @@ use Rattle.life_types.specs.Types.{Types}
 use Rattle.life_types.specs.declared.ty.NameId.{NameId}
 use Rattle.life_types.specs.declared.ty.Ty.{Ty}
 use Rattle.life_types.specs.declared.ty.Ty.TheVariants as ty
-use Rattle.life_served.specs.Served.{are_served_variables, is_pointing, is_served_variable}
+use Rattle.life_served.specs.Served.{are_served_variables, is_pointing, is_served_variable, is_struct}
 use Rattle.life_core.specs.Kinds.{is_object}
 use Rattle.life_core.specs.declared.program.Local.{Local}
 use Rattle.life_core.specs.declared.program.LocalKind.{LocalKind}
@@ -16,11 +16,11 @@ use Rattle.life_writer.specs.Writing.{State}
 use Rattle.life_elab_laws.proofs.ExpressionKinds.{variable_built}
 use Rattle.life_elab_laws.proofs.Fronts.{IsFront}
 use Rattle.life_elab_laws.proofs.ServedTypes.{IsServedType, serves, type_serves}
-use Rattle.life_elab_laws.proofs.Shaped.{AreShaped, IsShaped, all_shaped, is_passing, owner_later, variable_later, unique_later}
+use Rattle.life_elab_laws.proofs.Shaped.{AreShaped, IsShaped, all_shaped, is_passing, owner_later, variable_later, unique_later, PlainStays}
 use Rattle.life_elab_laws.proofs.WrittenLocals.{AreWrittenLocals, FitsNameless, FitsTemporary, IsIntermediate, IsOwn}
 
 -- .. in each table that the one so far begins
-module _ (a : Around) (s : State) (whole : Types) (front : IsFront a.program.types.types whole.types) (later : IsFront s.types.types whole.types)
+module _ (a : Around) (s : State) (whole : Types) (front : IsFront a.program.types.types whole.types) (stays : PlainStays a.program.types whole) (later : IsFront s.types.types whole.types)
     (variables : are_served_variables a.program.types a.function.locals ≡ true) where
   nameless_shaped : (l : Local) → IsIntermediate a.program.types s.types l → IsShaped whole l
   nameless_shaped l is = go is.fits
@@ -38,13 +38,14 @@ module _ (a : Around) (s : State) (whole : Types) (front : IsFront a.program.typ
         where
           reached : FitsTemporary a.program.types is.ty → IsServedType whole is.ty
           reached (inl value) = inl (or_left (is_value is.ty) (is_pointing whole is.ty) value)
-          reached (inr (inl owner)) = inr (inl (owner_later a.program.types whole front is.ty owner))
-          reached (inr (inr unique)) = inr (inr (inr (inl (unique_later a.program.types whole front is.ty unique))))
+          reached (inr (inl owner)) = inr (inl (owner_later a.program.types whole front stays is.ty owner))
+          reached (inr (inr (inl unique))) = inr (inr (inr (inl (unique_later a.program.types whole front stays is.ty unique))))
+          reached (inr (inr (inr structure))) = inr (inr (inr (inr (ap is_struct structure.is))))
 
   own_shaped : (l : Local) → IsOwn a l → IsShaped whole l
   own_shaped l is lasts =
       ap (is_served_variable whole) is.of.typed
-      ∙ variable_later a.program.types whole front is.variable.ty (variable_built a.program.types a.function.locals is.number is.variable variables is.there)
+      ∙ variable_later a.program.types whole front stays is.variable.ty (variable_built a.program.types a.function.locals is.number is.variable variables is.there)
 
   pub written_shaped : AreWrittenLocals a.program.types a s → AreShaped whole s.locals
   written_shaped own = all_shaped whole s.locals (λ y l at. elim (own y l at) [ inl is ↦ nameless_shaped l is | inr is ↦ own_shaped l is ])

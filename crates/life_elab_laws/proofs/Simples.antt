@@ -1,5 +1,5 @@
 -- Assignments, steps, and calls that stand alone.
-use Rattle.std.proofs.Common.{◌≡◌, inl, inr, ℕ, Bool, true, false, if◌then◌else◌, List, cond, is_none, length, not, Option, Some, None, Err, refl, sym, ap, ◌∙◌, subst, ◌&&◌, ◌||◌, rules}
+use Rattle.std.proofs.Common.{◌≡◌, inl, inr, ℕ, Bool, true, false, if◌then◌else◌, List, cond, is_none, length, not, Option, Some, None, refl, sym, ap, ◌∙◌, subst, ◌&&◌, ◌||◌}
 use Rattle.std.proofs.lemmas.Bool.{and_from, and_parts, false≢true, or_cases}
 use Rattle.std.specs.Prelude.{pos}
 use Rattle.life_types.specs.TypeTests.{is_value, is_void, is_text, is_unique, is_view, is_iterator}
@@ -11,7 +11,7 @@ use Rattle.life_types.specs.declared.ty.Ty.{Ty}
 use Rattle.life_types.specs.declared.ty.Ty.TheVariants as ty
 use Rattle.life_tree.specs.declared.operator.CompoundOperator.{CompoundOperator}
 use Rattle.life_tree.specs.declared.operator.StepOperator.{StepOperator}
-use Rattle.life_served.specs.Served.{are_served_elements, calls_any, fills_owner, fills_unique, form_type, is_call, is_changing, is_number_type, is_owner_of_values, is_owner_type, is_served_any, is_served_assigned, is_served_change, is_served_either, is_served_expression, is_served_left, is_served_object, is_served_owner, is_served_owning, is_served_renewed, is_served_reset, is_served_simple, is_served_struct, is_served_unique, is_served_walker, is_vector, is_vector_type, is_view_type, is_walker_of_values, is_walker_type, is_struct_type, is_element, is_served_fresh, is_unique_type}
+use Rattle.life_served.specs.Served.{are_served_elements, calls_any, fills_owner, form_type, is_call, is_changing, is_nullptr, is_number_type, is_owner_of_values, is_owner_type, is_served_any, is_served_change, is_served_either, is_served_expression, is_served_left, is_served_object, is_served_owner, is_served_owning, is_served_renewed, is_served_reset, is_served_simple, is_served_struct, is_served_unique, is_served_walker, is_vector, is_vector_type, is_view_type, is_walker_of_values, is_walker_type, is_struct_type, is_element, is_served_fresh, is_unique_type, are_served_parts}
 use Rattle.life_typed.specs.Operators.{promoted}
 use Rattle.life_typed.specs.Statements.{can_step, compounded}
 use Rattle.life_typed.specs.TypedForm.{Form, Typed, call, forms, method, text, typed, whole as whole_form}
@@ -41,7 +41,7 @@ use Rattle.life_writer.specs.Calls.{Called, called_alone, form_call}
 use Rattle.life_writer.specs.ExpressionForms.{all_uses, uses}
 use Rattle.life_writer.specs.Giving as giving
 use Rattle.life_writer.specs.Lists.{built_type, list_object, listed}
-use Rattle.life_writer.specs.Pointers.{By, aimed, located, pointed}
+use Rattle.life_writer.specs.Pointers.{By, Pointing, aimed, located, pointed}
 use Rattle.life_writer.specs.Registers.{computed, constant as constant_step, converted}
 use Rattle.life_writer.specs.Uses.{Act, Uses, own}
 use Rattle.life_writer.specs.Using.{operand, pointer, pointing, temporary_of, value}
@@ -52,17 +52,18 @@ use Rattle.life_elab.specs.SimpleForms.{advanced, appended, assigned, combined, 
 use Rattle.life_elab.specs.Simples.{compound_operator, held, put_back, step_operator}
 use Rattle.life_elab_laws.proofs.Aiming.{literal_given, pointed_fine, pointed_keeps, pointed_ready}
 use Rattle.life_elab_laws.proofs.HandingCalls.{alone_call_part}
-use Rattle.life_elab_laws.proofs.ExpressionTypes.{IsAnswered, answers_nothing, answers_place, answers_raw, answers_value, answers_view, own_no_iterator, own_no_text, own_value, seen_kind, answers_owner, answers_walker, answers_struct, answers_made, answers_unique, own_no_unique}
+use Rattle.life_elab_laws.proofs.ExpressionTypes.{IsAnswered, answers_nothing, answers_place, answers_raw, answers_value, answers_view, own_no_iterator, own_no_text, own_value, seen_kind, answers_owner, answers_walker, answers_struct, answers_made, answers_unique, own_no_unique, answers_whole}
 use Rattle.life_elab_laws.proofs.ExpressionForms.{IsCall, IsWhole}
-use Rattle.life_elab_laws.proofs.Expressions.{asked_expression, givings, named_unique, object_expression, owner_expression, struct_expression, walker_expression, whole_expression, fresh_expression}
+use Rattle.life_elab_laws.proofs.Expressions.{edge_of, asked_expression, givings, named_unique, object_expression, owner_expression, struct_expression, walker_expression, whole_expression, fresh_expression, holding_expression, listings}
+use Rattle.life_elab_laws.proofs.PointedCalls.{GivesPointer, call_assigned, gives_called, gives_plainly}
 use Rattle.life_elab_laws.proofs.PointerForms.{placed_operand, pointer_whole, points_whole, result_later}
-use Rattle.life_elab_laws.proofs.FormedFits.{given_raw, given_seen, given_owner, given_string, given_walker, given_vector, given_struct}
+use Rattle.life_elab_laws.proofs.FormedFits.{given_raw, given_seen, given_owner, given_string, given_walker, given_vector}
 use Rattle.life_elab_laws.proofs.Filling.{text_filling}
 use Rattle.life_elab_laws.proofs.Gifts.{Gift, takes_from, a_number, a_place, a_pointer, a_pointing, both, nothing}
 use Rattle.life_elab_laws.proofs.GivenKinds.{given_number, given_pointer, given_view}
 use Rattle.life_elab_laws.proofs.Instructions.{acted_as_part, as_type_part, constant_part, converted_part, literal_located_part, load_part, operator_part}
 use Rattle.life_elab_laws.proofs.Locations.{is_location, is_pointed, seen_pointed, location_is, view_location}
-use Rattle.life_elab_laws.proofs.Making.{IsOpen, opened_later}
+use Rattle.life_elab_laws.proofs.Making.{IsOpen, opened_later, lies_fills}
 use Rattle.life_elab_laws.proofs.Parts.{Makes, Part, and_part, gives_part, keep_part, leaf_part, seen_part, then_part, under_part}
 use Rattle.life_elab_laws.proofs.RowTypes.{promoted_is}
 use Rattle.life_elab_laws.proofs.Setting.{Setting}
@@ -88,8 +89,8 @@ use Rattle.life_names.specs.declared.fault.IllKind.{IllKind}
 use Rattle.life_elab_laws.proofs.OwnerSteps.{copies_part}
 use Rattle.life_elab_laws.proofs.ReplacedOwners.{IsReplaced, replaced}
 use Rattle.life_elab_laws.proofs.SeenForms.{string_points}
-use Rattle.life_elab_laws.proofs.StructStatements.{struct_assigned_part}
-use Rattle.life_elab_laws.proofs.UniqueStatements.{reset_part, unique_assigned_part, unique_renewed_part}
+use Rattle.life_elab_laws.proofs.StructStatements.{struct_assigned_part, members_assigned_part}
+use Rattle.life_elab_laws.proofs.UniqueStatements.{reset_part, unique_nulled_part, unique_renewed_part}
 use Rattle.life_elab_laws.proofs.WalkerForms.{IsWalker, walker_pointer, walker_points, vector_points}
 use Rattle.life_elab_laws.proofs.WalkerSteps.{advance_filling, advance_given, keeps_itself}
 use Rattle.life_types.specs.Pointees.{ty_of}
@@ -99,8 +100,7 @@ use Rattle.life_elab_laws.proofs.ViewForms.{asks_for, gives_as}
 use Rattle.life_typed.specs.Members.{answer, has_method, method_answer}
 use Rattle.life_elab_laws.proofs.ReferredOwners.{walker_value}
 use Rattle.life_well_typed.specs.Members.{IsCalled}
-use Rattle.life_typed.specs.Conversions.{fits, fitting}
-use Rattle.life_typed.specs.declared.misfit.Misfit.TheVariants.{General}
+use Rattle.life_typed.specs.Conversions.{fits, is_place as is_place_category}
 use Rattle.life_types.specs.contracts.ty.TyIdPartialEq.TheImpl.{ghosts as id}
 use Rattle.life_elab_laws.proofs.CalledUniques.{called_unique}
 use Rattle.life_elab_laws.proofs.Elements.{one_element}
@@ -108,6 +108,10 @@ use Rattle.life_elab_laws.proofs.PushedElements.{AreGiving}
 use Rattle.life_elab_laws.proofs.FreeObjects.{object_part}
 use Rattle.life_elab_laws.proofs.StructReferences.{kind_no_struct}
 use Rattle.life_elab_laws.proofs.StructForms.{IsStruct}
+use Rattle.life_elab_laws.proofs.AnsweredUniques.{holding_lies, unique_itself}
+use Rattle.life_elab_laws.proofs.MadeStructs.{with_place, with_target, with_value}
+use Rattle.life_elab_laws.proofs.ReferredStructs.{struct_called}
+use Rattle.life_elab_laws.proofs.ServedTypes.{IsTabled}
 
 value_class : (t : Ty) → is_value t ≡ true → class (Some t) ≡ classes.Value
 value_class = by_values (λ t. class (Some t) ≡ classes.Value) refl refl refl refl refl
@@ -163,22 +167,37 @@ module _ (a : Around) (visible : List ℕ) (types : Types) (texts : ℕ) (fs : L
       (and_part types texts fs f no_gift tt s w u (a_value t) (a_target t) stands.opened first second)
       (saved_part types texts fs f (both_of (a_value t) (a_target t)) (w.given, u.given) t w.given u.given equals u.state (λ h. h.0) (λ h. h.1) (λ n k p. p))
 
+  -- a pointer, which is found behind what it is given
+  module _ (target e : Typed) where
+    abbrev goal_of : State → Gives Location
+    goal_of s = pointer (uses a (whole_form target)) (own (uses a (whole_form target))) s
+
+    abbrev given_at : Gives Pointing → State
+    given_at q = emit e.place (pointed q.given (goal_of q.state).given) (goal_of q.state).state
+
   -- a pointer, which is given what an expression gives it as one of a type
   pointer_given_part : (target e : Typed) (equals behind : Place) (s : State) (u : Ty) (source : ExprType) → is_location u ≡ true → ((s : State) → Standing s → Makes types texts fs f None s (pointer (uses a (whole_form target)) (own (uses a (whole_form target))) s) (a_pointer types texts fs f u))
-      → Makes types texts fs f None s (pointing (uses a (whole_form e)) s) (a_pointing types texts fs f source) → takes_from types u source ≡ true → Standing s
+      → GivesPointer types texts fs f source s (pointing (uses a (whole_form e)) s) → takes_from types u source ≡ true → Standing s
       → Acts s (assigned_by classes.Pointer (uses a (whole_form e)) (own_type target.ty) (target_of (uses a (whole_form target))) equals behind s)
-  pointer_given_part target e equals behind s u source loc lies first taken stands =
-      let w = pointing (uses a (whole_form e)) s in
-      let l = pointer (uses a (whole_form target)) (own (uses a (whole_form target))) w.state in
-      let P = a_pointing types texts fs f source in
-      let Q = a_pointer types texts fs f u in
-      let second = lies w.state (stands_later a visible s w.state first.grown stands) in
-      then_part types texts fs f no_gift tt None s (gives (w.given, l.given) l.state) _ (both_of P Q) no_gift stands.opened
-      (and_part types texts fs f no_gift tt s w l P Q stands.opened first second)
-      (acted_as_part types texts fs f (both_of P Q) (w.given, l.given) e.place (pointed w.given l.given) l.state
-      (λ h. pointed_fine types texts fs f l.given u source w.given loc h.1 taken h.0)
-      (λ h n k p. pointed_ready f l.given n n w.given k p.1 p.0 h.1.kept)
-      (λ h n m k p. pointed_keeps f l.given n n m w.given k p.1 p.0 h.1.kept))
+  pointer_given_part target e equals behind s u source loc lies first taken stands = go first
+    where
+      go : GivesPointer types texts fs f source s (pointing (uses a (whole_form e)) s) → Acts s (given_at target e (pointing (uses a (whole_form e)) s))
+      go (gives_called c) =
+          let v = c.given.state in
+          subst (λ (q : Gives Pointing). Acts s (given_at target e q)) (sym c.is)
+          (call_assigned types texts fs f source s (pointing (uses a (whole_form e)) s) c u (goal_of target e v) e.place (lies v (stands_later a visible s v c.hands.grown stands)) (inr taken))
+      go (gives_plainly first) =
+          let w = pointing (uses a (whole_form e)) s in
+          let l = goal_of target e w.state in
+          let P = a_pointing types texts fs f source in
+          let Q = a_pointer types texts fs f u in
+          let second = lies w.state (stands_later a visible s w.state first.grown stands) in
+          then_part types texts fs f no_gift tt None s (gives (w.given, l.given) l.state) _ (both_of P Q) no_gift stands.opened
+          (and_part types texts fs f no_gift tt s w l P Q stands.opened first second)
+          (acted_as_part types texts fs f (both_of P Q) (w.given, l.given) e.place (pointed w.given l.given) l.state
+          (λ h. pointed_fine types texts fs f l.given u source w.given loc h.1.typed taken h.0)
+          (λ h n k p. pointed_ready f l.given n n w.given k p.1 p.0 (lies_fills f l.given h.1.kept))
+          (λ h n m k p. pointed_keeps f l.given n n w.given k p.1 p.0 m (lies_fills f l.given h.1.kept)))
 
   pointer_assigned_part : (target e : Typed) (equals behind : Place) (s : State) (u : Ty) → is_location u ≡ true → IsWhole a visible types texts fs f setting (whole_form target) → IsWhole a visible types texts fs f setting (whole_form e) → target.ty ≡ Of u
       → is_pointed e.ty ≡ true → takes_from types u e.ty ≡ true → Standing s → Acts s (assigned_by classes.Pointer (uses a (whole_form e)) (own_type target.ty) (target_of (uses a (whole_form target))) equals behind s)
@@ -355,10 +374,11 @@ module _ (a : Around) (visible : List ℕ) (types : Types) (texts : ℕ) (fs : L
       by_answer (answers_raw target constant raw w own held) = pointer_thrown e behind s (whole e b h) target constant own held stands
       by_answer (answers_walker w own held) = absurd (kind_no_walker a.program.types e (whole e b h).kind.kind (type_at a.program.types is.of.result) w own)
       by_answer (answers_unique target unique w own held) = absurd (false≢true (sym (own_no_unique a.program.types e (whole e b h).kind.kind) ∙ ap (λ (x : ExprType). is_unique (own_type x)) own))
+      by_answer (answers_whole number back pointless own held) = absurd (kind_no_struct a.program.types e (whole e b h).kind.kind (ap is_struct_type own))
       by_answer (answers_made o own held) = absurd (kind_no_owner a.program.types e (whole e b h).kind.kind (type_at a.program.types is.of.result) o own)
       by_answer (answers_view view own held) = view_thrown e behind s (whole e b h) own held stands
       by_answer (answers_place target constant refers w own held) = number_thrown e behind s (whole e b h) (ap is_number own ∙ w) stands
-      by_answer (answers_struct target constant number refers structure own held) = absurd (kind_no_struct a.program.types e (whole e b h).kind.kind (ap is_struct_type own))
+      by_answer (answers_struct target constant number refers structure pointless own held) = absurd (kind_no_struct a.program.types e (whole e b h).kind.kind (ap is_struct_type own))
       by_answer (answers_owner target constant refers o own held) = absurd (kind_no_owner a.program.types e (whole e b h).kind.kind (type_at a.program.types target) o own)
   discarded_part (method base m given d) e behind s same b h calls stands =
       let made : IsMadeOf a.program a.function.locals visible e (method base m given d) = subst (IsMadeOf a.program a.function.locals visible e) same h in
@@ -413,7 +433,7 @@ module _ (a : Around) (visible : List ℕ) (types : Types) (texts : ℕ) (fs : L
       ∙ ap (λ (x : Ty). cond (is_void x) (u.alone s) (thrown_by (class (Some x)) u behind s)) (ap own_type is)
       ∙ ap (λ (x : Ty). (temporary_of u x s).state) (ap own_type is)))
       (seen_part types texts fs f no_gift tt None s w (a_place types texts fs f (ty.Unique target) false) (λ (o : Operand). tt) no_gift
-      (temporary_made a visible types texts fs f setting (ty.Unique target) u.place s (u.object s) (inr worth) builds stands) (λ b h. tt) (λ n k h. tt))
+      (temporary_made a visible types texts fs f setting (ty.Unique target) u.place s (u.object s) (inr (inl worth)) builds stands) (λ b h. tt) (λ n k h. tt))
 
   fresh_left : (form : Form) (e : Typed) (behind : Place) (s : State) → e.form ≡ form → calls_any form ≡ true → is_served_fresh texts (whole_form e) ≡ true → Whole e → Standing s → Acts s (thrown e.category (uses a (whole_form e)) behind s)
   fresh_left (call g given d) e behind s same calls b h stands =
@@ -421,16 +441,7 @@ module _ (a : Around) (visible : List ℕ) (types : Types) (texts : ℕ) (fs : L
       let made : IsMadeOf a.program a.function.locals visible e (call g given d) = subst (IsMadeOf a.program a.function.locals visible e) same h in
       let x = called_unique a visible types texts fs f setting g e parts.0 made.0 in
       let from = fresh_expression a visible types texts fs f setting (whole_form e) b h in
-      fresh_thrown e behind s x.0 x.2 x.1 from.value (from.builds x.0 x.1 (given_itself e x.0 x.2 from.value) s stands) stands
-    where
-      itself : (target : TyId) → id.eq target target ≡ true
-      itself target = search rules
-
-      given_itself : (e : Typed) (target : TyId) → e.ty ≡ Of (ty.Unique target) → e.category ≡ category.Value → is_given a.program.types (ty.Unique target) e ≡ true
-      given_itself e target is held =
-          ap (λ (x : ExprType). fits_at_all (fits a.program.types (ty.Unique target) x e.category)) is
-          ∙ ap (λ (c : Category). fits_at_all (fits a.program.types (ty.Unique target) (Of (ty.Unique target)) c)) held
-          ∙ ap (λ (b : Bool). fits_at_all (if b then fitting else Err General)) (itself target)
+      fresh_thrown e behind s x.0 x.2 x.1 from.value (from.builds x.0 x.1 (unique_itself a.program.types e x.0 x.2 from.value) s stands) stands
   fresh_left (method base m given d) e behind s same calls b h stands =
       absurd (false≢true (sym (ap (is_served_fresh texts) same) ∙ (and_parts (is_unique_type e.ty) (is_served_fresh texts e.form) b).1))
   fresh_left _ e behind s same calls b h stands = absurd (false≢true calls)
@@ -496,6 +507,35 @@ module _ (a : Around) (visible : List ℕ) (types : Types) (texts : ℕ) (fs : L
       by_base _ c = absurd c
   walker_left _ e same calls b h = absurd (false≢true calls)
 
+  -- a struct that a call gives is a temporary
+  struct_made_thrown : (e : Typed) (behind : Place) (s : State) (number : ℕ) → IsTabled a.program.types (ty.Struct number) → e.ty ≡ Of (ty.Struct number) → e.category ≡ category.Value
+      → BuildsIn a visible types texts fs f setting false (ty.Struct number) s ((uses a (whole_form e)).object s) → Standing s → Acts s (thrown e.category (uses a (whole_form e)) behind s)
+  struct_made_thrown e behind s number tabled is held builds stands =
+      let u = uses a (whole_form e) in
+      let w = mapped object_named (temporary_of u (ty.Struct number) s) in
+      subst (Acts s)
+      (sym (ap (λ (k : Category). thrown k u behind s) held
+      ∙ ap (λ (x : Ty). cond (is_void x) (u.alone s) (thrown_by (class (Some x)) u behind s)) (ap own_type is)
+      ∙ ap (λ (x : Ty). (temporary_of u x s).state) (ap own_type is)))
+      (seen_part types texts fs f no_gift tt None s w (a_place types texts fs f (ty.Struct number) false) (λ (o : Operand). tt) no_gift
+      (temporary_made a visible types texts fs f setting (ty.Struct number) u.place s (u.object s) (inr (inr tabled)) builds stands) (λ b h. tt) (λ n k h. tt))
+
+  -- a call refers to the struct that it answers, or makes it, and one of a member refers to it
+  struct_left : (form : Form) (e : Typed) (behind : Place) (s : State) → e.form ≡ form → calls_any form ≡ true → is_served_struct texts (whole_form e) ≡ true → Whole e → Standing s → Acts s (thrown e.category (uses a (whole_form e)) behind s)
+  struct_left (call g given d) e behind s same calls b h stands =
+      let made : IsMadeOf a.program a.function.locals visible e (call g given d) = subst (IsMadeOf a.program a.function.locals visible e) same h in
+      let from = struct_expression a visible types texts fs f setting (whole_form e) b h in
+      elim (struct_called a visible types texts fs f setting g e (and_parts (is_struct_type e.ty) (is_served_struct texts e.form) b).0 made.0) [
+        | inl place ↦ struct_thrown e behind s (with_place a visible types texts fs f setting (whole_form e) from place.0 place.1 place.2) stands
+        | inr whole ↦ struct_made_thrown e behind s whole.0 whole.1 whole.2 whole.3 (with_value a visible types texts fs f setting (whole_form e) from whole.0 whole.2 whole.3 s stands) stands
+      ]
+  struct_left (method base m given d) e behind s same calls b h stands =
+      let made : IsMadeOf a.program a.function.locals visible e (method base m given d) = subst (IsMadeOf a.program a.function.locals visible e) same h in
+      let served = sym (ap (is_served_struct texts) same) ∙ (and_parts (is_struct_type e.ty) (is_served_struct texts e.form) b).1 in
+      let place = edge_of a visible types texts fs f setting base m given d e served made.0 (λ o n. owner_expression a visible types texts fs f setting base o n made.1) in
+      struct_thrown e behind s (with_place a visible types texts fs f setting (whole_form e) (struct_expression a visible types texts fs f setting (whole_form e) b h) place.id place.constant place.place) stands
+  struct_left _ e behind s same calls b h stands = absurd (false≢true calls)
+
   left_statement : (e : Typed) (behind : Place) (s : State) → is_served_left texts e ≡ true → Whole e → Standing s → Acts s (thrown e.category (uses a (whole_form e)) behind s)
   left_statement e behind s b h stands =
       let one = and_parts (calls_any e.form) (is_served_owning texts e || (is_served_walker texts (whole_form e) || (is_served_struct texts (whole_form e) || is_served_fresh texts (whole_form e)))) b in
@@ -506,7 +546,7 @@ module _ (a : Around) (visible : List ℕ) (types : Types) (texts : ℕ) (fs : L
         | inr others ↦ elim (or_cases (is_served_walker texts (whole_form e)) (is_served_struct texts (whole_form e) || is_served_fresh texts (whole_form e)) others) [
           | inl walks ↦ walker_thrown e behind s (walker_expression a visible types texts fs f setting (whole_form e) walks h) (walker_left e.form e refl one.0 walks h) stands
           | inr others ↦ elim (or_cases (is_served_struct texts (whole_form e)) (is_served_fresh texts (whole_form e)) others) [
-            | inl structure ↦ struct_thrown e behind s (struct_expression a visible types texts fs f setting (whole_form e) structure h) stands
+            | inl structure ↦ struct_left e.form e behind s refl one.0 structure h stands
             | inr fresh ↦ fresh_left e.form e behind s refl one.0 fresh h stands
           ]
         ]
@@ -611,7 +651,7 @@ module _ (a : Around) (visible : List ℕ) (types : Types) (texts : ℕ) (fs : L
           (pointer_given_part target e equals behind s t (Of t) refl
           (λ s stands. subst (λ (t : Ty). Makes types texts fs f None s (pointer (uses a (whole_form target)) (own (uses a (whole_form target))) s) (a_pointer types texts fs f t)) span
           (walker_pointer a visible types texts fs f setting (whole_form target) to (own (uses a (whole_form target))) s stands))
-          (vector_points a visible types texts fs f setting (whole_form e) from item constant vector.is vector.kept s stands)
+          (gives_plainly (vector_points a visible types texts fs f setting (whole_form e) from item constant vector.is vector.kept s stands))
           (and_from (same (ty_of types item) (ty_of types item)) (keeps_const constant constant) (one_element a.program.types types setting.front item worth) (keeps_itself constant)) stands)
       go (ty.Iterator item constant) span worth h = absurd (false≢true (sym (no_iterator from.ty from.owner) ∙ subst (λ (x : ExprType). fits_at_all (fits a.program.types (ty.Iterator item constant) x e.category) ≡ true) from.is h))
         where
@@ -664,7 +704,7 @@ module _ (a : Around) (visible : List ℕ) (types : Types) (texts : ℕ) (fs : L
       from_owner to free given (is_made from) way name = made to free given from way name
 
   -- .. of a list of its elements
-  list_assigned_part : (target : Typed) (list : ListForm) (equals behind : Place) (s : State) → is_served_assigned texts target (several list) ≡ true → IsSimple a.program a.function.locals a.function.result visible (assign target equals (several list)) → Standing s
+  list_assigned_part : (target : Typed) (list : ListForm) (equals behind : Place) (s : State) → ((is_owner_type target.ty && is_served_object texts (whole_form target)) && (is_vector_type target.ty && are_served_elements texts (forms list.elements))) ≡ true → IsSimple a.program a.function.locals a.function.result visible (assign target equals (several list)) → Standing s
       → Acts s (assigned a target equals (several list) behind s)
   list_assigned_part target list equals behind s b h stands =
       let both = and_parts (is_owner_type target.ty && is_served_object texts (whole_form target)) (is_vector_type target.ty && are_served_elements texts (forms list.elements)) b in
@@ -704,7 +744,7 @@ module _ (a : Around) (visible : List ℕ) (types : Types) (texts : ℕ) (fs : L
       let at : target.ty ≡ Of ty.View = location_is target.ty (view_location (own_type target.ty) seen) ∙ ap Of viewed in
       subst (λ (k : Class). Acts s (assigned_by k (uses a (whole_form e)) (own_type target.ty) (target_of (uses a (whole_form target))) equals behind s)) (sym (ap (λ (t : Ty). class (Some t)) viewed))
       (pointer_given_part target e equals behind s ty.View (Of ty.View) refl (λ s stands. pointer_whole a visible types texts fs f setting (whole_form target) is ty.View at refl (own (uses a (whole_form target))) s stands)
-      (string_points a visible types texts fs f setting (whole_form e) from (given_string a.program.types from.ty e from.owner from.is (subst (λ (t : Ty). is_given a.program.types t e ≡ true) (own_same target.ty ∙ viewed) h.1.0)) s stands) refl stands)
+      (gives_plainly (string_points a visible types texts fs f setting (whole_form e) from (given_string a.program.types from.ty e from.owner from.is (subst (λ (t : Ty). is_given a.program.types t e ≡ true) (own_same target.ty ∙ viewed) h.1.0)) s stands)) refl stands)
     where
       view_own : (t : ExprType) → is_view_type t ≡ true → is_view (own_type t) ≡ true
       view_own (Of t) v = v
@@ -731,37 +771,54 @@ module _ (a : Around) (visible : List ℕ) (types : Types) (texts : ℕ) (fs : L
       ]
 
   -- a unique_ptr
-  unique_reassigned_part : (target e : Typed) (equals behind : Place) (s : State) → (is_served_unique (whole_form target) && (fills_unique texts e.form || is_served_fresh texts (whole_form e))) ≡ true
+  unique_reassigned_part : (target e : Typed) (equals behind : Place) (s : State) → ((is_place_category target.category && is_served_unique texts (whole_form target)) && (is_nullptr e.form || is_served_fresh texts (whole_form e))) ≡ true
       → IsSimple a.program a.function.locals a.function.result visible (assign target equals (one e)) → Standing s → Acts s (assigned a target equals (one e) behind s)
   unique_reassigned_part target e equals behind s b h stands =
-      let parts = and_parts (is_served_unique (whole_form target)) (fills_unique texts e.form || is_served_fresh texts (whole_form e)) b in
-      let to = named_unique a visible types texts fs f setting (whole_form target) parts.0 h.0.1 in
+      let parts = and_parts (is_place_category target.category && is_served_unique texts (whole_form target)) (is_nullptr e.form || is_served_fresh texts (whole_form e)) b in
+      let goal = and_parts (is_place_category target.category) (is_served_unique texts (whole_form target)) parts.0 in
+      let to = named_unique a visible types texts fs f setting (whole_form target) goal.0 goal.1 h.0.1 in
       let given = subst (λ (t : Ty). is_given a.program.types t e ≡ true) (own_same target.ty ∙ ap own_type to.is) h.1.0 in
-      let name = named_unique_target a visible types texts fs f setting (whole_form target) parts.0 h.0.1 in
+      let name = named_unique_target a visible types texts fs f setting (whole_form target) goal.1 h.0.1 in
       let other = (and_parts (is_none (whole_fault a.program.types target.category)) (is_none (self_fault target.form (one e))) h.2).1 in
-      elim (or_cases (fills_unique texts e.form) (is_served_fresh texts (whole_form e)) parts.1) [
-        | inl fills ↦ unique_assigned_part a visible types texts fs f setting target e equals behind to e.form s refl fills h.1.1 given name other stands
+      elim (or_cases (is_nullptr e.form) (is_served_fresh texts (whole_form e)) parts.1) [
+        | inl none ↦ unique_nulled_part a visible types texts fs f setting target e equals behind to e.form s refl none h.1.1 stands
         | inr fresh ↦
             unique_renewed_part a visible types texts fs f setting target e equals behind to e.form s refl (and_parts (is_unique_type e.ty) (is_served_fresh texts e.form) fresh).1
             (fresh_expression a visible types texts fs f setting (whole_form e) fresh h.1.1) h.1.1 given name other stands
       ]
 
-  reset_statement : (form : Form) (e : Typed) (behind : Place) (s : State) → e.form ≡ form → is_served_reset form ≡ true → Whole e → Standing s → Acts s (thrown e.category (uses a (whole_form e)) behind s)
+  reset_statement : (form : Form) (e : Typed) (behind : Place) (s : State) → e.form ≡ form → is_served_reset texts form ≡ true → Whole e → Standing s → Acts s (thrown e.category (uses a (whole_form e)) behind s)
   reset_statement (method base methods.Reset given d) e behind s same b h stands =
       let made : IsMadeOf a.program a.function.locals visible e (method base methods.Reset given d) = subst (IsMadeOf a.program a.function.locals visible e) same h in
-      reset_part a visible types texts fs f setting base given d e behind s same (named_unique a visible types texts fs f setting base b made.1) made.0 stands
+      reset_part a visible types texts fs f setting base given d e behind s same (holding_lies a visible types texts fs f setting base (holding_expression a visible types texts fs f setting base b made.1)) made.0 stands
   reset_statement (method base _ given d) e behind s same b h stands = absurd (false≢true b)
   reset_statement _ e behind s same b h stands = absurd (false≢true b)
+
+  -- a struct that is assigned to stands at a place
+  placed_target : (target : Typed) → is_served_struct texts (whole_form target) ≡ true → (is_place target.ty target.category && not (is_constant target.category)) ≡ true → Whole target → IsStruct a visible types texts fs f setting (whole_form target)
+  placed_target target b free h =
+      with_target a visible types texts fs f setting (whole_form target) (struct_expression a visible types texts fs f setting (whole_form target) b h) (and_parts (is_place target.ty target.category) (not (is_constant target.category)) free).0
+
+  -- .. also of a list
+  parts_assigned_part : (target : Typed) (list : ListForm) (equals behind : Place) (s : State) → (is_served_struct texts (whole_form target) && are_served_parts texts (forms list.elements)) ≡ true
+      → IsSimple a.program a.function.locals a.function.result visible (assign target equals (several list)) → Standing s → Acts s (assigned a target equals (several list) behind s)
+  parts_assigned_part target list equals behind s b h stands =
+      let parts = and_parts (is_served_struct texts (whole_form target)) (are_served_parts texts (forms list.elements)) b in
+      let to = placed_target target parts.0 h.0.0 h.0.1 in
+      members_assigned_part a visible types texts fs f setting target list equals behind s to
+      (to_free target.category to.constant (ap is_constant to.place) (and_parts (is_place target.ty target.category) (not (is_constant target.category)) h.0.0).1)
+      (listings a visible types texts fs f setting (forms list.elements) parts.1 h.1.1)
+      (subst (λ (t : Ty). is_listed a.program.types t (forms list.elements) ≡ true) (own_same target.ty ∙ ap own_type to.is) h.1.0) stands
 
   -- a struct is copied
   struct_reassigned_part : (target e : Typed) (equals behind : Place) (s : State) → (is_served_struct texts (whole_form target) && is_served_struct texts (whole_form e)) ≡ true
       → IsSimple a.program a.function.locals a.function.result visible (assign target equals (one e)) → Standing s → Acts s (assigned a target equals (one e) behind s)
   struct_reassigned_part target e equals behind s b h stands =
       let parts = and_parts (is_served_struct texts (whole_form target)) (is_served_struct texts (whole_form e)) b in
-      let to = struct_expression a visible types texts fs f setting (whole_form target) parts.0 h.0.1 in
+      let to = placed_target target parts.0 h.0.0 h.0.1 in
       let from = struct_expression a visible types texts fs f setting (whole_form e) parts.1 h.1.1 in
-      let alike = given_struct a.program.types to.number from.number e from.is (subst (λ (t : Ty). is_given a.program.types t e ≡ true) (own_same target.ty ∙ ap own_type to.is) h.1.0) in
-      struct_assigned_part a visible types texts fs f setting target e equals behind s to (to_free target.category to.constant (ap is_constant to.place) (and_parts (is_place target.ty target.category) (not (is_constant target.category)) h.0.0).1) from alike stands
+      let given = subst (λ (t : Ty). is_given a.program.types t e ≡ true) (own_same target.ty ∙ ap own_type to.is) h.1.0 in
+      struct_assigned_part a visible types texts fs f setting target e equals behind s to (to_free target.category to.constant (ap is_constant to.place) (and_parts (is_place target.ty target.category) (not (is_constant target.category)) h.0.0).1) from given stands
 
   reassigned_part : (target e : Typed) (equals behind : Place) (s : State) → is_served_renewed texts target e ≡ true → IsSimple a.program a.function.locals a.function.result visible (assign target equals (one e)) → Standing s
       → Acts s (assigned a target equals (one e) behind s)
@@ -771,7 +828,7 @@ module _ (a : Around) (visible : List ℕ) (types : Types) (texts : ℕ) (fs : L
       | inl views ↦ view_assigned_part target e equals behind s views h stands
       | inr others ↦ elim (or_cases (is_served_walker texts (whole_form target) && (is_served_walker texts (whole_form e) || (is_owner_type e.ty && is_served_owner texts (whole_form e)))) _ others) [
         | inl walks ↦ walker_reassigned_part target e equals behind s walks h stands
-        | inr others ↦ elim (or_cases (is_served_unique (whole_form target) && (fills_unique texts e.form || is_served_fresh texts (whole_form e))) (is_served_struct texts (whole_form target) && is_served_struct texts (whole_form e)) others) [
+        | inr others ↦ elim (or_cases ((is_place_category target.category && is_served_unique texts (whole_form target)) && (is_nullptr e.form || is_served_fresh texts (whole_form e))) (is_served_struct texts (whole_form target) && is_served_struct texts (whole_form e)) others) [
           | inl uniques ↦ unique_reassigned_part target e equals behind s uniques h stands
           | inr structs ↦ struct_reassigned_part target e equals behind s structs h stands
         ]
@@ -796,11 +853,11 @@ module _ (a : Around) (visible : List ℕ) (types : Types) (texts : ℕ) (fs : L
       then_part types texts fs f no_gift tt None s (gives (l.given, r.given) r.state) _ (both_of P Q) no_gift stands.opened
       (and_part types texts fs f no_gift tt s l r P Q stands.opened first second)
       (acted_as_part types texts fs f (both_of P Q) (l.given, r.given) place (Advance l.given l.given r.given (direction o)) r.state
-      (λ h. pointed_fine types texts fs f l.given t (Of t) step refl h.0
+      (λ h. pointed_fine types texts fs f l.given t (Of t) step refl h.0.typed
       (and_from (same (ty_of types item) (ty_of types item)) (keeps_const constant constant) worth (keeps_itself constant))
       (advance_given types texts fs f item constant ty.Int l.given r.given (direction o) h.0 worth h.1))
-      (λ h n k p. pointed_ready f l.given n n step k p.0 (advance_filling types texts fs f l.given r.given (direction o) n k p.0 p.1) h.0.kept)
-      (λ h n m k p. pointed_keeps f l.given n n m step k p.0 (advance_filling types texts fs f l.given r.given (direction o) n k p.0 p.1) h.0.kept))
+      (λ h n k p. pointed_ready f l.given n n step k p.0 (advance_filling types texts fs f l.given r.given (direction o) n k p.0 p.1) (lies_fills f l.given h.0.kept))
+      (λ h n m k p. pointed_keeps f l.given n n step k p.0 (advance_filling types texts fs f l.given r.given (direction o) n k p.0 p.1) m (lies_fills f l.given h.0.kept)))
     where
       worth : same (ty_of types item) (ty_of types item) ≡ true
       worth = one_element a.program.types types setting.front item (subst (λ (t : Ty). is_walker_of_values a.program.types t ≡ true) iterator is.walker)
@@ -870,11 +927,15 @@ module _ (a : Around) (visible : List ℕ) (types : Types) (texts : ℕ) (fs : L
         | inl values ↦ let parts = and_parts (is_served_expression texts target) (is_served_expression texts e) values in assigned_part target e equals behind s parts.0 parts.1 h stands
         | inr owned ↦ reassigned_part target e equals behind s owned h stands
       ]
-  done_part (assign target equals (several list)) behind s b h stands = list_assigned_part target list equals behind s b h stands
+  done_part (assign target equals (several list)) behind s b h stands =
+      elim (or_cases ((is_owner_type target.ty && is_served_object texts (whole_form target)) && (is_vector_type target.ty && are_served_elements texts (forms list.elements))) (is_served_struct texts (whole_form target) && are_served_parts texts (forms list.elements)) b) [
+        | inl elements ↦ list_assigned_part target list equals behind s elements h stands
+        | inr members ↦ parts_assigned_part target list equals behind s members h stands
+      ]
   done_part (compound target o place e) behind s b h stands =
       elim (or_cases (is_served_expression texts target && is_served_expression texts e) (is_served_owning texts target && is_served_any texts e) b) [ inl values ↦ counted_part target o place e behind s values h stands | inr texts_too ↦ gained_part target o place e behind s texts_too h stands ]
   done_part (step target o place) behind s b h stands = elim (or_cases (is_served_expression texts target) (is_served_walker texts (whole_form target)) b) [ inl value ↦ number_stepped_part target o place behind s value h stands | inr walks ↦ walker_stepped_part target o place behind s walks h stands ]
-  done_part (discarded e) behind s b h stands = elim (or_cases ((((is_call e.form || is_number_type e.ty) && is_served_expression texts e) || is_served_change texts e.form) || is_served_left texts e) (is_served_reset e.form) b) [ inl known ↦ known_part known | inr resets ↦ reset_statement e.form e behind s refl resets h stands ]
+  done_part (discarded e) behind s b h stands = elim (or_cases ((((is_call e.form || is_number_type e.ty) && is_served_expression texts e) || is_served_change texts e.form) || is_served_left texts e) (is_served_reset texts e.form) b) [ inl known ↦ known_part known | inr resets ↦ reset_statement e.form e behind s refl resets h stands ]
     where
       a_number : (t : ExprType) → is_number_type t ≡ true → is_number t ≡ true
       a_number (Of t) n = n

@@ -1,65 +1,86 @@
--- What is listed for the members of a struct: how each is found, and what it replaces.
-use Rattle.std.proofs.Common.{◌≡◌, ℕ, true, List, None, ◌||◌, inl, inr, refl, sym, ap, ◌∙◌}
-use Rattle.std.proofs.lemmas.Bool.{and_parts, false≢true, or_cases}
-use Rattle.life_served.specs.Served.{are_served_parts, is_plain_type, is_served_either, is_served_form, is_served_owner, is_served_struct}
+-- What a list builds for a struct: each member is given one after the other, where the struct has come to life.
+use Rattle.std.proofs.Common.{◌≡◌, ◌+◌, ℕ, true, false, List, None, Some, slice_get, refl, sym, ap, subst, arith, length, Bool, ◌<◌, ◌∙◌}
+use Rattle.std.proofs.lemmas.Bool.{false≢true}
+use Rattle.life_types.specs.Trees.{members_at}
 use Rattle.life_types.specs.Types.{Types}
 use Rattle.life_types.specs.declared.place.Place.{Place}
+use Rattle.life_types.specs.declared.ty.Ty.{Ty}
+use Rattle.life_types.specs.declared.ty.Ty.TheVariants as ty
 use Rattle.life_typed.specs.Delimiters.{DelimitersForm}
-use Rattle.life_typed.specs.TypedForm.{Form, Typed, binary, make_unique, method, move, nothing, null, paren, text_of, typed, ◌⨟◌}
-use Rattle.life_typed.specs.declared.typed_expr.Category.{Category}
-use Rattle.life_typed.specs.declared.typed_expr.ExprType.{ExprType}
-use Rattle.life_typed.specs.declared.typed_expr.ExprType.TheVariants.{NullPointer, TextLiteral}
-use Rattle.life_typed.specs.declared.typed_expr.Method.{Method}
-use Rattle.life_typed.specs.declared.typed_expr.Method.TheVariants as methods
+use Rattle.life_typed.specs.TypedForm.{Form, Typed, construct, nothing, ◌⨟◌}
+use Rattle.life_type_expr.specs.Operands.{value}
 use Rattle.life_core.specs.Function.{Function}
-use Rattle.life_well_typed.specs.Expressions.{AreExpressions, IsExpression, IsMadeOf, typed_in}
-use Rattle.life_writer.specs.Around.{Around}
-use Rattle.life_writer.specs.ExpressionForms.{all_uses, form_uses, uses}
-use Rattle.life_writer.specs.MethodForms.{method_uses}
-use Rattle.life_writer.specs.Uses.{Uses}
-use Rattle.life_elab_laws.proofs.Expressions.{owner_expression, struct_expression, whole_expression}
-use Rattle.life_elab_laws.proofs.ReplacedOwners.{replaced, row_plain}
+use Rattle.life_core.specs.declared.instr.Form.TheVariants.{Plain, Zero}
+use Rattle.life_well_typed.specs.Members.{are_members, are_each}
+use Rattle.life_writer.specs.Around.{Around, own_type}
+use Rattle.life_writer.specs.ExpressionForms.{all_uses, form_uses}
+use Rattle.life_writer.specs.Lists.{filled_in, list_object, assigned_members}
+use Rattle.life_writer.specs.Uses.{Remaining}
+use Rattle.life_writer.specs.Writing.{Gives, State, gives}
+use Rattle.life_elab_laws.proofs.ExpressionForms.{Standing}
+use Rattle.life_elab_laws.proofs.Gifts.{a_place, both, nothing as no_gift}
+use Rattle.life_elab_laws.proofs.MadeForms.{BuildsIn, lived_builds, of_elements}
+use Rattle.life_elab_laws.proofs.MadeStructs.{IsBuiltUnseen, IsMadeStructAt, by_members}
+use Rattle.life_elab_laws.proofs.Parts.{gives_part, leaf_part}
 use Rattle.life_elab_laws.proofs.Setting.{Setting}
-use Rattle.life_elab_laws.proofs.StructMembers.{AreListed, IsListed, a_struct_listed, a_value_listed, an_owner_listed}
-use Rattle.life_elab_laws.proofs.TypedKinds.{ok_same}
-use Rattle.life_writer.specs.Rows.{row_between}
-use Rattle.life_elab_laws.proofs.ElementForms.{either_served}
-
-null_no_literal : NullPointer ≡ TextLiteral → ⊥
-null_no_literal e = cc
+use Rattle.life_elab_laws.proofs.StructMembers.{AreListed, members_written}
+use Rattle.life_core.specs.Operands.{whole, Operand, object_named, Name}
+use Rattle.life_elab_laws.proofs.WrittenMembers.{IsWriting, part_writing}
+use Rattle.life_elab_laws.proofs.FilledObjects.{filling_writing, FillsObject}
+use Rattle.life_served.specs.Served.{is_plain_struct}
+use Rattle.life_core.specs.Operands.{Operand, object_named}
 
 module _ (a : Around) (visible : List ℕ) (types : Types) (texts : ℕ) (fs : List Function) (f : Function) (setting : Setting a types fs f) where
-  method_plain : (m : Method) (e : Uses) (es : List Uses) (d : DelimitersForm) (place : Place) (t : ExprType) (c : Category) → (method_uses a e m es d place t c).replacing ≡ None
-  method_plain methods.Size e es d place t c = refl
-  method_plain _ e es d place t c = refl
+  abbrev Stood : State → Type 0
+  Stood s = Standing a visible types texts fs f setting s
 
-  -- a literal replaces nothing: it is assigned by way of a temporary
-  mutual
-    literal_plain : (form : Form) → is_served_form texts form ≡ true → IsExpression a.program a.function.locals visible form → (typed_in form).ty ≡ TextLiteral → (uses a form).replacing ≡ None
-    literal_plain (typed place t c form) b h l = made_plain form (record { place = place; ty = t; category = c; form = form }) (and_parts (is_plain_type t) (is_served_form texts form) b).1 h l place
-    literal_plain _ b h l = absurd h
+  -- all of them
+  all_written : (number : ℕ) (to : Operand) {Writes : State → State → Type 0} → IsWriting types texts fs f (ty.Struct number) (is_plain_struct a.program.types (ty.Struct number)) to Writes → (es : Form) (d : DelimitersForm) (s : State) → AreListed a visible types texts fs f setting es
+      → are_each a.program.types (members_at a.program.types number) es ≡ true → Stood s
+      → (is_plain_struct a.program.types (ty.Struct number) ≡ false → (n : ℕ) × ((to ≡ Name (whole n)) × (n < length s.locals))) → Writes s (assigned_members a 0 (members_at a.program.types number) to (all_uses a es) d s)
+  all_written number to ways es d s given all stands lies =
+      members_written a visible types texts fs f setting number to ways 0 (members_at a.program.types number)
+      (λ k id there. let here : k ≡ 0 + k = omega arith in subst (λ (n : ℕ). slice_get (members_at a.program.types number) n ≡ Some id) here there) es d s given all stands lies
 
-    made_plain : (form : Form) (e : Typed) → is_served_form texts form ≡ true → IsMadeOf a.program a.function.locals visible e form → e.ty ≡ TextLiteral → (place : Place) → (form_uses a form place e.ty e.category).replacing ≡ None
-    made_plain null e b h l place = absurd (null_no_literal (sym h.0 ∙ l))
-    made_plain (paren inner closing) e b h l place = literal_plain inner b h.1 (ap (λ (y : Typed). y.ty) (ok_same h.0) ∙ l)
-    made_plain (binary o left right) e b h l place = row_plain (row_between o left right) (uses a left) (uses a right) place e.ty e.category
-    made_plain (method base m given d) e b h l place = method_plain m (uses a base) (all_uses a given) d place e.ty e.category
-    made_plain (move x) e b h l place = absurd (false≢true b)
-    made_plain (make_unique target argument closing) e b h l place = absurd (false≢true b)
-    made_plain (text_of inner closing) e b h l place = absurd (false≢true b)
-    made_plain _ e b h l place = refl
+  pub members_build : (number : ℕ) (opening : Place) (es : Form) (d : DelimitersForm) (s : State) → AreListed a visible types texts fs f setting es → are_members a.program.types (members_at a.program.types number) es ≡ true
+      → BuildsIn a visible types texts fs f setting false (ty.Struct number) s (gives (list_object a (ty.Struct number) opening (all_uses a es) d) s)
+  members_build number opening nothing d s given all =
+      lived_builds a visible types texts fs f setting false (ty.Struct number) s s of_elements tt Zero (λ place to r. r) (leaf_part types texts fs f tt s (no_gift types texts fs f) (λ b. tt) (λ b k alive. tt)) refl
+      (λ place to r stands still new.
+      gives_part types texts fs f (both types texts fs f (no_gift types texts fs f) (a_place types texts fs f (ty.Struct number) false)) (tt, to) None tt r (no_gift types texts fs f) (λ b h. tt) (λ b k alive h. tt))
+      (λ e. absurd (false≢true e))
+  members_build number opening (e ⨟ es) d s given all =
+      lived_builds a visible types texts fs f setting false (ty.Struct number) s s of_elements tt Plain (filled_in a (ty.Struct number) opening (all_uses a (e ⨟ es)) d)
+      (leaf_part types texts fs f tt s (no_gift types texts fs f) (λ b. tt) (λ b k alive. tt)) refl
+      (λ place to r stands still new.
+      all_written number to
+      (part_writing types texts fs f (ty.Struct number) (both types texts fs f (no_gift types texts fs f) (a_place types texts fs f (ty.Struct number) false)) (tt, to) to (λ h. h.1) (λ n k h. h.1) (is_plain_struct a.program.types (ty.Struct number))) (e ⨟ es) d r given all stands
+      (λ none. (new.number, (new.is, new.below))))
+      (λ e. absurd (false≢true e))
+  members_build number opening _ d s given all = absurd given
 
-  listing : (form : Form) → (is_served_either form (is_served_owner texts form) (is_served_form texts form) || is_served_struct texts form) ≡ true → IsExpression a.program a.function.locals visible form → IsListed a visible types texts fs f setting form
-  listing form b h = elim (or_cases (is_served_either form (is_served_owner texts form) (is_served_form texts form)) (is_served_struct texts form) b) [
-    | inl either ↦ elim (either_served form (is_served_owner texts form) (is_served_form texts form) either) [
-      | inl value ↦ a_value_listed (whole_expression a visible types texts fs f setting form value h) (literal_plain form value h)
-      | inr owner ↦ an_owner_listed (owner_expression a visible types texts fs f setting form owner.1 owner.0 h) (replaced a visible types texts fs f setting form owner.1 owner.0 h)
-    ]
-    | inr structure ↦ a_struct_listed (struct_expression a visible types texts fs f setting form structure h)
-  ]
+  -- .. where nothing else sees it
+  pub members_unseen : (number : ℕ) (opening : Place) (es : Form) (d : DelimitersForm) → AreListed a visible types texts fs f setting es → are_members a.program.types (members_at a.program.types number) es ≡ true
+      → (object : State → Gives Remaining) → ((s : State) → object s ≡ gives (list_object a (ty.Struct number) opening (all_uses a es) d) s) → IsBuiltUnseen a visible types texts fs f setting number object
+  members_unseen number opening nothing d given all object same = by_members Zero (λ place to r. r) same (λ pointless place x s stands. (filling_writing types texts fs f x (ty.Struct number)).none s)
+  members_unseen number opening (e ⨟ es) d given all object same =
+      by_members Plain (filled_in a (ty.Struct number) opening (all_uses a (e ⨟ es)) d) same
+      (λ pointless place x s stands.
+      all_written number (object_named x)
+      (subst (λ (b : Bool). IsWriting types texts fs f (ty.Struct number) b (object_named x) (FillsObject types texts fs f x (ty.Struct number))) (sym pointless) (filling_writing types texts fs f x (ty.Struct number))) (e ⨟ es) d s given all stands
+      (λ none. absurd (false≢true (sym none ∙ pointless))))
+  members_unseen number opening _ d given all object same = absurd given
 
-  pub listings : (form : Form) → are_served_parts texts form ≡ true → AreExpressions a.program a.function.locals visible form → AreListed a visible types texts fs f setting form
-  listings nothing b h = tt
-  listings (e ⨟ es) b h =
-      let parts = and_parts (is_served_either e (is_served_owner texts e) (is_served_form texts e) || is_served_struct texts e) (are_served_parts texts es) b in (listing e parts.0 h.0, listings es parts.1 h.1)
-  listings _ b h = absurd h
+  -- as an expression, which stands at its brace
+  pub constructed : (number : ℕ) (es : Form) (d : DelimitersForm) (e : Typed) (place : Place) → e ≡ value e.place (ty.Struct number) e.form → are_members a.program.types (members_at a.program.types number) es ≡ true → AreListed a visible types texts fs f setting es
+      → IsMadeStructAt a visible types texts fs f setting e ((form_uses a (construct number es d) place e.ty e.category).object)
+  constructed number es d e place is all given = record {
+    number = number;
+    is = ap (λ (y : Typed). y.ty) is;
+    value = ap (λ (y : Typed). y.category) is;
+    builds = λ s stands.
+        subst (λ (t : Ty). BuildsIn a visible types texts fs f setting false (ty.Struct number) s (gives (list_object a t place (all_uses a es) d) s)) (sym (ap (λ (y : Typed). own_type y.ty) is)) (members_build number place es d s given all);
+    unseen =
+        members_unseen number place es d given all ((form_uses a (construct number es d) place e.ty e.category).object)
+        (λ s. ap (λ (t : Ty). gives (list_object a t place (all_uses a es) d) s) (ap (λ (y : Typed). own_type y.ty) is));
+  }

@@ -1,9 +1,8 @@
--- References to structs: each is given a struct at a place, and nothing else; no other reference is given one.
-use Rattle.std.proofs.Common.{◌≡◌, ℕ, Bool, true, false, List, Some, refl, sym, ap, ◌∙◌, subst, rules}
+-- References to structs: each is given a struct, at a place or made, and nothing else; no other reference is given one.
+use Rattle.std.proofs.Common.{◌≡◌, ℕ, Bool, true, false, List, refl, sym, ap, ◌∙◌, subst}
 use Rattle.std.proofs.lemmas.Bool.{false≢true}
 use Rattle.life_served.specs.Served.{is_struct_type, is_target}
 use Rattle.life_types.specs.Types.{Types}
-use Rattle.life_types.specs.contracts.ty.TyIdPartialEq.TheImpl.{ghosts as id}
 use Rattle.life_types.specs.declared.ty.Ty.{Ty}
 use Rattle.life_types.specs.declared.ty.Ty.TheVariants as ty
 use Rattle.life_types.specs.declared.ty.TyId.{TyId}
@@ -17,21 +16,24 @@ use Rattle.life_typed.specs.declared.typed_expr.ExprType.TheVariants.{NullPointe
 use Rattle.life_type_expr.specs.Lists.{fits_at_all}
 use Rattle.life_core.specs.Function.{Function}
 use Rattle.life_core.specs.Operands.{Operand}
-use Rattle.life_proper.specs.OperandTypes.{keeps_const}
 use Rattle.life_well_typed.specs.Expressions.{typed_in}
 use Rattle.life_well_typed.specs.Given.{is_given, is_number}
 use Rattle.life_writer.specs.Around.{Around}
 use Rattle.life_writer.specs.ExpressionForms.{uses}
+use Rattle.life_writer.specs.Giving as giving
 use Rattle.life_writer.specs.Writing.{Gives, State}
-use Rattle.life_elab_laws.proofs.AliasForms.{no_owner_given}
+use Rattle.life_elab_laws.proofs.AliasForms.{IsAliased, no_owner_given, to_built, to_place}
 use Rattle.life_elab_laws.proofs.ExpressionForms.{Placed, Standing}
-use Rattle.life_elab_laws.proofs.FormedFits.{IsBound, IsBoundTo, at_place, by_temporary, given_bound, given_struct}
+use Rattle.life_elab_laws.proofs.FormedFits.{IsBound, IsBoundTo, at_place, by_temporary, given_bound}
 use Rattle.life_elab_laws.proofs.FormedVariables.{const_same}
 use Rattle.life_elab_laws.proofs.GivenKinds.{given_number}
+use Rattle.life_elab_laws.proofs.MadeForms.{BuildsIn}
+use Rattle.life_elab_laws.proofs.MadeStructs.{IsAnyStruct, as_struct, struct_made, struct_there, struct_typed}
+use Rattle.life_elab_laws.proofs.PointerForms.{held_typed}
 use Rattle.life_elab_laws.proofs.Setting.{Setting}
 use Rattle.life_elab_laws.proofs.StructForms.{IsStruct, value_no_struct}
-use Rattle.life_elab_laws.proofs.Targets.{IsTarget, struct_target, target_found, target_is, to_owner, to_struct, to_value}
-use Rattle.life_elab_laws.proofs.TypedKinds.{HasKind, a_null, a_number, a_pointer, a_text, a_view, no_value, place_same}
+use Rattle.life_elab_laws.proofs.Targets.{IsTarget, target_is, to_owner, to_struct, to_value}
+use Rattle.life_elab_laws.proofs.TypedKinds.{HasKind, a_null, a_number, a_pointer, a_text, a_view, no_value, place_same, value_place}
 
 -- ---- what is no struct
 
@@ -44,26 +46,20 @@ kind_no_struct types e (no_value is v) n = false≢true (sym (ap is_struct_type 
 kind_no_struct types e (a_null is v) n = false≢true (sym (ap is_struct_type is) ∙ n)
 
 -- a struct is given to a struct alone
-struct_fits : (types : Types) (number : ℕ) (t : ExprType) (c : Category) → fits_at_all (fits types (ty.Struct number) t c) ≡ true → is_struct_type t ≡ true
+pub struct_fits : (types : Types) (number : ℕ) (t : ExprType) (c : Category) → fits_at_all (fits types (ty.Struct number) t c) ≡ true → is_struct_type t ≡ true
 struct_fits types number (Of (ty.Struct found)) c h = refl
 struct_fits types number (Of _) c h = absurd (false≢true h)
 struct_fits types number NullPointer c h = absurd (false≢true h)
 struct_fits types number TextLiteral c h = absurd (false≢true h)
 
 -- .. and to a reference to one
-pub struct_alone : (types : Types) (target : TyId) (constant : Bool) (number : ℕ) (e : Typed) → type_at types target ≡ ty.Struct number → is_given types (ty.Reference target constant) e ≡ true
+pub struct_alone : (types : Types) (target : TyId) (constant : Bool) (number : ℕ) (e : Typed) → type_at types target ≡ ty.Struct number → is_target types (type_at types target) ≡ true → is_given types (ty.Reference target constant) e ≡ true
     → ((held : Bool) → e.category ≡ category.Place target held → e.ty ≡ Of (type_at types target)) → is_struct_type e.ty ≡ true
-struct_alone types target constant number e structure given placed = go (given_bound types target constant e (struct_target types (type_at types target) number structure) given)
+struct_alone types target constant number e structure wide given placed = go (given_bound types target constant e wide given)
   where
     go : IsBound types target constant e → is_struct_type e.ty ≡ true
     go (at_place there) = ap is_struct_type (placed there.held there.place ∙ ap Of structure)
     go (by_temporary none initial) = struct_fits types number e.ty e.category (subst (λ (t : Ty). is_given types t e ≡ true) structure initial)
-
-itself : (a : TyId) → id.eq a a ≡ true
-itself a = search rules
-
-same_number : (a b : TyId) → a.0 ≡ b.0 → a ≡ b
-same_number a b e = ap (λ (n : ℕ). record { 0 = n }) e
 
 module _ (a : Around) (visible : List ℕ) (types : Types) (texts : ℕ) (fs : List Function) (f : Function) (setting : Setting a types fs f) where
   abbrev Stood : State → Type 0
@@ -72,52 +68,54 @@ module _ (a : Around) (visible : List ℕ) (types : Types) (texts : ℕ) (fs : L
   abbrev PlacedAs : Ty → Bool → State → Gives Operand → Type 0
   PlacedAs t constant s w = Placed a visible types texts fs f setting t constant s w
 
-  -- ---- the place that a reference to a struct is bound to
+  -- ---- what a reference to a struct is bound to: a place, or a temporary
 
   pub record IsStructAlias (e : Form) (target : TyId) (constant : Bool) : Type 0 where
     pub number : ℕ
     pub structure : type_at a.program.types target ≡ ty.Struct number
-    pub held : Bool
-    pub here : is_place_of (typed_in e).category target ≡ true
-    pub kept : keeps_const constant held ≡ true
-    pub names : (s : State) → Stood s → PlacedAs (type_at a.program.types target) held s ((uses a e).at s)
+    pub aliased : IsAliased a visible types texts fs f setting (uses a e) target constant
 
-  module _ (e : Form) (from : IsStruct a visible types texts fs f setting e) (target : TyId) (constant : Bool) where
-    bound_there : IsBoundTo target constant (typed_in e).category → IsStructAlias e target constant
-    bound_there there =
+  module _ (e : Form) (target : TyId) (constant : Bool) where
+    seen_here : is_place_of (uses a e).category target ≡ is_place_of (typed_in e).category target
+    seen_here = ap (λ (c : Category). is_place_of c target) (sym (held_typed a visible types texts fs f setting e))
+
+    bound_there : IsStruct a visible types texts fs f setting e → IsBoundTo target constant (typed_in e).category → IsStructAlias e target constant
+    bound_there from there =
         let same = sym from.place ∙ there.place in
         let one = ap (type_at a.program.types) (place_same from.id target from.constant there.held same) in
         record {
           number = from.number;
           structure = sym one ∙ from.here;
-          held = there.held;
-          here = there.here;
-          kept = there.kept;
-          names = λ s stands.
+          aliased = to_place there.held (seen_here ∙ there.here) there.kept (λ s stands.
               subst (λ (d : Bool). PlacedAs (type_at a.program.types target) d s ((uses a e).at s)) (const_same from.id target from.constant there.held same)
-              (subst (λ (t : Ty). PlacedAs t from.constant s ((uses a e).at s)) (sym from.here ∙ one) (from.names s stands));
+              (subst (λ (t : Ty). PlacedAs t from.constant s ((uses a e).at s)) (sym from.here ∙ one) (from.names s stands)));
         }
 
-    -- its place is of the reference's target, since no type stands twice
-    never_built : is_target a.program.types (type_at a.program.types target) ≡ true → is_place_of (typed_in e).category target ≡ false → is_given a.program.types (type_at a.program.types target) (typed_in e) ≡ true → ⊥
-    never_built wide none initial = go (target_is a.program.types (type_at a.program.types target) wide)
-      where
-        go : IsTarget a.program.types (type_at a.program.types target) → ⊥
-        go (to_value v) = false≢true (subst (λ (x : ExprType). is_number x ≡ true) from.is (given_number a.program.types (type_at a.program.types target) (typed_in e) v initial))
-        go (to_owner o) =
-            no_owner_given a.program.types (type_at a.program.types target) o (ty.Struct from.number) refl (typed_in e).category
-            (subst (λ (x : ExprType). fits_at_all (fits a.program.types (type_at a.program.types target) x (typed_in e).category) ≡ true) from.is initial)
-        go (to_struct number structure) =
-            let alike = given_struct a.program.types number from.number (typed_in e) from.is (subst (λ (t : Ty). is_given a.program.types t (typed_in e) ≡ true) structure initial) in
-            let own = from.here ∙ ap ty.Struct alike in
-            let first = target_found a.program.types a.program.types (λ n x e. e) from.id (struct_target a.program.types (type_at a.program.types from.id) number own) ∙ ap Some own in
-            let second = target_found a.program.types a.program.types (λ n x e. e) target wide ∙ ap Some structure in
-            let one = same_number from.id target (setting.values.once from.id.0 target.0 (ty.Struct number) first second) in
-            false≢true (sym none ∙ ap (λ (c : Category). is_place_of c target) from.place ∙ subst (λ (x : TyId). id.eq from.id x ≡ true) one (itself from.id))
+    -- what isn't at a place of the target is given to one that is built for it, since no type stands twice
+    module _ (from : IsAnyStruct a visible types texts fs f setting e) (none : is_place_of (typed_in e).category target ≡ false) (initial : is_given a.program.types (type_at a.program.types target) (typed_in e) ≡ true) where
+      its : (number : ℕ) × ((typed_in e).ty ≡ Of (ty.Struct number))
+      its = struct_typed a visible types texts fs f setting e from
 
-    pub struct_aliased : is_target a.program.types (type_at a.program.types target) ≡ true → is_given a.program.types (ty.Reference target constant) (typed_in e) ≡ true → IsStructAlias e target constant
-    struct_aliased wide given = go (given_bound a.program.types target constant (typed_in e) wide given)
+      bound_built : is_target a.program.types (type_at a.program.types target) ≡ true → IsStructAlias e target constant
+      bound_built wide = go (target_is a.program.types (type_at a.program.types target) wide)
+        where
+          go : IsTarget a.program.types (type_at a.program.types target) → IsStructAlias e target constant
+          go (to_value v) = absurd (false≢true (subst (λ (x : ExprType). is_number x ≡ true) its.1 (given_number a.program.types (type_at a.program.types target) (typed_in e) v initial)))
+          go (to_owner o) =
+              absurd (no_owner_given a.program.types (type_at a.program.types target) o (ty.Struct its.0) refl (typed_in e).category
+              (subst (λ (x : ExprType). fits_at_all (fits a.program.types (type_at a.program.types target) x (typed_in e).category) ≡ true) its.1 initial))
+          go (to_struct number structure pointless) =
+              let of = as_struct a visible types texts fs f setting e number from (subst (λ (t : Ty). is_given a.program.types t (typed_in e) ≡ true) structure initial) in
+              record {
+                number = number;
+                structure = structure;
+                aliased = to_built (seen_here ∙ none) (λ behind s stands. subst (λ (t : Ty). BuildsIn a visible types texts fs f setting false t s (giving.given (uses a e) t behind s)) (sym structure) (of.builds behind s stands));
+              }
+
+    pub struct_aliased : IsAnyStruct a visible types texts fs f setting e → is_target a.program.types (type_at a.program.types target) ≡ true → is_given a.program.types (ty.Reference target constant) (typed_in e) ≡ true → IsStructAlias e target constant
+    struct_aliased from wide given = go from (given_bound a.program.types target constant (typed_in e) wide given)
       where
-        go : IsBound a.program.types target constant (typed_in e) → IsStructAlias e target constant
-        go (at_place there) = bound_there there
-        go (by_temporary none initial) = absurd (never_built wide none initial)
+        go : IsAnyStruct a visible types texts fs f setting e → IsBound a.program.types target constant (typed_in e) → IsStructAlias e target constant
+        go (struct_there is) (at_place there) = bound_there is there
+        go (struct_made is) (at_place there) = absurd (value_place (sym is.value ∙ there.place))
+        go from (by_temporary none initial) = bound_built from none initial wide

@@ -1,38 +1,42 @@
 -- Places of members, and copies of structs.
-use Rattle.std.proofs.Common.{◌≡◌, ◌&&◌, ◌++◌, ◌||◌, nat_eq, ℕ, zero, suc, Bool, true, false, not, if◌then◌else◌, List, [], ◌∷◌, Option, Some, None, refl, ap, ◌∙◌, slice_get, unwrap_or}
+use Rattle.std.proofs.Common.{◌≡◌, ◌&&◌, ◌++◌, ◌||◌, nat_eq, ℕ, zero, suc, Bool, true, false, not, if◌then◌else◌, List, [], ◌∷◌, Option, Some, None, refl, ap, ◌∙◌, slice_get, unwrap_or, is_some, sym, subst}
 use Rattle.std.proofs.lemmas.Bool.{and_from, and_parts, false≢true}
 use Rattle.std.specs.List.{starts_with}
 use Rattle.life_types.specs.Pointees.{or_void, ty_of}
 use Rattle.life_types.specs.Trees.{holds_unique, members_at, struct_of, tree_at, tree_of, tree_within}
-use Rattle.life_types.specs.TypeTests.{is_pointer, is_value}
+use Rattle.life_types.specs.TypeTests.{is_pointer}
 use Rattle.life_types.specs.Types.{Types}
 use Rattle.life_types.specs.declared.place.Place.{Place}
 use Rattle.life_types.specs.declared.ty.Ty.{Ty}
 use Rattle.life_types.specs.declared.ty.Ty.TheVariants as ty
 use Rattle.life_types.specs.declared.ty.TyId.{TyId}
-use Rattle.life_served.specs.Served.{have_each, is_member_within}
+use Rattle.life_served.specs.Served.{have_each, is_struct_member}
 use Rattle.life_typed.specs.BaseTypes.{type_at}
 use Rattle.life_core.specs.Function.{Function}
-use Rattle.life_core.specs.Operands.{Name, Operand, Through}
+use Rattle.life_core.specs.Operands.{Name, Operand, Through, Location}
 use Rattle.life_core.specs.Step.{Copy}
 use Rattle.life_core.specs.Touched.{place_uses}
 use Rattle.life_pset.specs.Shapes.{local_type, location_type, member_of, member_type, members_type, operand_type, target_type, tree_if, ty_if}
 use Rattle.life_proper.specs.OperandTypes.{keeps_const, same}
 use Rattle.life_proper.specs.WellFormed.{is_itself}
-use Rattle.life_proper.specs.Placed.{is_const_place, is_place, type_of}
+use Rattle.life_proper.specs.Placed.{is_const_place, is_place, type_of, object_at, type_in}
 use Rattle.life_proper.specs.declared.known.Known.{Known}
 use Rattle.life_proper.specs.declared.known.Known.TheVariants as known
 use Rattle.life_proper.proofs.ReadyTests.{both_known, uses_ready}
-use Rattle.life_writer.specs.Using.{with_member}
+use Rattle.life_writer.specs.Using.{with_member, location_in}
 use Rattle.life_writer.specs.Writing.{State, emit, gives}
-use Rattle.life_elab_laws.proofs.Gifts.{Gift, IsPlaceOf, nothing}
+use Rattle.life_elab_laws.proofs.Gifts.{Gift, IsPlaceOf, nothing, IsAt}
 use Rattle.life_elab_laws.proofs.Held.{place_there}
 use Rattle.life_elab_laws.proofs.Instructions.{acted_part}
-use Rattle.life_elab_laws.proofs.Making.{IsPlace, keeps_all}
+use Rattle.life_elab_laws.proofs.Making.{IsPlace, keeps_all, IsPointer, is_named, lies_by, fills_in, lies_in}
 use Rattle.life_elab_laws.proofs.Parts.{Part}
 use Rattle.life_elab_laws.proofs.Shaping.{IsFineStep}
 use Rattle.life_elab_laws.proofs.StructTypes.{HasStructs}
 use Rattle.life_elab_laws.proofs.Types.{same_type}
+use Rattle.life_core.specs.Kinds.{is_register_at}
+use Rattle.life_core.specs.declared.program.Local.{Local}
+use Rattle.life_elab_laws.proofs.Growing.{Begins}
+use Rattle.life_elab_laws.proofs.Locations.{is_location}
 
 void_struct : (number : ℕ) → ty.Void ≡ ty.Struct number → ⊥
 void_struct number e = cc
@@ -82,45 +86,80 @@ module _ (types : Types) (texts : ℕ) (fs : List Function) (f : Function) where
       go false e = absurd (void_struct number e)
       go true e = ap (ty_if types) (operand_further m o) ∙ ap (λ (u : Ty). ty_if types (member_of types u m)) e ∙ ap (ty_if types) at ∙ is
 
+-- ---- a pointer that is a member of a variable
+
+-- what holds pointers is a variable, or in one
+pub record LiesNamed (s : State) (o : Operand) : Type 0 where
+  pub location : Location
+  pub is : o ≡ Name location
+  pub local : Local
+  pub there : slice_get s.locals location.local ≡ Some local
+  pub named : is_some local.name ≡ true
+
+-- it lies in a member, and the variable has a name
+member_lies : (members : List ℕ) (m : ℕ) (whole named : Bool) → named ≡ true → lies_by (members ++ m ∷ []) whole named ≡ true
+member_lies [] m whole named has = has
+member_lies (n ∷ members) m whole named has = has
+
+pub member_pointer : (m : ℕ) (o : Operand) (l : Location) → o ≡ Name l → (n : ℕ) (k : List Known) → IsPlace o n k → IsPointer (location_in (with_member m o)) n k
+member_pointer m o l is n k h = subst (λ (q : Operand). IsPointer (location_in (with_member m q)) n k) (sym is) (record { local = h.local; is = one (sym (ap place_uses is) ∙ h.uses); below = h.below; held = h.held })
+  where
+    one : {x y : ℕ} → x ∷ [] ≡ y ∷ [] → x ≡ y
+    one e = cc
+
+-- a member is given a pointer, whatever it is of
+pub fills_member : (f : Function) (m : ℕ) (o : Operand) (l : Location) → o ≡ Name l → fills_in f (location_in (with_member m o)) ≡ true
+fills_member f m o l is = ap (λ (q : Operand). fills_in f (location_in (with_member m q))) is ∙ member_lies l.members m (is_register_at f l.local) true refl
+
+module _ (types : Types) (texts : ℕ) (fs : List Function) (f : Function) where
+  -- .. of the type of its place: where no object stands is no pointer
+  pub type_in_member : (t : Ty) (m : ℕ) (o : Operand) (l : Location) → o ≡ Name l → is_location t ≡ true → type_of types f (with_member m o) ≡ t → type_in types f (location_in (with_member m o)) ≡ t
+  type_in_member t m o l is loc typed = ap (λ (q : Operand). type_in types f (location_in (with_member m q))) is ∙ go (object_at types f l.local) (sym (ap (λ (q : Operand). type_of types f (with_member m q)) is) ∙ typed)
+    where
+      go : (object : Bool) → (if object then type_in types f (location_in (with_member m (Name l))) else ty.Void) ≡ t → type_in types f (location_in (with_member m (Name l))) ≡ t
+      go true e = e
+      go false e = absurd (false≢true (ap is_location e ∙ loc))
+
+  pub at_member : (t : Ty) (m : ℕ) (o : Operand) (s : State) → Begins types f s → (l : Location) → o ≡ Name l → (local : Local) → slice_get s.locals l.local ≡ Some local → is_some local.name ≡ true → is_location t ≡ true
+      → type_of types f (with_member m o) ≡ t → IsAt types texts fs f t (location_in (with_member m o))
+  at_member t m o s b l is local there named loc typed = record {
+    typed = type_in_member t m o l is loc typed;
+    kept =
+        ap (λ (q : Operand). lies_in f (location_in (with_member m q))) is
+        ∙ member_lies l.members m (is_register_at f l.local) (is_named (slice_get f.locals l.local)) (ap is_named (b.locals l.local local there) ∙ named);
+  }
+
 -- ---- no struct that is served holds a unique_ptr
 
 module _ (types : Types) where
-  value_free : (n : ℕ) (id : TyId) → is_value (type_at types id) ≡ true → holds_unique (tree_within n types id) ≡ false
-  value_free zero id v = refl
-  value_free (suc n) id v = go (slice_get types.types id.0) v
-    where
-      go : (o : Option Ty) → is_value (unwrap_or o ty.Void) ≡ true → holds_unique (tree_of types (tree_within n types) o) ≡ false
-      go (Some ty.Bool) v = refl
-      go (Some ty.Char) v = refl
-      go (Some ty.Int) v = refl
-      go (Some ty.Long) v = refl
-      go (Some ty.Size) v = refl
-      go _ v = absurd (false≢true v)
+  -- nor does a member, so many steps deep
+  abbrev MemberFree : ℕ → Type 0
+  MemberFree n = (id : TyId) → is_struct_member types (type_at types id) ≡ true → holds_unique (tree_within n types id) ≡ false
 
-  abbrev MemberFree : (m n : ℕ) → Type 0
-  MemberFree m n = (id : TyId) → is_member_within m types (type_at types id) ≡ true → holds_unique (tree_within n types id) ≡ false
+  members_free : (n : ℕ) → MemberFree n → (ids : List TyId) → have_each (is_struct_member types) types ids ≡ true → holds_unique (struct_of (tree_within n types) ids) ≡ false
+  members_free n inside [] b = refl
+  members_free n inside (id ∷ ids) b =
+      let parts = and_parts (is_struct_member types (type_at types id)) (have_each (is_struct_member types) types ids) b in
+      ap (λ (b : Bool). b || holds_unique (struct_of (tree_within n types) ids)) (inside id parts.0) ∙ members_free n inside ids parts.1
 
-  members_free : (m n : ℕ) → MemberFree m n → (ids : List TyId) → have_each (is_member_within m types) types ids ≡ true → holds_unique (struct_of (tree_within n types) ids) ≡ false
-  members_free m n inside [] b = refl
-  members_free m n inside (id ∷ ids) b =
-      let parts = and_parts (is_member_within m types (type_at types id)) (have_each (is_member_within m types) types ids) b in
-      ap (λ (b : Bool). b || holds_unique (struct_of (tree_within n types) ids)) (inside id parts.0) ∙ members_free m n inside ids parts.1
+  held_free : HasStructs types → (n : ℕ) → MemberFree n → (o : Option Ty) → is_struct_member types (unwrap_or o ty.Void) ≡ true → holds_unique (tree_of types (tree_within n types) o) ≡ false
+  held_free structs n inside (Some (ty.Struct number)) b = members_free n inside (members_at types number) (structs.members number)
+  held_free structs n inside (Some ty.Text) b = refl
+  held_free structs n inside (Some (ty.Vector item)) b = refl
+  held_free structs n inside (Some ty.Bool) b = refl
+  held_free structs n inside (Some ty.Char) b = refl
+  held_free structs n inside (Some ty.Int) b = refl
+  held_free structs n inside (Some ty.Long) b = refl
+  held_free structs n inside (Some ty.Size) b = refl
+  held_free structs n inside (Some ty.View) b = refl
+  held_free structs n inside (Some (ty.Raw target constant)) b = refl
+  held_free structs n inside (Some (ty.Iterator item constant)) b = refl
+  held_free structs n inside (Some (ty.Span item constant)) b = refl
+  held_free structs n inside _ b = absurd (false≢true b)
 
-  held_free : (m n : ℕ) → MemberFree m n → (o : Option Ty) → is_member_within (suc m) types (unwrap_or o ty.Void) ≡ true → holds_unique (tree_of types (tree_within n types) o) ≡ false
-  held_free m n inside (Some (ty.Struct number)) b = members_free m n inside (members_at types number) b
-  held_free m n inside (Some ty.Text) b = refl
-  held_free m n inside (Some (ty.Vector item)) b = refl
-  held_free m n inside (Some ty.Bool) b = refl
-  held_free m n inside (Some ty.Char) b = refl
-  held_free m n inside (Some ty.Int) b = refl
-  held_free m n inside (Some ty.Long) b = refl
-  held_free m n inside (Some ty.Size) b = refl
-  held_free m n inside _ b = absurd (false≢true b)
-
-  member_free : (m n : ℕ) → MemberFree m n
-  member_free zero n id b = value_free n id b
-  member_free (suc m) zero id b = refl
-  member_free (suc m) (suc n) id b = held_free m n (member_free m n) (slice_get types.types id.0) b
+  member_free : HasStructs types → (n : ℕ) → MemberFree n
+  member_free structs zero id b = refl
+  member_free structs (suc n) id b = held_free structs n (member_free structs n) (slice_get types.types id.0) b
 
   struct_free : HasStructs types → (number : ℕ) (b : Bool) (id : Option TyId) → (if b then ty_if types id else ty.Void) ≡ ty.Struct number → holds_unique (tree_if types id) ≡ false
   unfolding tree_at
@@ -130,7 +169,7 @@ module _ (types : Types) where
     where
       go : (o : Option Ty) → or_void o ≡ ty.Struct number → holds_unique (tree_of types (tree_within id.0 types) o) ≡ false
       go None e = absurd (void_struct number e)
-      go (Some t) e = ap (λ (u : Ty). holds_unique (tree_of types (tree_within id.0 types) (Some u))) e ∙ members_free 2 id.0 (member_free 2 id.0) (members_at types number) (structs.members number)
+      go (Some t) e = ap (λ (u : Ty). holds_unique (tree_of types (tree_within id.0 types) (Some u))) e ∙ members_free id.0 (member_free structs id.0) (members_at types number) (structs.members number)
 
 -- ---- copies
 

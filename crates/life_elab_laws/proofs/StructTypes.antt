@@ -1,25 +1,26 @@
 -- Structs: what a table says of their members, also one with more types.
-use Rattle.std.proofs.Common.{◌≡◌, ◌<◌, ℕ, zero, suc, Bool, true, List, [], ◌∷◌, slice_get, Option, Some, None, refl, sym, ap, ◌∙◌, subst, unwrap_or, length, arith}
+use Rattle.std.proofs.Common.{◌≡◌, ◌<◌, ℕ, zero, suc, Bool, true, List, [], ◌∷◌, slice_get, Option, Some, None, refl, sym, ap, ◌∙◌, subst, unwrap_or, length, arith, false}
 use Rattle.std.specs.Prelude.{nat_lt, ◌^◌}
-use Rattle.std.proofs.lemmas.Bool.{and_from, and_parts, false≢true}
+use Rattle.std.proofs.lemmas.Bool.{and_from, and_parts, false≢true, or_left}
 use Rattle.std.proofs.lemmas.Bool.Decides.{nat_tests}
 use Rattle.std.proofs.lemmas.Option.{none-some, same_Some}
 use Rattle.life_types.specs.Pointees.{or_void, ty_of}
-use Rattle.life_types.specs.Trees.{IsOrdered, members_at}
+use Rattle.life_types.specs.Trees.{IsOrdered, members_at, AllBelow, is_plain, tree_at}
 use Rattle.life_types.specs.TypeTests.{is_value}
 use Rattle.life_types.specs.Types.{HasEachOnce, Types}
 use Rattle.life_types.specs.declared.ty.Ty.{Ty}
 use Rattle.life_types.specs.declared.ty.Ty.TheVariants as ty
 use Rattle.life_types.specs.declared.ty.TyId.{TyId}
-use Rattle.life_served.specs.Served.{are_struct_members, has_fine_structs, have_each, hold_members, is_member_within, is_owner_of_values, is_owner_within, is_struct_member}
+use Rattle.life_served.specs.Served.{are_struct_members, has_fine_structs, have_each, hold_members, is_owner_of_values, is_struct_member, are_plain, is_element, is_target, is_walker_of_values}
 use Rattle.life_typed.specs.BaseTypes.{type_at}
 use Rattle.life_typed.specs.declared.basic.TheConstants.{CHAR}
-use Rattle.life_elab_laws.proofs.Elements.{inner_owner, within_more}
 use Rattle.life_elab_laws.proofs.Fronts.{IsFront}
-use Rattle.life_elab_laws.proofs.OrderedTypes.{KeepsOrder}
-use Rattle.life_elab_laws.proofs.Shaped.{within_later}
+use Rattle.life_elab_laws.proofs.OrderedTypes.{KeepsOrder, members_later}
+use Rattle.life_elab_laws.proofs.Shaped.{target_later, PlainStays, element_later, owner_later}
+use Rattle.life_elab_laws.proofs.Targets.{or_false}
+use Rattle.life_types.proofs.TreeLemmas.{Grows, tree_stays}
 
--- each type stands once, behind its parts, and a struct has few members, each of which is a value, an owner or such a struct
+-- each type stands once, behind its parts, and a struct has few members, each of which is a value, a pointer, an owner or such a struct
 pub record HasStructs (types : Types) : Type 0 where
   pub ordered : IsOrdered types
   pub once : HasEachOnce types
@@ -42,39 +43,28 @@ module _ (types : Types) (test : Ty → Bool) where
 -- ---- what a member is
 
 module _ (types : Types) where
-  -- .. by the type that it has
-  pub data IsMemberType (n : ℕ) (t : Ty) : Type 0 where
-    member_value : is_value t ≡ true → IsMemberType n t
-    member_owner : is_owner_within (suc n) types t ≡ true → IsMemberType n t
-    member_struct : (number : ℕ) → t ≡ ty.Struct number → have_each (is_member_within n types) types (members_at types number) ≡ true → IsMemberType n t
-
-  pub member_is : (n : ℕ) (t : Ty) → is_member_within (suc n) types t ≡ true → IsMemberType n t
-  member_is n ty.Bool b = member_value refl
-  member_is n ty.Char b = member_value refl
-  member_is n ty.Int b = member_value refl
-  member_is n ty.Long b = member_value refl
-  member_is n ty.Size b = member_value refl
-  member_is n ty.Text b = member_owner b
-  member_is n (ty.Vector element) b = member_owner b
-  member_is n (ty.Struct number) b = member_struct number refl b
-  member_is n _ b = absurd (false≢true b)
-
-  -- .. so it is none of the others
   pub data IsHeld (t : Ty) : Type 0 where
     a_value_held : is_value t ≡ true → IsHeld t
+    a_raw_held : (target : TyId) (constant : Bool) → t ≡ ty.Raw target constant → is_target types (type_at types target) ≡ true → IsHeld t
+    a_view_held : t ≡ ty.View → IsHeld t
+    a_walker_held : is_walker_of_values types t ≡ true → IsHeld t
     an_owner_held : is_owner_of_values types t ≡ true → IsHeld t
     a_struct_held : (number : ℕ) → t ≡ ty.Struct number → IsHeld t
 
   pub held_is : (t : Ty) → is_struct_member types t ≡ true → IsHeld t
-  held_is t b = go (member_is 1 t b)
-    where
-      more : (n : ℕ) → is_owner_within n types t ≡ true → is_owner_within (suc n) types t ≡ true
-      more n o = within_more types n t o
-
-      go : IsMemberType 1 t → IsHeld t
-      go (member_value v) = a_value_held v
-      go (member_owner o) = an_owner_held (inner_owner types t (more 6 (more 5 (more 4 (more 3 (more 2 o))))))
-      go (member_struct number is each) = a_struct_held number is
+  held_is ty.Bool b = a_value_held refl
+  held_is ty.Char b = a_value_held refl
+  held_is ty.Int b = a_value_held refl
+  held_is ty.Long b = a_value_held refl
+  held_is ty.Size b = a_value_held refl
+  held_is ty.View b = a_view_held refl
+  held_is (ty.Raw target constant) b = a_raw_held target constant refl (or_false (is_target types (type_at types target)) b)
+  held_is (ty.Iterator item constant) b = a_walker_held (or_false (is_element types (type_at types item)) b)
+  held_is (ty.Span item constant) b = a_walker_held (or_false (is_element types (type_at types item)) b)
+  held_is ty.Text b = an_owner_held refl
+  held_is (ty.Vector item) b = an_owner_held (or_false (is_owner_of_values types (ty.Vector item)) b)
+  held_is (ty.Struct number) b = a_struct_held number refl
+  held_is _ b = absurd (false≢true b)
 
 -- .. of a struct
 pub has_member : (types : Types) → HasStructs types → (number m : ℕ) (id : TyId) → slice_get (members_at types number) m ≡ Some id → is_struct_member types (type_at types id) ≡ true
@@ -117,8 +107,46 @@ module _ (few more : Types) (front : IsFront few.types more.types) where
       go (Some t) at h = ap or_void (front id.0 t at) ∙ sym (ap (λ (o : Option Ty). unwrap_or o ty.Void) at)
 
   module _ (order : KeepsOrder few more) where
-    pub members_later : (number : ℕ) → members_at more number ≡ members_at few number
-    members_later number = ap (λ (ss : List (List TyId)). unwrap_or (slice_get ss number) []) order.structs
+    -- a struct without pointers is one there too
+    pub plain_later : HasStructs few → PlainStays few more
+    plain_later has number pointless =
+        subst (λ (ids : List TyId). are_plain more ids ≡ true) (sym (members_later few more order number)) (go (slice_get few.structs number) refl pointless)
+      where
+        grows : Grows few more
+        grows = record { types = front; structs = λ n ids at. ap (λ (structs : List (List TyId)). slice_get structs n) order.structs ∙ at }
+
+        each : (ids : List TyId) → AllBelow (length few.types) ids → are_plain few ids ≡ true → are_plain more ids ≡ true
+        each [] below plain = refl
+        each (id ∷ ids) below plain =
+            let parts = and_parts (is_plain (tree_at few id)) (are_plain few ids) plain in
+            and_from (is_plain (tree_at more id)) (are_plain more ids) (ap is_plain (tree_stays few more has.ordered grows id below.0) ∙ parts.0) (each ids below.1 parts.1)
+
+        go : (o : Option (List TyId)) → slice_get few.structs number ≡ o → are_plain few (unwrap_or o []) ≡ true → are_plain more (unwrap_or o []) ≡ true
+        go None at plain = refl
+        go (Some ids) at plain = each ids (has.ordered.members number ids at) plain
+
+    -- .. and so is a member
+    member_further : PlainStays few more → (t : Ty) → is_struct_member few t ≡ true → is_struct_member more t ≡ true
+    member_further stays ty.Bool b = refl
+    member_further stays ty.Char b = refl
+    member_further stays ty.Int b = refl
+    member_further stays ty.Long b = refl
+    member_further stays ty.Size b = refl
+    member_further stays ty.View b = refl
+    member_further stays (ty.Raw target constant) b = or_left (is_target more (type_at more target)) false (target_later few more front stays target (or_false (is_target few (type_at few target)) b))
+    member_further stays (ty.Iterator item constant) b = or_left (is_element more (type_at more item)) false (element_later few more front stays item (or_false (is_element few (type_at few item)) b))
+    member_further stays (ty.Span item constant) b = or_left (is_element more (type_at more item)) false (element_later few more front stays item (or_false (is_element few (type_at few item)) b))
+    member_further stays ty.Text b = refl
+    member_further stays (ty.Vector item) b = or_left (is_owner_of_values more (ty.Vector item)) false (owner_later few more front stays (ty.Vector item) (or_false (is_owner_of_values few (ty.Vector item)) b))
+    member_further stays (ty.Struct number) b = refl
+    member_further stays _ b = absurd (false≢true b)
+
+    member_later : PlainStays few more → (id : TyId) → is_struct_member few (type_at few id) ≡ true → is_struct_member more (type_at more id) ≡ true
+    member_later stays id b = go (slice_get few.types id.0) refl b
+      where
+        go : (o : Option Ty) → slice_get few.types id.0 ≡ o → is_struct_member few (unwrap_or o ty.Void) ≡ true → is_struct_member more (type_at more id) ≡ true
+        go None at b = absurd (false≢true b)
+        go (Some t) at b = ap (λ (o : Option Ty). is_struct_member more (unwrap_or o ty.Void)) (front id.0 t at) ∙ member_further stays t b
 
     each_later : (here there : Ty → Bool) → ((id : TyId) → here (type_at few id) ≡ true → there (type_at more id) ≡ true) → (ids : List TyId) → have_each here few ids ≡ true → have_each there more ids ≡ true
     each_later here there further [] b = refl
@@ -126,38 +154,12 @@ module _ (few more : Types) (front : IsFront few.types more.types) where
         let parts = and_parts (here (type_at few id)) (have_each here few ids) b in
         and_from (there (type_at more id)) (have_each there more ids) (further id parts.0) (each_later here there further ids parts.1)
 
-    -- .. whose members are what they were
-    void_member : (n : ℕ) → is_member_within n few ty.Void ≡ true → ⊥
-    void_member zero b = false≢true b
-    void_member (suc n) b = false≢true b
-
-    at_later : (n : ℕ) → ((t : Ty) → is_member_within n few t ≡ true → is_member_within n more t ≡ true) → (id : TyId) → is_member_within n few (type_at few id) ≡ true → is_member_within n more (type_at more id) ≡ true
-    at_later n further id b = go (slice_get few.types id.0) refl b
-      where
-        go : (x : Option Ty) → slice_get few.types id.0 ≡ x → is_member_within n few (unwrap_or x ty.Void) ≡ true → is_member_within n more (type_at more id) ≡ true
-        go None at b = absurd (void_member n b)
-        go (Some t) at b = ap (λ (x : Option Ty). is_member_within n more (unwrap_or x ty.Void)) (front id.0 t at) ∙ further t b
-
-    member_later : (n : ℕ) (t : Ty) → is_member_within n few t ≡ true → is_member_within n more t ≡ true
-    member_later zero t b = b
-    member_later (suc n) ty.Bool b = refl
-    member_later (suc n) ty.Char b = refl
-    member_later (suc n) ty.Int b = refl
-    member_later (suc n) ty.Long b = refl
-    member_later (suc n) ty.Size b = refl
-    member_later (suc n) ty.Text b = refl
-    member_later (suc n) (ty.Vector element) b = within_later few more front (suc n) (ty.Vector element) b
-    member_later (suc n) (ty.Struct number) b =
-        subst (λ (ids : List TyId). have_each (is_member_within n more) more ids ≡ true) (sym (members_later number))
-        (each_later (is_member_within n few) (is_member_within n more) (at_later n (member_later n)) (members_at few number) b)
-    member_later (suc n) _ b = absurd (false≢true b)
-
     pub structs_later : HasStructs few → HasStructs more
     structs_later has = record {
       ordered = order.ordered has.ordered;
       once = order.once has.once;
-      few = λ number. subst (λ (ids : List TyId). length ids < 33) (sym (members_later number)) (has.few number);
+      few = λ number. subst (λ (ids : List TyId). length ids < 33) (sym (members_later few more order number)) (has.few number);
       members = λ number.
-          subst (λ (ids : List TyId). have_each (is_struct_member more) more ids ≡ true) (sym (members_later number))
-          (each_later (is_struct_member few) (is_struct_member more) (at_later 2 (member_later 2)) (members_at few number) (has.members number));
+          subst (λ (ids : List TyId). have_each (is_struct_member more) more ids ≡ true) (sym (members_later few more order number))
+          (each_later (is_struct_member few) (is_struct_member more) (member_later (plain_later has)) (members_at few number) (has.members number));
     }

@@ -1,5 +1,5 @@
 -- A part of a span, from an index on and so many.
-use Rattle.std.proofs.Common.{◌≡◌, ◌++◌, ℕ, Bool, true, List, [], ◌∷◌, Option, Some, None, refl, ap, ◌∙◌, subst}
+use Rattle.std.proofs.Common.{◌≡◌, ◌++◌, ℕ, Bool, true, List, [], ◌∷◌, Option, Some, None, refl, ap, ◌∙◌, subst, append_assoc, sym}
 use Rattle.std.proofs.lemmas.Bool.{and_from, and_parts, false≢true}
 use Rattle.life_served.specs.Served.{is_walker_of_values, is_element}
 use Rattle.life_types.specs.Pointees.{ty_of}
@@ -20,7 +20,7 @@ use Rattle.life_type_expr.specs.Lists.{is_taken}
 use Rattle.life_core.specs.Function.{Function}
 use Rattle.life_core.specs.Operands.{Location}
 use Rattle.life_core.specs.Step.{Cut}
-use Rattle.life_core.specs.Touched.{count_uses}
+use Rattle.life_core.specs.Touched.{count_uses, nothing}
 use Rattle.life_proper.specs.OperandTypes.{is_range, keeps_const, same, takes}
 use Rattle.life_proper.specs.Placed.{is_number_of, is_number_of_if, type_in}
 use Rattle.life_proper.specs.declared.known.Known.{Known}
@@ -46,6 +46,7 @@ use Rattle.life_elab_laws.proofs.ViewSteps.{IsCounted, a_count, pointer_is_held}
 use Rattle.life_elab_laws.proofs.WalkerForms.{IsWalker, IsWalkerAt, walker_pointer, no_place}
 use Rattle.life_elab_laws.proofs.WalkerSteps.{span_taker}
 use Rattle.life_elab_laws.proofs.Elements.{one_element}
+use Rattle.life_elab_laws.proofs.PointedCalls.{gives_plainly}
 
 module _ (types : Types) (texts : ℕ) (fs : List Function) (f : Function) where
   -- the span, where it begins, and how many
@@ -55,7 +56,7 @@ module _ (types : Types) (texts : ℕ) (fs : List Function) (f : Function) where
   part_given : (item : TyId) (constant : Bool) (x : (Location × ℕ) × Option ℕ) → same (ty_of types item) (ty_of types item) ≡ true → (SpanCuts item constant).typed x → IsGivenAs types texts fs f (Of (ty.Span item constant)) (By (λ p. Cut p x.0.0 x.0.1 x.1))
   part_given item constant x v h = λ u l loc at taken.
       let to = span_taker types item constant u loc taken in
-      let typed : type_in types f l ≡ ty.Span to.target to.held = at.typed ∙ to.is in
+      let typed : type_in types f l ≡ ty.Span to.target to.held = at ∙ to.is in
       record {
         given = refl;
         formed =
@@ -71,6 +72,7 @@ module _ (types : Types) (texts : ℕ) (fs : List Function) (f : Function) where
     uses = x.0.0.local ∷ x.0.1 ∷ (count_uses x.1 ++ []);
     held = (pointer_is_held x.0.0 n k h.0.0, (h.0.1, counted x.1 h.1));
     touches = λ y e. refl;
+    parts = λ y m ms. ap (λ (us : List ℕ). record nothing { uses = x.0.0.local ∷ x.0.1 ∷ us }) (sym (append_assoc (count_uses x.1) [] (y ∷ [])));
   }
     where
       counted : (o : Option ℕ) → IsCounted o n k → AreHeld (count_uses o ++ []) n k
@@ -116,7 +118,7 @@ module _ (a : Around) (visible : List ℕ) (types : Types) (texts : ℕ) (fs : L
         is = (gives_as (Of (ty.Span item constant), category.Value) e c.2).0;
         walker = w;
         place = no_place a visible types texts fs f setting e (gives_as (Of (ty.Span item constant), category.Value) e c.2).1;
-        points = λ s stands. part_made base is item constant same w given d s whole c.1 stands;
+        points = λ s stands. gives_plainly (part_made base is item constant same w given d s whole c.1 stands);
       }
       go (ty.Iterator item constant) same w c = absurd (none_some c.2)
       go _ same w c = absurd (false≢true w)

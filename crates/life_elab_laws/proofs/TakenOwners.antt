@@ -34,15 +34,18 @@ use Rattle.life_elab_laws.proofs.Parts.{Part, Runs}
 use Rattle.life_elab_laws.proofs.Shaping.{IsFine, fine_append, fine_gives, step_keeps}
 
 -- what is no value is consumed as what is given over
-owner_no_value : (few : Types) (t : Ty) → is_owner_of_values few t ≡ true → is_value t ≡ false
-owner_no_value few ty.Text o = refl
-owner_no_value few (ty.Vector item) o = refl
-owner_no_value few _ o = absurd (false≢true o)
+pub owner_plain : (few : Types) (t : Ty) → is_owner_of_values few t ≡ true → is_value t ≡ false
+owner_plain few ty.Text o = refl
+owner_plain few (ty.Vector item) o = refl
+owner_plain few _ o = absurd (false≢true o)
+
+pub object_consumed : (types : Types) (f : Function) (t u : Ty) (x : ℕ) → is_value t ≡ false → u ≡ t → is_given types f t x ≡ true → is_consumed types f u x ≡ true
+object_consumed types f t u x plain holds given =
+    ap (λ (w : Ty). is_consumed types f w x) holds
+    ∙ ap (λ (b : Bool). if b then is_number_of types f t x else is_given types f t x) plain ∙ given
 
 pub owner_consumed : (few types : Types) (f : Function) (t u : Ty) (x : ℕ) → is_owner_of_values few t ≡ true → u ≡ t → is_given types f t x ≡ true → is_consumed types f u x ≡ true
-owner_consumed few types f t u x owner holds given =
-    ap (λ (w : Ty). is_consumed types f w x) holds
-    ∙ ap (λ (b : Bool). if b then is_number_of types f t x else is_given types f t x) (owner_no_value few t owner) ∙ given
+owner_consumed few types f t u x owner holds given = object_consumed types f t u x (owner_plain few t owner) holds given
 
 -- an instruction on these locals takes x, and looks at nothing
 pub record Takes (f : Function) (uses : List ℕ) (x : ℕ) (step : Step) : Type 0 where

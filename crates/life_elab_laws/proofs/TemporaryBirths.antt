@@ -1,10 +1,9 @@
 -- A temporary comes to life: an object without a name, which is pending from there on.
-use Rattle.std.proofs.Common.{◌≡◌, ◌<◌, ◌⊎◌, inl, inr, ℕ, true, false, List, [], ◌∷◌, ◌++◌, Contains, length, slice_get, slice_set, Some, None, refl, ◌∙◌, subst, arith, length-append, ◌≤◌}
+use Rattle.std.proofs.Common.{◌≡◌, ◌<◌, ◌⊎◌, inl, inr, ℕ, true, false, List, [], ◌∷◌, ◌++◌, Contains, length, slice_get, slice_set, Some, None, refl, ap, ◌∙◌, subst, arith, length-append, ◌≤◌}
 use Rattle.std.proofs.lemmas.Bool.{and_parts, false≢true, or_left}
 use Rattle.std.specs.List.{list_all}
 use Rattle.std.proofs.lemmas.Option.{slice_get_within}
 use Rattle.life_served.specs.Served.{is_owner_of_values, is_unique_of_element}
-use Rattle.life_types.specs.Trees.{HasPartsBelow}
 use Rattle.life_types.specs.TypeTests.{is_pointer, is_reference}
 use Rattle.life_types.specs.Types.{Types}
 use Rattle.life_types.specs.declared.place.Place.{Place}
@@ -39,7 +38,7 @@ use Rattle.life_elab_laws.proofs.Growing.{Begins, Grows}
 use Rattle.life_elab_laws.proofs.Knowledge.{at_set, beside_set, set_length}
 use Rattle.life_elab_laws.proofs.Making.{Alive, IsOpen}
 use Rattle.life_elab_laws.proofs.OperandsThere.{object_there, type_there, value_no_reference}
-use Rattle.life_elab_laws.proofs.OrderedTypes.{type_ordered}
+use Rattle.life_elab_laws.proofs.OrderedTypes.{HasPartsIn, type_ordered}
 use Rattle.life_elab_laws.proofs.Parts.{Goes, Makes, Part}
 use Rattle.life_elab_laws.proofs.PendingTemporaries.{ArePending, ArePendingIn, IsTemporary, temporary_later}
 use Rattle.life_elab_laws.proofs.Saving.{live_fills}
@@ -49,7 +48,7 @@ use Rattle.life_elab_laws.proofs.Values.{by_values}
 use Rattle.life_elab_laws.proofs.WrittenLocals.{AddsRegisters, FitsTemporary, register_pushed}
 
 -- a temporary is no pointer
-temporary_plain : (types : Types) (t : Ty) → FitsTemporary types t → is_pointer t ≡ false
+pub temporary_plain : (types : Types) (t : Ty) → FitsTemporary types t → is_pointer t ≡ false
 temporary_plain types t (inl value) = by_values (λ u. is_pointer u ≡ false) refl refl refl refl refl t value
 temporary_plain types t (inr (inl owner)) = go t owner
   where
@@ -57,7 +56,8 @@ temporary_plain types t (inr (inl owner)) = go t owner
     go ty.Text o = refl
     go (ty.Vector item) o = refl
     go _ o = absurd (false≢true o)
-temporary_plain types t (inr (inr unique)) = go t unique
+temporary_plain types t (inr (inr (inr structure))) = ap is_pointer structure.is
+temporary_plain types t (inr (inr (inl unique))) = go t unique
   where
     go : (u : Ty) → is_unique_of_element types u ≡ true → is_pointer u ≡ false
     go (ty.Unique target) w = refl
@@ -66,14 +66,15 @@ temporary_plain types t (inr (inr unique)) = go t unique
 pub no_reference : (types : Types) (t : Ty) → FitsTemporary types t → is_reference t ≡ false
 no_reference types t (inl value) = value_no_reference t value
 no_reference types t (inr (inl owner)) = owner_no_reference types t owner
-no_reference types t (inr (inr unique)) = go t unique
+no_reference types t (inr (inr (inr structure))) = ap is_reference structure.is
+no_reference types t (inr (inr (inl unique))) = go t unique
   where
     go : (u : Ty) → is_unique_of_element types u ≡ true → is_reference u ≡ false
     go (ty.Unique target) w = refl
     go _ w = absurd (false≢true w)
 
 module _ (types : Types) (texts : ℕ) (fs : List Function) (f : Function) (place : Place) (step : ℕ → Step) (t : Ty) (s : State) (fits : FitsTemporary types t)
-    (opened : IsOpen s) (low : ℕ) (before : ArePending low s) (within : HasPartsBelow s.types (length s.types.types) t) where
+    (opened : IsOpen s) (low : ℕ) (before : ArePending low s) (within : HasPartsIn s.types t) where
   -- its number, and its local
   abbrev pub x : ℕ
   x = length s.locals
@@ -221,7 +222,7 @@ module _ (types : Types) (texts : ℕ) (fs : List Function) (f : Function) (plac
 
 -- .. by itself
 module _ (types : Types) (texts : ℕ) (fs : List Function) (f : Function) (place : Place) (form : Form) (t : Ty) (s : State) (fits : FitsTemporary types t)
-    (opened : IsOpen s) (low : ℕ) (before : ArePending low s) (within : HasPartsBelow s.types (length s.types.types) t) where
+    (opened : IsOpen s) (low : ℕ) (before : ArePending low s) (within : HasPartsIn s.types t) where
   abbrev lives : ℕ → Step
   lives x = Live x form
 

@@ -18,7 +18,7 @@ use Rattle.life_typed.specs.declared.typed_expr.Category.TheVariants as category
 use Rattle.life_typed.specs.declared.typed_expr.ExprType.TheVariants.{Of, NullPointer, TextLiteral}
 use Rattle.life_type_expr.specs.Operands.{answer_of, combination, combined_to, place_of, value, variable_of}
 use Rattle.life_elab_laws.proofs.ServedTypes.{IsServedType}
-use Rattle.life_elab_laws.proofs.ResultTypes.{IsResultType, gives_alias, gives_walker, gives_nothing, gives_raw, gives_reference, gives_struct, gives_value, gives_view, gives_owner, gives_unique}
+use Rattle.life_elab_laws.proofs.ResultTypes.{IsResultType, gives_alias, gives_walker, gives_nothing, gives_raw, gives_reference, gives_struct, gives_value, gives_view, gives_owner, gives_unique, gives_whole}
 use Rattle.life_elab_laws.proofs.Targets.{IsTarget, target_is, to_owner, to_struct, to_value}
 use Rattle.life_elab_laws.proofs.Values.{by_values}
 use Rattle.life_typed.specs.declared.typed_expr.ExprType.{ExprType}
@@ -244,7 +244,7 @@ kind_of_variable types e id c form t at (inl built) n is = go t at built is
         refers : IsTarget types (type_at types target) → IsKind types e
         refers (to_value v) = kind_of_place types e target constant form is (a_number (type_at types target) (ap (λ (x : Typed). x.ty) is) v)
         refers (to_owner o) = absurd (owner_refused types (type_at types target) o (subst (λ (x : ExprType). is_plain_type x ≡ true) (ap (λ (x : Typed). x.ty) is) n))
-        refers (to_struct number s) = absurd (struct_refused (type_at types target) number s (subst (λ (x : ExprType). is_plain_type x ≡ true) (ap (λ (x : Typed). x.ty) is) n))
+        refers (to_struct number s pointless) = absurd (struct_refused (type_at types target) number s (subst (λ (x : ExprType). is_plain_type x ≡ true) (ap (λ (x : Typed). x.ty) is) n))
     go ty.View at built is = kind_of_place types e id c form is (a_view (ap (λ (x : Typed). x.ty) is ∙ ap Of at))
     go ty.Bool at built is = kind_of_place types e id c form is (a_number ty.Bool (ap (λ (x : Typed). x.ty) is ∙ ap Of at) refl)
     go ty.Char at built is = kind_of_place types e id c form is (a_number ty.Char (ap (λ (x : Typed). x.ty) is ∙ ap Of at) refl)
@@ -277,6 +277,9 @@ kind_of_result types e _ (gives_owner o) plain is = absurd (false≢true o)
 kind_of_result types e t (gives_unique target unique w) plain is =
     let here = is ∙ ap (λ (u : Ty). answer_of u types e.place e.form) unique in
     absurd (false≢true (subst (λ (x : ExprType). is_plain_type x ≡ true) (ap (λ (x : Typed). x.ty) here) plain))
+kind_of_result types e t (gives_whole number whole pointless) plain is =
+    let here = is ∙ ap (λ (u : Ty). answer_of u types e.place e.form) whole in
+    absurd (false≢true (subst (λ (x : ExprType). is_plain_type x ≡ true) (ap (λ (x : Typed). x.ty) here) plain))
 kind_of_result types e t (gives_view view) plain is =
     let here = is ∙ ap (λ (u : Ty). answer_of u types e.place e.form) view in
     record {
@@ -289,7 +292,7 @@ kind_of_result types e t (gives_reference target constant refers w) plain is =
 kind_of_result types e t (gives_alias target constant refers o) plain is =
     let here = is ∙ ap (λ (u : Ty). answer_of u types e.place e.form) refers in
     absurd (owner_refused types (type_at types target) o (subst (λ (x : ExprType). is_plain_type x ≡ true) (ap (λ (x : Typed). x.ty) here) plain))
-kind_of_result types e t (gives_struct target constant number refers s) plain is =
+kind_of_result types e t (gives_struct target constant number refers s pointless) plain is =
     let here = is ∙ ap (λ (u : Ty). answer_of u types e.place e.form) refers in
     absurd (struct_refused (type_at types target) number s (subst (λ (x : ExprType). is_plain_type x ≡ true) (ap (λ (x : Typed). x.ty) here) plain))
 

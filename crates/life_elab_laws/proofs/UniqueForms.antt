@@ -1,19 +1,19 @@
--- unique_ptrs that are named: what they own, a pointer to that, and whether there is something.
+-- unique_ptrs that are named, and any that lie in a local: what they own, and a pointer to that.
 use Rattle.std.proofs.Common.{◌≡◌, ℕ, Bool, true, false, List, Contains, length, slice_get, Option, Some, None, Ok, refl, sym, ap, ◌∙◌, subst, unwrap_or}
-use Rattle.std.proofs.lemmas.Bool.{and_parts, false≢true}
+use Rattle.std.proofs.lemmas.Bool.{false≢true}
 use Rattle.life_elab_laws.proofs.UniqueSteps.{got_filling, got_given, target_part}
 use Rattle.life_writer.specs.Around.{Around, own_type}
 use Rattle.life_writer.specs.declared.behind.Behind.{Behind}
 use Rattle.life_typed.specs.Delimiters.{DelimitersForm}
-use Rattle.life_typed.specs.TypedForm.{Form, Typed, dereference, local, method, paren, typed}
+use Rattle.life_typed.specs.TypedForm.{Form, Typed, dereference, local, method}
 use Rattle.life_core.specs.Function.{Function}
-use Rattle.life_core.specs.Operands.{Get, Operand, Owner, object_named}
+use Rattle.life_core.specs.Operands.{Get, Operand, Owner, object_named, whole}
 use Rattle.life_core.specs.declared.operand.Which.TheVariants as which
 use Rattle.life_well_typed.specs.Members.{IsCalled}
-use Rattle.life_well_typed.specs.Expressions.{IsExpression, IsMadeOf, IsVariable, typed_in}
+use Rattle.life_well_typed.specs.Expressions.{IsVariable, typed_in}
 use Rattle.life_elab_laws.proofs.ExpressionForms.{IsForm, Placed, Points, Standing, no_literal, pointer_form, no_null}
 use Rattle.life_elab_laws.proofs.Making.{IsPlace}
-use Rattle.life_elab_laws.proofs.VariablePlaces.{IsVariableAt, IsVariableType, an_alias, a_raw, a_reference, a_struct, a_unique, a_value, a_view, a_walker, an_owner, kind_is, place_is, variable_there, variable_type, a_struct_alias}
+use Rattle.life_elab_laws.proofs.VariablePlaces.{IsVariableAt, IsVariableType, an_alias, a_raw, a_reference, a_struct, a_unique, a_value, a_view, a_walker, an_owner, kind_is, place_is, variable_there, variable_type, a_struct_alias, stands_later}
 use Rattle.life_elab_laws.proofs.Parts.{Makes, leaf_part, seen_part, then_part}
 use Rattle.life_core.specs.declared.program.LocalKind.TheVariants.{Object}
 use Rattle.life_typed.specs.declared.typed_expr.Category.TheVariants as category
@@ -33,17 +33,16 @@ use Rattle.life_elab_laws.proofs.Gifts.{a_place, a_pointing, nothing as no_gift}
 use Rattle.life_writer.specs.Pointers.{aimed}
 use Rattle.life_writer.specs.Bases.{base_by, element}
 use Rattle.life_elab_laws.proofs.Values.{by_values}
-use Rattle.life_writer.specs.Behind.{closed_by}
 use Rattle.life_typed.specs.Operators.{dereferenced}
 use Rattle.life_type_expr.specs.Operands.{dereferenced_to, pointed_to, variable_of}
 use Rattle.life_elab_laws.proofs.ObjectForms.{IsReached}
 use Rattle.life_elab_laws.proofs.Elements.{element_target, element_there}
 use Rattle.life_elab_laws.proofs.Shaped.{element_further}
 use Rattle.life_proper.specs.WellFormed.{is_itself}
-use Rattle.life_writer.specs.ExpressionForms.{form_uses, target_at, uses}
+use Rattle.life_writer.specs.ExpressionForms.{target_at, uses}
 use Rattle.life_elab_laws.proofs.ViewForms.{gives_as}
 use Rattle.life_well_typed.specs.Given.{is_number}
-use Rattle.life_served.specs.Served.{is_element, is_owner_of_values, is_served_unique, is_unique_type, is_walker_of_values}
+use Rattle.life_served.specs.Served.{is_element, is_owner_of_values, is_unique_type, is_walker_of_values}
 use Rattle.life_types.specs.TypeTests.{is_unique}
 use Rattle.life_elab_laws.proofs.FormedVariables.{object_formed}
 use Rattle.life_elab_laws.proofs.TypedKinds.{a_pointer, ok_same, owner_named, value_place, value_simple, walker_named}
@@ -91,7 +90,7 @@ module _ (a : Around) (visible : List ℕ) (types : Types) (texts : ℕ) (fs : L
   abbrev pub IsUnique : Form → Type 0
   IsUnique form = IsUniqueAt (typed_in form) ((uses a form).at) ((uses a form).decision)
 
-  unique_same : (e e' : Typed) (at : State → Gives Operand) (decision other : Behind → Option (State → Gives Tree)) → e.ty ≡ e'.ty → e.category ≡ e'.category → ((b : Behind) → (((c : Behind) → decision c ≡ None) → other b ≡ None))
+  pub unique_same : (e e' : Typed) (at : State → Gives Operand) (decision other : Behind → Option (State → Gives Tree)) → e.ty ≡ e'.ty → e.category ≡ e'.category → ((b : Behind) → (((c : Behind) → decision c ≡ None) → other b ≡ None))
       → IsUniqueAt e at decision → IsUniqueAt e' at other
   unique_same e e' at decision other t c still is = record {
     target = is.target;
@@ -111,7 +110,7 @@ module _ (a : Around) (visible : List ℕ) (types : Types) (texts : ℕ) (fs : L
   }
 
   -- a variable
-  variable_unique : (x : ℕ) (e : Typed) → is_unique_type e.ty ≡ true → Contains visible x → IsVariable a.program.types x (slice_get a.function.locals x) e → IsUniqueAt e (λ s. gives (variable_place s x) s) (λ b. None)
+  pub variable_unique : (x : ℕ) (e : Typed) → is_unique_type e.ty ≡ true → Contains visible x → IsVariable a.program.types x (slice_get a.function.locals x) e → IsUniqueAt e (λ s. gives (variable_place s x) s) (λ b. None)
   variable_unique x e n c h = go (slice_get a.function.locals x) refl h
     where
       go : (o : Option TypedLocal) → slice_get a.function.locals x ≡ o → IsVariable a.program.types x o e → IsUniqueAt e (λ s. gives (variable_place s x) s) (λ b. None)
@@ -139,7 +138,7 @@ module _ (a : Around) (visible : List ℕ) (types : Types) (texts : ℕ) (fs : L
           kind (an_alias target constant at o) = other (type_at a.program.types target) (ap (λ (y : Typed). y.ty) (named (ty.Reference target constant) at)) (owner_no_unique a.program.types (type_at a.program.types target) o)
           kind (a_walker t at w) = other t (ap (λ (y : Typed). y.ty) (walker_named a.program.types e l.ty l.constant (local x) t w (named t at)) ∙ ap Of (as_type t at)) (walker_no_unique a.program.types t w)
           kind (a_struct number at) = other (ty.Struct number) (ap (λ (y : Typed). y.ty) (named (ty.Struct number) at) ∙ ap Of (as_type (ty.Struct number) at)) refl
-          kind (a_struct_alias target constant number at structure) = other (ty.Struct number) (ap (λ (y : Typed). y.ty) (named (ty.Reference target constant) at) ∙ ap Of structure) refl
+          kind (a_struct_alias target constant number at structure pointless) = other (ty.Struct number) (ap (λ (y : Typed). y.ty) (named (ty.Reference target constant) at) ∙ ap Of structure) refl
           kind (an_owner t at o) = other t (ap (λ (y : Typed). y.ty) (owner_named a.program.types e l.ty l.constant (local x) t o (named t at)) ∙ ap Of (as_type t at)) (owner_no_unique a.program.types t o)
           kind (a_unique target at w) = record {
             target = target;
@@ -157,22 +156,6 @@ module _ (a : Around) (visible : List ℕ) (types : Types) (texts : ℕ) (fs : L
             here = λ s stands. let v = stands.seen x l c found in ap (λ (o : Operand). gives o s) (place_is a s x l v Object (kind_is a s x l v (ty.Unique target) at));
             undecided = λ b. refl;
           }
-
-  mutual
-    pub unique_expression : (form : Form) → is_served_unique form ≡ true → IsExpression a.program a.function.locals visible form → IsUnique form
-    unique_expression (typed place t c form) b h =
-        let parts = and_parts (is_unique_type t) (is_served_unique form) b in unique_made form (record { place = place; ty = t; category = c; form = form }) parts.0 parts.1 h place
-    unique_expression _ b h = absurd h
-
-    unique_made : (form : Form) (e : Typed) → is_unique_type e.ty ≡ true → is_served_unique form ≡ true → IsMadeOf a.program a.function.locals visible e form → (place : Place)
-        → IsUniqueAt e ((form_uses a form place e.ty e.category).at) ((form_uses a form place e.ty e.category).decision)
-    unique_made (local x) e n b h place = variable_unique x e n h.0 h.1
-    unique_made (paren inner closing) e n b h place =
-        let same = ok_same h.0 in
-        unique_same (typed_in inner) e ((uses a inner).at) ((uses a inner).decision) (λ b. (uses a inner).decision (closed_by closing b)) (ap (λ (y : Typed). y.ty) same) (ap (λ (y : Typed). y.category) same) (λ b none. none (closed_by closing b))
-        (unique_expression inner b h.1)
-    unique_made (typed at t c form) e n b h place = absurd h
-    unique_made _ e n b h place = absurd (false≢true b)
 
   -- ---- where it lies
 
@@ -194,25 +177,47 @@ module _ (a : Around) (visible : List ℕ) (types : Types) (texts : ℕ) (fs : L
         v : IsVariableAt a s is.number is.declared
         v = stands.seen is.number is.declared is.seen is.found
 
-    pub unique_operand_part : (s : State) → Stood s → Makes types texts fs f None s (operand (uses a form) s) (a_place types texts fs f (ty.Unique is.target) false)
-    unique_operand_part s stands = subst (λ (w : Gives Operand). Makes types texts fs f None s w (a_place types texts fs f (ty.Unique is.target) false)) (sym (unique_operand s stands)) (unique_placed s stands)
+  -- ---- any one that lies in a local: what it owns
 
-    -- ---- what it owns
+  pub record IsLying (form : Form) : Type 0 where
+    pub target : TyId
+    pub is : (typed_in form).ty ≡ Of (ty.Unique target)
+    pub worth : is_element a.program.types (type_at a.program.types target) ≡ true
+    -- there, once it has come to life
+    pub local : State → Gives ℕ
+    pub here : (s : State) → Stood s → operand (uses a form) s ≡ mapped object_named (local s)
+    pub placed : (s : State) → Stood s → Placed a visible types texts fs f setting (ty.Unique target) false s (mapped object_named (local s))
 
-    pub unique_target : (place : Place) (s : State) → Stood s → Placed a visible types texts fs f setting (type_at a.program.types is.target) false s (target_at (own (uses a form)) (uses a form) place (category.Place is.target false) s)
-    unique_target place s stands =
+  pub unique_lies : (form : Form) → IsUnique form → IsLying form
+  unique_lies form is = record {
+    target = is.target;
+    is = is.is;
+    worth = is.worth;
+    local = λ s. gives (variable s is.number) s;
+    here = unique_operand form is;
+    placed = unique_placed form is;
+  }
+
+  module _ (form : Form) (is : IsLying form) where
+    own_lying : own (uses a form) ≡ ty.Unique is.target
+    own_lying = ap own_type (sym (own_typed a visible types texts fs f setting form) ∙ is.is)
+
+    lying_target : (place : Place) (s : State) → Stood s → Placed a visible types texts fs f setting (type_at a.program.types is.target) false s (target_at (own (uses a form)) (uses a form) place (category.Place is.target false) s)
+    lying_target place s stands =
+        let placed = is.placed s stands in
+        let w = is.local s in
         subst (Placed a visible types texts fs f setting (type_at a.program.types is.target) false s) (sym reached)
-        (then_part types texts fs f (no_gift types texts fs f) tt None s (gives (object_named (variable s is.number)) s) _ (a_place types texts fs f (ty.Unique is.target) false) (a_place types texts fs f (type_at a.program.types is.target) false) stands.opened (unique_placed s stands)
-        (target_part types texts fs f a.program.types place is.target false (type_at a.program.types is.target) (variable s is.number) s setting.front stands.table refl is.worth))
+        (then_part types texts fs f (no_gift types texts fs f) tt None s (mapped object_named w) _ (a_place types texts fs f (ty.Unique is.target) false) (a_place types texts fs f (type_at a.program.types is.target) false) stands.opened placed
+        (target_part types texts fs f a.program.types place is.target false (type_at a.program.types is.target) w.given w.state setting.front setting.plain (stands_later a visible s w.state placed.grown stands).table refl is.worth))
       where
-        reached : target_at (own (uses a form)) (uses a form) place (category.Place is.target false) s ≡ element place (category.Place is.target false) (Owner (object_named (variable s is.number))) which.Target s
+        reached : target_at (own (uses a form)) (uses a form) place (category.Place is.target false) s ≡ (mapped object_named (is.local s) >> λ o s. element place (category.Place is.target false) (Owner o) which.Target s)
         reached =
-            ap (λ (t : Ty). target_at t (uses a form) place (category.Place is.target false) s) own_unique
-            ∙ ap (λ (t : Ty). base_by t (uses a form) s >> λ b s. element place (category.Place is.target false) b which.Target s) own_unique
-            ∙ ap (λ (w : Gives Operand). mapped Owner w >> λ b s. element place (category.Place is.target false) b which.Target s) (unique_operand s stands)
+            ap (λ (t : Ty). target_at t (uses a form) place (category.Place is.target false) s) own_lying
+            ∙ ap (λ (t : Ty). base_by t (uses a form) s >> λ b s. element place (category.Place is.target false) b which.Target s) own_lying
+            ∙ ap (λ (w : Gives Operand). mapped Owner w >> λ b s. element place (category.Place is.target false) b which.Target s) (is.here s stands)
 
-    pub unique_dereferenced : (e : Typed) → pointed_to a.program.types e.place (typed_in form) ≡ Ok e → IsReached a visible types texts fs f setting (dereference form) e
-    unique_dereferenced e h =
+    pub lying_dereferenced : (e : Typed) → pointed_to a.program.types e.place (typed_in form) ≡ Ok e → IsReached a visible types texts fs f setting (dereference form) e
+    lying_dereferenced e h =
         let one = ok_same (sym (ap (λ (x : ExprType). dereferenced_to (dereferenced x) a.program.types e.place (typed_in form)) is.is) ∙ h) in
         record {
           ty = type_at a.program.types is.target;
@@ -222,24 +227,25 @@ module _ (a : Around) (visible : List ℕ) (types : Types) (texts : ℕ) (fs : L
           place = sym (ap (λ (y : Typed). y.category) one);
           here = refl;
           worth = is.worth;
-          names = λ place s stands. unique_target place s stands;
-          behind = λ place s y. ap (λ (x : Ty). is_itself types texts fs f y (target_at x (uses a form) place (category.Place is.target false) s).given) own_unique;
+          names = λ place s stands. lying_target place s stands;
+          behind = λ place s y. ap (λ (x : Ty). is_itself types texts fs f y (target_at x (uses a form) place (category.Place is.target false) s).given) own_lying;
         }
 
     -- ---- a pointer to it
 
-    pub unique_get_form : (given : Form) (d : DelimitersForm) (e : Typed) → IsCalled a.program.types (typed_in form).ty (typed_in form).category methods.Get given e → IsForm a visible types texts fs f setting (method form methods.Get given d) e
-    unique_get_form given d e h =
+    pub lying_points : (s : State) → Stood s → Points a visible types texts fs f setting (Of (ty.Raw is.target false)) s (mapped (λ x. aimed (Get (whole x))) (is.local s))
+    lying_points s stands =
+        let w = is.local s in
+        seen_part types texts fs f (no_gift types texts fs f) tt None s (mapped object_named w) (a_place types texts fs f (ty.Unique is.target) false) (λ o. aimed (Get (location_in o))) (a_pointing types texts fs f (Of (ty.Raw is.target false)))
+        (is.placed s stands)
+        (λ b q. got_given types texts fs f is.target false w.given (ap (is_element types) (element_there a.program.types types setting.front is.target is.worth) ∙ element_further a.program.types types setting.front setting.plain (type_at a.program.types is.target) is.worth) q)
+        (λ n k q. got_filling types texts fs f w.given n k q)
+
+    pub lying_get_form : (given : Form) (d : DelimitersForm) (e : Typed) → IsCalled a.program.types (typed_in form).ty (typed_in form).category methods.Get given e → IsForm a visible types texts fs f setting (method form methods.Get given d) e
+    lying_get_form given d e h =
         pointer_form a visible types texts fs f setting (method form methods.Get given d) e (record { kind = a_pointer is.target false told.0 (element_target a.program.types (type_at a.program.types is.target) is.worth); place = λ id c at. absurd (value_place (sym told.1 ∙ at)) }) told.1 (λ n. false≢true (sym (ap is_number told.0) ∙ n)) refl (λ place b. refl) (λ at. absurd (no_literal a visible types texts fs f setting (ty.Raw is.target false) (sym told.0 ∙ at))) (λ at. absurd (no_null a visible types texts fs f setting (ty.Raw is.target false) (sym told.0 ∙ at)))
-        (λ p place s stands. subst (λ (t : ExprType). Points a visible types texts fs f setting t s (got (uses a form) s)) (sym told.0) (points s stands))
+        (λ p place s stands. subst (λ (t : ExprType). Points a visible types texts fs f setting t s (got (uses a form) s)) (sym told.0)
+        (subst (λ (w : Gives Operand). Points a visible types texts fs f setting (Of (ty.Raw is.target false)) s (mapped (λ o. aimed (Get (location_in o))) w)) (sym (is.here s stands)) (lying_points s stands)))
       where
         told : (e.ty ≡ Of (ty.Raw is.target false)) × (e.category ≡ category.Value)
         told = gives_as (Of (ty.Raw is.target false), category.Value) e (subst (λ (x : ExprType). IsCalled a.program.types x (typed_in form).category methods.Get given e) is.is h).2
-
-        points : (s : State) → Stood s → Points a visible types texts fs f setting (Of (ty.Raw is.target false)) s (got (uses a form) s)
-        points s stands =
-            subst (λ (w : Gives Operand). Points a visible types texts fs f setting (Of (ty.Raw is.target false)) s (mapped (λ o. aimed (Get (location_in o))) w)) (sym (unique_operand s stands))
-            (seen_part types texts fs f (no_gift types texts fs f) tt None s (gives (object_named (variable s is.number)) s) (a_place types texts fs f (ty.Unique is.target) false) (λ o. aimed (Get (location_in o))) (a_pointing types texts fs f (Of (ty.Raw is.target false)))
-            (unique_placed s stands)
-            (λ b q. got_given types texts fs f is.target false (variable s is.number) (ap (is_element types) (element_there a.program.types types setting.front is.target is.worth) ∙ element_further a.program.types types setting.front (type_at a.program.types is.target) is.worth) q)
-            (λ n k q. got_filling types texts fs f (variable s is.number) n k q))

@@ -1,11 +1,11 @@
 -- unique_ptrs that are named are made to own something else, or nothing: by an assignment, and by `reset`.
-use Rattle.std.proofs.Common.{◌≡◌, inr, ℕ, Bool, true, false, ◌&&◌, ◌||◌, if◌then◌else◌, not, List, [], ◌∷◌, Contains, is_none, Option, Some, None, refl, slice_get, sym, ap, ◌∙◌, subst, unwrap_or}
-use Rattle.std.proofs.lemmas.Bool.{and_parts, false≢true}
+use Rattle.std.proofs.Common.{◌≡◌, [], ℕ, inr, true, false, List, ◌∷◌, Contains, is_none, Option, Some, None, refl, slice_get, sym, ap, ◌∙◌, subst, unwrap_or, inl}
+use Rattle.std.proofs.lemmas.Bool.{false≢true}
 use Rattle.life_elab_laws.proofs.Expressions.{giving_if_any}
 use Rattle.life_elab_laws.proofs.Handing.{HandingAlone}
 use Rattle.life_elab_laws.proofs.Held.{place_there}
 use Rattle.life_elab_laws.proofs.OwnedContents.{IsContentOf, content_as, is_found, is_over}
-use Rattle.life_elab_laws.proofs.TakenOwners.{made_takes, owner_consumed, taken_part}
+use Rattle.life_elab_laws.proofs.TakenOwners.{made_takes, object_consumed, taken_part}
 use Rattle.life_types.specs.Pointees.{ty_of}
 use Rattle.life_elab_laws.proofs.Making.{AreHeld}
 use Rattle.life_writer.specs.Around.{Around, own_type, type_of}
@@ -17,7 +17,7 @@ use Rattle.life_well_typed.specs.Members.{IsCalled}
 use Rattle.life_elab_laws.proofs.UniqueSteps.{IsMadeFor, a_made, made_uses_of, makes_part, named_type, null_fits}
 use Rattle.life_well_typed.specs.Expressions.{IsMadeOf, typed_in}
 use Rattle.life_elab_laws.proofs.MovedOwners.{IsNamedAt, given_moved, moved_from_variable, moved_out_part}
-use Rattle.life_elab_laws.proofs.UniqueForms.{IsUnique, unique_operand, unique_placed}
+use Rattle.life_elab_laws.proofs.UniqueForms.{IsLying, IsUnique, unique_lies, unique_operand, unique_placed}
 use Rattle.life_proper.specs.declared.known.Known.{Known}
 use Rattle.life_core.specs.declared.instr.Made.{Made}
 use Rattle.life_core.specs.declared.instr.Made.TheVariants as made
@@ -32,15 +32,16 @@ use Rattle.life_elab_laws.proofs.ObjectForms.{other_number}
 use Rattle.life_writer.specs.Uses.{Act}
 use Rattle.life_elab_laws.proofs.ExpressionForms.{Standing}
 use Rattle.life_writer.specs.Writing.{Gives, State, ◌>>◌, emit, gives, mapped}
+use Rattle.life_types.specs.TypeTests.{is_value}
 use Rattle.life_types.specs.Types.{Types, class}
 use Rattle.life_writer.specs.Assigning.{acted, assigned_by, moved, owner_by, replaced_by}
 use Rattle.life_elab_laws.proofs.ChangeForms.{alone_written}
 use Rattle.life_elab.specs.SimpleForms.{assigned, target_of, thrown}
-use Rattle.life_served.specs.Served.{fills_unique, is_number_type, is_owner_of_values, is_owner_type, is_plain_type, is_served_content, is_served_form, is_served_fresh, is_served_made, is_served_owner, is_struct_type, is_unique_type, is_walker_type}
+use Rattle.life_served.specs.Served.{is_served_fresh, is_nullptr}
 use Rattle.life_well_typed.specs.Given.{is_given}
 use Rattle.life_proper.specs.WellFormed.{is_itself, is_made_for}
 use Rattle.life_writer.specs.Using.{location_in, operand, temporary_of}
-use Rattle.life_typed.specs.TypedForm.{Form, Typed, call, make_unique, method, move, nothing, null, typed, whole as whole_form}
+use Rattle.life_typed.specs.TypedForm.{Form, Typed, call, make_unique, method, move, null, typed, whole as whole_form}
 use Rattle.life_type_stmt.specs.Simples.{moved_in, named_in, onto_itself}
 use Rattle.life_writer.specs.OwnerForms.{moved_out_of, owned_operand}
 use Rattle.life_core.specs.Operands.{Operand, object_named, whole}
@@ -77,10 +78,10 @@ module _ (a : Around) (visible : List ℕ) (types : Types) (texts : ℕ) (fs : L
         (and_part types texts fs f (no_gift types texts fs f) tt s w (gives (object_named x) w.state) Q P stands.opened found (unique_placed a visible types texts fs f setting target to w.state later))
         (makes_part types texts fs f (both types texts fs f Q P) (w.given, object_named x) to.target what used x place w.state (λ q. (q.1, fits q.0)) (λ n k q. (q.1, ready n k q.0))))
 
-    -- an owner that is given over
-    owned_part : (t : Ty) → is_owner_of_values a.program.types t ≡ true → ty_of types to.target ≡ t → (w : Gives ℕ) (place : Place) (s : State) → HandingAlone types texts fs f (w.given ∷ []) s w (a_given types texts fs f t) → Stood s
+    -- an owner or a struct that is given over
+    owned_part : (t : Ty) → is_value t ≡ false → ty_of types to.target ≡ t → (w : Gives ℕ) (place : Place) (s : State) → HandingAlone types texts fs f (w.given ∷ []) s w (a_given types texts fs f t) → Stood s
         → Writes s (operand (uses a target) w.state >> λ o s. emit place (Make (location_in o) (made.Of w.given)) s)
-    owned_part t owner holds w place s over stands =
+    owned_part t plain holds w place s over stands =
         let later = stands_later a visible s w.state over.grown stands in
         let x = variable s to.number in
         let P = a_place types texts fs f (ty.Unique to.target) false in
@@ -90,7 +91,7 @@ module _ (a : Around) (visible : List ℕ) (types : Types) (texts : ℕ) (fs : L
         (then_part types texts fs f (no_gift types texts fs f) tt None s (gives (object_named x) s) _ P (no_gift types texts fs f) stands.opened (unique_placed a visible types texts fs f setting target to s stands)
         (taken_part types texts fs f t s w over P (object_named x) (x ∷ []) (Make (whole x) (made.Of w.given)) place (made_takes f x w.given)
         (λ p object given.
-        ap (λ (u : Ty). is_made_for types texts fs f u (made.Of w.given)) (named_type types texts fs f to.target false x p) ∙ owner_consumed a.program.types types f t (ty_of types to.target) w.given owner holds given)
+        ap (λ (u : Ty). is_made_for types texts fs f u (made.Of w.given)) (named_type types texts fs f to.target false x p) ∙ object_consumed types f t (ty_of types to.target) w.given plain holds given)
         (λ n k q. place_there (object_named x) n k q))))
 
     -- .. whatever it is
@@ -99,19 +100,23 @@ module _ (a : Around) (visible : List ℕ) (types : Types) (texts : ℕ) (fs : L
     content_part id argument closing (is_found owned) place s stands =
         let w = owned_operand (type_of a id) (uses_if a argument) closing s in
         made_part w (a_made types texts fs f to.target) w.given (made_uses_of w.given) place s (owned.makes s stands) (λ q. q) (λ n k q. q) stands
-    content_part id argument closing (is_over t owner holds makes) place s stands =
+    content_part id argument closing (is_over t plain holds makes) place s stands =
         let over = makes s stands in
-        subst (λ (w : Gives Made). Writes s (operand (uses a target) w.state >> λ o s. emit place (Make (location_in o) w.given) s)) (sym over.is) (owned_part t owner holds over.given place s over.over stands)
+        subst (λ (w : Gives Made). Writes s (operand (uses a target) w.state >> λ o s. emit place (Make (location_in o) w.given) s)) (sym over.is) (owned_part t plain holds over.given place s over.over stands)
 
-    -- nothing
-    nulled_part : (place : Place) (s : State) → Stood s → Writes s (operand (uses a target) s >> λ o s. emit place (Make (location_in o) made.Null) s)
-    nulled_part place s stands =
-        made_part (gives tt s) (no_gift types texts fs f) made.Null [] place s (leaf_part types texts fs f tt s (no_gift types texts fs f) (λ b. tt) (λ b k alive. tt))
-        (λ q. null_fits types texts fs f to.target) (λ n k q. tt) stands
+  -- ---- nothing, also where it is a temporary
+
+  nulled_part : (target : Form) → IsLying a visible types texts fs f setting target → (place : Place) (s : State) → Stood s → Writes s (operand (uses a target) s >> λ o s. emit place (Make (location_in o) made.Null) s)
+  nulled_part target to place s stands =
+      let w = to.local s in
+      let P = a_place types texts fs f (ty.Unique to.target) false in
+      subst (λ (g : Gives Operand). Writes s (g >> λ o s. emit place (Make (location_in o) made.Null) s)) (sym (to.here s stands))
+      (then_part types texts fs f (no_gift types texts fs f) tt None s (mapped object_named w) _ P (no_gift types texts fs f) stands.opened (to.placed s stands)
+      (makes_part types texts fs f P (object_named w.given) to.target made.Null [] w.given place w.state (λ q. (q, null_fits types texts fs f to.target)) (λ n k q. (q, tt))))
 
   -- ---- `reset`
 
-  pub reset_part : (base : Form) (given : Form) (d : DelimitersForm) (e : Typed) (behind : Place) (s : State) → e.form ≡ method base methods.Reset given d → IsUnique a visible types texts fs f setting base
+  pub reset_part : (base : Form) (given : Form) (d : DelimitersForm) (e : Typed) (behind : Place) (s : State) → e.form ≡ method base methods.Reset given d → IsLying a visible types texts fs f setting base
       → IsCalled a.program.types (typed_in base).ty (typed_in base).category methods.Reset given e → Stood s → Writes s (thrown e.category (uses a (whole_form e)) behind s)
   reset_part base given d e behind s same to h stands =
       alone_written a visible types texts fs f setting (method base methods.Reset given d) e behind s same
@@ -130,11 +135,11 @@ module _ (a : Around) (visible : List ℕ) (types : Types) (texts : ℕ) (fs : L
       let P = a_place types texts fs f t false in
       let built = from.builds to.target to.worth given s stands in
       let w = temporary_of u t s in
-      let first = temporary_made a visible types texts fs f setting t u.place s (u.object s) (inr to.worth) built stands in
+      let first = temporary_made a visible types texts fs f setting t u.place s (u.object s) (inr (inl to.worth)) built stands in
       let later = stands_later a visible s w.state first.grown stands in
       let x = variable w.state to.number in
       let is = later.seen to.number to.declared to.seen to.found in
-      let apart = other_number x w.given (λ e. temporary_dead a visible types texts fs f setting t u.place s (u.object s) (inr to.worth) built stands (subst (Contains w.state.living) e is.lives)) in
+      let apart = other_number x w.given (λ e. temporary_dead a visible types texts fs f setting t u.place s (u.object s) (inr (inl to.worth)) built stands (subst (Contains w.state.living) e is.lives)) in
       subst (Writes s)
       (sym (ap (λ (w : Ty). assigned_by (class (Some w)) u w g equals behind s) (ap own_type to.is)
       ∙ ap (λ (k : Category). acted (owner_by k u t s) g equals) from.value
@@ -143,7 +148,7 @@ module _ (a : Around) (visible : List ℕ) (types : Types) (texts : ℕ) (fs : L
       (then_part types texts fs f (no_gift types texts fs f) tt None s (gives (object_named w.given, object_named x) w.state) _ (both types texts fs f P P) (no_gift types texts fs f) stands.opened
       (and_part types texts fs f (no_gift types texts fs f) tt s (mapped object_named w) (gives (object_named x) w.state) P P stands.opened first (unique_placed a visible types texts fs f setting (whole_form target) to w.state later))
       (moves_part types texts fs f (both types texts fs f P P) (object_named w.given, object_named x) t (object_named x) w.given equals w.state refl
-      (λ h. (h.1, (h.0, temporary_spare a visible types texts fs f setting t u.place s (u.object s) (inr to.worth) built stands))) (λ n k q. (q.1, q.0)) apart)))
+      (λ h. (h.1, (h.0, temporary_spare a visible types texts fs f setting t u.place s (u.object s) (inr (inl to.worth)) built stands))) (λ n k q. (q.1, q.0)) apart)))
 
   module _ (target e : Typed) (equals behind : Place) (to : IsUnique a visible types texts fs f setting (whole_form target)) where
     abbrev Assigns : State → Type 0
@@ -161,13 +166,17 @@ module _ (a : Around) (visible : List ℕ) (types : Types) (texts : ℕ) (fs : L
         ∙ ap (λ (g : Form). acted (replaced_by (uses a (typed e.place e.ty e.category g)).replacing (temporary_of u (ty.Unique to.target)) s) t equals) same))
         writes
 
-    pub unique_assigned_part : (form : Form) (s : State) → e.form ≡ form → fills_unique texts form ≡ true → IsMadeOf a.program a.function.locals visible e form → is_given a.program.types (ty.Unique to.target) e ≡ true
+    pub unique_nulled_part : (form : Form) (s : State) → e.form ≡ form → is_nullptr form ≡ true → IsMadeOf a.program a.function.locals visible e form → Stood s → Assigns s
+    unique_nulled_part null s same null_is told stands = by_form null s same told.1 (nulled_part (whole_form target) (unique_lies a visible types texts fs f setting (whole_form target) to) equals s stands)
+    unique_nulled_part _ s same null_is told stands = absurd (false≢true null_is)
+
+    -- .. of what is made, moved, or given by a call
+    pub unique_renewed_part : (form : Form) (s : State) → e.form ≡ form → is_served_fresh texts form ≡ true → IsFresh a visible types texts fs f setting (whole_form e) → IsMadeOf a.program a.function.locals visible e form → is_given a.program.types (ty.Unique to.target) e ≡ true
         → IsNamedAt a visible types texts fs f setting (named_in (whole_form target)) ((uses a (whole_form target)).at) → is_none (onto_itself (named_in (whole_form target)) (moved_in form)) ≡ true → Stood s → Assigns s
-    unique_assigned_part null s same fills told given name other stands = by_form null s same told.1 (nulled_part (whole_form target) to equals s stands)
-    unique_assigned_part (make_unique id argument closing) s same fills told given name other stands =
+    unique_renewed_part (make_unique id argument closing) s same fresh from told given name other stands =
         by_form (make_unique id argument closing) s same (ap (λ (y : Typed). y.category) told.0)
-        (content_part (whole_form target) to id argument closing (content_as a visible types texts fs f setting to.target to.worth id argument closing e given told (giving_if_any a visible types texts fs f setting argument fills told.3)) e.place s stands)
-    unique_assigned_part (move x) s same fills told given name other stands =
+        (content_part (whole_form target) to id argument closing (content_as a visible types texts fs f setting to.target to.worth id argument closing e given told (giving_if_any a visible types texts fs f setting argument fresh told.3)) e.place s stands)
+    unique_renewed_part (move x) s same fresh from told given name other stands =
         let is = moved_from_variable a visible types texts fs f setting x e told.1 in
         let alike : is.ty ≡ ty.Unique to.target = given_moved a visible types texts fs f setting (ty.Unique to.target) is.ty e refl is.owner is.is given in
         let y = variable s to.number in
@@ -186,27 +195,6 @@ module _ (a : Around) (visible : List ℕ) (types : Types) (texts : ℕ) (fs : L
         none_there : (o : Option IllKind) → is_none o ≡ true → o ≡ None
         none_there None e = refl
         none_there (Some k) e = absurd (false≢true e)
-    unique_assigned_part _ s same fills told given name other stands = absurd (false≢true fills)
-
-    -- what is made of a number is made of what is served
-    content_made : (argument : Form) → is_served_made texts argument ≡ true → is_served_content texts argument ≡ true
-    content_made nothing b = refl
-    content_made (typed place t c form) b = go (is_owner_type t) refl
-      where
-        rest : (is_plain_type t && is_served_form texts form) ≡ true
-        rest = (and_parts (is_number_type t) (is_plain_type t && is_served_form texts form) b).1
-
-        go : (o : Bool) → is_owner_type t ≡ o → (if is_owner_type t then is_served_owner texts (typed place t c form) else (is_plain_type t && is_served_form texts form)) ≡ true
-        go true owns =
-            absurd (false≢true (sym (ap (λ (o : Bool). not (o || (is_walker_type t || (is_unique_type t || is_struct_type t)))) owns) ∙ (and_parts (is_plain_type t) (is_served_form texts form) rest).0))
-        go false owns = ap (λ (o : Bool). if o then is_served_owner texts (typed place t c form) else (is_plain_type t && is_served_form texts form)) owns ∙ rest
-    content_made _ b = absurd (false≢true b)
-
-    -- .. also of what a call gives
-    pub unique_renewed_part : (form : Form) (s : State) → e.form ≡ form → is_served_fresh texts form ≡ true → IsFresh a visible types texts fs f setting (whole_form e) → IsMadeOf a.program a.function.locals visible e form → is_given a.program.types (ty.Unique to.target) e ≡ true
-        → IsNamedAt a visible types texts fs f setting (named_in (whole_form target)) ((uses a (whole_form target)).at) → is_none (onto_itself (named_in (whole_form target)) (moved_in form)) ≡ true → Stood s → Assigns s
-    unique_renewed_part (make_unique id argument closing) s same fresh from told given name other stands = unique_assigned_part (make_unique id argument closing) s same (content_made argument fresh) told given name other stands
-    unique_renewed_part (move x) s same fresh from told given name other stands = unique_assigned_part (move x) s same refl told given name other stands
     unique_renewed_part (call g arguments d) s same fresh from told given name other stands =
         fresh_assigned_part target e equals behind to s from (ap (λ (g : Form). (uses a (typed e.place e.ty e.category g)).replacing) same) given stands
     unique_renewed_part (typed place t c form) s same fresh from told given name other stands = absurd told

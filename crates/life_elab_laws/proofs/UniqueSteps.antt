@@ -47,10 +47,10 @@ use Rattle.life_elab_laws.proofs.MoveSteps.{moved_there}
 use Rattle.life_elab_laws.proofs.OperandsThere.{register_there, type_either}
 use Rattle.life_elab_laws.proofs.OwnerSteps.{place_held}
 use Rattle.life_elab_laws.proofs.Parts.{Part}
-use Rattle.life_elab_laws.proofs.Shaped.{element_further}
+use Rattle.life_elab_laws.proofs.Shaped.{element_further, PlainStays}
 use Rattle.life_elab_laws.proofs.Shaping.{IsFineStep, is_no_object}
 use Rattle.life_served.specs.Served.{is_element, is_target}
-use Rattle.life_elab_laws.proofs.Targets.{target_no_void, target_same}
+use Rattle.life_elab_laws.proofs.Targets.{target_no_void, target_same, target_no_slot}
 use Rattle.life_elab_laws.proofs.Types.{type_added}
 use Rattle.life_elab_laws.proofs.WrittenLocals.{fits_below, fits_register}
 
@@ -130,7 +130,7 @@ module _ (types : Types) (texts : ℕ) (fs : List Function) (f : Function) where
   got_given target constant y v is = λ u l loc at taken. record {
     given = refl;
     formed =
-        ap (λ (w : Ty). is_source_of types texts fs f w (Get (whole y))) at.typed
+        ap (λ (w : Ty). is_source_of types texts fs f w (Get (whole y))) at
         ∙ ap (λ (w : Ty). gets types u (owned_target types w)) (named_type target constant y is) ∙ fits u taken;
   }
     where
@@ -146,13 +146,13 @@ module _ (types : Types) (texts : ℕ) (fs : List Function) (f : Function) where
       fits u (inr e) = taken_by u e
 
   pub got_filling : (y n : ℕ) (k : List Known) → IsPlace (object_named y) n k → IsFilling f (λ p. Aim p (Get (whole y))) n k
-  got_filling y n k h = record { uses = y ∷ []; held = place_held (object_named y) n k h; touches = λ x e. refl }
+  got_filling y n k h = record { uses = y ∷ []; held = place_held (object_named y) n k h; touches = λ x e. refl; parts = λ x m ms. refl }
 
   -- ---- what it owns, which is reached through a register
 
-  pub target_part : (few : Types) (place : Place) (target : TyId) (constant : Bool) (t : Ty) (y : ℕ) (s : State) → IsFront few.types types.types → IsFront few.types s.types.types → type_at few target ≡ t → is_element few t ≡ true
+  pub target_part : (few : Types) (place : Place) (target : TyId) (constant : Bool) (t : Ty) (y : ℕ) (s : State) → IsFront few.types types.types → PlainStays few types → IsFront few.types s.types.types → type_at few target ≡ t → is_element few t ≡ true
       → Part types texts fs f (a_place types texts fs f (ty.Unique target) constant) (object_named y) None s (element place (category.Place target false) (Owner (object_named y)) which.Target s) (a_place types texts fs f t false)
-  target_part few place target constant t y s front table here v =
+  target_part few place target constant t y s front stays table here v =
       emit_part types texts fs f (a_place types texts fs f (ty.Unique target) constant) (object_named y) None s w place (λ r. Element (whole r) (Owner (object_named y)) which.Target) (behind w.given)
       (a_place types texts fs f t false)
       (new_targeted types f place reference s fits (fits_below few s.types (front_length few.types s.types.types table) reference (ap (is_target few) here ∙ element_target few t v)))
@@ -181,7 +181,7 @@ module _ (types : Types) (texts : ℕ) (fs : List Function) (f : Function) where
 
       -- in the finished table it may be pointed to too
       wide : is_target types t ≡ true
-      wide = element_target types t (element_further few types front t v)
+      wide = element_target types t (element_further few types front stays t v)
 
       fits : fits_register types (ty.Reference target false) ≡ true
       fits = ap (is_target types) (sym (type_either types target) ∙ later) ∙ wide
@@ -189,7 +189,7 @@ module _ (types : Types) (texts : ℕ) (fs : List Function) (f : Function) where
       at_reference : Begins types f (new_register place (ty.Reference target false) s).state → type_in types f (whole (length s.locals)) ≡ ty.Reference target false
       at_reference b =
           let l = added place (ty.Reference target false) s in
-          reference_there types f (length s.locals) l target false (b.locals (length s.locals) l (last_there s.locals l)) (b.table l.ty.0 (ty.Reference target false) (type_added s.types.types (ty.Reference target false))) (ap (is_target types) later ∙ wide)
+          reference_there types f (length s.locals) l target false (b.locals (length s.locals) l (last_there s.locals l)) (b.table l.ty.0 (ty.Reference target false) (type_added s.types.types (ty.Reference target false))) (target_no_slot types (ty_of types target) (ap (is_target types) later ∙ wide))
 
       kept_reference : Begins types f (new_register place (ty.Reference target false) s).state → is_register_at f (length s.locals) ≡ true
       kept_reference b = let l = added place (ty.Reference target false) s in register_there types f (length s.locals) l (b.locals (length s.locals) l (last_there s.locals l)) refl

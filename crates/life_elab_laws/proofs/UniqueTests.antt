@@ -1,4 +1,4 @@
--- Conditions of which an operand may be a unique_ptr that is named: whether it owns something.
+-- Conditions of which an operand may be a unique_ptr: whether it owns something.
 use Rattle.std.proofs.Common.{◌≡◌, ◌⊎◌, inl, inr, ℕ, true, false, List, [], ◌∷◌, Option, Some, None, refl, sym, ap, ◌∙◌, subst, Ok}
 use Rattle.life_writer.specs.declared.rows.Row.TheVariants.{Advanced, Compared, Computed, Concatenated, IsNull, Joined, NotNull}
 use Rattle.life_elab_laws.proofs.RowTypes.{AreIterators, AreTexts, Fits, Gains, IsCompared, IsComputed, IsMoved, IsTested, row_fits_between, sees}
@@ -22,6 +22,7 @@ use Rattle.life_elab_laws.proofs.ExpressionForms.{IsForm, IsWhole, Standing, dec
 use Rattle.life_elab_laws.proofs.Making.{IsHeld}
 use Rattle.life_elab_laws.proofs.PendingTemporaries.{IsTemporary}
 use Rattle.life_elab_laws.proofs.UniqueForms.{IsUnique, own_unique}
+use Rattle.life_elab_laws.proofs.AnsweredUniques.{IsHolding, answer_condition, answer_tested, holds_answer, holds_named, holding_unique}
 use Rattle.life_elab_laws.proofs.VariablePlaces.{IsVariableAt, stands_later}
 use Rattle.life_writer.specs.declared.rows.Side.TheVariants.{Left, Right}
 use Rattle.life_elab_laws.proofs.Parts.{Makes, leaf_part}
@@ -105,7 +106,7 @@ module _ (a : Around) (visible : List ℕ) (types : Types) (texts : ℕ) (fs : L
         ∙ ap (λ (c : Category). owned_by c (uses a form).at (temporary_of (uses a form) (own (uses a form))) s >> λ p s. located (uses a form).place (tested_type (ty.Unique is.target)) p s) (sym (held_typed a visible types texts fs f setting form) ∙ is.place)
         ∙ ap (λ (w : Gives Operand). mapped (λ o. As (location_in o)) w >> λ p s. located (uses a form).place (tested_type (ty.Unique is.target)) p s) (is.here s stands)
 
-    pub unique_tested : (place : Place) (ends : Option Place) (s : State) → Stood s → Tests types texts fs f ends s (not_null place ends (nullable (uses a form)) s)
+    unique_tested : (place : Place) (ends : Option Place) (s : State) → Stood s → Tests types texts fs f ends s (not_null place ends (nullable (uses a form)) s)
     unique_tested place ends s stands =
         tested_part types texts fs f place IsNotNull s (nullable (uses a form) (with_code [] s)) (a_named is.target)
         (λ l n k j at h spares. uses_ready j (l.local ∷ []) [] (one_there j l.local (spares l.local at.lasts ∙ h.1)))
@@ -113,25 +114,35 @@ module _ (a : Around) (visible : List ℕ) (types : Types) (texts : ℕ) (fs : L
         (subst (λ (w : Gives Location). Makes types texts fs f None (with_code [] s) w (a_named is.target)) (sym (nullable_is (with_code [] s) stands)) (named_part (with_code [] s) stands))
         ends _ stands.pends (temporary_ends types texts fs f (first_own a) setting.own)
 
-    pub unique_condition : (b : Behind) (s : State) → Stood s → Tests types texts fs f b.ends s (condition (uses a form) b s)
+    unique_condition : (b : Behind) (s : State) → Stood s → Tests types texts fs f b.ends s (condition (uses a form) b s)
     unique_condition b s stands =
         subst (λ (d : Option (State → Gives Tree)). Tests types texts fs f b.ends s (condition_by d (own (uses a form)) (uses a form).place b.ends (nullable (uses a form)) (read_or_made (uses a form) b.token None) s)) (sym (is.undecided b))
         (subst (λ (t : Ty). Tests types texts fs f b.ends s (condition_by None t (uses a form).place b.ends (nullable (uses a form)) (read_or_made (uses a form) b.token None) s)) (sym (own_unique a visible types texts fs f setting form is))
         (unique_tested (uses a form).place b.ends s stands))
 
-  -- ---- what decides: an expression with a value, or a unique_ptr that is named
+  -- ---- any that is asked
+
+  holding_condition : (form : Form) → IsHolding a visible types texts fs f setting form → (b : Behind) (s : State) → Stood s → Tests types texts fs f b.ends s (condition (uses a form) b s)
+  holding_condition form (holds_named is) b s stands = unique_condition form is b s stands
+  holding_condition form (holds_answer is) b s stands = answer_condition a visible types texts fs f setting form is b s stands
+
+  holding_tested : (form : Form) → IsHolding a visible types texts fs f setting form → (place : Place) (ends : Option Place) (s : State) → Stood s → Tests types texts fs f ends s (not_null place ends (nullable (uses a form)) s)
+  holding_tested form (holds_named is) place ends s stands = unique_tested form is place ends s stands
+  holding_tested form (holds_answer is) place ends s stands = answer_tested a visible types texts fs f setting form is place ends s stands
+
+  -- ---- what decides: an expression with a value, or a unique_ptr
 
   pub data IsDeciding (form : Form) : Type 0 where
     by_value : IsWhole a visible types texts fs f setting form → IsDeciding form
-    by_unique : IsUnique a visible types texts fs f setting form → IsDeciding form
+    by_unique : IsHolding a visible types texts fs f setting form → IsDeciding form
 
   pub deciding_condition : (form : Form) → IsDeciding form → is_condition (typed_in form).ty ≡ true → (b : Behind) (s : State) → Stood s → Tests types texts fs f b.ends s (condition (uses a form) b s)
   deciding_condition form (by_value is) c b s stands = is.conditions c b s stands
-  deciding_condition form (by_unique is) c b s stands = unique_condition form is b s stands
+  deciding_condition form (by_unique is) c b s stands = holding_condition form is b s stands
 
   -- whether what may be null is
   deciding_null : (form : Form) → IsDeciding form → (t : Ty) → IsTested (typed_in form).ty t → (place : Place) (ends : Option Place) (s : State) → Stood s → Tests types texts fs f ends s (not_null place ends (nullable (uses a form)) s)
-  deciding_null form (by_unique is) t tested place ends s stands = unique_tested form is place ends s stands
+  deciding_null form (by_unique is) t tested place ends s stands = holding_tested form is place ends s stands
   deciding_null form (by_value is) t tested place ends s stands =
       let raw = raw_if tested.own tested.nullable (sym (ap (λ (x : ExprType). is_unique (own_type x)) tested.is) ∙ own_no_unique a.program.types (typed_in form) is.kind.kind) in
       not_null_part types texts fs f place ends tested.own (nullable (uses a form)) s raw _ stands.pends (temporary_ends types texts fs f (first_own a) setting.own)
@@ -249,5 +260,5 @@ module _ (a : Around) (visible : List ℕ) (types : Types) (texts : ℕ) (fs : L
 
   pub deciding_form : (o : BinaryOperator) (left right : Form) (e : Typed) → IsCombined o (typed_in left) (typed_in right) e → IsDeciding left → IsDeciding right → IsForm a visible types texts fs f setting (binary o left right) e
   deciding_form o left right e c (by_value l) (by_value r) = binary_form a visible types texts fs f setting o left right e c l r
-  deciding_form o left right e c (by_unique l) r = unique_form o left right e c (by_unique l) r (inl (ap is_unique_type l.is))
-  deciding_form o left right e c (by_value l) (by_unique r) = unique_form o left right e c (by_value l) (by_unique r) (inr (ap is_unique_type r.is))
+  deciding_form o left right e c (by_unique l) r = unique_form o left right e c (by_unique l) r (inl (holding_unique a visible types texts fs f setting left l))
+  deciding_form o left right e c (by_value l) (by_unique r) = unique_form o left right e c (by_value l) (by_unique r) (inr (holding_unique a visible types texts fs f setting right r))

@@ -1,7 +1,6 @@
 -- A temporary of a value type: what is computed is saved there, or a call gives its result there.
 use Rattle.std.proofs.Common.{◌≡◌, inl, ℕ, Bool, true, false, ◌&&◌, cond, not, List, None, Option, Some, length, refl, sym, ap, ◌∙◌, subst, arith, slice_get, ◌∷◌, [], length-append, if◌then◌else◌}
 use Rattle.life_types.specs.Pointees.{ty_of}
-use Rattle.life_types.specs.Trees.{HasPartsBelow}
 use Rattle.life_types.specs.TypeTests.{is_value}
 use Rattle.life_types.specs.Types.{Types}
 use Rattle.life_types.specs.contracts.ty.TyPartialEq.TheImpl.{ghosts as compared}
@@ -57,6 +56,7 @@ use Rattle.life_proper.specs.declared.known.Known.{Known}
 use Rattle.life_proper.specs.declared.known.Known.TheVariants as known
 use Rattle.life_proper.proofs.ReadyTests.{one_known}
 use Rattle.life_writer.specs.Registers.{type_number, typed_with}
+use Rattle.life_elab_laws.proofs.OrderedTypes.{HasPartsIn}
 
 -- the call that an expression is
 pub call_seen : (a : Around) (form : Form) → (uses a form).call ≡ calling a (expression_call form)
@@ -71,8 +71,8 @@ module _ (a : Around) (visible : List ℕ) (types : Types) (texts : ℕ) (fs : L
     abbrev PlacedThere : State → Gives Operand → Type 0
     PlacedThere s w = Placed a visible types texts fs f setting t false s w
 
-    within : (s : State) → HasPartsBelow s.types (length s.types.types) t
-    within s = fits_below s.types s.types (omega arith) t (value_fits s.types t worth)
+    within : (s : State) → HasPartsIn s.types t
+    within s ordered = fits_below s.types s.types (omega arith) t (value_fits s.types t worth)
 
     -- a value is saved there
     saved_there : (s : State) (w : Gives ℕ) → Stood s → Makes types texts fs f None s w (a_number types texts fs f t) → PlacedThere s (mapped object_named (saved w.given (temporary place t) w.state))

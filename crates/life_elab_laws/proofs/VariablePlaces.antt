@@ -2,7 +2,7 @@
 use Rattle.std.proofs.Common.{◌≡◌, ◌<◌, inl, inr, ℕ, Bool, true, false, List, [], ◌∷◌, Contains, length, slice_get, Option, Some, refl, sym, ap, ◌∙◌, subst, unwrap_or, arith}
 use Rattle.std.proofs.lemmas.Bool.{false≢true}
 use Rattle.std.proofs.lemmas.Option.{slice_get_within}
-use Rattle.life_served.specs.Served.{is_element, is_owner_of_values, is_served_variable, is_target, is_walker, is_walker_of_values, owns_elements}
+use Rattle.life_served.specs.Served.{is_element, is_owner_of_values, is_served_variable, is_target, is_walker, is_walker_of_values, owns_elements, is_plain_struct}
 use Rattle.life_types.specs.TypeTests.{is_value, is_pointer, is_reference, is_view}
 use Rattle.life_types.specs.Types.{Types, class, class_at}
 use Rattle.life_types.specs.declared.ty.Ty.{Ty}
@@ -47,7 +47,7 @@ pub data IsVariableType (types : Types) (id : TyId) : Type 0 where
   an_owner : (t : Ty) → slice_get types.types id.0 ≡ Some t → is_owner_of_values types t ≡ true → IsVariableType types id
   a_unique : (target : TyId) → slice_get types.types id.0 ≡ Some (ty.Unique target) → is_element types (type_at types target) ≡ true → IsVariableType types id
   a_struct : (number : ℕ) → slice_get types.types id.0 ≡ Some (ty.Struct number) → IsVariableType types id
-  a_struct_alias : (target : TyId) (constant : Bool) (number : ℕ) → slice_get types.types id.0 ≡ Some (ty.Reference target constant) → type_at types target ≡ ty.Struct number → IsVariableType types id
+  a_struct_alias : (target : TyId) (constant : Bool) (number : ℕ) → slice_get types.types id.0 ≡ Some (ty.Reference target constant) → type_at types target ≡ ty.Struct number → is_plain_struct types (type_at types target) ≡ true → IsVariableType types id
 
 pub variable_type : (types : Types) (id : TyId) → is_served_variable types id ≡ true → IsVariableType types id
 variable_type types id b = let found = variable_found types id b in go found.0 found.1 found.2
@@ -71,7 +71,7 @@ variable_type types id b = let found = variable_found types id b in go found.0 f
         refers : IsTarget types (type_at types target) → IsVariableType types id
         refers (to_value v) = a_reference target constant at v
         refers (to_owner o) = an_alias target constant at o
-        refers (to_struct number s) = a_struct_alias target constant number at s
+        refers (to_struct number s pointless) = a_struct_alias target constant number at s pointless
     go _ at (inl b) = absurd (false≢true b)
 
 pub owner_is : (types : Types) (t : Ty) → is_owner_of_values types t ≡ true → owns_elements t ≡ true
@@ -215,6 +215,6 @@ named_pointer types e v form reached is t of loc = go (variable_type types v.ty 
     go (a_unique target at w) =
         absurd (false≢true (ap is_location (same (sym (typed_unique target at) ∙ of)) ∙ loc))
     go (a_struct number at) = absurd (false≢true (ap is_location (same (sym (ap (λ (x : Typed). x.ty) (found (ty.Struct number) at) ∙ ap Of (typed (ty.Struct number) at)) ∙ of)) ∙ loc))
-    go (a_struct_alias target constant number at s) = absurd (false≢true (ap is_location (same (sym (ap (λ (x : Typed). x.ty) (found (ty.Reference target constant) at) ∙ ap Of s) ∙ of)) ∙ loc))
+    go (a_struct_alias target constant number at s pointless) = absurd (false≢true (ap is_location (same (sym (ap (λ (x : Typed). x.ty) (found (ty.Reference target constant) at) ∙ ap Of s) ∙ of)) ∙ loc))
     go (a_walker u at w) = at ∙ ap Some (sym (same (sym of ∙ ap (λ (x : Typed). x.ty) (walker_named types e v.ty v.constant form u w (found u at)) ∙ ap Of (typed u at))))
     go (a_view at) = at ∙ ap Some (sym (same (sym of ∙ ap (λ (x : Typed). x.ty) (found ty.View at) ∙ ap Of (typed ty.View at))))

@@ -1,5 +1,5 @@
 -- The instruction that gives a part of a view.
-use Rattle.std.proofs.Common.{◌≡◌, ◌<◌, ◌≤◌, ℕ, true, List, [], ◌∷◌, ◌++◌, Option, Some, None, inl, inr, refl, sym, ap, ◌∙◌, subst}
+use Rattle.std.proofs.Common.{◌≡◌, ◌<◌, ◌≤◌, ℕ, true, List, [], ◌∷◌, ◌++◌, Option, Some, None, inl, inr, refl, sym, ap, ◌∙◌, subst, append_assoc}
 use Rattle.std.proofs.lemmas.Bool.{and_from, false≢true}
 use Rattle.life_types.specs.Types.{Types}
 use Rattle.life_types.specs.declared.ty.Ty.{Ty}
@@ -8,7 +8,7 @@ use Rattle.life_typed.specs.declared.typed_expr.ExprType.TheVariants.{Of}
 use Rattle.life_core.specs.Function.{Function}
 use Rattle.life_core.specs.Operands.{Location}
 use Rattle.life_core.specs.Step.{Cut}
-use Rattle.life_core.specs.Touched.{count_uses}
+use Rattle.life_core.specs.Touched.{count_uses, nothing}
 use Rattle.life_proper.specs.Knowing.{known_at}
 use Rattle.life_proper.specs.OperandTypes.{is_range, takes}
 use Rattle.life_proper.specs.Placed.{is_number_of, is_number_of_if, type_in}
@@ -20,10 +20,10 @@ use Rattle.life_elab_laws.proofs.Locations.{is_location}
 use Rattle.life_elab_laws.proofs.Making.{AreHeld, IsFilling, IsHeld, IsPointer, Keeps}
 
 pub pointer_held : (l : Location) (n : ℕ) (k : List Known) → IsPointer l n k → known_at k l.local ≡ known.Ready
-pointer_held l n k p = ap (λ (q : Location). known_at k q.local) p.is ∙ p.held
+pointer_held l n k p = ap (known_at k) p.is ∙ p.held
 
 pub pointer_is_held : (l : Location) (n : ℕ) (k : List Known) → IsPointer l n k → IsHeld l.local n k
-pointer_is_held l n k p = (subst (λ (q : Location). q.local < n) (sym p.is) p.below, pointer_held l n k p)
+pointer_is_held l n k p = (subst (λ (x : ℕ). x < n) (sym p.is) p.below, pointer_held l n k p)
 
 -- what a view is given goes to a view
 pub view_taker : (types : Types) (u : Ty) → is_location u ≡ true → IsTakenBy types u (Of ty.View) → u ≡ ty.View
@@ -56,7 +56,7 @@ module _ (types : Types) (texts : ℕ) (fs : List Function) (f : Function) where
 
   pub cut_given : (x : (Location × ℕ) × Option ℕ) → Cuts.typed x → IsGivenAs types texts fs f (Of ty.View) (By (λ p. Cut p x.0.0 x.0.1 x.1))
   cut_given x h = λ u l loc at taken.
-      let view : type_in types f l ≡ ty.View = at.typed ∙ view_taker types u loc taken in
+      let view : type_in types f l ≡ ty.View = at ∙ view_taker types u loc taken in
       record {
         given = refl;
         formed =
@@ -70,6 +70,7 @@ module _ (types : Types) (texts : ℕ) (fs : List Function) (f : Function) where
     uses = x.0.0.local ∷ x.0.1 ∷ (count_uses x.1 ++ []);
     held = (pointer_is_held x.0.0 n k h.0.0, (h.0.1, counted x.1 h.1));
     touches = λ y e. refl;
+    parts = λ y m ms. ap (λ (us : List ℕ). record nothing { uses = x.0.0.local ∷ x.0.1 ∷ us }) (sym (append_assoc (count_uses x.1) [] (y ∷ [])));
   }
     where
       counted : (o : Option ℕ) → IsCounted o n k → AreHeld (count_uses o ++ []) n k

@@ -51,6 +51,7 @@ use Rattle.life_elab_laws.proofs.Aiming.{keeps_further}
 use Rattle.life_elab_laws.proofs.OwnerSteps.{whole_filling}
 use Rattle.life_elab_laws.proofs.Elements.{element_target, element_there, one_element}
 use Rattle.life_elab_laws.proofs.Targets.{target_same}
+use Rattle.life_elab_laws.proofs.PointedCalls.{GivesPointer, gives_plainly}
 
 -- ---- types
 
@@ -84,7 +85,7 @@ module _ (a : Around) (visible : List ℕ) (types : Types) (texts : ℕ) (fs : L
     pub walker : is_walker_of_values a.program.types ty ≡ true
     -- a place has the type of its object
     pub place : (id : TyId) (constant : Bool) → e.category ≡ category.Place id constant → e.ty ≡ Of (type_at a.program.types id)
-    pub points : (s : State) → Stood s → PointsTo ty s (gives_it s)
+    pub points : (s : State) → Stood s → GivesPointer types texts fs f (Of ty) s (gives_it s)
 
   abbrev pub IsWalker : Form → Type 0
   IsWalker form = IsWalkerAt (typed_in form) ((uses a form).pointing)
@@ -139,7 +140,7 @@ module _ (a : Around) (visible : List ℕ) (types : Types) (texts : ℕ) (fs : L
           kind (an_alias target constant at o) = other (type_at a.program.types target) (ap (λ (y : Typed). y.ty) (named (ty.Reference target constant) at)) (owner_alone (type_at a.program.types target) o)
           kind (a_unique target at w) = other (ty.Unique target) (ap (λ (y : Typed). y.ty) (named (ty.Unique target) at) ∙ ap Of (typed (ty.Unique target) at)) refl
           kind (a_struct number at) = other (ty.Struct number) (ap (λ (y : Typed). y.ty) (named (ty.Struct number) at) ∙ ap Of (typed (ty.Struct number) at)) refl
-          kind (a_struct_alias target constant number at structure) = other (ty.Struct number) (ap (λ (y : Typed). y.ty) (named (ty.Reference target constant) at) ∙ ap Of structure) refl
+          kind (a_struct_alias target constant number at structure pointless) = other (ty.Struct number) (ap (λ (y : Typed). y.ty) (named (ty.Reference target constant) at) ∙ ap Of structure) refl
           kind (an_owner t at o) = other t (ap (λ (y : Typed). y.ty) (owner_named a.program.types e l.ty l.constant (local x) t o (named t at)) ∙ ap Of (typed t at)) (owner_alone t o)
           kind (a_walker t at w) = record {
             ty = t;
@@ -149,16 +150,17 @@ module _ (a : Around) (visible : List ℕ) (types : Types) (texts : ℕ) (fs : L
                 let named_one = walker_named a.program.types e l.ty l.constant (local x) t w (named t at) in
                 ap (λ (y : Typed). y.ty) named_one ∙ ap (λ (i : TyId). Of (type_at a.program.types i)) (place_same l.ty id l.constant constant (sym (ap (λ (y : Typed). y.category) named_one) ∙ at'));
             points = λ s stands.
-                leaf_part types texts fs f (As (whole (variable s x))) s (a_pointing types texts fs f (Of t))
+                gives_plainly
+                (leaf_part types texts fs f (As (whole (variable s x))) s (a_pointing types texts fs f (Of t))
                 (λ b. pointer_formed types texts fs f a setting.front s b x l (stands.seen x l c found) t (walker_is a.program.types t w).location at)
-                (λ b k alive. pointer_there a s x l (stands.seen x l c found) f k alive);
+                (λ b k alive. pointer_there a s x l (stands.seen x l c found) f k alive));
           }
 
   -- ---- what it gives, and where it lies
 
-  pub walker_points : (form : Form) → (is : IsWalker form) → (s : State) → Stood s → PointsTo is.ty s (pointing (uses a form) s)
+  pub walker_points : (form : Form) → (is : IsWalker form) → (s : State) → Stood s → GivesPointer types texts fs f (Of is.ty) s (pointing (uses a form) s)
   walker_points form is s stands =
-      subst (PointsTo is.ty s) (sym (pointing_itself a visible types texts fs f setting (uses a form) s (ap is_pointed (sym (own_typed a visible types texts fs f setting form) ∙ is.is) ∙ (walker_is a.program.types is.ty is.walker).location))) (is.points s stands)
+      subst (GivesPointer types texts fs f (Of is.ty) s) (sym (pointing_itself a visible types texts fs f setting (uses a form) s (ap is_pointed (sym (own_typed a visible types texts fs f setting form) ∙ is.is) ∙ (walker_is a.program.types is.ty is.walker).location))) (is.points s stands)
 
   pub walker_pointer : (form : Form) → (is : IsWalker form) → (wanted : Ty) (s : State) → Stood s → Makes types texts fs f None s (pointer (uses a form) wanted s) (a_pointer types texts fs f is.ty)
   walker_pointer form is wanted s stands =
@@ -176,10 +178,11 @@ module _ (a : Around) (visible : List ℕ) (types : Types) (texts : ℕ) (fs : L
     walker = ap (is_element a.program.types) here ∙ worth;
     place = no_place e held;
     points = λ s stands.
-        seen_part types texts fs f (no_gift types texts fs f) tt None s (base_of (uses a base) s) (a_base types texts fs f (element_type a.program.types is.ty) is.constant) (λ b. By (λ p. Cursor p b end)) (a_pointing types texts fs f (Of (ty.Iterator item is.constant)))
+        gives_plainly
+        (seen_part types texts fs f (no_gift types texts fs f) tt None s (base_of (uses a base) s) (a_base types texts fs f (element_type a.program.types is.ty) is.constant) (λ b. By (λ p. Cursor p b end)) (a_pointing types texts fs f (Of (ty.Iterator item is.constant)))
         ((owner_asked a visible types texts fs f setting base is).asks s stands)
         (λ b h. cursor_given types texts fs f item is.constant (element_type a.program.types is.ty) (base_of (uses a base) s).given end later (target_same a.program.types (element_type a.program.types is.ty) (element_target a.program.types (element_type a.program.types is.ty) worth)) h)
-        (λ n k h. cursor_filling types texts fs f (base_of (uses a base) s).given end n k h);
+        (λ n k h. cursor_filling types texts fs f (base_of (uses a base) s).given end n k h));
   }
     where
       here : type_at a.program.types item ≡ element_type a.program.types is.ty
@@ -218,7 +221,7 @@ module _ (a : Around) (visible : List ℕ) (types : Types) (texts : ℕ) (fs : L
         (seen_part types texts fs f (no_gift types texts fs f) tt None s (pointer (uses a base) (own (uses a base)) s) (a_pointer types texts fs f (ty.Span item constant)) Pointer (a_base types texts fs f (type_at a.program.types item) constant)
         (subst (λ (u : Ty). Makes types texts fs f None s (pointer (uses a base) (own (uses a base)) s) (a_pointer types texts fs f u)) span (walker_pointer base is (own (uses a base)) s stands))
         (λ b h. record { element = ap (seen_element types) h.typed ∙ element_there a.program.types types setting.front item worth; held = ap (λ (t : Ty). keeps_const constant (is_constant t)) h.typed ∙ keeps_itself constant })
-        (λ n k q. record { local = q.local; uses = ap (λ (l : Location). l.local ∷ []) q.is; below = q.below; held = q.held }));
+        (λ n k q. record { local = q.local; uses = ap (λ (x : ℕ). x ∷ []) q.is; below = q.below; held = q.held }));
   }
     where
       worth : is_element a.program.types (type_at a.program.types item) ≡ true

@@ -1,5 +1,5 @@
 -- Instructions that give an iterator or a span something: an end of a vector, so many elements on, and the whole of a vector.
-use Rattle.std.proofs.Common.{◌≡◌, ◌++◌, inl, inr, ℕ, Bool, true, false, List, [], ◌∷◌, refl, sym, ap, ◌∙◌, subst}
+use Rattle.std.proofs.Common.{◌≡◌, ◌++◌, inl, inr, ℕ, Bool, true, false, List, [], ◌∷◌, refl, sym, ap, ◌∙◌, subst, append_assoc}
 use Rattle.std.proofs.lemmas.Bool.{and_from, and_parts, false≢true}
 use Rattle.life_types.specs.Pointees.{ty_of}
 use Rattle.life_types.specs.TypeTests.{is_constant, is_iterator}
@@ -26,6 +26,7 @@ use Rattle.life_elab_laws.proofs.Locations.{is_location}
 use Rattle.life_elab_laws.proofs.Making.{AreHeld, IsFilling, IsHeld, IsPointer}
 use Rattle.life_elab_laws.proofs.OperandsThere.{number_any, same_is}
 use Rattle.life_elab_laws.proofs.ViewSteps.{pointer_is_held}
+use Rattle.life_elab_laws.proofs.Filling.{only_uses}
 
 -- what takes an iterator of a type is one of that type, which is const where that is
 pub record IsIteratorTo (types : Types) (item : TyId) (constant : Bool) (u : Ty) : Type 0 where
@@ -77,7 +78,7 @@ module _ (types : Types) (texts : ℕ) (fs : List Function) (f : Function) where
       → IsGivenAs types texts fs f (Of (ty.Iterator item constant)) (By (λ p. Cursor p b end))
   cursor_given item constant t b end later v h = λ u l loc at taken.
       let to = iterator_taker types item constant u loc taken in
-      let typed : type_in types f l ≡ ty.Iterator to.target to.held = at.typed ∙ to.is in
+      let typed : type_in types f l ≡ ty.Iterator to.target to.held = at ∙ to.is in
       record {
         given = refl;
         formed =
@@ -91,6 +92,7 @@ module _ (types : Types) (texts : ℕ) (fs : List Function) (f : Function) where
     uses = base_uses b ++ [];
     held = subst (λ (xs : List ℕ). AreHeld (xs ++ []) n k) (sym h.uses) ((h.below, h.held), tt);
     touches = λ x e. refl;
+    parts = λ x m ms. only_uses (sym (append_assoc (base_uses b) [] (x ∷ [])));
   }
 
   -- ---- so many elements on
@@ -99,7 +101,7 @@ module _ (types : Types) (texts : ℕ) (fs : List Function) (f : Function) where
       → IsGivenAs types texts fs f (Of (ty.Iterator item constant)) (By (λ p. Advance p q r direction))
   advance_given item constant t q r direction source v number = λ u l loc at taken.
       let to = iterator_taker types item constant u loc taken in
-      let typed : type_in types f l ≡ ty.Iterator to.target to.held = at.typed ∙ to.is in
+      let typed : type_in types f l ≡ ty.Iterator to.target to.held = at ∙ to.is in
       record {
         given = refl;
         formed =
@@ -111,7 +113,7 @@ module _ (types : Types) (texts : ℕ) (fs : List Function) (f : Function) where
       }
 
   pub advance_filling : (q : Location) (r : ℕ) (direction : Direction) (n : ℕ) (k : List Known) → IsPointer q n k → IsHeld r n k → IsFilling f (λ p. Advance p q r direction) n k
-  advance_filling q r direction n k h number = record { uses = q.local ∷ r ∷ []; held = (pointer_is_held q n k h, (number, tt)); touches = λ x e. refl }
+  advance_filling q r direction n k h number = record { uses = q.local ∷ r ∷ []; held = (pointer_is_held q n k h, (number, tt)); touches = λ x e. refl; parts = λ x m ms. refl }
 
   -- ---- the whole of a vector
 
@@ -119,7 +121,7 @@ module _ (types : Types) (texts : ℕ) (fs : List Function) (f : Function) where
       → IsGivenAs types texts fs f (Of (ty.Span item constant)) (aimed (Whole o))
   span_given item constant element o one v h = λ u l loc at taken.
       let to = span_taker types item constant u loc taken in
-      let typed : type_in types f l ≡ ty.Span to.target to.held = at.typed ∙ to.is in
+      let typed : type_in types f l ≡ ty.Span to.target to.held = at ∙ to.is in
       record {
         given = refl;
         formed =

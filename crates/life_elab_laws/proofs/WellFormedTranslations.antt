@@ -1,16 +1,14 @@
 -- The core program of a well typed program that is served is well formed, is served itself, and leaves alone what is given over.
-use Rattle.std.proofs.Common.{◌≡◌, ◌⊎◌, inl, inr, ℕ, true, List, [], length, map, nat_le, slice_get, Option, Some, refl, ap, ◌∙◌, subst, unwrap_or}
+use Rattle.std.proofs.Common.{◌≡◌, ◌⊎◌, inl, inr, ℕ, true, List, length, map, nat_le, slice_get, Some, refl, ap, ◌∙◌, subst}
 use Rattle.std.specs.List.{list_all}
-use Rattle.std.proofs.lemmas.Bool.{and_from, false≢true}
+use Rattle.std.proofs.lemmas.Bool.{and_from}
 use Rattle.life_types.specs.Trees.{IsOrdered}
 use Rattle.life_types.specs.Types.{HasEachOnce, Types}
-use Rattle.life_types.specs.declared.ty.Ty.{Ty}
-use Rattle.life_types.specs.declared.ty.Ty.TheVariants as ty
 use Rattle.life_types.specs.declared.ty.TyId.{TyId}
-use Rattle.life_served.specs.Served.{are_served_functions}
+use Rattle.life_served.specs.Served.{are_served_functions, is_struct}
 use Rattle.life_typed.specs.Programs.{FunctionForm, ProgramForm}
 use Rattle.life_core.specs.Function.{Function}
-use Rattle.life_core_served.specs.Served.{are_served_members, has_served_structs, is_member_type, is_served, is_served_local, is_served_member, is_served_program}
+use Rattle.life_core_served.specs.Served.{is_served, is_served_local, is_served_program}
 use Rattle.life_core.specs.declared.program.Local.{Local}
 use Rattle.life_proper.specs.GivenOver.{all_keep_given, keeps_all_given}
 use Rattle.life_proper.specs.WellFormed.{is_well_formed_tree}
@@ -27,14 +25,11 @@ use Rattle.life_elab_laws.proofs.ServedTypes.{variable_found}
 use Rattle.life_elab_laws.proofs.ServedLocals.{all_pass, local_served}
 use Rattle.life_elab_laws.proofs.KeptGiven.{keeps_all}
 use Rattle.life_elab_laws.proofs.ProgramNames.{members_named, own_names}
-use Rattle.life_elab_laws.proofs.OperandsThere.{type_either}
-use Rattle.life_elab_laws.proofs.StructTypes.{HasStructs, IsHeld, IsServedTable, a_struct_held, a_value_held, an_owner_held, has_member, held_is, structs_later}
-use Rattle.life_elab_laws.proofs.Values.{by_values}
+use Rattle.life_elab_laws.proofs.StructTypes.{IsServedTable, plain_later}
 use Rattle.life_elab_laws.proofs.Programs.{IsWritten, each_written, front, grows, of_program, one_body, one_head, passed_by_all, whole, whole_front, whole_order}
-use Rattle.life_elab_laws.proofs.WrittenLocals.{IsIntermediate, IsOwn, fits_later, hidden_later, hidden_local, local_later, owner_local, register_local, value_fits, unique_local}
-use Rattle.life_typed.specs.BaseTypes.{type_at}
+use Rattle.life_elab_laws.proofs.WrittenLocals.{IsIntermediate, IsOwn, fits_later, hidden_later, hidden_local, local_later, owner_local, register_local, value_fits, unique_local, struct_local}
 use Rattle.life_elab_laws.proofs.FormedLocals.{variable_fits}
-use Rattle.life_elab_laws.proofs.Shaped.{owner_later, unique_later}
+use Rattle.life_elab_laws.proofs.Shaped.{owner_later, unique_later, PlainStays}
 
 module _ (p : ProgramForm) (typed : IsWellTyped p) (built : are_served_functions (length (texts_of p)) p.types p.functions ≡ true) (results : HasResults p) (told : IsServedTable p.types) (mains : HasIntMain p) where
   abbrev functions : List Function
@@ -55,27 +50,33 @@ module _ (p : ProgramForm) (typed : IsWellTyped p) (built : are_served_functions
     served_local : (x : ℕ) (l : Local) → slice_get core.locals x ≡ Some l → is_served_local types l ≡ true
     served_local x l there = go ((grows p typed built results told n f at w.before w.table).own x l (subst (λ (c : Function). slice_get c.locals x ≡ Some l) w.is there))
       where
+        stays : PlainStays p.types types
+        stays = plain_later p.types types (whole_front p typed built results told) (whole_order p typed built results told) told.structs
+
         front_is : IsFront p.types.types types.types
         front_is = front p typed built results told n f at core w
 
         go : IsIntermediate p.types (written (around p f) w.before).types l ⊎ IsOwn (around p f) l → is_served_local types l ≡ true
         go (inl is) = elim is.fits [
-          | inl register ↦ local_served types l is.ty (w.later l.ty.0 is.ty is.typed) (register_local types is.ty (fits_later p.types types front_is is.ty register.1))
+          | inl register ↦ local_served types l is.ty (w.later l.ty.0 is.ty is.typed) (register_local types is.ty (fits_later p.types types front_is stays is.ty register.1))
           | inr other ↦ local_served types l is.ty (w.later l.ty.0 is.ty is.typed) (elim other [
             | inl temporary ↦ elim temporary.1 [
               | inl value ↦ register_local types is.ty (value_fits types is.ty value)
               | inr made ↦ elim made [
-                | inl owner ↦ owner_local types is.ty (owner_later p.types types front_is is.ty owner)
-                | inr unique ↦ unique_local types is.ty (unique_later p.types types front_is is.ty unique)
+                | inl owner ↦ owner_local types is.ty (owner_later p.types types front_is stays is.ty owner)
+                | inr others ↦ elim others [
+                  | inl unique ↦ unique_local types is.ty (unique_later p.types types front_is stays is.ty unique)
+                  | inr structure ↦ struct_local types is.ty (ap is_struct structure.is)
+                ]
               ]
             ]
-            | inr hidden ↦ hidden_local types is.ty (hidden_later (written (around p f) w.before).types types w.later is.ty hidden.1)
+            | inr hidden ↦ hidden_local p.types types front_is stays is.ty (hidden_later p.types (written (around p f) w.before).types types w.later is.ty hidden.1)
           ])
         ]
         go (inr is) =
             let found = variable_found p.types is.variable.ty (variable_built p.types f.locals is.number is.variable (of_program p typed built results told n f at).built.variables is.there) in
             local_served types l found.0 (ap (λ (id : TyId). slice_get types.types id.0) is.of.typed ∙ front_is is.variable.ty.0 found.0 found.1)
-            (local_later p.types types front_is found.0 (variable_fits p.types found.0 found.2))
+            (local_later p.types types front_is stays found.0 (variable_fits p.types found.0 found.2))
 
     one_served : is_served types core ≡ true
     one_served = all_pass (is_served_local types) core.locals served_local
@@ -103,27 +104,6 @@ module _ (p : ProgramForm) (typed : IsWellTyped p) (built : are_served_functions
 
   pub program_serves : is_served_program (translated p) ≡ true
   program_serves = passed_by_all p typed built results told (is_served types) (list_all (is_served types)) refl (λ core cores. refl) one_served
-
-  -- no struct is added, and none holds a pointer or a unique_ptr
-  pub program_structs : has_served_structs types ≡ true
-  program_structs = all_pass (are_served_members types) types.structs struct_at
-    where
-      held : HasStructs types
-      held = structs_later p.types types (whole_front p typed built results told) (whole_order p typed built results told) told.structs
-
-      member_at : (number : ℕ) (ids : List TyId) → slice_get types.structs number ≡ Some ids → (m : ℕ) (id : TyId) → slice_get ids m ≡ Some id → is_served_member types id ≡ true
-      member_at number ids there m id at =
-          ap is_member_type (type_either types id) ∙ plain (type_at types id) (held_is types (type_at types id) (has_member types held number m id (ap (λ (o : Option (List TyId)). slice_get (unwrap_or o []) m) there ∙ at)))
-        where
-          plain : (t : Ty) → IsHeld types t → is_member_type t ≡ true
-          plain t (a_value_held v) = by_values (λ t. is_member_type t ≡ true) refl refl refl refl refl t v
-          plain ty.Text (an_owner_held o) = refl
-          plain (ty.Vector item) (an_owner_held o) = refl
-          plain _ (an_owner_held o) = absurd (false≢true o)
-          plain t (a_struct_held n is) = ap is_member_type is
-
-      struct_at : (number : ℕ) (ids : List TyId) → slice_get types.structs number ≡ Some ids → are_served_members types ids ≡ true
-      struct_at number ids there = all_pass (is_served_member types) ids (member_at number ids there)
 
   pub program_formed : HasNames p → IsOrdered p.types → HasEachOnce p.types → HaveMembers p.structs p.types.structs → IsWellFormedProgram (translated p)
   program_formed named ordered once structs =

@@ -1,7 +1,7 @@
 -- The locals of a function while it is written: registers without names, and those of its variables.
-use Rattle.std.proofs.Common.{◌≡◌, ◌<◌, ◌≤◌, ◌⊎◌, inl, inr, ℕ, zero, suc, Bool, true, false, ◌||◌, List, [], ◌∷◌, ◌++◌, length, slice_get, Option, Some, None, refl, ap, ◌∙◌, subst, unwrap_or, arith}
+use Rattle.std.proofs.Common.{◌≡◌, ◌<◌, ◌≤◌, ◌⊎◌, inl, inr, ℕ, zero, suc, Bool, true, false, ◌||◌, List, [], ◌∷◌, ◌++◌, length, slice_get, Option, Some, None, refl, sym, ap, ◌∙◌, subst, unwrap_or, arith}
 use Rattle.std.proofs.lemmas.Bool.{false≢true}
-use Rattle.std.proofs.lemmas.Option.{none-some, same_Some}
+use Rattle.std.proofs.lemmas.Option.{none-some, same_Some, slice_get_within}
 use Rattle.life_types.specs.Trees.{HasPartsBelow}
 use Rattle.life_types.specs.TypeTests.{is_pointer, is_value}
 use Rattle.life_types.specs.Types.{Types, class_at}
@@ -16,11 +16,11 @@ use Rattle.life_core.specs.declared.program.LocalKind.TheVariants.{Register, Obj
 use Rattle.life_writer.specs.Around.{Around}
 use Rattle.life_writer.specs.Variables.{kind}
 use Rattle.life_writer.specs.Writing.{State}
-use Rattle.life_elab_laws.proofs.ServedTypes.{IsBuilt}
-use Rattle.life_elab_laws.proofs.Fronts.{IsFront}
-use Rattle.life_elab_laws.proofs.OrderedTypes.{KeepsOrder, order_none, order_then}
+use Rattle.life_elab_laws.proofs.ServedTypes.{IsBuilt, IsTabled}
+use Rattle.life_elab_laws.proofs.Fronts.{IsFront, front_length}
+use Rattle.life_elab_laws.proofs.OrderedTypes.{HasPartsIn, KeepsOrder, all_below, order_none, order_then}
 use Rattle.life_elab_laws.proofs.Elements.{element_target}
-use Rattle.life_elab_laws.proofs.Shaped.{element_later, owner_later, target_later}
+use Rattle.life_elab_laws.proofs.Shaped.{element_further, element_later, owner_later, target_later, PlainStays}
 use Rattle.life_elab_laws.proofs.Targets.{owner_target, target_within}
 use Rattle.life_elab_laws.proofs.Values.{by_values}
 use Rattle.life_core.specs.declared.program.LocalKind.{LocalKind}
@@ -40,42 +40,51 @@ pointing_fits types (ty.Iterator target constant) h = absurd (false≢true h)
 pointing_fits types (ty.Span target constant) h = absurd (false≢true h)
 pointing_fits types _ h = h
 
-pub fits_later : (few more : Types) → IsFront few.types more.types → (t : Ty) → fits_register few t ≡ true → fits_register more t ≡ true
-fits_later few more front (ty.Raw target constant) h = target_later few more front target h
-fits_later few more front (ty.Reference target constant) h = target_later few more front target h
-fits_later few more front (ty.Iterator target constant) h = element_later few more front target h
-fits_later few more front (ty.Span target constant) h = element_later few more front target h
-fits_later few more front _ h = h
+pub fits_later : (few more : Types) → IsFront few.types more.types → PlainStays few more → (t : Ty) → fits_register few t ≡ true → fits_register more t ≡ true
+fits_later few more front stays (ty.Raw target constant) h = target_later few more front stays target h
+fits_later few more front stays (ty.Reference target constant) h = target_later few more front stays target h
+fits_later few more front stays (ty.Iterator target constant) h = element_later few more front stays target h
+fits_later few more front stays (ty.Span target constant) h = element_later few more front stays target h
+fits_later few more front stays _ h = h
 
 -- ---- a hidden range or iterator: a reference to an owner, or a pointer to its elements
 
-abbrev pub fits_hidden : Types → Ty → Bool
-fits_hidden types (ty.Reference target constant) = is_owner_of_values types (type_at types target)
-fits_hidden types (ty.Iterator target constant) = is_element types (type_at types target)
-fits_hidden types (ty.Span target constant) = is_element types (type_at types target)
-fits_hidden types ty.View = true
-fits_hidden types _ = false
+abbrev pub fits_hidden : (types table : Types) → Ty → Bool
+fits_hidden types table (ty.Reference target constant) = is_owner_of_values types (type_at table target)
+fits_hidden types table (ty.Iterator target constant) = is_element types (type_at table target)
+fits_hidden types table (ty.Span target constant) = is_element types (type_at table target)
+fits_hidden types table ty.View = true
+fits_hidden types table _ = false
 
-pub owner_there_later : (few more : Types) → IsFront few.types more.types → (id : TyId) → is_owner_of_values few (type_at few id) ≡ true → is_owner_of_values more (type_at more id) ≡ true
-owner_there_later few more front id o = go (slice_get few.types id.0) refl o
+-- what is no void is the same in a table with more types
+pub there_later : (few more : Types) → IsFront few.types more.types → (test : Ty → Bool) → test ty.Void ≡ false → (id : TyId) → test (type_at few id) ≡ true → test (type_at more id) ≡ true
+there_later few more front test void id h = go (slice_get few.types id.0) refl h
   where
-    go : (x : Option Ty) → slice_get few.types id.0 ≡ x → is_owner_of_values few (unwrap_or x ty.Void) ≡ true → is_owner_of_values more (type_at more id) ≡ true
-    go None at o = absurd (false≢true o)
-    go (Some t) at o = ap (λ (x : Option Ty). is_owner_of_values more (unwrap_or x ty.Void)) (front id.0 t at) ∙ owner_later few more front t o
+    go : (x : Option Ty) → slice_get few.types id.0 ≡ x → test (unwrap_or x ty.Void) ≡ true → test (type_at more id) ≡ true
+    go None at h = absurd (false≢true (sym void ∙ h))
+    go (Some t) at h = ap (λ (x : Option Ty). test (unwrap_or x ty.Void)) (front id.0 t at) ∙ h
 
-pub hidden_later : (few more : Types) → IsFront few.types more.types → (t : Ty) → fits_hidden few t ≡ true → fits_hidden more t ≡ true
-hidden_later few more front (ty.Reference target constant) h = owner_there_later few more front target h
-hidden_later few more front (ty.Iterator target constant) h = element_later few more front target h
-hidden_later few more front (ty.Span target constant) h = element_later few more front target h
-hidden_later few more front ty.View h = refl
-hidden_later few more front _ h = absurd (false≢true h)
+-- .. and stands in it
+there_within : (table : Types) (test : Ty → Bool) → test ty.Void ≡ false → (id : TyId) → test (type_at table id) ≡ true → id.0 < length table.types
+there_within table test void id h = go (slice_get table.types id.0) refl h
+  where
+    go : (x : Option Ty) → slice_get table.types id.0 ≡ x → test (unwrap_or x ty.Void) ≡ true → id.0 < length table.types
+    go None at h = absurd (false≢true (sym void ∙ h))
+    go (Some t) at h = slice_get_within table.types id.0 t at
 
-pub hidden_pointer : (types : Types) (t : Ty) → fits_hidden types t ≡ true → is_pointer t ≡ true
-hidden_pointer types (ty.Reference target constant) h = refl
-hidden_pointer types (ty.Iterator target constant) h = refl
-hidden_pointer types (ty.Span target constant) h = refl
-hidden_pointer types ty.View h = refl
-hidden_pointer types _ h = absurd (false≢true h)
+pub hidden_later : (types few more : Types) → IsFront few.types more.types → (t : Ty) → fits_hidden types few t ≡ true → fits_hidden types more t ≡ true
+hidden_later types few more front (ty.Reference target constant) h = there_later few more front (is_owner_of_values types) refl target h
+hidden_later types few more front (ty.Iterator target constant) h = there_later few more front (is_element types) refl target h
+hidden_later types few more front (ty.Span target constant) h = there_later few more front (is_element types) refl target h
+hidden_later types few more front ty.View h = refl
+hidden_later types few more front _ h = absurd (false≢true h)
+
+pub hidden_pointer : (types table : Types) (t : Ty) → fits_hidden types table t ≡ true → is_pointer t ≡ true
+hidden_pointer types table (ty.Reference target constant) h = refl
+hidden_pointer types table (ty.Iterator target constant) h = refl
+hidden_pointer types table (ty.Span target constant) h = refl
+hidden_pointer types table ty.View h = refl
+hidden_pointer types table _ h = absurd (false≢true h)
 
 -- ---- what a local of any kind holds: an owner or a struct too
 
@@ -106,23 +115,23 @@ pub struct_local : (types : Types) (t : Ty) → is_struct t ≡ true → fits_lo
 struct_local types (ty.Struct number) s = refl
 struct_local types _ s = absurd (false≢true s)
 
-pub hidden_local : (types : Types) (t : Ty) → fits_hidden types t ≡ true → fits_local types t ≡ true
-hidden_local types (ty.Reference target constant) h = owner_target types (type_at types target) h
-hidden_local types (ty.Iterator target constant) h = h
-hidden_local types (ty.Span target constant) h = h
-hidden_local types ty.View h = refl
-hidden_local types _ h = absurd (false≢true h)
+pub hidden_local : (few more : Types) → IsFront few.types more.types → PlainStays few more → (t : Ty) → fits_hidden few more t ≡ true → fits_local more t ≡ true
+hidden_local few more front stays (ty.Reference target constant) h = owner_target more (type_at more target) (owner_later few more front stays (type_at more target) h)
+hidden_local few more front stays (ty.Iterator target constant) h = element_further few more front stays (type_at more target) h
+hidden_local few more front stays (ty.Span target constant) h = element_further few more front stays (type_at more target) h
+hidden_local few more front stays ty.View h = refl
+hidden_local few more front stays _ h = absurd (false≢true h)
 
-pub local_later : (few more : Types) → IsFront few.types more.types → (t : Ty) → fits_local few t ≡ true → fits_local more t ≡ true
-local_later few more front ty.Text h = refl
-local_later few more front (ty.Vector element) h = element_later few more front element h
-local_later few more front (ty.Unique target) h = element_later few more front target h
-local_later few more front (ty.Struct number) h = refl
-local_later few more front (ty.Raw target constant) h = target_later few more front target h
-local_later few more front (ty.Reference target constant) h = target_later few more front target h
-local_later few more front (ty.Iterator target constant) h = element_later few more front target h
-local_later few more front (ty.Span target constant) h = element_later few more front target h
-local_later few more front _ h = h
+pub local_later : (few more : Types) → IsFront few.types more.types → PlainStays few more → (t : Ty) → fits_local few t ≡ true → fits_local more t ≡ true
+local_later few more front stays ty.Text h = refl
+local_later few more front stays (ty.Vector element) h = element_later few more front stays element h
+local_later few more front stays (ty.Unique target) h = element_later few more front stays target h
+local_later few more front stays (ty.Struct number) h = refl
+local_later few more front stays (ty.Raw target constant) h = target_later few more front stays target h
+local_later few more front stays (ty.Reference target constant) h = target_later few more front stays target h
+local_later few more front stays (ty.Iterator target constant) h = element_later few more front stays target h
+local_later few more front stays (ty.Span target constant) h = element_later few more front stays target h
+local_later few more front stays _ h = h
 
 -- what a register holds has its parts in the table before
 element_within : (table : Types) (id : TyId) → is_element table (type_at table id) ≡ true → id.0 < length table.types
@@ -152,25 +161,37 @@ unique_below : (few table : Types) → length few.types ≤ length table.types �
 unique_below few table le (ty.Unique target) u = omega (arith, le, element_within few target u)
 unique_below few table le _ u = absurd (false≢true u)
 
-pub built_below : (few table : Types) → length few.types ≤ length table.types → (t : Ty) → IsBuilt few t → HasPartsBelow table (length table.types) t
-built_below few table le t (inl o) = owner_below few table le t o
-built_below few table le t (inr u) = unique_below few table le t u
+-- .. and a struct that the first table has
+tabled_below : (few table : Types) → IsFront few.types table.types → (t : Ty) → IsTabled few t → HasPartsIn table t
+tabled_below few table front t is ordered =
+    subst (λ (u : Ty). HasPartsBelow table (length table.types) u) (sym is.is) (further (subst (λ (u : Ty). HasPartsBelow table is.at u) is.is (ordered.parts is.at t there)))
+  where
+    there : slice_get table.types is.at ≡ Some t
+    there = front is.at t is.there
+
+    further : HasPartsBelow table is.at (ty.Struct is.number) → HasPartsBelow table (length table.types) (ty.Struct is.number)
+    further h = record { members = h.members; there = h.there; below = all_below is.at (length table.types) (omega (arith, slice_get_within table.types is.at t there)) h.members h.below }
+
+pub built_below : (few table : Types) → IsFront few.types table.types → (t : Ty) → IsBuilt few t → HasPartsIn table t
+built_below few table front t (inl o) ordered = owner_below few table (front_length few.types table.types front) t o
+built_below few table front t (inr (inl u)) ordered = unique_below few table (front_length few.types table.types front) t u
+built_below few table front t (inr (inr s)) ordered = tabled_below few table front t s ordered
 
 -- .. and what is hidden
-pub hidden_below : (table : Types) (t : Ty) → fits_hidden table t ≡ true → HasPartsBelow table (length table.types) t
-hidden_below table (ty.Reference target constant) h = target_within table target (owner_target table (type_at table target) h)
-hidden_below table (ty.Iterator target constant) h = element_within table target h
-hidden_below table (ty.Span target constant) h = element_within table target h
-hidden_below table ty.View h = tt
-hidden_below table _ h = absurd (false≢true h)
+pub hidden_below : (types table : Types) (t : Ty) → fits_hidden types table t ≡ true → HasPartsBelow table (length table.types) t
+hidden_below types table (ty.Reference target constant) h = there_within table (is_owner_of_values types) refl target h
+hidden_below types table (ty.Iterator target constant) h = there_within table (is_element types) refl target h
+hidden_below types table (ty.Span target constant) h = there_within table (is_element types) refl target h
+hidden_below types table ty.View h = tt
+hidden_below types table _ h = absurd (false≢true h)
 
--- a temporary: a value, an owner of values, or a unique_ptr
+-- a temporary: a value, an owner of values, a unique_ptr, or a struct
 abbrev pub FitsTemporary : Types → Ty → Type 0
 FitsTemporary types t = (is_value t ≡ true) ⊎ IsBuilt types t
 
--- a register, or a temporary, or what is hidden, which may be of a type that only the table so far has
+-- a register, or a temporary, or what is hidden, which may be of a type that only the table so far has: what that is made of is asked of the first table
 abbrev pub FitsNameless : (types table : Types) → LocalKind → Ty → Type 0
-FitsNameless types table k t = ((k ≡ Register) × (fits_register types t ≡ true)) ⊎ (((k ≡ Object) × FitsTemporary types t) ⊎ ((k ≡ Range) × (fits_hidden table t ≡ true)))
+FitsNameless types table k t = ((k ≡ Register) × (fits_register types t ≡ true)) ⊎ (((k ≡ Object) × FitsTemporary types t) ⊎ ((k ≡ Range) × (fits_hidden types table t ≡ true)))
 
 -- its type is in the table
 pub record IsIntermediate (types table : Types) (l : Local) : Type 0 where
@@ -188,7 +209,7 @@ intermediate_later types few more l front is = record {
     | inl register ↦ inl register
     | inr other ↦ elim other [
       | inl temporary ↦ inr (inl temporary)
-      | inr hidden ↦ inr (inr (hidden.0, hidden_later few more front is.ty hidden.1))
+      | inr hidden ↦ inr (inr (hidden.0, hidden_later types few more front is.ty hidden.1))
     ]
   ];
 }

@@ -1,6 +1,7 @@
 // What is translated is proper, and has short places.
 ghost use Rattle.life_served.specs.Served.{is_served};
 ghost use Rattle.life_elab.specs.Bounds.{HaveShortPlaces};
+ghost use Rattle.life_elab.specs.Over.{over};
 ghost use Rattle.life_elab.specs.ProgramForms.{translated};
 ghost use Rattle.life_core_served.specs.ProperPrograms.{IsProperProgram, IsServedProgram};
 ghost use Rattle.life_pset.specs.Limits.{IsProgramWithinLimits};
@@ -9,7 +10,7 @@ ghost use Rattle.life_well_typed.specs.Functions.{IsWellTyped};
 ghost use Rattle.life_well_typed.specs.Mains.{HasIntMain};
 ghost use Rattle.life_well_typed.specs.Names.{HasNames};
 ghost use Rattle.life_well_typed.specs.Results.{HasResults, HasTable};
-ghost use Rattle.std.specs.Prelude.{IsTrue};
+ghost use Rattle.std.specs.Prelude.{◌≡◌, IsTrue, None};
 
 /// The core program of a well typed program that is served is proper, where it passes no limit, and is served itself.
 pub fn translations_are_proper()
@@ -18,7 +19,8 @@ pub fn translations_are_proper()
     ensures served { (p : ProgramForm) → IsWellTyped p → HasResults p → HasTable p → HasIntMain p → IsTrue (is_served p) → IsServedProgram (translated p) }
 {}
 
-/// Its places are short, as the rules ask: each has at most eight steps.
+/// Its places are short where it passes no limit, as the rules ask: each has at most eight steps.
 pub fn translations_have_short_places()
-    ensures { (p : ProgramForm) → IsWellTyped p → HasResults p → HasTable p → IsTrue (is_served p) → HaveShortPlaces (translated p).types (translated p).functions }
+    ensures { (p : ProgramForm) → IsWellTyped p → HasResults p → HasTable p → IsTrue (is_served p)
+        → over p (translated p) ≡ None → HaveShortPlaces (translated p).types (translated p).functions }
 {}

@@ -11,7 +11,7 @@ use Rattle.life_typed.specs.declared.typed_expr.ExprForm.TheFolds.{fold-roll-Exp
 use Rattle.life_typed.specs.declared.typed_expr.ExprForm.TheVariants as form
 use Rattle.life_typed.specs.declared.typed_expr.Method.{Method}
 use Rattle.life_typed.specs.declared.typed_expr.TypedExpr.{TypedExpr}
-use Rattle.life_served.specs.Served.{are_served_arguments, fills_unique, is_served_content, is_served_form, is_served_made, is_served_walker}
+use Rattle.life_served.specs.Served.{are_served_arguments, is_served_content, is_served_form, is_served_walker}
 use Rattle.life_served.specs.Told.{answered, called, combined, dereferenced, given_value, indexed, inverted, made_anew, made_text, moved_out, named, parenthesised, told}
 use Rattle.life_served.specs.declared.told.Told.{Told}
 
@@ -28,7 +28,7 @@ module _ (texts : ℕ) (f : Form) where
   pub seen_move : (x : ℕ) → seen (form.Move x) ≡ moved_out
   seen_move x = ap seen (sym (form.rolls-Move x)) ∙ rw fold-roll-ExprForm
 
-  pub seen_make : (element : TyId) (argument : Option (Box TypedExpr Global)) (closing : Place) → seen (form.MakeUnique element argument closing) ≡ made_anew (is_served_made texts (given_value argument))
+  pub seen_make : (element : TyId) (argument : Option (Box TypedExpr Global)) (closing : Place) → seen (form.MakeUnique element argument closing) ≡ made_anew (is_served_content texts (given_value argument))
   seen_make element None closing = ap seen (sym (form.rolls-MakeUnique element None closing)) ∙ rw fold-roll-ExprForm
   seen_make element (Some e) closing = ap seen (sym (form.rolls-MakeUnique element (Some e) closing)) ∙ rw fold-roll-ExprForm
 
@@ -37,11 +37,6 @@ module _ (texts : ℕ) (f : Form) where
 
   pub seen_not : seen form.Not ≡ inverted (told texts f)
   seen_not = ap seen (sym form.rolls-Not) ∙ rw fold-roll-ExprForm
-
-  -- what is made anew
-  pub seen_made : (element : TyId) (argument : Option (Box TypedExpr Global)) (closing : Place) → fills_unique texts (form_view (form.MakeUnique element argument closing) f) ≡ is_served_content texts (given_value argument)
-  seen_made element None closing = ap (λ (e : ExprForm). fills_unique texts (form_view e f)) (sym (form.rolls-MakeUnique element None closing)) ∙ rw fold-roll-ExprForm
-  seen_made element (Some e) closing = ap (λ (x : ExprForm). fills_unique texts (form_view x f)) (sym (form.rolls-MakeUnique element (Some e) closing)) ∙ rw fold-roll-ExprForm
 
   pub seen_dereference : seen form.Dereference ≡ dereferenced (told texts f)
   seen_dereference = ap seen (sym form.rolls-Dereference) ∙ rw fold-roll-ExprForm

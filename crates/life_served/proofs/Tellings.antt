@@ -18,7 +18,7 @@ other_dropped a b m d none = ap (λ (e : Bool). a || (b || (e && d))) none ∙ a
 
 pub asked_called : (m : Method) (t : Told) (given walks : Bool) → is_erase m ≡ false → asked m t given ≡ called m t given walks
 asked_called m t given walks none =
-    ap (λ (w : Bool). (let r : Told = record { value = (called m t given walks).value; owner = (called m t given walks).owner; walker = w; object = (called m t given walks).object; owns = false; unique = false; fresh = false; structure = false } in r))
+    ap (λ (w : Bool). (let r : Told = record { value = (called m t given walks).value; owner = (called m t given walks).owner; walker = w; object = (called m t given walks).object; owns = false; unique = false; fresh = false; structure = (called m t given walks).structure } in r))
     (sym (other_dropped (is_end m && (t.owns && t.owner)) (is_subspan m && (t.walker && given)) m (t.owns && (t.object && walks)) none))
 
 pub erased_called : (m : Method) (t : Told) (given walks : Bool) → is_erase m ≡ true → erased t walks ≡ called m t given walks

@@ -1,6 +1,6 @@
--- Which programs are served so far: values, strings, vectors of values and of such owners, raw pointers and references to these, views of characters, literals, iterators and spans, unique_ptrs, and structs of values, of strings and vectors and of such structs.
+-- Which programs are served so far: values, strings, vectors of values, of structs and of such owners, raw pointers and references to these, views of characters, literals, iterators and spans, unique_ptrs, and structs of values, strings, vectors and pointers and of such structs.
 use Rattle.std.specs.Prelude.{ℕ, zero, suc, ◌+◌, ◌-◌, ◌^◌, Bool, true, false, ◌&&◌, ◌||◌, not, if◌then◌else◌, List, [], ◌∷◌, drop, take, length, nat_lt, Option, Some, None, slice_get}
-use Rattle.life_types.specs.Trees.{members_at}
+use Rattle.life_types.specs.Trees.{is_plain, members_at, tree_at}
 use Rattle.life_types.specs.TypeTests.{is_reference, is_unique, is_value, is_view, is_void}
 use Rattle.life_types.specs.Types.{Types}
 use Rattle.life_types.specs.declared.ty.Ty.{Ty}
@@ -10,7 +10,7 @@ use Rattle.life_types.specs.contracts.ty.TyIdPartialEq.TheImpl.{ghosts as id}
 use Rattle.life_typed.specs.BaseTypes.{type_at}
 use Rattle.life_typed.specs.Conversions.{is_const_place, is_place}
 use Rattle.life_typed.specs.Statements.{range_element}
-use Rattle.life_typed.specs.TypedForm.{address_of, binary, boolean, call, character, dereference, Form, forms, index, input, local, make_unique, member, method, move, negate, not as negation, nothing, null, number, paren, text, text_of, typed, Typed, whole, ◌⨟◌}
+use Rattle.life_typed.specs.TypedForm.{address_of, binary, boolean, call, character, construct, dereference, Form, forms, index, input, local, make_unique, member, method, move, negate, not as negation, nothing, null, number, paren, text, text_of, typed, Typed, whole, ◌⨟◌}
 use Rattle.life_typed.specs.TypedStatement.{StmtForm, DeclarationForm, ForStartForm, InitialForm, ItemForm, SimpleForm, one, several, assign, compound, step, discarded, declared_first, done_first, printed, line_end, block, empty, sentence, branching, while_loop, for_loop, range_loop, loop_break, loop_continue, returned, print, assertion, branch, declaration, no_more, chain}
 use Rattle.life_typed.specs.declared.typed_expr.BinaryOperator.{BinaryOperator}
 use Rattle.life_typed.specs.declared.typed_expr.BinaryOperator.TheVariants.{And, Equal, NotEqual, Or}
@@ -23,35 +23,45 @@ use Rattle.life_typed.specs.Programs.{FunctionForm, ProgramForm}
 
 -- ---- types
 
--- a string, or a vector of values or of such owners, where no path into it has more steps
+-- a struct
+abbrev pub is_struct : Ty → Bool
+is_struct (ty.Struct n) = true
+is_struct _ = false
+
+-- none of these types has a pointer in it
+abbrev pub are_plain : Types → List TyId → Bool
+are_plain types [] = true
+are_plain types (id ∷ ids) = is_plain (tree_at types id) && are_plain types ids
+
+-- a struct that holds no pointer
+abbrev pub is_plain_struct : Types → Ty → Bool
+is_plain_struct types (ty.Struct which) = are_plain types (members_at types which)
+is_plain_struct types _ = false
+
+-- a string, or a vector of values, of structs without pointers or of such owners, where vectors stand no deeper in it
 abbrev pub is_owner_within : (steps : ℕ) → Types → Ty → Bool
 is_owner_within zero types t = false
 is_owner_within (suc n) types ty.Text = true
-is_owner_within (suc n) types (ty.Vector element) = is_value (type_at types element) || is_owner_within n types (type_at types element)
+is_owner_within (suc n) types (ty.Vector element) = is_value (type_at types element) || (is_plain_struct types (type_at types element) || is_owner_within n types (type_at types element))
 is_owner_within (suc n) types _ = false
 
 -- a path has eight steps at most, one of them to an element
 abbrev pub is_inner_owner : Types → Ty → Bool
 is_inner_owner types t = is_owner_within 7 types t
 
--- what a vector has: values, or such owners
+-- what a vector has: values, structs without pointers, or such owners
 abbrev pub is_element : Types → Ty → Bool
-is_element types t = is_value t || is_inner_owner types t
+is_element types t = is_value t || (is_plain_struct types t || is_inner_owner types t)
 
 -- a string, or a vector
 abbrev pub is_owner_of_values : Types → Ty → Bool
 is_owner_of_values types t = is_owner_within 8 types t
 
--- a struct
-abbrev pub is_struct : Ty → Bool
-is_struct (ty.Struct n) = true
-is_struct _ = false
-
 -- what a raw pointer or a reference is to
 abbrev pub is_target : Types → Ty → Bool
-is_target types t = is_value t || (is_owner_of_values types t || is_struct t)
+is_target types t = is_value t || (is_owner_of_values types t || is_plain_struct types t)
 
--- a raw pointer or a reference to a value, an owner or a struct, or a view of characters
+-- a raw pointer or a reference to a value, an owner or a struct without pointers, or a view of characters
 abbrev pub is_pointing : Types → Ty → Bool
 is_pointing types (ty.Raw target constant) = is_target types (type_at types target)
 is_pointing types (ty.Reference target constant) = is_target types (type_at types target)
@@ -64,7 +74,7 @@ is_walker_of_values types (ty.Iterator target constant) = is_element types (type
 is_walker_of_values types (ty.Span target constant) = is_element types (type_at types target)
 is_walker_of_values types _ = false
 
--- a unique_ptr to a value or to such an owner
+-- a unique_ptr to a value, a struct or such an owner
 abbrev pub is_unique_of_element : Types → Ty → Bool
 is_unique_of_element types (ty.Unique target) = is_element types (type_at types target)
 is_unique_of_element types _ = false
@@ -86,15 +96,15 @@ abbrev pub have_each : (Ty → Bool) → Types → List TyId → Bool
 have_each test types [] = true
 have_each test types (id ∷ ids) = test (type_at types id) && have_each test types ids
 
--- what a member of a struct is, where no path into it has more steps: a value, an owner, or a struct of such members
-abbrev pub is_member_within : (steps : ℕ) → Types → Ty → Bool
-is_member_within zero types t = is_value t
-is_member_within (suc n) types (ty.Struct which) = have_each (is_member_within n types) types (members_at types which)
-is_member_within (suc n) types t = is_value t || is_owner_within (suc n) types t
+-- a pointer that a struct may hold: all but references
+abbrev pub is_pointer_member : Types → Ty → Bool
+is_pointer_member types (ty.Raw target constant) = is_target types (type_at types target)
+is_pointer_member types ty.View = true
+is_pointer_member types t = is_walker_of_values types t
 
--- so far a path into a struct has three steps at most, the first of them to the member: members of members are asked anew wherever they stand
+-- what a member of a struct is: a value, a pointer, an owner, or a struct, which stands before it in the table and is asked itself; a path that is too long is told before
 abbrev pub is_struct_member : Types → Ty → Bool
-is_struct_member types t = is_member_within 2 types t
+is_struct_member types t = is_value t || (is_pointer_member types t || (is_owner_of_values types t || is_struct t))
 
 -- the members of a struct, of which there are 32 at most, as the limit on members has it
 abbrev pub are_struct_members : Types → List TyId → Bool
@@ -108,21 +118,18 @@ hold_members types (ids ∷ structs) = are_struct_members types ids && hold_memb
 abbrev pub has_fine_structs : Types → Bool
 has_fine_structs types = hold_members types types.structs && nat_lt (length types.structs) (2 ^ 32)
 
--- what is given over as a whole: an owner, or a unique_ptr
+-- what is given over and back as a whole: an owner, a unique_ptr, or a struct without pointers
 abbrev pub is_owning : Types → Ty → Bool
-is_owning types t = is_owner_of_values types t || is_unique_of_element types t
+is_owning types t = is_owner_of_values types t || (is_unique_of_element types t || is_plain_struct types t)
 
--- what a parameter may hold; what is given over where the function gives a value, such a one or nothing
-abbrev pub is_served_parameter : Types → (owners : Bool) → TyId → Bool
-is_served_parameter types owners id =
-    is_value (type_at types id) || (is_pointing types (type_at types id) || (is_walker_of_values types (type_at types id) || (owners && is_owning types (type_at types id))))
+-- what a parameter may hold
+abbrev pub is_served_parameter : Types → TyId → Bool
+is_served_parameter types id =
+    is_value (type_at types id) || (is_pointing types (type_at types id) || (is_walker_of_values types (type_at types id) || is_owning types (type_at types id)))
 
-abbrev pub are_served_parameters : Types → (owners : Bool) → List TypedLocal → Bool
-are_served_parameters types owners [] = true
-are_served_parameters types owners (v ∷ vs) = is_served_parameter types owners v.ty && are_served_parameters types owners vs
-
-abbrev pub takes_owners : Types → (result : TyId) → Bool
-takes_owners types id = is_void (type_at types id) || (is_value (type_at types id) || is_owning types (type_at types id))
+abbrev pub are_served_parameters : Types → List TypedLocal → Bool
+are_served_parameters types [] = true
+are_served_parameters types (v ∷ vs) = is_served_parameter types v.ty && are_served_parameters types vs
 
 -- .. and any variable
 abbrev pub is_served_variable : Types → TyId → Bool
@@ -132,7 +139,7 @@ abbrev pub are_served_variables : Types → List TypedLocal → Bool
 are_served_variables types [] = true
 are_served_variables types (v ∷ vs) = is_served_variable types v.ty && are_served_variables types vs
 
--- what is given back: a value, or what points to one, to an owner or to a struct, an iterator or a span, an owner or a unique_ptr, or nothing
+-- what is given back: a value, or what points to one, to an owner or to a struct, an iterator or a span, an owner, a unique_ptr or a struct, or nothing
 abbrev pub is_served_result : Types → TyId → Bool
 is_served_result types id =
     is_void (type_at types id) || (is_value (type_at types id) || (is_pointing types (type_at types id) || (is_walker_of_values types (type_at types id) || is_owning types (type_at types id))))
@@ -194,10 +201,19 @@ abbrev pub is_vector : Ty → Bool
 is_vector (ty.Vector element) = true
 is_vector _ = false
 
--- .. also for a reference to it, and a struct of members
+-- .. and a struct of members
+abbrev pub is_listed : Ty → Bool
+is_listed t = is_vector t || is_struct t
+
+-- .. also for a reference to it
 abbrev pub takes_list : Types → Ty → Bool
-takes_list types (ty.Reference target constant) = is_vector (type_at types target)
-takes_list types t = is_vector t || is_struct t
+takes_list types (ty.Reference target constant) = is_listed (type_at types target)
+takes_list types t = is_listed t
+
+-- what a list builds is a struct
+abbrev pub lists_members : Types → Ty → Bool
+lists_members types (ty.Reference target constant) = is_struct (type_at types target)
+lists_members types t = is_struct t
 
 -- what is given a struct: another one, or a reference
 abbrev pub takes_struct : Ty → Bool
@@ -218,9 +234,9 @@ is_number_type _ = false
 
 -- ---- elements
 
--- what is given an owner as such is given one, and a value a value
+-- what is given an owner as such is given one, a struct a struct, and a value a value
 abbrev pub takes_whole : (t element : Ty) → Bool
-takes_whole t element = if takes_owner t then owns_elements element else (is_value t && is_value element)
+takes_whole t element = if takes_owner t then owns_elements element else (if is_struct t then is_struct element else (is_value t && is_value element))
 
 -- .. and a reference is to an element itself, or to a temporary with its value
 abbrev pub takes_as : Types → Ty → TyId → Bool
@@ -323,17 +339,10 @@ calls_any (call f arguments delimiters) = true
 calls_any (method base called arguments delimiters) = true
 calls_any _ = false
 
--- a unique_ptr that is named
-abbrev pub is_served_unique : Form → Bool
-is_served_unique (local x) = true
-is_served_unique (paren inner closing) = is_served_unique inner
-is_served_unique (typed place t category form) = is_unique_type t && is_served_unique form
-is_served_unique _ = false
-
--- a unique_ptr owns nothing more; that stands alone
-abbrev pub is_served_reset : Form → Bool
-is_served_reset (method base called arguments delimiters) = is_reset called && is_served_unique base
-is_served_reset _ = false
+-- a unique_ptr is made of nothing
+abbrev pub is_nullptr : Form → Bool
+is_nullptr null = true
+is_nullptr _ = false
 
 -- what is asked is an owner, which is served or not, or has a value, which is
 abbrev pub is_served_either : (base : Form) (owner value : Bool) → Bool
@@ -380,29 +389,47 @@ module _ (texts : ℕ) where
     are_served_arguments (e ⨟ es) = (is_served_either e (is_served_owner e) (is_served_form e) || (is_served_walker e || (is_served_fresh e || is_served_struct e))) && are_served_arguments es
     are_served_arguments _ = false
 
+    -- a unique_ptr that is asked: one that is named, or that a call gives
+    pub is_served_unique : Form → Bool
+    is_served_unique (local x) = true
+    is_served_unique (call f arguments delimiters) = are_served_arguments arguments
+    is_served_unique (paren inner closing) = is_served_unique inner
+    is_served_unique (typed place t category form) = is_unique_type t && is_served_unique form
+    is_served_unique _ = false
+
     -- a unique_ptr that is made, moved out of a variable, or given by a call
     pub is_served_fresh : Form → Bool
     is_served_fresh (call f arguments delimiters) = are_served_arguments arguments
-    is_served_fresh (make_unique target argument closing) = is_served_made argument
+    is_served_fresh (make_unique target argument closing) = is_served_content argument
     is_served_fresh (move x) = true
     is_served_fresh (typed place t category form) = is_unique_type t && is_served_fresh form
     is_served_fresh _ = false
 
-    -- a struct at a place: one that is named, that a call refers to, or that is behind a pointer
+    -- a struct: one that is named, that a call gives or refers to, that is behind a pointer, an iterator or a unique_ptr, that is an element, or that is made of members
     pub is_served_struct : Form → Bool
     is_served_struct (local x) = true
     is_served_struct (call f arguments delimiters) = are_served_arguments arguments
+    is_served_struct (construct structure elements delimiters) = are_served_parts elements
     is_served_struct (paren inner closing) = is_served_struct inner
     is_served_struct (member e which) = is_served_struct e
-    is_served_struct (dereference e) = is_served_form e
+    is_served_struct (dereference e) = is_served_form e || (is_served_walker e || is_served_unique e)
+    is_served_struct (index base position closing) =
+        (is_served_either base (is_served_owner base) (is_served_form base) || is_served_walker base) && is_served_form position
+    is_served_struct (method base called arguments delimiters) = is_edge called && (is_owner_type (form_type base) && is_served_owner base)
     is_served_struct (typed place t category form) = is_struct_type t && is_served_struct form
     is_served_struct _ = false
 
-    -- what is made anew has a number, or what stands there at first
-    pub is_served_made : Form → Bool
-    is_served_made nothing = true
-    is_served_made (typed place t category form) = is_number_type t && (is_plain_type t && is_served_form form)
-    is_served_made _ = false
+    -- what a struct is given for its members: values, pointers, owners and structs
+    pub are_served_parts : Form → Bool
+    are_served_parts nothing = true
+    are_served_parts (e ⨟ es) = (is_served_either e (is_served_owner e) (is_served_form e) || (is_served_walker e || is_served_struct e)) && are_served_parts es
+    are_served_parts _ = false
+
+    -- what one that is made owns: what stands there at first, an owner, a value, or a struct
+    pub is_served_content : Form → Bool
+    is_served_content nothing = true
+    is_served_content (typed place t category form) = (if is_owner_type t then is_served_owner form else is_plain_type t && is_served_form form) || (is_struct_type t && is_served_struct form)
+    is_served_content _ = false
 
     -- an owner at a place: one that is named, that a call refers to, that is behind a pointer or an iterator, or that is an element or a member
     pub is_served_object : Form → Bool
@@ -444,24 +471,19 @@ module _ (texts : ℕ) where
         || ((is_subspan called && (is_served_walker base && is_served_form arguments))
         || (is_erase called && (is_owner_type (form_type base) && (is_served_object base && is_served_walker arguments))))
     is_served_walker (e ⨟ es) = is_served_walker e
+    is_served_walker (member e which) = is_served_struct e
     is_served_walker (binary operator left right) = is_served_walker left && is_served_form right
     is_served_walker (typed place t category form) = is_walker_type t && is_served_walker form
     is_served_walker _ = false
 
-  -- what a vector is given: values and owners
+  -- what a vector is given: values, owners and structs
   abbrev pub are_served_elements : Form → Bool
   are_served_elements nothing = true
-  are_served_elements (e ⨟ es) = is_served_either e (is_served_owner e) (is_served_form e) && are_served_elements es
+  are_served_elements (e ⨟ es) = (is_served_either e (is_served_owner e) (is_served_form e) || is_served_struct e) && are_served_elements es
   are_served_elements _ = false
 
-  -- what a struct is given for its members: structs too
-  abbrev pub are_served_parts : Form → Bool
-  are_served_parts nothing = true
-  are_served_parts (e ⨟ es) = (is_served_either e (is_served_owner e) (is_served_form e) || is_served_struct e) && are_served_parts es
-  are_served_parts _ = false
-
-  abbrev pub are_served_listed : Ty → Form → Bool
-  are_served_listed t es = if is_struct t then are_served_parts es else are_served_elements es
+  abbrev pub are_served_listed : (members : Bool) → Form → Bool
+  are_served_listed members es = if members then are_served_parts es else are_served_elements es
 
   abbrev pub is_served_expression : Typed → Bool
   is_served_expression e = is_served_form (whole e)
@@ -470,7 +492,7 @@ module _ (texts : ℕ) where
   is_served_if_any None = true
   is_served_if_any (Some e) = is_served_expression e
 
-  -- one that decides: it has a value, or is a unique_ptr that is named
+  -- one that decides: it has a value, or is a unique_ptr
   abbrev pub is_served_condition : Typed → Bool
   is_served_condition e = is_served_expression e || is_served_unique (whole e)
 
@@ -487,25 +509,13 @@ module _ (texts : ℕ) where
   fills_owner (text n) = nat_lt n texts
   fills_owner _ = false
 
-  -- what a unique_ptr that is made owns: what stands there at first, a value, or an owner
-  abbrev pub is_served_content : Form → Bool
-  is_served_content nothing = true
-  is_served_content e = is_served_either e (is_served_owner e) (is_served_form e)
-
-  -- what a unique_ptr is made of: nothing, what is made anew, or what is moved out of a variable
-  abbrev pub fills_unique : Form → Bool
-  fills_unique null = true
-  fills_unique (make_unique target argument closing) = is_served_content argument
-  fills_unique (move x) = true
-  fills_unique _ = false
-
   -- ---- declarations and simple statements
 
   -- an owner, a view, a span or a reference is given an owner, an owner a literal, an iterator or a span another one, a unique_ptr what it owns, or a struct or a reference a struct
   abbrev pub is_served_owned : Ty → Typed → Bool
   is_served_owned t e =
       (takes_owner t && is_served_owning e)
-      || ((owns_elements t && fills_owner e.form) || ((is_walker t && is_served_walker (whole e)) || ((is_unique t && (fills_unique e.form || is_served_fresh (whole e))) || (takes_struct t && is_served_struct (whole e)))))
+      || ((owns_elements t && fills_owner e.form) || ((is_walker t && is_served_walker (whole e)) || ((is_unique t && (is_nullptr e.form || is_served_fresh (whole e))) || (takes_struct t && is_served_struct (whole e)))))
 
   abbrev pub is_served_given : Ty → Typed → Bool
   is_served_given t e = (takes_value t && is_served_expression e) || is_served_owned t e
@@ -513,7 +523,7 @@ module _ (texts : ℕ) where
   abbrev pub is_served_initial : Types → Ty → Option InitialForm → Bool
   is_served_initial types t None = true
   is_served_initial types t (Some (one e)) = is_served_given t e
-  is_served_initial types t (Some (several list)) = takes_list types t && are_served_listed t (forms list.elements)
+  is_served_initial types t (Some (several list)) = takes_list types t && are_served_listed (lists_members types t) (forms list.elements)
 
   abbrev pub is_served_declared : Types → Option TypedLocal → Option InitialForm → Bool
   is_served_declared types None value = true
@@ -523,22 +533,28 @@ module _ (texts : ℕ) where
   abbrev pub is_served_target : Typed → Bool
   is_served_target e = is_owner_type e.ty && is_served_object (whole e)
 
-  -- an owner is copied or made, also of a literal, a view sees a string, a span a vector, an iterator or a span becomes another one, a unique_ptr owns another value, or a struct is copied
+  -- an owner is copied or made, also of a literal, a view sees a string, a span a vector, an iterator or a span becomes another one, a unique_ptr that is named owns another value, or a struct is copied, also one that is made
   abbrev pub is_served_renewed : (target e : Typed) → Bool
   is_served_renewed target e =
       (is_served_target target && (is_served_owning e || fills_owner e.form))
       || (((is_view_type target.ty && is_served_expression target) && is_served_owning e)
-      || ((is_served_walker (whole target) && (is_served_walker (whole e) || is_served_owning e)) || ((is_served_unique (whole target) && (fills_unique e.form || is_served_fresh (whole e))) || (is_served_struct (whole target) && is_served_struct (whole e)))))
+      || ((is_served_walker (whole target) && (is_served_walker (whole e) || is_served_owning e)) || (((is_place target.category && is_served_unique (whole target)) && (is_nullptr e.form || is_served_fresh (whole e))) || (is_served_struct (whole target) && is_served_struct (whole e)))))
 
-  -- .. or anything else a value, or a vector elements
+  -- .. or anything else a value, or a vector elements, or a struct members
   abbrev pub is_served_assigned : Typed → InitialForm → Bool
   is_served_assigned target (one e) = (is_served_expression target && is_served_expression e) || is_served_renewed target e
-  is_served_assigned target (several list) = is_served_target target && (is_vector_type target.ty && are_served_elements (forms list.elements))
+  is_served_assigned target (several list) =
+      (is_served_target target && (is_vector_type target.ty && are_served_elements (forms list.elements))) || (is_served_struct (whole target) && are_served_parts (forms list.elements))
 
   -- an owner is changed, which stands alone
   abbrev pub is_served_change : Form → Bool
   is_served_change (method base called arguments delimiters) = is_changing called && (is_owner_type (form_type base) && (is_served_owner base && are_served_elements arguments))
   is_served_change _ = false
+
+  -- a unique_ptr owns nothing more; that stands alone
+  abbrev pub is_served_reset : Form → Bool
+  is_served_reset (method base called arguments delimiters) = is_reset called && is_served_unique base
+  is_served_reset _ = false
 
   -- an expression with a value, or an owner
   abbrev pub is_served_any : Typed → Bool
@@ -556,7 +572,7 @@ module _ (texts : ℕ) where
   abbrev pub is_served_stepped : Typed → Bool
   is_served_stepped target = is_served_expression target || is_served_walker (whole target)
 
-  -- a call that gives an owner, a struct at a place, an iterator, a span or a unique_ptr
+  -- a call that gives an owner, a struct, an iterator, a span or a unique_ptr
   abbrev pub is_served_left : Typed → Bool
   is_served_left e = calls_any e.form && (is_served_owning e || (is_served_walker (whole e) || (is_served_struct (whole e) || is_served_fresh (whole e))))
 
@@ -625,7 +641,7 @@ module _ (texts : ℕ) where
 abbrev pub is_served_function : (texts : ℕ) → Types → FunctionForm → Bool
 is_served_function texts types f =
     is_served_result types f.result
-    && (are_served_parameters types (takes_owners types f.result) (take (length f.parameters) f.locals) && (are_served_variables types f.locals && is_served_statement texts types f.locals f.body))
+    && (are_served_parameters types (take (length f.parameters) f.locals) && (are_served_variables types f.locals && is_served_statement texts types f.locals f.body))
 
 abbrev pub are_served_functions : (texts : ℕ) → Types → List FunctionForm → Bool
 are_served_functions texts types [] = true

@@ -13,7 +13,7 @@ use Rattle.life_served.specs.Served.{form_type, is_asking, is_edge, is_end, is_e
 use Rattle.life_served.specs.declared.told.Told.{Told}
 
 abbrev pub told : ℕ → Form → Told
-told texts f = record { value = is_served_form texts f; owner = is_served_owner texts f; walker = is_served_walker texts f; object = is_served_object texts f; owns = is_owner_type (form_type f); unique = is_served_unique f; fresh = is_served_fresh texts f; structure = is_served_struct texts f }
+told texts f = record { value = is_served_form texts f; owner = is_served_owner texts f; walker = is_served_walker texts f; object = is_served_object texts f; owns = is_owner_type (form_type f); unique = is_served_unique texts f; fresh = is_served_fresh texts f; structure = is_served_struct texts f }
 
 abbrev pub value_alone : Bool → Told
 value_alone value = record { value = value; owner = false; walker = false; object = false; owns = false; unique = false; fresh = false; structure = false }
@@ -43,14 +43,14 @@ typed_as ty category t = record { value = is_plain_type ty && t.value; owner = t
 
 -- a member of a struct that is named
 abbrev pub member_of : Told → Told
-member_of t = record { value = t.structure; owner = t.structure; walker = false; object = t.structure; owns = false; unique = false; fresh = false; structure = t.structure }
+member_of t = record { value = t.structure; owner = t.structure; walker = t.structure; object = t.structure; owns = false; unique = false; fresh = false; structure = t.structure }
 
--- what stands at a place may be an owner, and behind a pointer a struct
-abbrev pub placed : (there structure : Bool) → Told
-placed there structure = record { value = there; owner = there; walker = false; object = there; owns = false; unique = false; fresh = false; structure = structure }
+-- what stands at a place may be an owner or a struct
+abbrev pub placed : Bool → Told
+placed there = record { value = there; owner = there; walker = false; object = there; owns = false; unique = false; fresh = false; structure = there }
 
 abbrev pub dereferenced : Told → Told
-dereferenced t = placed (t.value || (t.walker || t.unique)) t.value
+dereferenced t = placed (t.value || (t.walker || t.unique))
 
 -- what decides
 abbrev pub tests : Told → Bool
@@ -62,12 +62,16 @@ inverted t = value_alone (tests t)
 abbrev pub addressed : Told → Told
 addressed t = value_alone ((if t.owns then t.object else t.value) || t.structure)
 
--- a call answers a value, an iterator or a span, an owner, also one that a reference refers to, a struct that one refers to, or a unique_ptr
+-- a call answers a value, an iterator or a span, an owner or a struct, also one that a reference refers to, or a unique_ptr
 abbrev pub answered : Bool → Told
-answered given = record { value = given; owner = given; walker = given; object = given; owns = false; unique = false; fresh = given; structure = given }
+answered given = record { value = given; owner = given; walker = given; object = given; owns = false; unique = given; fresh = given; structure = given }
+
+-- a struct that is made of members
+abbrev pub constructed : (members : Bool) → Told
+constructed members = record { value = false; owner = false; walker = false; object = false; owns = false; unique = false; fresh = false; structure = members }
 
 abbrev pub indexed : Told → Bool → Told
-indexed t position = placed ((either t || t.walker) && position) false
+indexed t position = placed ((either t || t.walker) && position)
 
 -- a member function but `erase`, whose arguments are served as values
 abbrev pub asked : Method → Told → Bool → Told
@@ -79,7 +83,7 @@ asked m t given = record {
   owns = false;
   unique = false;
   fresh = false;
-  structure = false;
+  structure = is_edge m && (t.owns && t.owner);
 }
 
 -- `erase` of what stands at an iterator
@@ -96,7 +100,7 @@ called m t given walks = record {
   owns = false;
   unique = false;
   fresh = false;
-  structure = false;
+  structure = is_edge m && (t.owns && t.owner);
 }
 
 abbrev pub combined : BinaryOperator → Told → Told → Told

@@ -5,10 +5,11 @@ ghost use Rattle.life_typed.specs.TypedStatement.{optional_view};
 ghost use Rattle.life_served.specs.Served as spec;
 ghost use Rattle.life_served.specs.Told as telling;
 
-use crate::kinds::{is_changing, is_erase, is_number_type, is_reset, is_served_method};
+use crate::kinds::{is_changing, is_erase, is_reset, is_served_method};
 use crate::told::{
-    Told, addressed, answered, asked, combined, dereferenced, either, erased, indexed, inverted,
-    made_anew, made_text, member_of, moved_out, named, parenthesised, tests, typed_as, value_alone,
+    Told, addressed, answered, asked, combined, constructed, dereferenced, either, erased, indexed,
+    inverted, made_anew, made_text, member_of, moved_out, named, parenthesised, tests, typed_as,
+    value_alone,
 };
 use life_typed::{ExprForm, TypedExpr, TypedOperand};
 
@@ -56,8 +57,9 @@ fn told_by(texts: usize, form: &ExprForm, operand: Told) -> Told
         ExprForm::Text(number) => value_alone((*number as usize) < texts),
         ExprForm::Local(_) => named(),
         ExprForm::Move(_) => moved_out(),
-        ExprForm::MakeUnique { argument, .. } => made_anew(is_served_made(texts, argument)),
+        ExprForm::MakeUnique { argument, .. } => made_anew(is_served_content(texts, argument)),
         ExprForm::Call { arguments, .. } => answered(are_served_arguments(texts, arguments)),
+        ExprForm::Construct { elements, .. } => constructed(are_served_parts(texts, elements)),
         ExprForm::Paren { .. } => parenthesised(operand),
         ExprForm::TextOf { .. } => made_text(operand),
         ExprForm::Member(_) => member_of(operand),
@@ -80,7 +82,6 @@ fn told_by(texts: usize, form: &ExprForm, operand: Told) -> Told
         ExprForm::Binary { operator, right } => {
             combined(*operator, operand, told_of(texts, right))
         }
-        _ => value_alone(false),
     }
 }
 
@@ -111,13 +112,31 @@ fn are_served_arguments(texts: usize, arguments: &[TypedExpr]) -> bool
     true
 }
 
-// What is made anew has a number, or what stands there at first.
+/// What a struct is given for its members: values, pointers, owners and structs.
 #[cycle(expressions)]
-fn is_served_made(texts: usize, operand: &Option<Box<TypedExpr>>) -> bool
-    ensures { result ≡ spec.is_served_made texts (telling.given_value operand.now) }
+pub fn are_served_parts(texts: usize, elements: &[TypedExpr]) -> bool
+    ensures { result ≡ spec.are_served_parts texts (forms (typed_views elements.now)) }
+{
+    'elements: for element in elements {
+        let told = told_of(texts, element);
+        let served = either(told) | (told.walker | told.structure);
+        if !served {
+            return false;
+        }
+    }
+    true
+}
+
+// What a unique_ptr that is made owns: what stands there at first, an owner, a value, or a struct.
+#[cycle(expressions)]
+fn is_served_content(texts: usize, operand: &Option<Box<TypedExpr>>) -> bool
+    ensures { result ≡ spec.is_served_content texts (telling.given_value operand.now) }
 {
     match operand {
-        Some(operand) => is_number_type(operand.ty) && told_of(texts, operand).value,
+        Some(operand) => {
+            let told = told_of(texts, operand);
+            either(told) | told.structure
+        }
         None => true,
     }
 }
@@ -133,21 +152,9 @@ fn begins_with_walker(texts: usize, expressions: &[TypedExpr]) -> bool
     }
 }
 
-/// What a vector is given: values and owners.
+/// What a vector is given: values, owners and structs.
 pub fn are_served_elements(texts: usize, elements: &[TypedExpr]) -> bool
     ensures { result ≡ spec.are_served_elements texts (forms (typed_views elements.now)) }
-{
-    'elements: for element in elements {
-        if !either(told_of(texts, element)) {
-            return false;
-        }
-    }
-    true
-}
-
-/// What a struct is given for its members: values, owners and structs.
-pub fn are_served_parts(texts: usize, elements: &[TypedExpr]) -> bool
-    ensures { result ≡ spec.are_served_parts texts (forms (typed_views elements.now)) }
 {
     'elements: for element in elements {
         let told = told_of(texts, element);
@@ -223,7 +230,7 @@ pub fn is_served_change(texts: usize, expression: &TypedExpr) -> bool
 
 /// A unique_ptr owns nothing more, by what is told of what the form is applied to.
 fn is_reset_of(form: &ExprForm, base: Told) -> bool
-    ensures { (texts : ℕ) (f : Form) → telling.told texts f ≡ base → result ≡ spec.is_served_reset (form_view form.now f) }
+    ensures { (texts : ℕ) (f : Form) → telling.told texts f ≡ base → result ≡ spec.is_served_reset texts (form_view form.now f) }
 {
     match form {
         ExprForm::Method { method, .. } => is_reset(*method) && base.unique,
@@ -233,7 +240,7 @@ fn is_reset_of(form: &ExprForm, base: Told) -> bool
 
 /// A unique_ptr owns nothing more.
 pub fn is_served_reset(texts: usize, expression: &TypedExpr) -> bool
-    ensures { result ≡ spec.is_served_reset (typed_view expression.now).form }
+    ensures { result ≡ spec.is_served_reset texts (typed_view expression.now).form }
 {
     is_reset_of(&expression.form, told_within(texts, &expression.within))
 }
@@ -260,24 +267,12 @@ pub fn calls_any(form: &ExprForm) -> bool
     }
 }
 
-// What a unique_ptr that is made owns: what stands there at first, a value, or an owner.
-fn is_served_content(texts: usize, operand: &Option<Box<TypedExpr>>) -> bool
-    ensures { result ≡ spec.is_served_content texts (telling.given_value operand.now) }
-{
-    match operand {
-        Some(operand) => either(told_of(texts, operand)),
-        None => true,
-    }
-}
-
-/// What a unique_ptr is made of: nothing, a new value or owner, or what is moved out of a variable.
-pub fn fills_unique(texts: usize, form: &ExprForm) -> bool
-    ensures { (f : Form) → result ≡ spec.fills_unique texts (form_view form.now f) }
+/// A unique_ptr is made of nothing.
+pub fn is_nullptr(form: &ExprForm) -> bool
+    ensures { (f : Form) → result ≡ spec.is_nullptr (form_view form.now f) }
 {
     match form {
         ExprForm::Null => true,
-        ExprForm::MakeUnique { argument, .. } => is_served_content(texts, argument),
-        ExprForm::Move(_) => true,
         _ => false,
     }
 }

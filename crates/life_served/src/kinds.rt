@@ -7,7 +7,7 @@ ghost use Rattle.life_typed.specs.Conversions.{is_place};
 ghost use Rattle.life_served.specs.Served as spec;
 
 use life_typed::{BinaryOperator, Category, ExprType, Method};
-use life_types::{Ty, TyId, TypeTable, is_unique, is_value, is_view, is_void};
+use life_types::{Ty, TyId, TypeTable, is_plain, is_unique, is_value, is_view, is_void};
 
 // How many types each table begins with.
 const BASE_TYPES: u32 = 8;
@@ -17,9 +17,6 @@ const STEPS: u32 = 8;
 
 // How many it may have from an element on.
 const INNER_STEPS: u32 = 7;
-
-// How many it may have from a member on, so far: members of members are asked anew wherever they stand.
-const MEMBER_STEPS: u32 = 2;
 
 // One member more than a struct may have.
 const TOO_MANY_MEMBERS: usize = 33;
@@ -35,7 +32,49 @@ pub fn type_at(types: &TypeTable, id: TyId) -> Ty
 
 // ---- types that are served
 
-// A string, or a vector of values or of such owners, where no path into it has more steps.
+pub fn is_struct(ty: Ty) -> bool
+    ensures { result ≡ spec.is_struct ty }
+{
+    match ty {
+        Ty::Struct(_) => true,
+        _ => false,
+    }
+}
+
+// The members of a struct, and none of one that isn't there.
+fn members_of(types: &TypeTable, number: u32) -> &[TyId]
+    ensures { result.now ≡ members_at types.now number }
+{
+    if (number as usize) < types.struct_count() {
+        types.members(number)
+    } else {
+        &[]
+    }
+}
+
+// None of these types has a pointer in it.
+fn are_plain(types: &TypeTable, members: &[TyId]) -> bool
+    ensures { result ≡ spec.are_plain types.now members.now }
+{
+    'members: for member in members {
+        if !is_plain(types, *member) {
+            return false;
+        }
+    }
+    true
+}
+
+// A struct that holds no pointer.
+fn is_plain_struct(types: &TypeTable, ty: Ty) -> bool
+    ensures { result ≡ spec.is_plain_struct types.now ty }
+{
+    match ty {
+        Ty::Struct(number) => are_plain(types, members_of(types, number)),
+        _ => false,
+    }
+}
+
+// A string, or a vector of values, of structs without pointers or of such owners, where vectors stand no deeper in it.
 fn is_owner_within(steps: u32, types: &TypeTable, ty: Ty) -> bool
     ensures { result ≡ spec.is_owner_within steps types.now ty }
 {
@@ -46,17 +85,18 @@ fn is_owner_within(steps: u32, types: &TypeTable, ty: Ty) -> bool
         Ty::Text => true,
         Ty::Vector(element) => {
             let inner = type_at(types, element);
-            is_value(inner) || is_owner_within(steps - 1, types, inner)
+            is_value(inner)
+                || (is_plain_struct(types, inner) || is_owner_within(steps - 1, types, inner))
         }
         _ => false,
     }
 }
 
-/// What a vector has: values, or such owners.
+/// What a vector has: values, structs without pointers, or such owners.
 pub fn is_element(types: &TypeTable, ty: Ty) -> bool
     ensures { result ≡ spec.is_element types.now ty }
 {
-    is_value(ty) || is_owner_within(INNER_STEPS, types, ty)
+    is_value(ty) || (is_plain_struct(types, ty) || is_owner_within(INNER_STEPS, types, ty))
 }
 
 // A string, or a vector.
@@ -66,23 +106,14 @@ fn is_owner_of_values(types: &TypeTable, ty: Ty) -> bool
     is_owner_within(STEPS, types, ty)
 }
 
-pub fn is_struct(ty: Ty) -> bool
-    ensures { result ≡ spec.is_struct ty }
-{
-    match ty {
-        Ty::Struct(_) => true,
-        _ => false,
-    }
-}
-
 // What a raw pointer or a reference is to.
 fn is_target(types: &TypeTable, ty: Ty) -> bool
     ensures { result ≡ spec.is_target types.now ty }
 {
-    is_value(ty) || (is_owner_of_values(types, ty) || is_struct(ty))
+    is_value(ty) || (is_owner_of_values(types, ty) || is_plain_struct(types, ty))
 }
 
-// A raw pointer or a reference to a value, an owner or a struct, or a view of characters.
+// A raw pointer or a reference to a value, an owner or a struct without pointers, or a view of characters.
 fn is_pointing(types: &TypeTable, ty: Ty) -> bool
     ensures { result ≡ spec.is_pointing types.now ty }
 {
@@ -105,7 +136,7 @@ fn is_walker_of_values(types: &TypeTable, ty: Ty) -> bool
     }
 }
 
-// A unique_ptr to a value or to such an owner.
+// A unique_ptr to a value, a struct or such an owner.
 fn is_unique_of_element(types: &TypeTable, ty: Ty) -> bool
     ensures { result ≡ spec.is_unique_of_element types.now ty }
 {
@@ -138,38 +169,30 @@ pub fn has_served_types(types: &TypeTable) -> bool
     false
 }
 
-// The members of a struct, and none of one that isn't there.
-fn members_of(types: &TypeTable, number: u32) -> &[TyId]
-    ensures { result.now ≡ members_at types.now number }
+// A pointer that a struct may hold: all but references.
+fn is_pointer_member(types: &TypeTable, ty: Ty) -> bool
+    ensures { result ≡ spec.is_pointer_member types.now ty }
 {
-    if (number as usize) < types.struct_count() {
-        types.members(number)
-    } else {
-        &[]
-    }
-}
-
-// What a member of a struct is, where no path into it has more steps: a value, an owner, or a struct of
-// such members.
-#[cycle(members)]
-fn is_member_within(steps: u32, types: &TypeTable, ty: Ty) -> bool
-    ensures { result ≡ spec.is_member_within steps types.now ty }
-{
-    if steps == 0 {
-        return is_value(ty);
-    }
     match ty {
-        Ty::Struct(number) => are_members_within(steps - 1, types, members_of(types, number)),
-        _ => is_value(ty) || is_owner_within(steps, types, ty),
+        Ty::Raw { .. } => is_pointing(types, ty),
+        Ty::View => true,
+        _ => is_walker_of_values(types, ty),
     }
 }
 
-#[cycle(members)]
-fn are_members_within(steps: u32, types: &TypeTable, members: &[TyId]) -> bool
-    ensures { result ≡ spec.have_each (spec.is_member_within steps types.now) types.now members.now }
+// What a member of a struct is: a value, a pointer, an owner, or a struct, which is asked itself.
+fn is_struct_member(types: &TypeTable, ty: Ty) -> bool
+    ensures { result ≡ spec.is_struct_member types.now ty }
+{
+    is_value(ty)
+        || (is_pointer_member(types, ty) || (is_owner_of_values(types, ty) || is_struct(ty)))
+}
+
+fn are_members(types: &TypeTable, members: &[TyId]) -> bool
+    ensures { result ≡ spec.have_each (spec.is_struct_member types.now) types.now members.now }
 {
     'members: for member in members {
-        if !is_member_within(steps, types, type_at(types, *member)) {
+        if !is_struct_member(types, type_at(types, *member)) {
             return false;
         }
     }
@@ -180,7 +203,7 @@ fn are_members_within(steps: u32, types: &TypeTable, members: &[TyId]) -> bool
 fn are_struct_members(types: &TypeTable, members: &[TyId]) -> bool
     ensures { result ≡ spec.are_struct_members types.now members.now }
 {
-    members.len() < TOO_MANY_MEMBERS && are_members_within(MEMBER_STEPS, types, members)
+    members.len() < TOO_MANY_MEMBERS && are_members(types, members)
 }
 
 fn hold_members(types: &TypeTable, count: u32) -> bool
@@ -205,29 +228,20 @@ pub fn has_fine_structs(types: &TypeTable) -> bool
     }
 }
 
-// What is given over as a whole: an owner, or a unique_ptr.
+// What is given over and back as a whole: an owner, a unique_ptr, or a struct without pointers.
 fn is_owning(types: &TypeTable, ty: Ty) -> bool
     ensures { result ≡ spec.is_owning types.now ty }
 {
-    is_owner_of_values(types, ty) || is_unique_of_element(types, ty)
+    is_owner_of_values(types, ty) || (is_unique_of_element(types, ty) || is_plain_struct(types, ty))
 }
 
-/// What a parameter may hold; what is given over where the function gives a value, such a one or nothing.
-pub fn is_served_parameter(types: &TypeTable, owners: bool, id: TyId) -> bool
-    ensures { result ≡ spec.is_served_parameter types.now owners id }
+/// What a parameter may hold.
+pub fn is_served_parameter(types: &TypeTable, id: TyId) -> bool
+    ensures { result ≡ spec.is_served_parameter types.now id }
 {
     let ty = type_at(types, id);
     is_value(ty)
-        || (is_pointing(types, ty)
-            || (is_walker_of_values(types, ty) || (owners && is_owning(types, ty))))
-}
-
-/// Whether a function that gives back this may take owners.
-pub fn takes_owners(types: &TypeTable, given: TyId) -> bool
-    ensures { result ≡ spec.takes_owners types.now given }
-{
-    let ty = type_at(types, given);
-    is_void(ty) || (is_value(ty) || is_owning(types, ty))
+        || (is_pointing(types, ty) || (is_walker_of_values(types, ty) || is_owning(types, ty)))
 }
 
 /// What any variable may hold.
@@ -238,8 +252,8 @@ pub fn is_served_variable(types: &TypeTable, id: TyId) -> bool
     is_value(ty) || is_served_type(types, ty)
 }
 
-/// What is given back: a value, or what points to one, to an owner or to a struct, an iterator or a span,
-/// or nothing.
+/// What is given back: a value, or what points to one, to an owner or to a struct, an iterator or a span, an owner,
+/// a unique_ptr or a struct, or nothing.
 pub fn is_served_result(types: &TypeTable, id: TyId) -> bool
     ensures { result ≡ spec.is_served_result types.now id }
 {
@@ -316,13 +330,30 @@ pub fn takes_value(ty: Ty) -> bool
     !(owns_elements(ty) || (is_walker(ty) || (is_unique(ty) || is_struct(ty))))
 }
 
-/// What a list in braces is given to: a vector, a reference to one, or a struct.
+// What a list in braces builds: a vector or a struct.
+fn is_listed(ty: Ty) -> bool
+    ensures { result ≡ spec.is_listed ty }
+{
+    is_vector(ty) || is_struct(ty)
+}
+
+/// What a list in braces is given to: a vector, a struct, or a reference to one.
 pub fn takes_list(types: &TypeTable, ty: Ty) -> bool
     ensures { result ≡ spec.takes_list types.now ty }
 {
     match ty {
-        Ty::Reference { target, .. } => is_vector(type_at(types, target)),
-        _ => is_vector(ty) || is_struct(ty),
+        Ty::Reference { target, .. } => is_listed(type_at(types, target)),
+        _ => is_listed(ty),
+    }
+}
+
+/// Whether what a list builds for it is a struct.
+pub fn lists_members(types: &TypeTable, ty: Ty) -> bool
+    ensures { result ≡ spec.lists_members types.now ty }
+{
+    match ty {
+        Ty::Reference { target, .. } => is_struct(type_at(types, target)),
+        _ => is_struct(ty),
     }
 }
 

@@ -6,7 +6,7 @@ ghost use Rattle.life_typed.specs.TypedForm.{typed_view};
 ghost use Rattle.life_served.specs.Served as spec;
 
 use crate::expressions::told_of;
-use crate::kinds::{is_element, is_view_type, owns_elements, takes_owner, type_at};
+use crate::kinds::{is_element, is_struct, is_view_type, owns_elements, takes_owner, type_at};
 use life_typed::{Category, TypedExpr, TypedLocal, range_element};
 use life_types::{Ty, TyId, TypeTable, is_value};
 
@@ -18,12 +18,14 @@ pub fn is_served_range(texts: usize, range: &TypedExpr) -> bool
     (told.owns & told.owner) | ((is_view_type(range.ty) & told.value) | told.walker)
 }
 
-// What is given an owner as such is given one, and a value a value.
+// What is given an owner as such is given one, a struct a struct, and a value a value.
 fn takes_whole(ty: Ty, element: Ty) -> bool
     ensures { result ≡ spec.takes_whole ty element }
 {
     if takes_owner(ty) {
         owns_elements(element)
+    } else if is_struct(ty) {
+        is_struct(element)
     } else {
         is_value(ty) && is_value(element)
     }

@@ -1,13 +1,12 @@
-// Which programs are served so far: values, strings, vectors of values and of such owners, structs of
-// values, of strings and vectors and of such structs, raw pointers and references to these, views of
-// characters, literals, iterators and spans, and unique_ptrs to values.
+// Which programs are served so far: values, strings, vectors of values, of structs and of such owners,
+// structs of values, of strings and vectors and of such structs, raw pointers and references to these,
+// views of characters, literals, iterators and spans, and unique_ptrs to these.
 ghost use Rattle.std.specs.Prelude.{◌≡◌, ◌+◌, length, map, take};
 ghost use Rattle.life_typed.specs.Programs.{function_view, program_view};
 ghost use Rattle.life_served.specs.Served as spec;
 
 use crate::kinds::{
     has_fine_structs, has_served_types, is_served_parameter, is_served_result, is_served_variable,
-    takes_owners,
 };
 use crate::statements::is_served_block;
 use life_typed::{Typed, TypedFunction, TypedLocal};
@@ -25,11 +24,11 @@ fn first_of(count: usize, variables: &[TypedLocal]) -> &[TypedLocal]
     }
 }
 
-fn are_served_parameters(types: &TypeTable, owners: bool, variables: &[TypedLocal]) -> bool
-    ensures { result ≡ spec.are_served_parameters types.now owners variables.now }
+fn are_served_parameters(types: &TypeTable, variables: &[TypedLocal]) -> bool
+    ensures { result ≡ spec.are_served_parameters types.now variables.now }
 {
     'parameters: for variable in variables {
-        if !is_served_parameter(types, owners, variable.ty) {
+        if !is_served_parameter(types, variable.ty) {
             return false;
         }
     }
@@ -50,27 +49,18 @@ fn are_served_variables(types: &TypeTable, variables: &[TypedLocal]) -> bool
 fn is_served_function(texts: usize, types: &TypeTable, function: &TypedFunction) -> bool
     ensures { result ≡ spec.is_served_function texts types.now (function_view function.now) }
 {
-    let owners = takes_owners(types, function.result);
     is_served_result(types, function.result)
-        && (are_served_parameters(
-            types,
-            owners,
-            first_of(function.parameters.len(), &function.locals),
-        ) && (are_served_variables(types, &function.locals)
-            && is_served_block(&function.body, texts, types, &function.locals)))
+        && (are_served_parameters(types, first_of(function.parameters.len(), &function.locals))
+            && (are_served_variables(types, &function.locals)
+                && is_served_block(&function.body, texts, types, &function.locals)))
 }
 
-/// Whether a program is served: each type in it is `void`, a value type, `std::string`, a `std::vector` of
-/// values, of strings or of vectors, one in the other down to eight, a struct of values, of strings and vectors
-/// and of such structs, a raw pointer or a reference to one of these, `std::string_view`, an iterator or a span,
-/// or a `std::unique_ptr` to a value, a string or a vector; no function takes or gives a struct by value, none is
-/// in a vector, and none is made but by a declaration of its own; no function takes an owner by value that gives
-/// a pointer, a reference, an iterator or a span; no unique_ptr is made but by a declaration, an assignment, for
-/// a parameter or where it is given back, and for these two of a number if of anything; no vector but by these,
-/// by a call or for a reference to const, and no string but by these, for a parameter, by `+` or by
-/// `std::string(..)`; a loop over a range goes over a string, a vector, a view or a span, and its variable is an
-/// element's copy, a reference to it or to its value, or a view or a span of it. A table of types without numbers
-/// that are left counts as not served.
+/// Whether a program is served: each type in it is `void`, a value type, `std::string`, a struct, a `std::vector` of
+/// these, one in the other down to eight, a raw pointer or a reference to one of these, `std::string_view`, an iterator
+/// or a span, or a `std::unique_ptr` to a value, a string, a vector or a struct; no struct has a `std::unique_ptr`, and
+/// none with pointers is taken or given by value; nothing is assigned to but places; and no unique_ptr that is made
+/// stands alone, in parentheses, or where it is asked or dereferenced. A table of types without numbers that are left
+/// counts as not served.
 pub fn is_served(typed: &Typed) -> bool
     ensures { result ≡ spec.is_served (program_view typed.now) }
 {

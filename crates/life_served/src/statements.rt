@@ -1,23 +1,24 @@
 // Which statements are served.
 ghost use Rattle.std.specs.Prelude.{◌≡◌, ◌&&◌, map};
 ghost use Rattle.life_typed.specs.BaseTypes.{type_at as type_there};
+ghost use Rattle.life_typed.specs.Conversions.{is_place};
 ghost use Rattle.life_typed.specs.TypedForm.{forms, typed_view, typed_views};
 ghost use Rattle.life_typed.specs.TypedStatement.{block_item_view, block_view, branch_view, declaration_view, for_start_view, initial_view, item_view, one, optional_view, simple_view, stmt_forms, stmt_view};
 ghost use Rattle.life_served.specs.Served as spec;
 
 use crate::expressions::{
-    are_served_elements, are_served_parts, calls_any, fills_owner, fills_unique, is_call,
+    are_served_elements, are_served_parts, calls_any, fills_owner, is_call, is_nullptr,
     is_served_change, is_served_condition, is_served_condition_if, is_served_if_any,
     is_served_reset, told_of,
 };
 use crate::kinds::{
-    is_number_type, is_struct, is_vector_type, is_view_type, is_walker, owns_elements, takes_list,
-    takes_owner, takes_struct, takes_value, type_at,
+    is_number_type, is_placed, is_vector_type, is_view_type, is_walker, lists_members,
+    owns_elements, takes_list, takes_owner, takes_struct, takes_value, type_at,
 };
 use crate::ranges::{element_of, is_served_range, takes_elements};
 use crate::told::{Told, either};
 use life_typed::{
-    TypedBlock, TypedBlockItem, TypedBranch, TypedDeclaration, TypedExpr, TypedForStart,
+    Category, TypedBlock, TypedBlockItem, TypedBranch, TypedDeclaration, TypedExpr, TypedForStart,
     TypedInitial, TypedItem, TypedLocal, TypedSimple, TypedStmt,
 };
 use life_types::{Ty, TyId, TypeTable, is_unique};
@@ -33,15 +34,15 @@ fn is_served_given(texts: usize, ty: Ty, value: &TypedExpr) -> bool
         | ((takes_owner(ty) & (told.owns & told.owner))
             | ((owns_elements(ty) & fills_owner(texts, &value.form))
                 | ((is_walker(ty) & told.walker)
-                    | ((is_unique(ty) & (fills_unique(texts, &value.form) | told.fresh))
+                    | ((is_unique(ty) & (is_nullptr(&value.form) | told.fresh))
                         | (takes_struct(ty) & told.structure)))))
 }
 
 // By a list in braces.
-fn are_served_listed(texts: usize, ty: Ty, elements: &[TypedExpr]) -> bool
-    ensures { result ≡ spec.are_served_listed texts ty (forms (typed_views elements.now)) }
+fn are_served_listed(texts: usize, members: bool, elements: &[TypedExpr]) -> bool
+    ensures { result ≡ spec.are_served_listed texts members (forms (typed_views elements.now)) }
 {
-    if is_struct(ty) {
+    if members {
         are_served_parts(texts, elements)
     } else {
         are_served_elements(texts, elements)
@@ -61,7 +62,8 @@ fn is_served_initial(
         None => true,
         Some(TypedInitial::Expr(value)) => is_served_given(texts, ty, value),
         Some(TypedInitial::List(list)) => {
-            takes_list(types, ty) && are_served_listed(texts, ty, &list.elements)
+            takes_list(types, ty)
+                && are_served_listed(texts, lists_members(types, ty), &list.elements)
         }
     }
 }
@@ -96,6 +98,13 @@ fn is_owning(told: Told) -> bool
     told.owns & told.owner
 }
 
+// A unique_ptr that is named.
+fn is_holder(told: Told, category: Category) -> bool
+    ensures { result ≡ is_place category && told.unique }
+{
+    is_placed(category) & told.unique
+}
+
 fn is_served_by_one(texts: usize, target: &TypedExpr, value: &TypedExpr) -> bool
     ensures { result ≡ spec.is_served_assigned texts (typed_view target.now) (one (typed_view value.now)) }
 {
@@ -106,7 +115,7 @@ fn is_served_by_one(texts: usize, target: &TypedExpr, value: &TypedExpr) -> bool
         | ((is_target(to) & (owning | fills_owner(texts, &value.form)))
             | (((is_view_type(target.ty) & to.value) & owning)
                 | ((to.walker & (from.walker | owning))
-                    | ((to.unique & (fills_unique(texts, &value.form) | from.fresh))
+                    | ((is_holder(to, target.category) & (is_nullptr(&value.form) | from.fresh))
                         | (to.structure & from.structure)))))
 }
 
@@ -116,8 +125,10 @@ fn is_served_assigned(texts: usize, target: &TypedExpr, value: &TypedInitial) ->
     match value {
         TypedInitial::Expr(value) => is_served_by_one(texts, target, value),
         TypedInitial::List(list) => {
-            is_target(told_of(texts, target))
-                && (is_vector_type(target.ty) && are_served_elements(texts, &list.elements))
+            let to = told_of(texts, target);
+            (is_target(to)
+                && (is_vector_type(target.ty) && are_served_elements(texts, &list.elements)))
+                || (to.structure && are_served_parts(texts, &list.elements))
         }
     }
 }

@@ -21,11 +21,11 @@ pub struct Told {
     pub object: bool,
     /// And whether it is an owner.
     pub owns: bool,
-    /// As a unique_ptr that is named.
+    /// As a unique_ptr that is named, or given by a call.
     pub unique: bool,
-    /// As a unique_ptr that is made, or moved out of a variable.
+    /// As a unique_ptr that is made, moved out of a variable, or given by a call.
     pub fresh: bool,
-    /// As a struct at a place.
+    /// As a struct.
     pub structure: bool,
 }
 
@@ -137,7 +137,7 @@ pub fn member_of(base: Told) -> Told
     Told {
         value: base.structure,
         owner: base.structure,
-        walker: false,
+        walker: base.structure,
         object: base.structure,
         owns: false,
         unique: false,
@@ -146,9 +146,9 @@ pub fn member_of(base: Told) -> Told
     }
 }
 
-/// What stands at a place may be an owner, and behind a pointer a struct.
-fn placed(there: bool, structure: bool) -> Told
-    ensures { result ≡ spec.placed there structure }
+/// What stands at a place may be an owner or a struct.
+fn placed(there: bool) -> Told
+    ensures { result ≡ spec.placed there }
 {
     Told {
         value: there,
@@ -158,17 +158,17 @@ fn placed(there: bool, structure: bool) -> Told
         owns: false,
         unique: false,
         fresh: false,
-        structure,
+        structure: there,
     }
 }
 
 pub fn dereferenced(inner: Told) -> Told
     ensures { result ≡ spec.dereferenced inner }
 {
-    placed(inner.value | (inner.walker | inner.unique), inner.value)
+    placed(inner.value | (inner.walker | inner.unique))
 }
 
-/// What decides: a value, or a unique_ptr that is named.
+/// What decides: a value, or a unique_ptr.
 pub fn tests(told: Told) -> bool
     ensures { result ≡ spec.tests told }
 {
@@ -193,8 +193,8 @@ pub fn addressed(inner: Told) -> Told
     value_alone(placed | inner.structure)
 }
 
-/// A call answers a value, an iterator or a span, an owner, also one that a reference refers to, a struct that
-/// one refers to, or a unique_ptr.
+/// A call answers a value, an iterator or a span, an owner or a struct, also one that a reference refers to, or a
+/// unique_ptr.
 pub fn answered(given: bool) -> Told
     ensures { result ≡ spec.answered given }
 {
@@ -204,16 +204,32 @@ pub fn answered(given: bool) -> Told
         walker: given,
         object: given,
         owns: false,
-        unique: false,
+        unique: given,
         fresh: given,
         structure: given,
+    }
+}
+
+/// A struct that is made of members.
+pub fn constructed(members: bool) -> Told
+    ensures { result ≡ spec.constructed members }
+{
+    Told {
+        value: false,
+        owner: false,
+        walker: false,
+        object: false,
+        owns: false,
+        unique: false,
+        fresh: false,
+        structure: members,
     }
 }
 
 pub fn indexed(base: Told, position: bool) -> Told
     ensures { result ≡ spec.indexed base position }
 {
-    placed((either(base) | base.walker) & position, false)
+    placed((either(base) | base.walker) & position)
 }
 
 /// A member function but `erase`.
@@ -230,7 +246,7 @@ pub fn asked(method: Method, base: Told, arguments: bool) -> Told
         owns: false,
         unique: false,
         fresh: false,
-        structure: false,
+        structure: is_edge(method) & owning,
     }
 }
 

@@ -23,7 +23,7 @@ check_program-requires-clause-proper g c =
     let typed = c.requires.well_typed in
     let results = c.requires.results in
     translated_proper p (program_of c.in_ok-program.program) c.in_ok-program.ensures.program.0 c.in_ok-program.ensures.program.1 c.in_ok-program.ensures.numbered
-    (c.translations_have_short_places.ensures p typed results c.requires.table served)
+    (c.translations_have_short_places.ensures p typed results c.requires.table served c.in_ok-program.ensures.program.1)
     (c.translations_are_proper.ensures.proper p typed results c.requires.table c.requires.names c.requires.mains served)
 
 pub check_program-requires-clause-served : goal.check_program-requires-clause-served

@@ -42,7 +42,7 @@ told_by-returns-in-Move t c = λ f h. c.moved_out.ensures ∙ sym (seen_move c.a
 
 pub told_by-returns-in-MakeUnique : goal.told_by-returns-in-MakeUnique
 told_by-returns-in-MakeUnique t c = λ f h.
-    c.made_anew.ensures ∙ ap made_anew c.is_served_made.ensures
+    c.made_anew.ensures ∙ ap made_anew c.is_served_content.ensures
     ∙ sym (seen_make c.args.texts f c.in-MakeUnique.element c.in-MakeUnique.argument c.in-MakeUnique.closing) ∙ sym (ap (λ (x : ExprForm). told c.args.texts (form_view x f)) c.in-MakeUnique.is)
 
 pub told_by-returns-in-TextOf : goal.told_by-returns-in-TextOf
