@@ -1,0 +1,39 @@
+// Tasks where the next one is looked at by reference: once it is erased, its place holds another task or none.
+#include <iostream>
+#include <string>
+#include <vector>
+
+struct Task {
+  std::string name;
+  int day;
+};
+
+Task planned(std::string name, int day) {
+  Task task;
+  task.name = std::move(name);
+  task.day = day;
+  return task;
+}
+
+int main() {
+  std::vector<Task> tasks;
+  tasks.push_back(planned("paint", 4));
+  tasks.push_back(planned("measure", 1));
+  tasks.push_back(planned("sand", 3));
+  tasks.push_back(planned("clean", 1));
+  int days = 0;
+  while (!tasks.empty()) {
+    auto next = tasks.begin();
+    for (auto it = tasks.begin(); it != tasks.end(); ++it) {
+      if (it->day < next->day) {
+        next = it;
+      }
+    }
+    const Task& task = *next;
+    tasks.erase(next);
+    days += task.day;
+    std::cout << task.name << '(' << task.day << ") ";
+  }
+  std::cout << std::endl;
+  return days;
+}
