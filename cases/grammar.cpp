@@ -1,4 +1,4 @@
-// A file of the whole grammar, more of which is parsed than is checked so far.
+// A file of many forms of the grammar, in which three things are wrong.
 struct Word {
   std::string text;
   int count;
