@@ -32,7 +32,7 @@ use Rattle.life_writer.specs.declared.behind.Behind.{Behind}
 use Rattle.life_elab_laws.proofs.Conditions.{Tests, not_null_part}
 use Rattle.life_elab_laws.proofs.Elements.{element_target}
 use Rattle.life_elab_laws.proofs.ExpressionForms.{Standing, pointer_part}
-use Rattle.life_elab_laws.proofs.FreshUniques.{IsFreshAt}
+use Rattle.life_elab_laws.proofs.FreshUniques.{IsFreshAt, fresh_same}
 use Rattle.life_elab_laws.proofs.Gifts.{a_pointer}
 use Rattle.life_elab_laws.proofs.MadeForms.{temporary_made}
 use Rattle.life_elab_laws.proofs.OwnLocals.{first_own}
@@ -70,13 +70,7 @@ module _ (a : Around) (visible : List ℕ) (types : Types) (texts : ℕ) (fs : L
   answered_same : (e e' : Typed) (object : State → Gives Remaining) (decision other : Behind → Option (State → Gives Tree)) (named : Option ℕ) → e.ty ≡ e'.ty → e.category ≡ e'.category
       → ((b : Behind) → ((c : Behind) → decision c ≡ None) → other b ≡ None) → IsAnsweredAt e object decision named → IsAnsweredAt e' object other named
   answered_same e e' object decision other named t c still is = record {
-    fresh = record {
-      owned = is.fresh.owned;
-      is = sym t ∙ is.fresh.is;
-      value = sym c ∙ is.fresh.value;
-      builds = λ target worth given s stands.
-          is.fresh.builds target worth (subst (λ (x : ExprType). fits_at_all (fits a.program.types (ty.Unique target) x e.category) ≡ true) (sym t) (subst (λ (k : Category). fits_at_all (fits a.program.types (ty.Unique target) e'.ty k) ≡ true) (sym c) given)) s stands;
-    };
+    fresh = fresh_same a visible types texts fs f setting e e' object t c is.fresh;
     worth = is.worth;
     undecided = λ b. still b is.undecided;
     nameless = is.nameless;
@@ -102,7 +96,7 @@ module _ (a : Around) (visible : List ℕ) (types : Types) (texts : ℕ) (fs : L
       target = target;
       is = is.fresh.is;
       worth = is.worth;
-      local = there;
+      location = λ s. mapped whole (there s);
       here = λ s stands.
           ap (λ (c : Category). operand_by c (uses a form).at (temporary_of (uses a form) (own (uses a form))) s) value_answered
           ∙ ap (λ (t : Ty). mapped object_named (temporary_of (uses a form) t s)) own_answered;

@@ -2,7 +2,7 @@
 use Rattle.std.proofs.Common.{◌≡◌, [], ℕ, ◌<◌, Bool, true, false, ◌&&◌, ◌||◌, cond, not, List, ◌∷◌, ◌++◌, length, slice_get, Option, Some, None, refl, sym, ap, ◌∙◌, subst, unwrap_or, arith, append_assoc, inl, inr, nat_lt, flat_map, length-append}
 use Rattle.std.proofs.lemmas.Bool.{and_parts, false≢true, or_cases, and_from}
 use Rattle.std.specs.List.{list_all}
-use Rattle.life_served.specs.Served.{is_owner_of_values, is_owner_type, is_plain_struct, is_served_declaration, is_served_declared, is_served_expression, is_served_initial, is_served_owned, is_served_owner, is_served_variable, is_served_walker, is_walker, is_walker_of_values, owns_elements, is_served_owning, are_served_elements, are_served_listed, is_element, is_target, takes_list, takes_owner, takes_value, fills_owner, is_served_struct, is_struct, takes_struct, is_served_fresh, is_nullptr, are_served_parts, lists_members}
+use Rattle.life_served.specs.Served.{is_owner_of_values, is_owner_type, is_plain_struct, is_served_declaration, is_served_declared, is_served_expression, is_served_initial, is_served_owned, is_served_owner, is_served_variable, is_served_walker, is_walker, is_walker_of_values, owns_elements, is_served_owning, are_served_elements, are_served_listed, is_element, is_target, takes_list, takes_owner, takes_value, fills_owner, is_served_struct, is_struct, takes_struct, is_served_fresh, is_nullptr, are_served_arguments, lists_members}
 use Rattle.life_types.specs.Pointees.{ty_of}
 use Rattle.life_types.specs.TypeTests.{is_value, is_view, is_unique, is_reference}
 use Rattle.life_types.specs.Types.{Types, class}
@@ -738,7 +738,7 @@ module _ (a : Around) (types : Types) (texts : ℕ) (fs : List Function) (f : Fu
         served_there : (target : TyId) (constant : Bool) → slice_get a.program.types.types u.ty.0 ≡ Some (ty.Reference target constant) → (b : Bool) → is_struct (type_at a.program.types target) ≡ b → are_served_listed texts b (forms list.elements) ≡ true
         served_there target constant is b same = subst (λ (b : Bool). are_served_listed texts b (forms list.elements) ≡ true) same (served (ty.Reference target constant) is)
 
-        parts : are_served_parts texts (forms list.elements) ≡ true → AreListed a v.visible types texts fs f setting (forms list.elements)
+        parts : are_served_arguments texts (forms list.elements) ≡ true → AreListed a v.visible types texts fs f setting (forms list.elements)
         parts b = listings a v.visible types texts fs f setting (forms list.elements) b i.1
 
         given : are_served_elements texts (forms list.elements) ≡ true → AreGiving a v.visible types texts fs f setting (forms list.elements)

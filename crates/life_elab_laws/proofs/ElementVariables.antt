@@ -46,7 +46,8 @@ use Rattle.life_elab_laws.proofs.Aiming.{keeps_further}
 use Rattle.life_elab_laws.proofs.Handing.{handing_none}
 use Rattle.life_elab_laws.proofs.BoundVariables.{bound_under, kept_none, kept_place, temporary_below, temporary_lives, value_below, with_temporary}
 use Rattle.life_elab_laws.proofs.Declaring.{begins_old, declared_under, its_local, new_below, new_none, with_new}
-use Rattle.life_elab_laws.proofs.Elements.{element_target, element_there, one_element, owner_element}
+use Rattle.life_elab_laws.proofs.CopiedStructs.{is_copied_struct, plain_copied}
+use Rattle.life_elab_laws.proofs.Elements.{element_target, element_there, one_element, owner_element, struct_within}
 use Rattle.life_elab_laws.proofs.Falling.{Falls, falls_filling}
 use Rattle.life_elab_laws.proofs.Filling.{aimed_filling, filling_fills}
 use Rattle.life_elab_laws.proofs.Following.{Follows, follows_settled, settled}
@@ -240,13 +241,13 @@ module _ (a : Around) (types : Types) (texts : ℕ) (fs : List Function) (f : Fu
       by_owner (ty.Vector item) o = refl
       by_owner _ o = absurd (false≢true o)
 
-  pub struct_declared : (number : ℕ) → slice_get a.program.types.types u.ty.0 ≡ Some (ty.Struct number) → t ≡ ty.Struct number → Born (given_element a (class (Some (type_of a u.ty))) u colon it element s)
-  struct_declared number is same_type =
+  pub struct_declared : (number : ℕ) → is_copied_struct types number ≡ true → slice_get a.program.types.types u.ty.0 ≡ Some (ty.Struct number) → t ≡ ty.Struct number → Born (given_element a (class (Some (type_of a u.ty))) u colon it element s)
+  struct_declared number copies is same_type =
       subst Born (sym (copied_written (ty.Struct number) is refl))
       (copied_born (λ b. record { given = refl; formed = object_lives a types texts fs f setting.front u s b (ty.Struct number) is refl })
       (λ b q.
       let new = object_placed a types texts fs f setting.front u s b (ty.Struct number) is refl refl in
-      struct_copy_fine types texts fs f setting.structs number (object_named (length s.locals)) (behind it) new.typed new.held (q.typed ∙ same_type)))
+      struct_copy_fine types texts fs f setting.structs number copies (object_named (length s.locals)) (behind it) new.typed new.held (q.typed ∙ same_type)))
 
   -- ---- a view or a span of the whole of it
 
@@ -437,7 +438,9 @@ module _ (a : Around) (types : Types) (texts : ℕ) (fs : List Function) (f : Fu
       go (a_walker (ty.Iterator item held) is w) = refused (ty.Iterator item held) is refl
       go (a_walker _ is w) = absurd (false≢true w)
       go (a_unique target is w) = refused (ty.Unique target) is refl
-      go (a_struct number is) = struct_declared number is (structure number (as_taken (ty.Struct number) is) (given_as (ty.Struct number) is))
+      go (a_struct number is) =
+          let same = structure number (as_taken (ty.Struct number) is) (given_as (ty.Struct number) is) in
+          struct_declared number (plain_copied types number (setting.plain number (struct_within a.program.types number (subst (λ (q : Ty). is_element a.program.types q ≡ true) same worth)))) is same
       go (an_owner z is o) =
           copied_declared z is o
           (given_owner a.program.types z t as_given o (owned z o (as_taken z is)) refl (given_as z is))

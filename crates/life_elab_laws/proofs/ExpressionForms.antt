@@ -30,7 +30,7 @@ use Rattle.life_writer.specs.ExpressionForms.{all_uses, form_uses, uses}
 use Rattle.life_writer.specs.Giving as giving
 use Rattle.life_writer.specs.Pointers.{Pointing, located, aimed}
 use Rattle.life_writer.specs.Registers.{as_type, computed, conversion}
-use Rattle.life_writer.specs.Uses.{Uses, own, Remaining, lived}
+use Rattle.life_writer.specs.Uses.{Act, Uses, own, Remaining, lived}
 use Rattle.life_writer.specs.Using.{condition, nullable, own_value as value_itself, pointer, pointing, pointing_by, read_or_made, register_type, tested_type, value}
 use Rattle.life_writer.specs.Values as values
 use Rattle.life_writer.specs.Writing.{Gives, State, ◌>>◌, with_code, gives}
@@ -101,8 +101,8 @@ module _ (a : Around) (visible : List ℕ) (types : Types) (texts : ℕ) (fs : L
     pub is : object ≡ (λ s. located place ty.View (aimed (Text number)) s >> λ view s. gives (lived Plain (set_to view)) s)
 
   -- of nullptr, which builds a unique_ptr that owns nothing
-  abbrev pub IsNothing : (State → Gives Remaining) → Option ℕ → Type 0
-  IsNothing object named = (object ≡ (λ s. gives (lived Plain made_null) s)) × (named ≡ None)
+  abbrev pub IsNothing : (State → Gives Remaining) → Option (State → Gives Act) → Option ℕ → Type 0
+  IsNothing object replacing named = (object ≡ (λ s. gives (lived Plain made_null) s)) × ((replacing ≡ Some (λ s. gives made_null s)) × (named ≡ None))
 
   -- of what an expression is made by, wherever it stands
   pub record IsForm (form : Form) (e : Typed) : Type 0 where
@@ -125,7 +125,7 @@ module _ (a : Around) (visible : List ℕ) (types : Types) (texts : ℕ) (fs : L
     -- .. and what has the type of a literal is one
     pub as_literal : e.ty ≡ TextLiteral → (place : Place) → IsLiteral ((form_uses a form place e.ty e.category).object) ((form_uses a form place e.ty e.category).named)
     -- .. or nullptr
-    pub as_null : e.ty ≡ NullPointer → (place : Place) → IsNothing ((form_uses a form place e.ty e.category).object) ((form_uses a form place e.ty e.category).named)
+    pub as_null : e.ty ≡ NullPointer → (place : Place) → IsNothing ((form_uses a form place e.ty e.category).object) ((form_uses a form place e.ty e.category).replacing) ((form_uses a form place e.ty e.category).named)
 
   -- of a whole expression
   pub record IsWhole (form : Form) : Type 0 where
@@ -140,7 +140,7 @@ module _ (a : Around) (visible : List ℕ) (types : Types) (texts : ℕ) (fs : L
     pub decides : (b : Behind) (w : State → Gives Tree) → (uses a form).decision b ≡ Some w → (s : State) → Standing s → Decided b.ends s (w s)
     pub calls : (c : Called) → expression_call form ≡ Some c → IsCall c (typed_in form).ty (typed_in form).category
     pub as_literal : (typed_in form).ty ≡ TextLiteral → IsLiteral ((uses a form).object) ((uses a form).named)
-    pub as_null : (typed_in form).ty ≡ NullPointer → IsNothing ((uses a form).object) ((uses a form).named)
+    pub as_null : (typed_in form).ty ≡ NullPointer → IsNothing ((uses a form).object) ((uses a form).replacing) ((uses a form).named)
 
   -- ---- a whole expression, of what it is made by
 
@@ -333,7 +333,7 @@ module _ (a : Around) (visible : List ℕ) (types : Types) (texts : ℕ) (fs : L
 
   -- a pointer that is no place
   pub pointer_form : (form : Form) (e : Typed) → IsKind a.program.types e → e.category ≡ category.Value → (is_number e.ty ≡ true → ⊥) → form_call form ≡ None → ((place : Place) (b : Behind) → (form_uses a form place e.ty e.category).decision b ≡ None)
-      → (e.ty ≡ TextLiteral → (place : Place) → IsLiteral ((form_uses a form place e.ty e.category).object) ((form_uses a form place e.ty e.category).named)) → (e.ty ≡ NullPointer → (place : Place) → IsNothing ((form_uses a form place e.ty e.category).object) ((form_uses a form place e.ty e.category).named))
+      → (e.ty ≡ TextLiteral → (place : Place) → IsLiteral ((form_uses a form place e.ty e.category).object) ((form_uses a form place e.ty e.category).named)) → (e.ty ≡ NullPointer → (place : Place) → IsNothing ((form_uses a form place e.ty e.category).object) ((form_uses a form place e.ty e.category).replacing) ((form_uses a form place e.ty e.category).named))
       → (is_pointed e.ty ≡ true → (place : Place) (s : State) → Standing s → Points e.ty s ((form_uses a form place e.ty e.category).pointing s)) → IsForm form e
   pointer_form form e kind c never none plain told empty points = record {
     kind = kind;

@@ -2,7 +2,7 @@
 use Rattle.std.proofs.Common.{◌≡◌, inl, inr, ℕ, zero, suc, Bool, true, false, List, [], ◌∷◌, slice_get, Option, Some, None, refl, sym, ap, ◌∙◌, subst, ◌&&◌, ◌||◌, if◌then◌else◌, Ok}
 use Rattle.std.proofs.lemmas.Bool.{and_parts, false≢true, or_cases}
 use Rattle.std.specs.Prelude.{pos}
-use Rattle.life_served.specs.Served.{are_served_arguments, are_served_elements, form_type, is_asking, is_edge, is_end, is_equality, is_erase, is_get, is_owner_of_values, is_owner_type, is_plain_type, is_served_either, is_served_form, is_served_object, is_served_owner, is_served_struct, is_served_unique, is_served_walker, is_struct_type, is_subspan, is_testing, is_walker_of_values, is_walker_type, owns_elements, is_served_content, is_served_fresh, is_unique_type, are_served_parts}
+use Rattle.life_served.specs.Served.{are_served_arguments, are_served_elements, form_type, is_asking, is_edge, is_end, is_equality, is_erase, is_get, is_owner_of_values, is_owner_type, is_plain_type, is_served_either, is_served_form, is_served_object, is_served_owner, is_served_struct, is_served_unique, is_served_walker, is_struct_type, is_subspan, is_testing, is_walker_of_values, is_walker_type, owns_elements, is_served_content, is_served_fresh, is_unique_type, are_served_arguments}
 use Rattle.life_types.specs.Types.{Types}
 use Rattle.life_types.specs.declared.place.Place.{Place}
 use Rattle.life_types.specs.declared.ty.Ty.TheVariants as ty
@@ -11,6 +11,7 @@ use Rattle.life_typed.specs.BaseTypes.{type_at}
 use Rattle.life_typed.specs.Programs.{FunctionForm}
 use Rattle.life_typed.specs.Delimiters.{DelimitersForm, behind_others}
 use Rattle.life_typed.specs.TypedForm.{Form, Typed, number, character, boolean, text, null, local, call, construct, paren, move, make_unique, text_of, input, member, dereference, index, method, negate, not, address_of, binary, typed, nothing, ◌⨟◌}
+use Rattle.life_typed.specs.declared.typed_expr.Category.{Category}
 use Rattle.life_typed.specs.declared.typed_expr.ExprType.{ExprType}
 use Rattle.life_typed.specs.declared.typed_expr.ExprType.TheVariants.{Of}
 use Rattle.life_typed.specs.declared.typed_expr.Method.TheVariants as methods
@@ -27,10 +28,10 @@ use Rattle.life_writer.specs.Uses.{Uses}
 use Rattle.life_writer.specs.Using.{value}
 use Rattle.life_writer.specs.Values as values
 use Rattle.life_writer.specs.Writing.{Gives, State}
-use Rattle.life_elab_laws.proofs.OwnedContents.{IsGivingIfAny}
+use Rattle.life_elab_laws.proofs.OwnedContents.{IsGivingIfAny, content_as}
 use Rattle.life_elab_laws.proofs.HandedUniques.{fresh_first}
 use Rattle.life_elab_laws.proofs.CalledUniques.{called_fresh, called_answer}
-use Rattle.life_elab_laws.proofs.FreshUniques.{IsFresh, IsFreshAt, made_fresh, moved_fresh}
+use Rattle.life_elab_laws.proofs.FreshUniques.{IsFresh, IsFreshAt, fresh_same, made_fresh, moved_fresh}
 use Rattle.life_elab_laws.proofs.Conditions.{Tests}
 use Rattle.life_elab_laws.proofs.ExpressionForms.{IsForm, IsWhole, literal, paren_form, value_form, whole_of}
 use Rattle.life_elab_laws.proofs.ExpressionKinds.{addressed_as, dereferenced_as, negated_as, number_value}
@@ -65,7 +66,7 @@ use Rattle.life_types.specs.declared.ty.Ty.{Ty}
 use Rattle.life_elab_laws.proofs.HandedOwners.{owner_first, walker_first}
 use Rattle.life_elab_laws.proofs.HandedStructs.{struct_first}
 use Rattle.life_elab_laws.proofs.ReferredStructs.{call_struct, dereferenced_struct, struct_address_form}
-use Rattle.life_elab_laws.proofs.PushedElements.{AreGiving, IsGiving}
+use Rattle.life_elab_laws.proofs.PushedElements.{AreGiving, IsGiving, IsPushing}
 use Rattle.life_elab_laws.proofs.MovedForms.{moved_made}
 use Rattle.life_elab_laws.proofs.MovedOwners.{moved_from_variable}
 use Rattle.life_elab_laws.proofs.StructForms.{member_form, member_object, member_struct, variable_struct, member_walker, IsStructAt, reached_struct}
@@ -75,8 +76,11 @@ use Rattle.life_type_expr.specs.Members.{indexed_at}
 use Rattle.life_typed.specs.Conversions.{is_place}
 use Rattle.life_elab_laws.proofs.MadeStructs.{IsAnyStruct, IsAnyStructAt, any_same, struct_made, struct_there, with_address, with_members}
 use Rattle.life_elab_laws.proofs.StructLists.{constructed}
-use Rattle.life_elab_laws.proofs.StructMembers.{AreListed, a_struct_listed, a_value_listed, an_owner_listed, a_walker_listed}
+use Rattle.life_elab_laws.proofs.StructMembers.{AreListed, a_struct_listed, a_unique_listed, a_value_listed, an_owner_listed, a_walker_listed}
 use Rattle.life_elab_laws.proofs.ReplacedOwners.{literal_plain, replaced}
+use Rattle.life_elab_laws.proofs.ListedUniques.{IsRenewing, IsRenewingAt, by_making, by_moving, by_temporary, renewing_same}
+use Rattle.life_elab_laws.proofs.MemberUniques.{member_unique}
+use Rattle.life_type_stmt.specs.Simples.{moved_in}
 use Rattle.life_elab_laws.proofs.AnsweredUniques.{IsHolding, IsHoldingAt, holds_answer, holds_named, holding_lies, holding_same}
 use Rattle.life_writer.specs.Behind.{closed_by}
 
@@ -153,6 +157,19 @@ module _ (a : Around) (visible : List ℕ) (types : Types) (texts : ℕ) (fs : L
       → IsForm a visible types texts fs f setting (method base m given d) e
   got_from methods.Get base given d e b is h = lying_get_form a visible types texts fs f setting base (holding_lies a visible types texts fs f setting base is) given d e h
   got_from _ base given d e b is h = absurd (false≢true b)
+
+  -- what one is made to own
+  pushing_of : (place : Place) (t : ExprType) (c : Category) (form : Form) → ((if is_owner_type t then is_served_owner texts form else (is_plain_type t && is_served_form texts form)) || (is_struct_type t && is_served_struct texts form)) ≡ true
+      → (is_served_form texts (typed place t c form) ≡ true → IsWhole a visible types texts fs f setting (typed place t c form)) → (is_served_owner texts (typed place t c form) ≡ true → is_owner_type t ≡ true → IsOwning a visible types texts fs f setting (typed place t c form))
+      → (is_served_struct texts (typed place t c form) ≡ true → IsAnyStruct a visible types texts fs f setting (typed place t c form)) → IsPushing a visible types texts fs f setting (typed place t c form)
+  pushing_of place t c form b value owner structure =
+      elim (or_cases (if is_owner_type t then is_served_owner texts form else (is_plain_type t && is_served_form texts form)) (is_struct_type t && is_served_struct texts form) b) [
+        | inl either ↦ inl (elim (either_served (typed place t c form) (is_served_owner texts form) (is_plain_type t && is_served_form texts form) either) [
+          | inl v ↦ inl (value v)
+          | inr o ↦ inr (owner o.1 o.0)
+        ])
+        | inr s ↦ inr (structure s)
+      ]
 
   -- ---- elements, and what is behind a pointer, an iterator or a unique_ptr
 
@@ -402,18 +419,21 @@ module _ (a : Around) (visible : List ℕ) (types : Types) (texts : ℕ) (fs : L
     struct_made_of _ e n b h place = absurd (false≢true b)
 
     -- what a struct is given for its members
-    pub listings : (form : Form) → are_served_parts texts form ≡ true → AreExpressions a.program a.function.locals visible form → AreListed a visible types texts fs f setting form
+    pub listings : (form : Form) → are_served_arguments texts form ≡ true → AreExpressions a.program a.function.locals visible form → AreListed a visible types texts fs f setting form
     listings nothing b h = tt
     listings (e ⨟ es) b h =
-        let parts = and_parts (is_served_either e (is_served_owner texts e) (is_served_form texts e) || (is_served_walker texts e || is_served_struct texts e)) (are_served_parts texts es) b in (
-          elim (or_cases (is_served_either e (is_served_owner texts e) (is_served_form texts e)) (is_served_walker texts e || is_served_struct texts e) parts.0) [
+        let parts = and_parts (is_served_either e (is_served_owner texts e) (is_served_form texts e) || (is_served_walker texts e || (is_served_fresh texts e || is_served_struct texts e))) (are_served_arguments texts es) b in (
+          elim (or_cases (is_served_either e (is_served_owner texts e) (is_served_form texts e)) (is_served_walker texts e || (is_served_fresh texts e || is_served_struct texts e)) parts.0) [
             | inl either ↦ elim (either_served e (is_served_owner texts e) (is_served_form texts e) either) [
               | inl value ↦ a_value_listed (whole_expression e value h.0) (literal_plain a visible types texts fs f setting e value h.0)
               | inr owner ↦ an_owner_listed (owner_expression e owner.1 owner.0 h.0) (replaced a visible types texts fs f setting e owner.1 owner.0 h.0)
             ]
-            | inr others ↦ elim (or_cases (is_served_walker texts e) (is_served_struct texts e) others) [
+            | inr others ↦ elim (or_cases (is_served_walker texts e) (is_served_fresh texts e || is_served_struct texts e) others) [
               | inl walker ↦ a_walker_listed (walker_expression e walker h.0)
-              | inr structure ↦ a_struct_listed (struct_expression e structure h.0)
+              | inr others ↦ elim (or_cases (is_served_fresh texts e) (is_served_struct texts e) others) [
+                | inl fresh ↦ a_unique_listed (fresh_expression e fresh h.0) (renewing e fresh h.0)
+                | inr structure ↦ a_struct_listed (struct_expression e structure h.0)
+              ]
             ]
           ],
           listings es parts.1 h.1,
@@ -482,6 +502,7 @@ module _ (a : Around) (visible : List ℕ) (types : Types) (texts : ℕ) (fs : L
         let u = uses a inner in
         holding_same a visible types texts fs f setting (typed_in inner) e u.at u.object u.decision (λ b. u.decision (closed_by closing b)) u.named (ap (λ (y : Typed). y.ty) same) (ap (λ (y : Typed). y.category) same) (λ b none. none (closed_by closing b))
         (holding_expression inner b h.1)
+    holding_made (member base which) e n b h place = holds_named (member_unique a visible types texts fs f setting base which e (with_members a visible types texts fs f setting base which e (struct_expression base b h.1) h.0) h.0 n)
     holding_made (typed at t c form) e n b h place = absurd h
     holding_made _ e n b h place = absurd (false≢true b)
 
@@ -496,20 +517,39 @@ module _ (a : Around) (visible : List ℕ) (types : Types) (texts : ℕ) (fs : L
     fresh_made (make_unique id nothing closing) e n b h place = made_fresh a visible types texts fs f setting id nothing closing e place tt h
     fresh_made (make_unique id (typed at t c form) closing) e n b h place =
         made_fresh a visible types texts fs f setting id (typed at t c form) closing e place
-        (elim (or_cases (if is_owner_type t then is_served_owner texts form else (is_plain_type t && is_served_form texts form)) (is_struct_type t && is_served_struct texts form) b) [
-          | inl either ↦ inl (elim (either_served (typed at t c form) (is_served_owner texts form) (is_plain_type t && is_served_form texts form) either) [
-            | inl value ↦ inl (whole_expression (typed at t c form) value h.3)
-            | inr owner ↦ inr (owner_expression (typed at t c form) owner.1 owner.0 h.3)
-          ])
-          | inr structure ↦ inr (struct_expression (typed at t c form) structure h.3)
-        ])
+        (pushing_of at t c form b (λ v. whole_expression (typed at t c form) v h.3) (λ o n. owner_expression (typed at t c form) o n h.3) (λ s. struct_expression (typed at t c form) s h.3))
         h
+    fresh_made (paren inner closing) e n b h place =
+        let same = ok_same h.0 in
+        fresh_same a visible types texts fs f setting (typed_in inner) e ((uses a inner).object) (ap (λ (y : Typed). y.ty) same) (ap (λ (y : Typed). y.category) same) (fresh_expression inner b h.1)
     fresh_made (move x) e n b h place = moved_fresh a visible types texts fs f setting x e place n h.0 (moved_from_variable a visible types texts fs f setting x e h.1)
     fresh_made (call g given delimiters) e n b h place =
         called_fresh a visible types texts fs f setting g given delimiters e place n h.0
         (λ of at s stands. handed delimiters given b h.2 (parameter_types (Some of)) (subst (λ (o : Option FunctionForm). are_given a.program.types (parameter_types o) given ≡ true) at h.1) (setting.taken g of at) s stands)
     fresh_made (typed at t c form) e n b h place = absurd h
     fresh_made _ e n b h place = absurd (false≢true b)
+
+    -- .. and what it does to one that owned something
+    pub renewing : (form : Form) → is_served_fresh texts form ≡ true → IsExpression a.program a.function.locals visible form → IsRenewing a visible types texts fs f setting form
+    renewing (typed place t c form) b h = renewing_made form (record { place = place; ty = t; category = c; form = form }) (and_parts (is_unique_type t) (is_served_fresh texts form) b).1 h place
+    renewing _ b h = absurd h
+
+    renewing_made : (form : Form) (e : Typed) → is_served_fresh texts form ≡ true → IsMadeOf a.program a.function.locals visible e form → (place : Place) → IsRenewingAt a visible types texts fs f setting e (moved_in form) ((form_uses a form place e.ty e.category).replacing)
+    renewing_made (make_unique id nothing closing) e b h place =
+        by_making place id nothing closing refl (λ target worth given. content_as a visible types texts fs f setting target worth id nothing closing e given h tt)
+    renewing_made (make_unique id (typed at t c form) closing) e b h place =
+        by_making place id (typed at t c form) closing refl
+        (λ target worth given.
+        content_as a visible types texts fs f setting target worth id (typed at t c form) closing e given h
+        (pushing_of at t c form b (λ v. whole_expression (typed at t c form) v h.3) (λ o n. owner_expression (typed at t c form) o n h.3) (λ s. struct_expression (typed at t c form) s h.3)))
+    renewing_made (move x) e b h place =
+        let is = moved_from_variable a visible types texts fs f setting x e h.1 in by_moving (record { number = x; moved = e; place = place; seen = h.0; from = is; typed = is.is; replaces = refl; named = refl })
+    renewing_made (paren inner closing) e b h place =
+        let same = ok_same h.0 in
+        renewing_same a visible types texts fs f setting (typed_in inner) e (moved_in inner) ((uses a inner).replacing) (ap (λ (y : Typed). y.ty) same) (ap (λ (y : Typed). y.category) same) (renewing inner b h.1)
+    renewing_made (call g given delimiters) e b h place = by_temporary refl
+    renewing_made (typed at t c form) e b h place = absurd h
+    renewing_made _ e b h place = absurd (false≢true b)
 
     -- all of several
     pub wholes : (form : Form) → is_served_form texts form ≡ true → AreExpressions a.program a.function.locals visible form → AreWhole a visible types texts fs f setting form
@@ -552,10 +592,8 @@ module _ (a : Around) (visible : List ℕ) (types : Types) (texts : ℕ) (fs : L
   ]
 
   pub giving_if_any : (form : Form) → is_served_content texts form ≡ true → IsExpressionIfAny a.program a.function.locals visible form → IsGivingIfAny a visible types texts fs f setting form
-  giving_if_any (typed place t c form) b h = elim (or_cases (if is_owner_type t then is_served_owner texts form else (is_plain_type t && is_served_form texts form)) (is_struct_type t && is_served_struct texts form) b) [
-    | inl either ↦ inl (giving_expression (typed place t c form) either h)
-    | inr structure ↦ inr (struct_expression (typed place t c form) structure h)
-  ]
+  giving_if_any (typed place t c form) b h =
+      pushing_of place t c form b (λ v. whole_expression (typed place t c form) v h) (λ o n. owner_expression (typed place t c form) o n h) (λ s. struct_expression (typed place t c form) s h)
   giving_if_any nothing b h = tt
   giving_if_any _ b h = absurd h
 

@@ -87,10 +87,10 @@ module _ (types : Types) where
   target_member t h = go (target_is types t h)
     where
       go : IsTarget types t → is_struct_member types t ≡ true
-      go (to_value v) = or_left (is_value t) (is_pointer_member types t || (is_owner_of_values types t || is_struct t)) v
+      go (to_value v) = or_left (is_value t) (is_pointer_member types t || (is_owner_of_values types t || (is_unique_of_element types t || is_struct t))) v
       go (to_owner o) =
-          or_right (is_value t) (is_pointer_member types t || (is_owner_of_values types t || is_struct t))
-          (or_right (is_pointer_member types t) (is_owner_of_values types t || is_struct t) (or_left (is_owner_of_values types t) (is_struct t) o))
+          or_right (is_value t) (is_pointer_member types t || (is_owner_of_values types t || (is_unique_of_element types t || is_struct t)))
+          (or_right (is_pointer_member types t) (is_owner_of_values types t || (is_unique_of_element types t || is_struct t)) (or_left (is_owner_of_values types t) (is_unique_of_element types t || is_struct t) o))
       go (to_struct number s pointless) = ap (is_struct_member types) s
 
   target_before : HasStructs types → (n : ℕ) → MemberStands n → (target : TyId) → target.0 < n → is_target types (type_at types target) ≡ true → (is_plain (tree_at types target) && may_stand (tree_at types target)) ≡ true
@@ -124,6 +124,8 @@ module _ (types : Types) where
   member_stands structs n inside id below (Some ty.Text) at b = refl
   member_stands structs n inside id below (Some (ty.Vector item)) at b =
       let before : item.0 < id.0 = structs.ordered.parts id.0 (ty.Vector item) at in target_before structs n inside item (omega (arith, before, below)) (element_target types (type_at types item) (or_false (is_element types (type_at types item)) b))
+  member_stands structs n inside id below (Some (ty.Unique target)) at b =
+      let before : target.0 < id.0 = structs.ordered.parts id.0 (ty.Unique target) at in target_before structs n inside target (omega (arith, before, below)) (element_target types (type_at types target) (or_false (is_element types (type_at types target)) b))
   member_stands structs n inside id below (Some ty.Bool) at b = refl
   member_stands structs n inside id below (Some ty.Char) at b = refl
   member_stands structs n inside id below (Some ty.Int) at b = refl

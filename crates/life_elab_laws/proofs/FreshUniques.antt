@@ -17,7 +17,7 @@ use Rattle.life_typed.specs.declared.typed_expr.ExprType.{ExprType}
 use Rattle.life_typed.specs.declared.typed_expr.ExprType.TheVariants.{NullPointer, Of, TextLiteral}
 use Rattle.life_type_expr.specs.Lists.{fits_at_all}
 use Rattle.life_core.specs.Function.{Function}
-use Rattle.life_core.specs.Operands.{Operand, object_named}
+use Rattle.life_core.specs.Operands.{Operand, object_named, whole}
 use Rattle.life_core.specs.Step.{Make}
 use Rattle.life_core.specs.Tree.{Acts}
 use Rattle.life_core.specs.declared.instr.Form.TheVariants.{Plain}
@@ -61,7 +61,7 @@ module _ (a : Around) (visible : List ℕ) (types : Types) (texts : ℕ) (fs : L
   owned_part target place what to s s' new =
       let P = both types texts fs f (a_made types texts fs f target) (a_place types texts fs f (ty.Unique target) false) in
       subst (λ (o : Operand). Part types texts fs f P (what, o) None s' (gives tt (made_at place what place o s')) (no_gift types texts fs f)) (sym new.is)
-      (makes_part types texts fs f P (what, object_named new.number) target what (made_uses_of what) new.number place s' (λ q. (q.1, q.0)) (λ n k q. (q.1, q.0)))
+      (makes_part types texts fs f P (what, object_named new.number) target what (made_uses_of what) (whole new.number) place s' (λ q. (q.1, q.0)) (λ n k q. (q.1, q.0)))
 
   owned_builds : (target : TyId) (at : Place → Place) (w : Gives Made) (s : State) → Makes types texts fs f None s w (a_made types texts fs f target)
       → BuildsTo target s (gives (lived Plain (λ place to s. made_at (at place) w.given place to s)) w.state)
@@ -117,6 +117,16 @@ module _ (a : Around) (visible : List ℕ) (types : Types) (texts : ℕ) (fs : L
 
   abbrev pub IsFresh : Form → Type 0
   IsFresh form = IsFreshAt (typed_in form) ((uses a form).object)
+
+  -- .. in parentheses
+  abbrev pub fresh_same : (e e' : Typed) (object : State → Gives Remaining) → e.ty ≡ e'.ty → e.category ≡ e'.category → IsFreshAt e object → IsFreshAt e' object
+  fresh_same e e' object t c is = record {
+    owned = is.owned;
+    is = sym t ∙ is.is;
+    value = sym c ∙ is.value;
+    builds = λ target worth given s stands.
+        is.builds target worth (subst (λ (x : ExprType). fits_at_all (fits a.program.types (ty.Unique target) x e.category) ≡ true) (sym t) (subst (λ (k : Category). fits_at_all (fits a.program.types (ty.Unique target) e'.ty k) ≡ true) (sym c) given)) s stands;
+  }
 
   pub moved_fresh : (x : ℕ) (e : Typed) (place : Place) → is_unique_type e.ty ≡ true → Contains visible x → IsMovedFrom a visible types texts fs f setting x e → IsFreshAt e ((move_uses x place e.ty e.category).object)
   moved_fresh x e place n c from = go from.ty refl (ap is_unique_type (sym from.is) ∙ n)

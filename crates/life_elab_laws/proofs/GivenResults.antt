@@ -73,7 +73,7 @@ use Rattle.life_elab_laws.proofs.SeenForms.{string_points}
 use Rattle.life_elab_laws.proofs.WalkerForms.{IsWalker, vector_points, walker_points}
 use Rattle.life_type_expr.specs.Lists.{fits_at_all}
 use Rattle.life_elab_laws.proofs.HandedForms.{no_walker_given}
-use Rattle.life_elab_laws.proofs.HandedOwners.{owner_no_iterator, owner_no_unique_given, unique_no_walker_given, walker_no_raw, walker_no_text}
+use Rattle.life_elab_laws.proofs.HandedOwners.{walker_no_unique_given, owner_no_iterator, owner_no_unique_given, unique_no_walker_given, walker_no_raw, walker_no_text}
 use Rattle.life_elab_laws.proofs.RowTypes.{sees}
 use Rattle.life_elab_laws.proofs.VariablePlaces.{walker_is}
 use Rattle.life_typed.specs.declared.typed_expr.ExprType.{ExprType}
@@ -82,7 +82,6 @@ use Rattle.life_elab_laws.proofs.HandedStructs.{struct_no_walker}
 use Rattle.life_elab_laws.proofs.ReturnedOwners.{owner_given_back}
 use Rattle.life_elab_laws.proofs.ReturnedUniques.{fresh_back, no_named_given, null_back, unique_back, fresh_nameless}
 use Rattle.life_elab_laws.proofs.FreshUniques.{IsFresh}
-use Rattle.life_elab_laws.proofs.HandedUniques.{walker_no_unique_given}
 use Rattle.life_elab_laws.proofs.ServedTypes.{IsBuilt, struct_built, IsTabled}
 use Rattle.life_typed.specs.declared.typed_expr.Category.TheVariants as category
 use Rattle.life_elab_laws.proofs.NamedResults.{is_object, named_builds, named_owner}

@@ -65,6 +65,12 @@ owner_no_unique_given types ty.Text o target c h = false≢true h
 owner_no_unique_given types (ty.Vector item) o target c h = false≢true h
 owner_no_unique_given types _ o target c h = false≢true o
 
+-- no iterator and no span is given a unique_ptr
+pub walker_no_unique_given : (types : Types) (t : Ty) → is_walker_of_values types t ≡ true → (owned : TyId) (c : Category) → fits_at_all (fits types t (Of (ty.Unique owned)) c) ≡ true → ⊥
+walker_no_unique_given types (ty.Iterator item constant) w owned c h = false≢true h
+walker_no_unique_given types (ty.Span item constant) w owned c h = false≢true h
+walker_no_unique_given types _ w owned c h = false≢true w
+
 pub unique_no_walker_given : (types : Types) (t : Ty) → is_walker_of_values types t ≡ true → (target : TyId) (c : Category) → fits_at_all (fits types (ty.Unique target) (Of t) c) ≡ true → ⊥
 unique_no_walker_given types (ty.Iterator item held) w target c h = false≢true h
 unique_no_walker_given types (ty.Span item held) w target c h = false≢true h

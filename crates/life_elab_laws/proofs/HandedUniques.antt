@@ -6,12 +6,11 @@ use Rattle.life_types.specs.TypeTests.{is_value}
 use Rattle.life_types.specs.declared.ty.Ty.{Ty}
 use Rattle.life_types.specs.declared.ty.Ty.TheVariants as ty
 use Rattle.life_types.specs.declared.ty.TyId.{TyId}
-use Rattle.life_served.specs.Served.{is_owner_of_values, is_walker_of_values, is_struct_type}
+use Rattle.life_served.specs.Served.{is_owner_of_values, is_struct_type}
 use Rattle.life_typed.specs.BaseTypes.{type_at}
 use Rattle.life_typed.specs.Conversions.{fits}
 use Rattle.life_typed.specs.Delimiters.{DelimitersForm, behind_first, behind_others}
 use Rattle.life_typed.specs.TypedForm.{Form, ◌⨟◌}
-use Rattle.life_typed.specs.declared.typed_expr.Category.{Category}
 use Rattle.life_typed.specs.declared.typed_expr.ExprType.{ExprType}
 use Rattle.life_typed.specs.declared.typed_expr.ExprType.TheVariants.{Of}
 use Rattle.life_type_expr.specs.Lists.{fits_at_all}
@@ -31,18 +30,13 @@ use Rattle.life_elab_laws.proofs.FreshUniques.{IsFresh, fresh_builds}
 use Rattle.life_elab_laws.proofs.GivenKinds.{given_number, given_pointer, given_view}
 use Rattle.life_elab_laws.proofs.HandedArguments.{Hands as AllHanded}
 use Rattle.life_elab_laws.proofs.HandedForms.{owner_before}
+use Rattle.life_elab_laws.proofs.HandedOwners.{walker_no_unique_given}
 use Rattle.life_elab_laws.proofs.HandedTypes.{IsHandedType, a_raw, a_reference, a_unique, a_value, a_view, a_walker, an_alias, an_owner, a_struct_alias, a_struct}
 use Rattle.life_elab_laws.proofs.Locations.{is_pointed}
 use Rattle.life_elab_laws.proofs.Setting.{Setting}
 use Rattle.life_elab_laws.proofs.Targets.{owner_target, value_target, struct_target}
 use Rattle.life_elab_laws.proofs.TypedKinds.{value_place}
 use Rattle.life_elab_laws.proofs.StructReferences.{struct_alone}
-
--- no iterator and no span is given one
-pub walker_no_unique_given : (types : Types) (t : Ty) → is_walker_of_values types t ≡ true → (owned : TyId) (c : Category) → fits_at_all (fits types t (Of (ty.Unique owned)) c) ≡ true → ⊥
-walker_no_unique_given types (ty.Iterator item constant) w owned c h = false≢true h
-walker_no_unique_given types (ty.Span item constant) w owned c h = false≢true h
-walker_no_unique_given types _ w owned c h = false≢true w
 
 module _ (a : Around) (visible : List ℕ) (types : Types) (texts : ℕ) (fs : List Function) (f : Function) (setting : Setting a types fs f) where
   abbrev Stood : State → Type 0

@@ -4,6 +4,7 @@ pub mod AliasForms
 pub mod Among
 pub mod AnsweredUniques
 pub mod AppendForms
+pub mod AssignableOwners
 pub mod BaseSteps
 pub mod Beginning
 pub mod BehindPointers
@@ -24,6 +25,7 @@ pub mod Coming
 pub mod ComparedForms
 pub mod Conditions
 pub mod ContentBirths
+pub mod CopiedStructs
 pub mod DeclarationWriting
 pub mod ConsumedObjects
 pub mod Declaring
@@ -81,12 +83,14 @@ pub mod KeptTemporaries
 pub mod Knowledge
 pub mod Leaving
 pub mod ListForms
+pub mod ListedUniques
 pub mod Locations
 pub mod Looping
 pub mod MadeForms
 pub mod MadeRanges
 pub mod MadeStructs
 pub mod Making
+pub mod MemberUniques
 pub mod MoveSteps
 pub mod MovedForms
 pub mod MovedOwners
@@ -180,6 +184,8 @@ pub mod UnseenLocals
 pub mod UnseenWays
 pub mod ValueTemporaries
 pub mod Values
+pub mod UniqueWrites
+pub mod VariableParts
 pub mod VariablePlaces
 pub mod ViewForms
 pub mod ViewSteps

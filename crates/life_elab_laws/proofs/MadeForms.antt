@@ -1,5 +1,5 @@
 -- Owners that are made: what is found first, and the act that makes one of it, where a variable or a temporary has come to life.
-use Rattle.std.proofs.Common.{◌≡◌, ◌≤◌, inr, ℕ, Bool, true, false, List, [], ◌∷◌, ◌++◌, Contains, length, slice_get, None, refl, sym, ap, ◌∙◌, subst, arith, unwrap_or, not, inl, flat_map, slice_set, ◌<◌, length-append}
+use Rattle.std.proofs.Common.{◌≡◌, ◌<◌, ◌≤◌, inr, ℕ, Bool, true, false, List, [], ◌∷◌, ◌++◌, Contains, length, length-append, slice_get, None, refl, sym, ap, ◌∙◌, subst, arith, unwrap_or, not, inl, flat_map, slice_set}
 use Rattle.std.proofs.lemmas.Bool.{false≢true}
 use Rattle.life_served.specs.Served.{is_owner_of_values}
 use Rattle.life_types.specs.Types.{Types}
@@ -17,13 +17,15 @@ use Rattle.life_core.specs.Operands.{Argument, Location, Operand, object_named, 
 use Rattle.life_core.specs.Step.{Live}
 use Rattle.life_core.specs.declared.instr.Form.{Form as LiveForm}
 use Rattle.life_core.specs.declared.instr.Form.TheVariants.{Plain}
+use Rattle.life_core.specs.declared.program.LocalKind.TheVariants.{Object}
 use Rattle.life_well_typed.specs.Expressions.{typed_in}
 use Rattle.life_writer.specs.Building.{Destination}
 use Rattle.life_writer.specs.Around.{Around, own_type}
 use Rattle.life_writer.specs.Characters.{Seen, InRegister, InString, InView}
 use Rattle.life_writer.specs.ExpressionForms.{uses}
-use Rattle.life_writer.specs.Temporaries.{temporary, nameless_of}
-use Rattle.life_writer.specs.Uses.{Act, Remaining, Uses, lived, own}
+use Rattle.life_writer.specs.Registers.{type_number, typed_with}
+use Rattle.life_writer.specs.Temporaries.{nameless_of, temporary}
+use Rattle.life_writer.specs.Uses.{Act, Remaining, lived, own}
 use Rattle.life_writer.specs.Using.{operand, operand_by, temporary_of}
 use Rattle.life_writer.specs.Writing.{Gives, State, ◌>>◌, gives, mapped, with_code}
 use Rattle.life_core.specs.declared.instr.Made.{Made}
@@ -289,11 +291,34 @@ module _ (a : Around) (visible : List ℕ) (types : Types) (texts : ℕ) (fs : L
         let far = later.opened (length w.state.locals) (subst (λ (xs : List ℕ). Contains xs (length w.state.locals)) (act_part.grown.living ∙ born_further.living) told) in
         omega (arith, far)
 
+    -- .. and none of the locals that were there
+    pub temporary_beyond : length s.locals ≤ (w.given (temporary place t) w.state).given
+    temporary_beyond = subst (λ (g : Gives ℕ). length s.locals ≤ g.given) (sym (is.lives (temporary place t) w.state)) (is.hands.grown.count)
+
+    pub temporary_below : (let r = w.given (temporary place t) w.state in r.given < length r.state.locals)
+    temporary_below =
+        subst (λ (g : Gives ℕ). g.given < length g.state.locals) (sym (is.lives (temporary place t) w.state))
+        (omega (arith, born_there, act_part.grown.count))
+
     -- .. nor the result
     pub temporary_spare : not (result_at types f (w.given (temporary place t) w.state).given) ≡ true
     temporary_spare =
         subst (λ (g : Gives ℕ). not (result_at types f g.given) ≡ true) (sym (is.lives (temporary place t) w.state))
         (beyond_result types texts fs f (first_own a) (length w.state.locals) setting.own later.pends.past)
+
+    -- so it may be moved
+    pub temporary_source : Makes types texts fs f None s (w.given (temporary place t) w.state) (a_source types texts fs f t)
+    temporary_source = record {
+      grown = temporary_made.grown;
+      registers = temporary_made.registers;
+      code = temporary_made.code;
+      written = temporary_made.written;
+      runs = λ b p. let r = temporary_made.runs b p in record {
+        fine = r.fine;
+        typed = (r.typed, temporary_spare);
+        goes = λ k alive q. let g = r.goes k alive q in record { after = g.after; falls = g.falls; keeps = g.keeps; gives = g.gives; alive = g.alive; apart = g.apart; bears = g.bears };
+      };
+    }
 
   -- ---- an expression that makes one
 
@@ -310,24 +335,19 @@ module _ (a : Around) (visible : List ℕ) (types : Types) (texts : ℕ) (fs : L
   pub made_same : (e e' : Typed) (object : State → Gives Remaining) → e.ty ≡ e'.ty → e.category ≡ e'.category → IsMadeAt e object → IsMadeAt e' object
   made_same e e' object t c is = record { ty = is.ty; is = sym t ∙ is.is; owner = is.owner; value = sym c ∙ is.value; builds = is.builds }
 
-  -- what is asked of it is asked of a temporary
-  pub made_owner : (form : Form) → IsMade form → IsOwner a visible types texts fs f setting form
-  made_owner form is = record {
-    ty = is.ty;
-    is = is.is;
-    owner = is.owner;
-    constant = false;
-    told = ap is_constant is.value;
-    names = λ s stands. subst (PlacedAs is.ty false s) (sym (temporary_is s)) (temporary_made is.ty u.place s (u.object s) (inl is.owner) (is.builds s stands) stands);
-  }
-    where
-      u : Uses
-      u = uses a form
+  -- where a place is wanted it is a temporary
+  pub made_temporary : (form : Form) → (is : IsMade form) → (s : State) → operand (uses a form) s ≡ mapped object_named (temporary_of (uses a form) is.ty s)
+  made_temporary form is s =
+      ap (λ (c : Category). operand_by c (uses a form).at (temporary_of (uses a form) (own (uses a form))) s) (sym (held_typed a visible types texts fs f setting form) ∙ is.value)
+      ∙ ap (λ (t : Ty). mapped object_named (temporary_of (uses a form) t s)) (ap own_type (sym (own_typed a visible types texts fs f setting form) ∙ is.is))
 
-      temporary_is : (s : State) → operand u s ≡ mapped object_named (temporary_of u is.ty s)
-      temporary_is s =
-          ap (λ (c : Category). operand_by c u.at (temporary_of u (own u)) s) (sym (held_typed a visible types texts fs f setting form) ∙ is.value)
-          ∙ ap (λ (t : Ty). mapped object_named (temporary_of u t s)) (ap own_type (sym (own_typed a visible types texts fs f setting form) ∙ is.is))
+  pub made_placed : (form : Form) → (is : IsMade form) → (s : State) → Stood s → PlacedAs is.ty false s (operand (uses a form) s)
+  made_placed form is s stands =
+      subst (PlacedAs is.ty false s) (sym (made_temporary form is s)) (temporary_made is.ty (uses a form).place s ((uses a form).object s) (inl is.owner) (is.builds s stands) stands)
+
+  -- .. of which that is asked which is asked of it
+  pub made_owner : (form : Form) → IsMade form → IsOwner a visible types texts fs f setting form
+  made_owner form is = record { ty = is.ty; is = is.is; owner = is.owner; constant = false; told = ap is_constant is.value; names = λ s stands. made_placed form is s stands }
 
   -- ---- an owner of either kind
 

@@ -43,6 +43,7 @@ use Rattle.life_elab_laws.proofs.Handing.{HandingAlone}
 use Rattle.life_writer.specs.Temporaries.{consumed}
 use Rattle.life_served.specs.Served.{is_plain_struct}
 use Rattle.life_elab_laws.proofs.ConsumedObjects.{begun, begun_grows, consumed_over}
+use Rattle.life_elab_laws.proofs.CopiedStructs.{given_copied, is_copied_struct}
 use Rattle.life_elab_laws.proofs.FilledObjects.{FillsObject}
 use Rattle.life_elab_laws.proofs.VariablePlaces.{stands_later}
 
@@ -149,12 +150,12 @@ module _ (a : Around) (visible : List ℕ) (types : Types) (texts : ℕ) (fs : L
 
   -- ---- a copy of one at a place
 
-  pub struct_copied_builds : (number : ℕ) (constant : Bool) (s : State) (w : Gives Operand) → PlacedAs (ty.Struct number) constant s w → BuildsIn a visible types texts fs f setting true (ty.Struct number) s (mapped (λ from. lived Plain (copied from)) w)
-  struct_copied_builds number constant s w placed =
+  pub struct_copied_builds : (number : ℕ) → is_copied_struct a.program.types number ≡ true → (constant : Bool) (s : State) (w : Gives Operand) → PlacedAs (ty.Struct number) constant s w → BuildsIn a visible types texts fs f setting true (ty.Struct number) s (mapped (λ from. lived Plain (copied from)) w)
+  struct_copied_builds number copies constant s w placed =
       let t = ty.Struct number in
       lived_builds a visible types texts fs f setting true t s w.state (of_copy t constant) w.given Plain (copied w.given) placed refl
       (λ place to s' there still new.
-      struct_copies_part types texts fs f setting.structs (both types texts fs f (a_place types texts fs f t constant) (a_place types texts fs f t false)) (w.given, to) number constant to w.given place s'
+      struct_copies_part types texts fs f setting.structs (both types texts fs f (a_place types texts fs f t constant) (a_place types texts fs f t false)) (w.given, to) number (setting.copies number copies) constant to w.given place s'
       (λ h. (h.1, h.0)) (λ n k h. (h.1, h.0)))
       (λ e. copied_plain _ w.given)
 
@@ -176,15 +177,15 @@ module _ (a : Around) (visible : List ℕ) (types : Types) (texts : ℕ) (fs : L
     abbrev t : Ty
     t = ty.Struct number
 
-    there_of : (is : IsStruct a visible types texts fs f setting form) → is.number ≡ number → IsStructOf number form
-    there_of is one = record {
+    there_of : (is : IsStruct a visible types texts fs f setting form) → is.number ≡ number → is_copied_struct a.program.types number ≡ true → IsStructOf number form
+    there_of is one copies = record {
       builds = λ behind s stands.
           subst (λ (c : Category). BuildsAs t s (object_by c u.at u.object s)) here
-          (less_plain a visible types texts fs f setting t s (mapped (λ from. lived Plain (copied from)) (u.at s)) (struct_copied_builds number is.constant s (u.at s) (names s stands)));
+          (less_plain a visible types texts fs f setting t s (mapped (λ from. lived Plain (copied from)) (u.at s)) (struct_copied_builds number copies is.constant s (u.at s) (names s stands)));
       constant = is.constant;
       found = λ tabled s stands. subst (λ (c : Category). PlacedAs t is.constant s (struct_at c u t s)) here (names s stands);
       unseen = λ behind.
-          subst (λ (c : Category). IsBuiltUnseen number (λ (s : State). object_by c u.at u.object s)) here (at_once (λ s stands. struct_copied_builds number is.constant s (u.at s) (names s stands)));
+          subst (λ (c : Category). IsBuiltUnseen number (λ (s : State). object_by c u.at u.object s)) here (at_once (λ s stands. struct_copied_builds number copies is.constant s (u.at s) (names s stands)));
     }
       where
         here : category.Place is.id is.constant ≡ u.category
@@ -210,5 +211,7 @@ module _ (a : Around) (visible : List ℕ) (types : Types) (texts : ℕ) (fs : L
 
     -- it is given to a struct with the same one
     pub as_struct : IsAnyStruct form → is_given a.program.types t (typed_in form) ≡ true → IsStructOf number form
-    as_struct (struct_there is) given = there_of is (given_struct a.program.types number is.number (typed_in form) is.is given)
+    as_struct (struct_there is) given =
+        let one = given_struct a.program.types number is.number (typed_in form) is.is given in
+        there_of is one (subst (λ (n : ℕ). is_copied_struct a.program.types n ≡ true) one (given_copied a.program.types setting.values.ordered is.id is.number is.here (typed_in form) number is.constant is.is is.place given))
     as_struct (struct_made is) given = made_of is (given_struct a.program.types number is.number (typed_in form) is.is given)

@@ -6,20 +6,16 @@ use Rattle.std.proofs.lemmas.Bool.Decides.{nat_tests}
 use Rattle.life_served.specs.Served.{is_owner_of_values, is_walker_of_values, owns_elements}
 use Rattle.life_types.specs.Types.{Types, class}
 use Rattle.life_types.specs.declared.place.Place.{Place}
-use Rattle.life_types.specs.declared.ty.Class.{Class}
-use Rattle.life_types.specs.declared.ty.Class.TheVariants as classes
 use Rattle.life_types.specs.declared.ty.Ty.{Ty}
 use Rattle.life_types.specs.declared.ty.Ty.TheVariants as ty
 use Rattle.life_typed.specs.BaseTypes.{type_at}
-use Rattle.life_typed.specs.TypedForm.{Typed, move, whole as whole_form}
-use Rattle.life_typed.specs.TypedStatement.{one}
-use Rattle.life_typed.specs.declared.typed_expr.Category.{Category}
+use Rattle.life_typed.specs.TypedForm.{Typed, move}
 use Rattle.life_typed.specs.declared.typed_expr.Category.TheVariants as category
 use Rattle.life_typed.specs.declared.typed_expr.ExprType.{ExprType}
 use Rattle.life_typed.specs.declared.typed_expr.ExprType.TheVariants.{Of}
 use Rattle.life_typed.specs.declared.typed_program.TypedLocal.{TypedLocal}
 use Rattle.life_type_expr.specs.Operands.{const_or, move_fault_of, moved_unless, value as value_typed}
-use Rattle.life_type_stmt.specs.Simples.{named_in, onto_itself}
+use Rattle.life_type_stmt.specs.Simples.{onto_itself}
 use Rattle.life_names.specs.declared.fault.IllKind.{IllKind}
 use Rattle.life_names.specs.declared.fault.IllKind.TheVariants as kinds
 use Rattle.life_core.specs.Function.{Function}
@@ -28,30 +24,23 @@ use Rattle.life_core.specs.declared.program.LocalKind.{LocalKind}
 use Rattle.life_core.specs.declared.program.LocalKind.TheVariants.{Object, Range, Register}
 use Rattle.life_proper.specs.WellFormed.{is_itself}
 use Rattle.life_well_typed.specs.Expressions.{IsMoved, IsVariable}
-use Rattle.life_writer.specs.Around.{Around, own_type}
-use Rattle.life_writer.specs.Assigning.{acted, assigned_by, owner_by, replaced_by}
-use Rattle.life_writer.specs.ExpressionForms.{uses}
-use Rattle.life_writer.specs.OwnerForms.{moved_from, moved_out_of}
-use Rattle.life_writer.specs.Uses.{Act}
-use Rattle.life_writer.specs.Using.{operand, temporary_of}
+use Rattle.life_writer.specs.Around.{Around}
+use Rattle.life_writer.specs.OwnerForms.{moved_out_of}
 use Rattle.life_writer.specs.Variables.{kind as local_kind, place_of_kind, variable, variable_place}
 use Rattle.life_writer.specs.Writing.{Gives, State, gives}
-use Rattle.life_elab.specs.SimpleForms.{assigned, target_of}
 use Rattle.life_elab_laws.proofs.ExpressionForms.{Standing}
 use Rattle.life_elab_laws.proofs.ExpressionKinds.{variable_built}
 use Rattle.life_elab_laws.proofs.FormedVariables.{object_formed}
-use Rattle.life_elab_laws.proofs.FreeObjects.{object_part}
 use Rattle.life_elab_laws.proofs.Gifts.{a_place, both, nothing as no_gift}
 use Rattle.life_elab_laws.proofs.Making.{IsPlace}
 use Rattle.life_elab_laws.proofs.MoveSteps.{moves_part, owner_moves, a_source}
-use Rattle.life_elab_laws.proofs.ObjectForms.{IsObject, other_number}
+use Rattle.life_elab_laws.proofs.ObjectForms.{other_number}
 use Rattle.life_elab_laws.proofs.Parts.{Makes, Part, and_part, gives_part, leaf_part, then_part}
-use Rattle.life_elab_laws.proofs.PointerForms.{placed_operand}
 use Rattle.life_elab_laws.proofs.Setting.{Setting}
 use Rattle.life_elab_laws.proofs.TypedKinds.{err_ok, none_some, ok_same}
 use Rattle.life_elab_laws.proofs.Values.{by_values}
 use Rattle.life_elab_laws.proofs.FormedFits.{same_id, tested_as}
-use Rattle.life_elab_laws.proofs.VariablePlaces.{a_raw, a_reference, a_struct, a_unique, a_value, a_view, a_walker, an_alias, an_owner, IsVariableAt, IsVariableType, kind_is, place_is, stands_later, variable_there, variable_type, a_struct_alias}
+use Rattle.life_elab_laws.proofs.VariablePlaces.{a_raw, a_reference, a_struct, a_unique, a_value, a_view, a_walker, an_alias, an_owner, IsVariableAt, IsVariableType, kind_is, place_is, variable_there, variable_type, a_struct_alias}
 use Rattle.life_proper.specs.OperandTypes.{is_owner}
 use Rattle.life_type_expr.specs.Lists.{fits_at_all}
 use Rattle.life_typed.specs.Conversions.{fits, is_place, unless}
@@ -232,39 +221,3 @@ module _ (a : Around) (visible : List ℕ) (types : Types) (texts : ℕ) (fs : L
             let z = stands.seen x l c found in
             ap (is_itself types texts fs f (variable s y)) (place_is a s x l z z.local.kind refl) ∙ by_kind z.local.kind (variable s x) (variable s y) (stands.apart x y l v c found d there (other_variable x y free));
       }
-
-  -- ---- assignments
-
-  owner_class : (t : Ty) → is_owner_of_values a.program.types t ≡ true → class (Some t) ≡ classes.Owner
-  owner_class ty.Text o = refl
-  owner_class (ty.Vector item) o = refl
-  owner_class _ o = absurd (false≢true o)
-
-  -- an owner that is named is given what another variable owns, at `move`
-  pub moved_assigned_part : (target : Typed) (x : ℕ) (moved e : Typed) (place equals behind : Place) (s : State) → (to : IsObject a visible types texts fs f setting (whole_form target)) → to.constant ≡ false
-      → IsNamedAt (named_in (whole_form target)) ((uses a (whole_form target)).at) → onto_itself (named_in (whole_form target)) (Some x) ≡ None → (uses a (whole_form e)).replacing ≡ Some (moved_from place x) → e.category ≡ category.Value → Contains visible x
-      → (is : IsMovedFrom x moved) → is.ty ≡ to.ty → Stood s → Makes types texts fs f None s (gives tt (assigned a target equals (one e) behind s)) (no_gift types texts fs f)
-  moved_assigned_part target x moved e place equals behind s to free name other replaces value c is alike stands =
-      let u = uses a (whole_form e) in
-      let t = target_of (uses a (whole_form target)) in
-      let o = operand (uses a (whole_form target)) s in
-      let P = a_place types texts fs f to.ty false in
-      let first = object_part a visible types texts fs f setting (whole_form target) to free s stands in
-      let later = stands_later a visible s o.state first.grown stands in
-      let from = variable o.state x in
-      let S = a_source types texts fs f to.ty in
-      let second = subst (λ (u : Ty). Makes types texts fs f None o.state (gives from o.state) (a_source types texts fs f u)) alike (source_part x moved is c o.state later) in
-      let stays : variable o.state x ≡ variable s x = ap (λ (vs : List ℕ). unwrap_or (slice_get vs x) 0) first.grown.variables in
-      let placed = placed_operand a visible types texts fs f setting (whole_form target) to.id to.constant s to.place in
-      let others =
-      ap (λ (z : ℕ). is_itself types texts fs f z o.given) stays
-      ∙ ap (λ (g : Gives Operand). is_itself types texts fs f (variable s x) g.given) placed
-      ∙ name.apart x is.source c is.found other s stands in
-      subst (λ (r : State). Makes types texts fs f None s (gives tt r) (no_gift types texts fs f))
-      (sym (ap (λ (k : Class). assigned_by k u (own_type target.ty) t equals behind s) (ap (λ (w : Ty). class (Some w)) (ap own_type to.is) ∙ owner_class to.ty to.owner)
-      ∙ ap (λ (w : Ty). acted (owner_by u.category u w s) t equals) (ap own_type to.is)
-      ∙ ap (λ (k : Category). acted (owner_by k u to.ty s) t equals) value
-      ∙ ap (λ (r : Option (State → Gives Act)). acted (replaced_by r (temporary_of u to.ty) s) t equals) replaces))
-      (then_part types texts fs f (no_gift types texts fs f) tt None s (gives (o.given, from) o.state) _ (both types texts fs f P S) (no_gift types texts fs f) stands.opened
-      (and_part types texts fs f (no_gift types texts fs f) tt s o (gives from o.state) P S stands.opened first second)
-      (moves_part types texts fs f (both types texts fs f P S) (o.given, from) to.ty o.given (variable o.state x) place o.state (owner_moves a.program.types to.ty to.owner) (λ h. h) (λ n k q. q) others))

@@ -64,5 +64,6 @@ module _ (a : Around) (visible : List ℕ) (types : Types) (texts : ℕ) (fs : L
     named_unique_made (local x) e b h place = variable_named a visible types texts fs f setting x e h.0 h.1
     named_unique_made (paren inner closing) e b h place = named_unique_target inner b h.1
     named_unique_made (call g given delimiters) e b h place = record { apart = λ x v c found free s stands. refl }
+    named_unique_made (member base which) e b h place = record { apart = λ x l c found free s stands. member_apart types texts fs f which (variable s x) (operand (uses a base) s).given }
     named_unique_made (typed at t c form) e b h place = absurd h
     named_unique_made _ e b h place = absurd (false≢true b)

@@ -5,6 +5,7 @@ use Rattle.std.proofs.lemmas.Bool.{and_parts, false≢true}
 use Rattle.std.proofs.lemmas.Option.{none-some, same_Some}
 use Rattle.life_types.proofs.TreeLemmas.{tree_made}
 use Rattle.life_types.specs.Trees.{IsOrdered, is_plain, members_at, struct_of, tree_at, tree_of}
+use Rattle.life_types.specs.TypeTests.{is_unique}
 use Rattle.life_types.specs.Types.{Types}
 use Rattle.life_types.specs.declared.ty.Ty.{Ty}
 use Rattle.life_types.specs.declared.ty.Ty.TheVariants as ty
@@ -15,14 +16,14 @@ use Rattle.life_elab_laws.proofs.Locations.{is_location}
 
 module _ (types : Types) (ordered : IsOrdered types) where
   -- the tree of a type that isn't void
-  as_type : (id : TyId) (t : Ty) → (t ≡ ty.Void → ⊥) → type_at types id ≡ t → tree_at types id ≡ tree_of types (tree_at types) (Some t)
+  pub as_type : (id : TyId) (t : Ty) → (t ≡ ty.Void → ⊥) → type_at types id ≡ t → tree_at types id ≡ tree_of types (tree_at types) (Some t)
   as_type id t some is = tree_made types ordered id ∙ go (slice_get types.types id.0) is
     where
       go : (o : Option Ty) → unwrap_or o ty.Void ≡ t → tree_of types (tree_at types) o ≡ tree_of types (tree_at types) (Some t)
       go None e = absurd (some (sym e))
       go (Some u) e = ap (λ (u : Ty). tree_of types (tree_at types) (Some u)) e
 
-  void_struct : (number : ℕ) → ty.Struct number ≡ ty.Void → ⊥
+  pub void_struct : (number : ℕ) → ty.Struct number ≡ ty.Void → ⊥
   void_struct number e = cc
 
   members_plain : (ids : List TyId) → is_plain (struct_of (tree_at types) ids) ≡ are_plain types ids
@@ -48,6 +49,14 @@ module _ (types : Types) (ordered : IsOrdered types) where
       go (Some (ty.Iterator item constant)) loc plain = false≢true plain
       go (Some (ty.Span item constant)) loc plain = false≢true plain
       go _ loc plain = false≢true loc
+
+  -- .. nor does it hold a unique_ptr
+  pub no_unique_in : (number m : ℕ) (id : TyId) → slice_get (members_at types number) m ≡ Some id → is_plain_struct types (ty.Struct number) ≡ true → is_unique (type_at types id) ≡ true → ⊥
+  no_unique_in number m id at pointless unique = go (slice_get types.types id.0) unique (ap is_plain (sym (tree_made types ordered id)) ∙ member_plain (members_at types number) m id pointless at)
+    where
+      go : (o : Option Ty) → is_unique (unwrap_or o ty.Void) ≡ true → is_plain (tree_of types (tree_at types) o) ≡ true → ⊥
+      go (Some (ty.Unique target)) unique plain = false≢true plain
+      go _ unique plain = false≢true unique
 
   pub plain_within : (number m : ℕ) (id : TyId) (which : ℕ) → slice_get (members_at types number) m ≡ Some id → type_at types id ≡ ty.Struct which → is_plain_struct types (ty.Struct number) ≡ true → is_plain_struct types (ty.Struct which) ≡ true
   plain_within number m id which at is pointless = sym (struct_plain id which is) ∙ member_plain (members_at types number) m id pointless at

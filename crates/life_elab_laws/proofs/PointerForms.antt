@@ -376,7 +376,7 @@ module _ (a : Around) (visible : List ℕ) (types : Types) (texts : ℕ) (fs : L
 
   pub null_form : (e : Typed) → e.ty ≡ NullPointer → e.category ≡ category.Value → IsForm a visible types texts fs f setting null e
   null_form e t c =
-      pointer_form a visible types texts fs f setting null e (record { kind = a_null t c; place = λ id d at. absurd (value_place (sym c ∙ at)) }) c (λ n. false≢true (sym (ap is_number t) ∙ n)) refl (λ place b. refl) (λ at. absurd (null_text (sym t ∙ at))) (λ at place. (refl, refl))
+      pointer_form a visible types texts fs f setting null e (record { kind = a_null t c; place = λ id d at. absurd (value_place (sym c ∙ at)) }) c (λ n. false≢true (sym (ap is_number t) ∙ n)) refl (λ place b. refl) (λ at. absurd (null_text (sym t ∙ at))) (λ at place. (refl, (refl, refl)))
       (λ p place s stands. leaf_part types texts fs f (aimed Null) s (a_pointing types texts fs f e.ty) (λ b. subst (λ (t : ExprType). IsGivenAs types texts fs f t (aimed Null)) (sym t) (null_given types texts fs f)) (λ b k alive. null_filling f (length s.locals) k))
     where
       null_text : NullPointer ≡ TextLiteral → ⊥

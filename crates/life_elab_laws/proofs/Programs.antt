@@ -31,6 +31,7 @@ use Rattle.life_elab_laws.proofs.Callees.{IsBegun, IsFunctionOf, callee_from, gi
 use Rattle.life_elab_laws.proofs.Calls.{IsCallee}
 use Rattle.life_elab_laws.proofs.ExpressionKinds.{function_built}
 use Rattle.life_elab_laws.proofs.FormedLocals.{HasFormedHead, head_formed}
+use Rattle.life_elab_laws.proofs.CopiedStructs.{copied_later}
 use Rattle.life_elab_laws.proofs.Fronts.{IsFront, each_at, front_itself, front_then, passed_at}
 use Rattle.life_elab_laws.proofs.FunctionWriting.{IsProperBody, function_finished, function_proper}
 use Rattle.life_elab_laws.proofs.Growing.{Begins}
@@ -122,6 +123,7 @@ module _ (p : ProgramForm) (typed : IsWellTyped p) (built : are_served_functions
     structs = structs_later p.types types front order told.structs;
     members = members_later p.types types order;
     plain = plain_later p.types types front order told.structs;
+    copies = copied_later p.types types front order told.structs.ordered;
     chars = told.chars;
     returned = λ g of there. (of_program g of there).built.result;
     result = is.built.result;

@@ -10,7 +10,7 @@ use Rattle.life_types.specs.declared.ty.Class.TheVariants as classes
 use Rattle.life_types.specs.declared.ty.Ty.{Ty}
 use Rattle.life_types.specs.declared.ty.Ty.TheVariants as ty
 use Rattle.life_types.specs.declared.ty.TyId.{TyId}
-use Rattle.life_served.specs.Served.{is_element, is_served_fresh, is_unique_of_element}
+use Rattle.life_served.specs.Served.{is_element, is_served_fresh, is_unique_of_element, is_unique_type}
 use Rattle.life_typed.specs.BaseTypes.{type_at}
 use Rattle.life_typed.specs.Conversions.{fits}
 use Rattle.life_typed.specs.TypedForm.{Form, Typed, call, local, make_unique, move, paren, typed, whole as whole_form}
@@ -77,6 +77,9 @@ module _ (a : Around) (visible : List ℕ) where
   -- .. and one that is made anew, moved or given has none
   pub fresh_nameless : (texts : ℕ) (form : Form) (e : Typed) → is_served_fresh texts form ≡ true → IsMadeOf a.program a.function.locals visible e form → (place : Place) → (form_uses a form place e.ty e.category).named ≡ None
   fresh_nameless texts (make_unique target argument closing) e b h place = refl
+  fresh_nameless texts (paren (typed at t c form) closing) e b h place =
+      fresh_nameless texts form (record { place = at; ty = t; category = c; form = form }) (and_parts (is_unique_type t) (is_served_fresh texts form) b).1 h.1 at
+  fresh_nameless texts (paren _ closing) e b h place = absurd h.1
   fresh_nameless texts (move x) e b h place = refl
   fresh_nameless texts (call g given delimiters) e b h place = refl
   fresh_nameless texts (typed at t c form) e b h place = absurd h
@@ -198,7 +201,7 @@ module _ (a : Around) (types : Types) (texts : ℕ) (fs : List Function) (f : Fu
 
   pub null_back : IsWhole a v.visible types texts fs f setting (whole_form e) → IsGiven → Back
   null_back is given =
-      plain_back (null_builds a v.visible types texts fs f setting (whole_form e) is target given token s h.stands) (is.as_null (given_null a v.visible types texts fs f setting e is.kind.kind target given).0).1
+      plain_back (null_builds a v.visible types texts fs f setting (whole_form e) is target given token s h.stands) (is.as_null (given_null a v.visible types texts fs f setting e is.kind.kind target given).0).1.1
 
   pub no_named_given : IsUnique a v.visible types texts fs f setting (whole_form e) → IsGiven → ⊥
   no_named_given is given =

@@ -18,6 +18,7 @@ use Rattle.life_core.specs.declared.program.Local.{Local}
 use Rattle.life_well_typed.specs.Expressions.{parameter_types}
 use Rattle.life_writer.specs.Around.{Around, result_local}
 use Rattle.life_elab_laws.proofs.Calls.{IsCallee}
+use Rattle.life_elab_laws.proofs.CopiedStructs.{CopiesStay}
 use Rattle.life_elab_laws.proofs.Fronts.{IsFront}
 use Rattle.life_elab_laws.proofs.HandedTypes.{IsHandedType}
 use Rattle.life_elab_laws.proofs.Shaped.{AreShaped, PlainStays}
@@ -37,6 +38,7 @@ pub record Setting (a : Around) (types : Types) (fs : List Function) (f : Functi
   pub structs : HasStructs types
   pub members : (number : ℕ) → members_at types number ≡ members_at a.program.types number
   pub plain : PlainStays a.program.types types
+  pub copies : CopiesStay a.program.types types
   -- the table has chars, where views have elements
   pub chars : type_at a.program.types CHAR ≡ ty.Char
   pub returned : (g : ℕ) (of : FunctionForm) → slice_get a.program.functions g ≡ Some of → is_served_result a.program.types of.result ≡ true

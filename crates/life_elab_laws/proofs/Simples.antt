@@ -11,11 +11,11 @@ use Rattle.life_types.specs.declared.ty.Ty.{Ty}
 use Rattle.life_types.specs.declared.ty.Ty.TheVariants as ty
 use Rattle.life_tree.specs.declared.operator.CompoundOperator.{CompoundOperator}
 use Rattle.life_tree.specs.declared.operator.StepOperator.{StepOperator}
-use Rattle.life_served.specs.Served.{are_served_elements, calls_any, fills_owner, form_type, is_call, is_changing, is_nullptr, is_number_type, is_owner_of_values, is_owner_type, is_served_any, is_served_change, is_served_either, is_served_expression, is_served_left, is_served_object, is_served_owner, is_served_owning, is_served_renewed, is_served_reset, is_served_simple, is_served_struct, is_served_unique, is_served_walker, is_vector, is_vector_type, is_view_type, is_walker_of_values, is_walker_type, is_struct_type, is_element, is_served_fresh, is_unique_type, are_served_parts}
+use Rattle.life_served.specs.Served.{are_served_elements, calls_any, fills_owner, form_type, is_call, is_changing, is_nullptr, is_number_type, is_owner_of_values, is_owner_type, is_served_any, is_served_change, is_served_either, is_served_expression, is_served_left, is_served_object, is_served_owner, is_served_owning, is_served_renewed, is_served_reset, is_served_simple, is_served_struct, is_served_unique, is_served_walker, is_vector, is_vector_type, is_view_type, is_walker_of_values, is_walker_type, is_struct_type, is_element, is_served_fresh, is_unique_type, are_served_arguments}
 use Rattle.life_typed.specs.Operators.{promoted}
 use Rattle.life_typed.specs.Statements.{can_step, compounded}
 use Rattle.life_typed.specs.TypedForm.{Form, Typed, call, forms, method, text, typed, whole as whole_form}
-use Rattle.life_typed.specs.TypedStatement.{ListForm, SimpleForm, assign, compound, discarded, one, several, step}
+use Rattle.life_typed.specs.TypedStatement.{InitialForm, ListForm, SimpleForm, assign, compound, discarded, one, several, step}
 use Rattle.life_typed.specs.declared.typed_expr.Category.{Category}
 use Rattle.life_typed.specs.declared.typed_expr.Category.TheVariants as category
 use Rattle.life_typed.specs.declared.typed_expr.ExprType.{ExprType}
@@ -29,7 +29,7 @@ use Rattle.life_core.specs.Step.{Advance}
 use Rattle.life_core.specs.declared.operation.Operation.TheVariants as operation
 use Rattle.life_core.specs.declared.operation.Operator.{Operator}
 use Rattle.life_proper.specs.OperandTypes.{is_promoted, keeps_const, same}
-use Rattle.life_proper.specs.WellFormed.{answer_of, is_itself}
+use Rattle.life_proper.specs.WellFormed.{answer_of}
 use Rattle.life_well_typed.specs.Expressions.{IsExpression, IsMadeOf, typed_in}
 use Rattle.life_well_typed.specs.Given.{is_given, is_number}
 use Rattle.life_well_typed.specs.Members.{is_listed}
@@ -51,10 +51,11 @@ use Rattle.life_writer.specs.Writing.{State, Gives, ◌>>◌, emit, gives, mappe
 use Rattle.life_elab.specs.SimpleForms.{advanced, appended, assigned, combined, done, stepped, target_of, thrown, thrown_by, direction}
 use Rattle.life_elab.specs.Simples.{compound_operator, held, put_back, step_operator}
 use Rattle.life_elab_laws.proofs.Aiming.{literal_given, pointed_fine, pointed_keeps, pointed_ready}
+use Rattle.life_elab_laws.proofs.CopiedStructs.{assigned_copied, is_copied_struct}
 use Rattle.life_elab_laws.proofs.HandingCalls.{alone_call_part}
 use Rattle.life_elab_laws.proofs.ExpressionTypes.{IsAnswered, answers_nothing, answers_place, answers_raw, answers_value, answers_view, own_no_iterator, own_no_text, own_value, seen_kind, answers_owner, answers_walker, answers_struct, answers_made, answers_unique, own_no_unique, answers_whole}
 use Rattle.life_elab_laws.proofs.ExpressionForms.{IsCall, IsWhole}
-use Rattle.life_elab_laws.proofs.Expressions.{edge_of, asked_expression, givings, named_unique, object_expression, owner_expression, struct_expression, walker_expression, whole_expression, fresh_expression, holding_expression, listings}
+use Rattle.life_elab_laws.proofs.Expressions.{renewing, edge_of, asked_expression, givings, named_unique, owner_expression, struct_expression, walker_expression, whole_expression, fresh_expression, holding_expression, listings}
 use Rattle.life_elab_laws.proofs.PointedCalls.{GivesPointer, call_assigned, gives_called, gives_plainly}
 use Rattle.life_elab_laws.proofs.PointerForms.{placed_operand, pointer_whole, points_whole, result_later}
 use Rattle.life_elab_laws.proofs.FormedFits.{given_raw, given_seen, given_owner, given_string, given_walker, given_vector}
@@ -74,6 +75,7 @@ use Rattle.life_elab_laws.proofs.VariablePlaces.{Stands, stands_later, walker_is
 use Rattle.life_elab_laws.proofs.ChangeForms.{change_part}
 use Rattle.life_elab_laws.proofs.ElementForms.{either_served, operand_typed}
 use Rattle.life_elab_laws.proofs.AppendForms.{appended_part, text_gains}
+use Rattle.life_elab_laws.proofs.AssignableOwners.{IsAssignable, assignable_owner, moved_assigned_part}
 use Rattle.life_elab_laws.proofs.ComparedForms.{IsEither}
 use Rattle.life_type_stmt.specs.Simples.{is_place, moved_in, named_in, onto_itself, self_fault, whole_fault}
 use Rattle.life_type_expr.specs.Operands.{is_constant}
@@ -81,10 +83,10 @@ use Rattle.life_elab_laws.proofs.ObjectForms.{IsObject, IsOwner}
 use Rattle.life_elab_laws.proofs.JoinedForms.{literal_builds}
 use Rattle.life_elab_laws.proofs.ListForms.{list_builds}
 use Rattle.life_elab_laws.proofs.Saving.{saved_part}
-use Rattle.life_elab_laws.proofs.MadeForms.{Builds, BuildsIn, IsMade, IsOwning, is_made, stands_there, temporary_dead, temporary_made, temporary_spare}
-use Rattle.life_elab_laws.proofs.MovedOwners.{given_moved, IsNamedAt, moved_assigned_part}
+use Rattle.life_elab_laws.proofs.MadeForms.{Builds, BuildsIn, IsMade, IsOwning, is_made, stands_there, temporary_below, temporary_dead, temporary_made, temporary_spare}
+use Rattle.life_elab_laws.proofs.MovedOwners.{given_moved}
 use Rattle.life_elab_laws.proofs.MoveSteps.{moves_part, owner_moves}
-use Rattle.life_elab_laws.proofs.NamedTargets.{named_target, named_unique_target}
+use Rattle.life_elab_laws.proofs.NamedTargets.{named_unique_target}
 use Rattle.life_names.specs.declared.fault.IllKind.{IllKind}
 use Rattle.life_elab_laws.proofs.OwnerSteps.{copies_part}
 use Rattle.life_elab_laws.proofs.ReplacedOwners.{IsReplaced, replaced}
@@ -105,7 +107,6 @@ use Rattle.life_types.specs.contracts.ty.TyIdPartialEq.TheImpl.{ghosts as id}
 use Rattle.life_elab_laws.proofs.CalledUniques.{called_unique}
 use Rattle.life_elab_laws.proofs.Elements.{one_element}
 use Rattle.life_elab_laws.proofs.PushedElements.{AreGiving}
-use Rattle.life_elab_laws.proofs.FreeObjects.{object_part}
 use Rattle.life_elab_laws.proofs.StructReferences.{kind_no_struct}
 use Rattle.life_elab_laws.proofs.StructForms.{IsStruct}
 use Rattle.life_elab_laws.proofs.AnsweredUniques.{holding_lies, unique_itself}
@@ -563,15 +564,15 @@ module _ (a : Around) (visible : List ℕ) (types : Types) (texts : ℕ) (fs : L
   owner_class _ o = absurd (false≢true o)
 
   -- a copy
-  copied_part : (target e : Typed) (equals behind : Place) (s : State) → (to : IsObject a visible types texts fs f setting (whole_form target)) → to.constant ≡ false → (from : IsObject a visible types texts fs f setting (whole_form e)) → from.ty ≡ to.ty → Standing s
+  copied_part : (target e : Typed) (equals behind : Place) (s : State) → (to : IsAssignable a visible types texts fs f setting (whole_form target)) → (from : IsObject a visible types texts fs f setting (whole_form e)) → from.ty ≡ to.ty → Standing s
       → Acts s (assigned a target equals (one e) behind s)
-  copied_part target e equals behind s to free from alike stands =
+  copied_part target e equals behind s to from alike stands =
       let w = (uses a (whole_form e)).at s in
       let o = operand (uses a (whole_form target)) w.state in
       let P = a_place types texts fs f to.ty from.constant in
       let Q = a_target to.ty in
       let first = subst (λ (t : Ty). Makes types texts fs f None s w (a_place types texts fs f t from.constant)) alike (from.names s stands) in
-      let second = object_part a visible types texts fs f setting (whole_form target) to free w.state (stands_later a visible s w.state first.grown stands) in
+      let second = to.placed w.state (stands_later a visible s w.state first.grown stands) in
       subst (Acts s)
       (sym (ap (λ (k : Class). assigned_by k (uses a (whole_form e)) (own_type target.ty) (target_of (uses a (whole_form target))) equals behind s) (ap (λ (t : Ty). class (Some t)) (ap own_type to.is) ∙ owner_class to.ty to.owner)
       ∙ ap (λ (c : Category). acted (owner_by c (uses a (whole_form e)) (own_type target.ty) s) (target_of (uses a (whole_form target))) equals) from.place))
@@ -580,18 +581,18 @@ module _ (a : Around) (visible : List ℕ) (types : Types) (texts : ℕ) (fs : L
       (copies_part types texts fs f (both_of P Q) (w.given, o.given) a.program.types to.ty from.constant o.given w.given equals o.state to.owner (λ h. (h.1, h.0)) (λ n k q. (q.1, q.0))))
 
   -- one that is made, by way of a temporary
-  made_assigned_part : {alone : Bool} (target : Typed) (u : Uses) (equals behind : Place) (s : State) → (to : IsObject a visible types texts fs f setting (whole_form target)) → to.constant ≡ false → u.category ≡ category.Value → u.replacing ≡ None
+  made_assigned_part : {alone : Bool} (target : Typed) (u : Uses) (equals behind : Place) (s : State) → (to : IsAssignable a visible types texts fs f setting (whole_form target)) → u.category ≡ category.Value → u.replacing ≡ None
       → BuildsIn a visible types texts fs f setting alone to.ty s (u.object s) → Standing s → Acts s (assigned_by (class (Some (own_type target.ty))) u (own_type target.ty) (target_of (uses a (whole_form target))) equals behind s)
-  made_assigned_part target u equals behind s to free held plain builds stands =
+  made_assigned_part target u equals behind s to held plain builds stands =
       let w = temporary_of u to.ty s in
       let o = operand (uses a (whole_form target)) w.state in
       let P = a_place types texts fs f to.ty false in
       let first = temporary_made a visible types texts fs f setting to.ty u.place s (u.object s) (inl to.owner) builds stands in
       let later = stands_later a visible s w.state first.grown stands in
-      let second = object_part a visible types texts fs f setting (whole_form target) to free w.state later in
+      let second = to.placed w.state later in
       let apart =
-      ap (λ (g : Gives Operand). is_itself types texts fs f w.given g.given) (placed_operand a visible types texts fs f setting (whole_form target) to.id to.constant w.state to.place)
-      ∙ to.apart w.state later w.given (temporary_dead a visible types texts fs f setting to.ty u.place s (u.object s) (inl to.owner) builds stands) in
+      to.apart w.state later w.given (temporary_below a visible types texts fs f setting to.ty u.place s (u.object s) (inl to.owner) builds stands)
+      (temporary_dead a visible types texts fs f setting to.ty u.place s (u.object s) (inl to.owner) builds stands) in
       subst (Acts s)
       (sym (ap (λ (k : Class). assigned_by k u (own_type target.ty) (target_of (uses a (whole_form target))) equals behind s) (ap (λ (t : Ty). class (Some t)) (ap own_type to.is) ∙ owner_class to.ty to.owner)
       ∙ ap (λ (t : Ty). acted (owner_by u.category u t s) (target_of (uses a (whole_form target))) equals) (ap own_type to.is)
@@ -603,9 +604,9 @@ module _ (a : Around) (visible : List ℕ) (types : Types) (texts : ℕ) (fs : L
       (λ h. (h.1, (h.0, temporary_spare a visible types texts fs f setting to.ty u.place s (u.object s) (inl to.owner) builds stands))) (λ n k q. (q.1, q.0)) apart))
 
   -- .. of a literal
-  filled_part : (target e : Typed) (equals behind : Place) (s : State) → (to : IsObject a visible types texts fs f setting (whole_form target)) → to.constant ≡ false → (form : Form) → e.form ≡ form → fills_owner texts form ≡ true
+  filled_part : (target e : Typed) (equals behind : Place) (s : State) → (to : IsAssignable a visible types texts fs f setting (whole_form target)) → (form : Form) → e.form ≡ form → fills_owner texts form ≡ true
       → is_given a.program.types to.ty e ≡ true → Whole e → Standing s → Acts s (assigned a target equals (one e) behind s)
-  filled_part target e equals behind s to free (text n) same few given h stands =
+  filled_part target e equals behind s to (text n) same few given h stands =
       let told : IsMadeOf a.program a.function.locals visible e (text n) = subst (IsMadeOf a.program a.function.locals visible e) same h in
       let string = string_only to.ty to.owner (subst (λ (x : ExprType). fits_at_all (fits a.program.types to.ty x e.category) ≡ true) told.0 given) in
       let w = located e.place ty.View (aimed (Text n)) s in
@@ -614,7 +615,7 @@ module _ (a : Around) (visible : List ℕ) (types : Types) (texts : ℕ) (fs : L
       (leaf_part types texts fs f (aimed (Text n)) s (a_pointing types texts fs f TextLiteral) (λ b. literal_given types texts fs f n few) (λ b k alive. text_filling f n (length s.locals) k))
       (literal_located_part types texts fs f (aimed (Text n)) e.place s) in
       let literal = λ (g : Form). (uses a (typed e.place e.ty e.category g)) in
-      made_assigned_part target (uses a (whole_form e)) equals behind s to free told.1 (ap (λ (g : Form). (literal g).replacing) same)
+      made_assigned_part target (uses a (whole_form e)) equals behind s to told.1 (ap (λ (g : Form). (literal g).replacing) same)
       (subst (λ (g : Form). Builds a visible types texts fs f setting to.ty s ((literal g).object s)) (sym same)
       (subst (λ (t : Ty). Builds a visible types texts fs f setting t s ((literal (text n)).object s)) (sym string) (literal_builds a visible types texts fs f setting s w made))) stands
     where
@@ -622,7 +623,7 @@ module _ (a : Around) (visible : List ℕ) (types : Types) (texts : ℕ) (fs : L
       string_only ty.Text o fit = refl
       string_only (ty.Vector item) o fit = absurd (false≢true fit)
       string_only _ o fit = absurd (false≢true o)
-  filled_part target e equals behind s to free _ same few given h stands = absurd (false≢true few)
+  filled_part target e equals behind s to _ same few given h stands = absurd (false≢true few)
 
   -- an iterator or a span
   walker_assigned_part : (target e : Typed) (equals behind : Place) (s : State) → (to : IsWalker a visible types texts fs f setting (whole_form target)) → (from : IsWalker a visible types texts fs f setting (whole_form e)) → is_given a.program.types to.ty e ≡ true → Standing s
@@ -663,20 +664,17 @@ module _ (a : Around) (visible : List ℕ) (types : Types) (texts : ℕ) (fs : L
 
   -- an owner, by a copy of another one, or by one that is made
   owner_assigned_part : (target e : Typed) (equals behind : Place) (s : State)
-      → ((is_owner_type target.ty && is_served_object texts (whole_form target)) && ((is_owner_type e.ty && is_served_owner texts (whole_form e)) || (fills_owner texts e.form))) ≡ true
+      → ((is_owner_type target.ty && (is_served_object texts (whole_form target) || (not (is_place_category target.category) && is_served_owner texts (whole_form target)))) && ((is_owner_type e.ty && is_served_owner texts (whole_form e)) || (fills_owner texts e.form))) ≡ true
       → IsSimple a.program a.function.locals a.function.result visible (assign target equals (one e)) → Standing s → Acts s (assigned a target equals (one e) behind s)
   owner_assigned_part target e equals behind s b h stands =
-      let both = and_parts (is_owner_type target.ty && is_served_object texts (whole_form target)) ((is_owner_type e.ty && is_served_owner texts (whole_form e)) || (fills_owner texts e.form)) b in
-      let goal = and_parts (is_owner_type target.ty) (is_served_object texts (whole_form target)) both.0 in
-      let to = object_expression a visible types texts fs f setting (whole_form target) goal.1 goal.0 h.0.1 in
-      let free = to_free target.category to.constant (ap is_constant to.place) (and_parts (is_place target.ty target.category) (not (is_constant target.category)) h.0.0).1 in
+      let both = and_parts (is_owner_type target.ty && (is_served_object texts (whole_form target) || (not (is_place_category target.category) && is_served_owner texts (whole_form target)))) ((is_owner_type e.ty && is_served_owner texts (whole_form e)) || (fills_owner texts e.form)) b in
+      let to = assignable_owner a visible types texts fs f setting target both.0 (to_free target.category (is_constant target.category) refl (and_parts (is_place target.ty target.category) (not (is_constant target.category)) h.0.0).1) h.0.1 in
       let given : is_given a.program.types to.ty e ≡ true = subst (λ (t : Ty). is_given a.program.types t e ≡ true) (own_same target.ty ∙ ap own_type to.is) h.1.0 in
       elim (or_cases (is_owner_type e.ty && is_served_owner texts (whole_form e)) (fills_owner texts e.form) both.1) [
         | inl owner ↦
             let source = and_parts (is_owner_type e.ty) (is_served_owner texts (whole_form e)) owner in
-            from_owner to free given (owner_expression a visible types texts fs f setting (whole_form e) source.1 source.0 h.1.1) (replaced a visible types texts fs f setting (whole_form e) source.1 source.0 h.1.1)
-            (named_target a visible types texts fs f setting (whole_form target) goal.1 goal.0 h.0.1)
-        | inr fills ↦ filled_part target e equals behind s to free e.form refl fills given h.1.1 stands
+            from_owner to given (owner_expression a visible types texts fs f setting (whole_form e) source.1 source.0 h.1.1) (replaced a visible types texts fs f setting (whole_form e) source.1 source.0 h.1.1)
+        | inr fills ↦ filled_part target e equals behind s to e.form refl fills given h.1.1 stands
       ]
     where
       none_there : (o : Option IllKind) → is_none o ≡ true → o ≡ None
@@ -689,45 +687,41 @@ module _ (a : Around) (visible : List ℕ) (types : Types) (texts : ℕ) (fs : L
           ap (onto_itself (named_in (whole_form target))) (sym moves)
           ∙ none_there (onto_itself (named_in target.form) (moved_in e.form)) (and_parts (is_none (whole_fault a.program.types target.category)) (is_none (self_fault target.form (one e))) h.2).1
 
-      made : (to : IsObject a visible types texts fs f setting (whole_form target)) → to.constant ≡ false → is_given a.program.types to.ty e ≡ true → IsMade a visible types texts fs f setting (whole_form e) → IsReplaced a visible types texts fs f setting (whole_form e)
-          → IsNamedAt a visible types texts fs f setting (named_in (whole_form target)) ((uses a (whole_form target)).at) → Acts s (assigned a target equals (one e) behind s)
-      made to free given from (inl plain) name =
-          made_assigned_part target (uses a (whole_form e)) equals behind s to free from.value plain
+      made : (to : IsAssignable a visible types texts fs f setting (whole_form target)) → is_given a.program.types to.ty e ≡ true → IsMade a visible types texts fs f setting (whole_form e) → IsReplaced a visible types texts fs f setting (whole_form e) → Acts s (assigned a target equals (one e) behind s)
+      made to given from (inl plain) =
+          made_assigned_part target (uses a (whole_form e)) equals behind s to from.value plain
           (subst (λ (t : Ty). Builds a visible types texts fs f setting t s ((uses a (whole_form e)).object s)) (given_owner a.program.types to.ty from.ty e to.owner from.owner from.is given) (from.builds s stands)) stands
-      made to free given from (inr moves) name =
-          moved_assigned_part a visible types texts fs f setting target moves.number moves.moved e moves.place equals behind s to free name (other moves.number moves.named) moves.replaces from.value moves.seen moves.from
+      made to given from (inr moves) =
+          moved_assigned_part a visible types texts fs f setting target moves.number moves.moved e moves.place equals behind s to (other moves.number moves.named) moves.replaces from.value moves.seen moves.from
           (given_moved a visible types texts fs f setting to.ty moves.from.ty e (owner_moves a.program.types to.ty to.owner) moves.from.owner moves.typed given) stands
 
-      from_owner : (to : IsObject a visible types texts fs f setting (whole_form target)) → to.constant ≡ false → is_given a.program.types to.ty e ≡ true → IsOwning a visible types texts fs f setting (whole_form e) → IsReplaced a visible types texts fs f setting (whole_form e)
-          → IsNamedAt a visible types texts fs f setting (named_in (whole_form target)) ((uses a (whole_form target)).at) → Acts s (assigned a target equals (one e) behind s)
-      from_owner to free given (stands_there from) way name = copied_part target e equals behind s to free from (given_owner a.program.types to.ty from.ty e to.owner from.owner from.is given) stands
-      from_owner to free given (is_made from) way name = made to free given from way name
+      from_owner : (to : IsAssignable a visible types texts fs f setting (whole_form target)) → is_given a.program.types to.ty e ≡ true → IsOwning a visible types texts fs f setting (whole_form e) → IsReplaced a visible types texts fs f setting (whole_form e) → Acts s (assigned a target equals (one e) behind s)
+      from_owner to given (stands_there from) way = copied_part target e equals behind s to from (given_owner a.program.types to.ty from.ty e to.owner from.owner from.is given) stands
+      from_owner to given (is_made from) way = made to given from way
 
   -- .. of a list of its elements
-  list_assigned_part : (target : Typed) (list : ListForm) (equals behind : Place) (s : State) → ((is_owner_type target.ty && is_served_object texts (whole_form target)) && (is_vector_type target.ty && are_served_elements texts (forms list.elements))) ≡ true → IsSimple a.program a.function.locals a.function.result visible (assign target equals (several list)) → Standing s
+  list_assigned_part : (target : Typed) (list : ListForm) (equals behind : Place) (s : State) → ((is_owner_type target.ty && (is_served_object texts (whole_form target) || (not (is_place_category target.category) && is_served_owner texts (whole_form target)))) && (is_vector_type target.ty && are_served_elements texts (forms list.elements))) ≡ true → IsSimple a.program a.function.locals a.function.result visible (assign target equals (several list)) → Standing s
       → Acts s (assigned a target equals (several list) behind s)
   list_assigned_part target list equals behind s b h stands =
-      let both = and_parts (is_owner_type target.ty && is_served_object texts (whole_form target)) (is_vector_type target.ty && are_served_elements texts (forms list.elements)) b in
-      let goal = and_parts (is_owner_type target.ty) (is_served_object texts (whole_form target)) both.0 in
+      let both = and_parts (is_owner_type target.ty && (is_served_object texts (whole_form target) || (not (is_place_category target.category) && is_served_owner texts (whole_form target)))) (is_vector_type target.ty && are_served_elements texts (forms list.elements)) b in
       let one = and_parts (is_vector_type target.ty) (are_served_elements texts (forms list.elements)) both.1 in
-      let to = object_expression a visible types texts fs f setting (whole_form target) goal.1 goal.0 h.0.1 in
-      let free = to_free target.category to.constant (ap is_constant to.place) (and_parts (is_place target.ty target.category) (not (is_constant target.category)) h.0.0).1 in
-      go to free to.ty refl to.owner (ap is_vector (sym (ap own_type to.is)) ∙ vector_own target.ty one.0) (givings a visible types texts fs f setting (forms list.elements) one.1 h.1.1) (subst (λ (t : Ty). is_listed a.program.types t (forms list.elements) ≡ true) (own_same target.ty ∙ ap own_type to.is) h.1.0)
+      let to = assignable_owner a visible types texts fs f setting target both.0 (to_free target.category (is_constant target.category) refl (and_parts (is_place target.ty target.category) (not (is_constant target.category)) h.0.0).1) h.0.1 in
+      go to to.ty refl to.owner (ap is_vector (sym (ap own_type to.is)) ∙ vector_own target.ty one.0) (givings a visible types texts fs f setting (forms list.elements) one.1 h.1.1) (subst (λ (t : Ty). is_listed a.program.types t (forms list.elements) ≡ true) (own_same target.ty ∙ ap own_type to.is) h.1.0)
     where
       vector_own : (t : ExprType) → is_vector_type t ≡ true → is_vector (own_type t) ≡ true
       vector_own (Of t) v = v
       vector_own _ v = absurd (false≢true v)
 
-      go : (to : IsObject a visible types texts fs f setting (whole_form target)) → to.constant ≡ false → (t : Ty) → to.ty ≡ t → is_owner_of_values a.program.types t ≡ true → is_vector t ≡ true → AreGiving a visible types texts fs f setting (forms list.elements)
+      go : (to : IsAssignable a visible types texts fs f setting (whole_form target)) → (t : Ty) → to.ty ≡ t → is_owner_of_values a.program.types t ≡ true → is_vector t ≡ true → AreGiving a visible types texts fs f setting (forms list.elements)
           → is_listed a.program.types t (forms list.elements) ≡ true → Acts s (assigned a target equals (several list) behind s)
-      go to free (ty.Vector item) at o v elements all =
+      go to (ty.Vector item) at o v elements all =
           let own_is : own_type target.ty ≡ ty.Vector item = ap own_type to.is ∙ at in
           let u = listed a (built_type a (own_type target.ty)) list.opening (all_uses a (forms list.elements)) list.delimiters in
           let builds = list_builds a visible types texts fs f setting item o list.opening (forms list.elements) list.delimiters s elements all in
-          made_assigned_part target u equals behind s to free refl refl
+          made_assigned_part target u equals behind s to refl refl
           (subst (λ (t : Ty). BuildsIn a visible types texts fs f setting false t s (u.object s)) (sym at)
           (subst (λ (t : Ty). BuildsIn a visible types texts fs f setting false (ty.Vector item) s (gives (list_object a (built_type a t) list.opening (all_uses a (forms list.elements)) list.delimiters) s)) (sym own_is) builds)) stands
-      go to free _ at o v elements all = absurd (false≢true v)
+      go to _ at o v elements all = absurd (false≢true v)
 
   -- a view of the whole of a string
   view_assigned_part : (target e : Typed) (equals behind : Place) (s : State)
@@ -771,20 +765,22 @@ module _ (a : Around) (visible : List ℕ) (types : Types) (texts : ℕ) (fs : L
       ]
 
   -- a unique_ptr
-  unique_reassigned_part : (target e : Typed) (equals behind : Place) (s : State) → ((is_place_category target.category && is_served_unique texts (whole_form target)) && (is_nullptr e.form || is_served_fresh texts (whole_form e))) ≡ true
+  unique_reassigned_part : (target e : Typed) (equals behind : Place) (s : State) → (is_served_unique texts (whole_form target) && (is_nullptr e.form || (is_place_category target.category && is_served_fresh texts (whole_form e)))) ≡ true
       → IsSimple a.program a.function.locals a.function.result visible (assign target equals (one e)) → Standing s → Acts s (assigned a target equals (one e) behind s)
   unique_reassigned_part target e equals behind s b h stands =
-      let parts = and_parts (is_place_category target.category && is_served_unique texts (whole_form target)) (is_nullptr e.form || is_served_fresh texts (whole_form e)) b in
-      let goal = and_parts (is_place_category target.category) (is_served_unique texts (whole_form target)) parts.0 in
-      let to = named_unique a visible types texts fs f setting (whole_form target) goal.0 goal.1 h.0.1 in
-      let given = subst (λ (t : Ty). is_given a.program.types t e ≡ true) (own_same target.ty ∙ ap own_type to.is) h.1.0 in
-      let name = named_unique_target a visible types texts fs f setting (whole_form target) goal.1 h.0.1 in
-      let other = (and_parts (is_none (whole_fault a.program.types target.category)) (is_none (self_fault target.form (one e))) h.2).1 in
-      elim (or_cases (is_nullptr e.form) (is_served_fresh texts (whole_form e)) parts.1) [
-        | inl none ↦ unique_nulled_part a visible types texts fs f setting target e equals behind to e.form s refl none h.1.1 stands
-        | inr fresh ↦
-            unique_renewed_part a visible types texts fs f setting target e equals behind to e.form s refl (and_parts (is_unique_type e.ty) (is_served_fresh texts e.form) fresh).1
-            (fresh_expression a visible types texts fs f setting (whole_form e) fresh h.1.1) h.1.1 given name other stands
+      let parts = and_parts (is_served_unique texts (whole_form target)) (is_nullptr e.form || (is_place_category target.category && is_served_fresh texts (whole_form e))) b in
+      elim (or_cases (is_nullptr e.form) (is_place_category target.category && is_served_fresh texts (whole_form e)) parts.1) [
+        | inl none ↦
+            unique_nulled_part a visible types texts fs f setting target e equals behind (holding_lies a visible types texts fs f setting (whole_form target) (holding_expression a visible types texts fs f setting (whole_form target) parts.0 h.0.1))
+            e.form s refl none h.1.1 stands
+        | inr others ↦
+            let both = and_parts (is_place_category target.category) (is_served_fresh texts (whole_form e)) others in
+            let to = named_unique a visible types texts fs f setting (whole_form target) both.0 parts.0 h.0.1 in
+            let given = subst (λ (t : Ty). is_given a.program.types t e ≡ true) (own_same target.ty ∙ ap own_type to.is) h.1.0 in
+            let name = named_unique_target a visible types texts fs f setting (whole_form target) parts.0 h.0.1 in
+            let other = (and_parts (is_none (whole_fault a.program.types target.category)) (is_none (self_fault target.form (one e))) h.2).1 in
+            unique_renewed_part a visible types texts fs f setting target e equals behind to (fresh_expression a visible types texts fs f setting (whole_form e) both.1 h.1.1) given name
+            (renewing a visible types texts fs f setting (whole_form e) both.1 h.1.1) s other stands
       ]
 
   reset_statement : (form : Form) (e : Typed) (behind : Place) (s : State) → e.form ≡ form → is_served_reset texts form ≡ true → Whole e → Standing s → Acts s (thrown e.category (uses a (whole_form e)) behind s)
@@ -799,14 +795,20 @@ module _ (a : Around) (visible : List ℕ) (types : Types) (texts : ℕ) (fs : L
   placed_target target b free h =
       with_target a visible types texts fs f setting (whole_form target) (struct_expression a visible types texts fs f setting (whole_form target) b h) (and_parts (is_place target.ty target.category) (not (is_constant target.category)) free).0
 
+  -- .. and is one that may be copied
+  whole_copied : (target : Typed) (value : InitialForm) (to : IsStruct a visible types texts fs f setting (whole_form target)) → (is_none (whole_fault a.program.types target.category) && is_none (self_fault target.form value)) ≡ true → is_copied_struct a.program.types to.number ≡ true
+  whole_copied target value to h =
+      assigned_copied a.program.types setting.values.ordered to.id to.number to.here target.category to.constant to.place (and_parts (is_none (whole_fault a.program.types target.category)) (is_none (self_fault target.form value)) h).0
+
   -- .. also of a list
-  parts_assigned_part : (target : Typed) (list : ListForm) (equals behind : Place) (s : State) → (is_served_struct texts (whole_form target) && are_served_parts texts (forms list.elements)) ≡ true
+  parts_assigned_part : (target : Typed) (list : ListForm) (equals behind : Place) (s : State) → (is_served_struct texts (whole_form target) && are_served_arguments texts (forms list.elements)) ≡ true
       → IsSimple a.program a.function.locals a.function.result visible (assign target equals (several list)) → Standing s → Acts s (assigned a target equals (several list) behind s)
   parts_assigned_part target list equals behind s b h stands =
-      let parts = and_parts (is_served_struct texts (whole_form target)) (are_served_parts texts (forms list.elements)) b in
+      let parts = and_parts (is_served_struct texts (whole_form target)) (are_served_arguments texts (forms list.elements)) b in
       let to = placed_target target parts.0 h.0.0 h.0.1 in
       members_assigned_part a visible types texts fs f setting target list equals behind s to
       (to_free target.category to.constant (ap is_constant to.place) (and_parts (is_place target.ty target.category) (not (is_constant target.category)) h.0.0).1)
+      (whole_copied target (several list) to h.2)
       (listings a visible types texts fs f setting (forms list.elements) parts.1 h.1.1)
       (subst (λ (t : Ty). is_listed a.program.types t (forms list.elements) ≡ true) (own_same target.ty ∙ ap own_type to.is) h.1.0) stands
 
@@ -818,17 +820,18 @@ module _ (a : Around) (visible : List ℕ) (types : Types) (texts : ℕ) (fs : L
       let to = placed_target target parts.0 h.0.0 h.0.1 in
       let from = struct_expression a visible types texts fs f setting (whole_form e) parts.1 h.1.1 in
       let given = subst (λ (t : Ty). is_given a.program.types t e ≡ true) (own_same target.ty ∙ ap own_type to.is) h.1.0 in
-      struct_assigned_part a visible types texts fs f setting target e equals behind s to (to_free target.category to.constant (ap is_constant to.place) (and_parts (is_place target.ty target.category) (not (is_constant target.category)) h.0.0).1) from given stands
+      struct_assigned_part a visible types texts fs f setting target e equals behind s to (to_free target.category to.constant (ap is_constant to.place) (and_parts (is_place target.ty target.category) (not (is_constant target.category)) h.0.0).1)
+      (whole_copied target (one e) to h.2) from given stands
 
   reassigned_part : (target e : Typed) (equals behind : Place) (s : State) → is_served_renewed texts target e ≡ true → IsSimple a.program a.function.locals a.function.result visible (assign target equals (one e)) → Standing s
       → Acts s (assigned a target equals (one e) behind s)
-  reassigned_part target e equals behind s b h stands = elim (or_cases ((is_owner_type target.ty && is_served_object texts (whole_form target)) && ((is_owner_type e.ty && is_served_owner texts (whole_form e)) || (fills_owner texts e.form))) _ b) [
+  reassigned_part target e equals behind s b h stands = elim (or_cases ((is_owner_type target.ty && (is_served_object texts (whole_form target) || (not (is_place_category target.category) && is_served_owner texts (whole_form target)))) && ((is_owner_type e.ty && is_served_owner texts (whole_form e)) || (fills_owner texts e.form))) _ b) [
     | inl owners ↦ owner_assigned_part target e equals behind s owners h stands
     | inr others ↦ elim (or_cases ((is_view_type target.ty && is_served_expression texts target) && (is_owner_type e.ty && is_served_owner texts (whole_form e))) _ others) [
       | inl views ↦ view_assigned_part target e equals behind s views h stands
       | inr others ↦ elim (or_cases (is_served_walker texts (whole_form target) && (is_served_walker texts (whole_form e) || (is_owner_type e.ty && is_served_owner texts (whole_form e)))) _ others) [
         | inl walks ↦ walker_reassigned_part target e equals behind s walks h stands
-        | inr others ↦ elim (or_cases ((is_place_category target.category && is_served_unique texts (whole_form target)) && (is_nullptr e.form || is_served_fresh texts (whole_form e))) (is_served_struct texts (whole_form target) && is_served_struct texts (whole_form e)) others) [
+        | inr others ↦ elim (or_cases (is_served_unique texts (whole_form target) && (is_nullptr e.form || (is_place_category target.category && is_served_fresh texts (whole_form e)))) (is_served_struct texts (whole_form target) && is_served_struct texts (whole_form e)) others) [
           | inl uniques ↦ unique_reassigned_part target e equals behind s uniques h stands
           | inr structs ↦ struct_reassigned_part target e equals behind s structs h stands
         ]
@@ -928,7 +931,7 @@ module _ (a : Around) (visible : List ℕ) (types : Types) (texts : ℕ) (fs : L
         | inr owned ↦ reassigned_part target e equals behind s owned h stands
       ]
   done_part (assign target equals (several list)) behind s b h stands =
-      elim (or_cases ((is_owner_type target.ty && is_served_object texts (whole_form target)) && (is_vector_type target.ty && are_served_elements texts (forms list.elements))) (is_served_struct texts (whole_form target) && are_served_parts texts (forms list.elements)) b) [
+      elim (or_cases ((is_owner_type target.ty && (is_served_object texts (whole_form target) || (not (is_place_category target.category) && is_served_owner texts (whole_form target)))) && (is_vector_type target.ty && are_served_elements texts (forms list.elements))) (is_served_struct texts (whole_form target) && are_served_arguments texts (forms list.elements)) b) [
         | inl elements ↦ list_assigned_part target list equals behind s elements h stands
         | inr members ↦ parts_assigned_part target list equals behind s members h stands
       ]

@@ -1,5 +1,5 @@
 -- Structs at a place, such as variables, and their members.
-use Rattle.std.proofs.Common.{◌≡◌, ℕ, Bool, true, false, List, Contains, length, slice_get, Option, Some, None, refl, sym, ap, ◌∙◌, subst, unwrap_or, ◌++◌, [], ◌∷◌, is_some}
+use Rattle.std.proofs.Common.{◌≡◌, ℕ, Bool, true, false, List, Contains, length, slice_get, Option, Some, None, refl, sym, ap, ◌∙◌, subst, unwrap_or}
 use Rattle.std.proofs.lemmas.Bool.{false≢true}
 use Rattle.life_served.specs.Served.{is_owner_of_values, is_owner_type, is_plain_type, is_struct, is_struct_member, is_struct_type, is_walker_of_values, is_plain_struct, is_walker_type, is_element}
 use Rattle.life_types.specs.Trees.{members_at}
@@ -18,7 +18,7 @@ use Rattle.life_typed.specs.declared.typed_expr.ExprType.TheVariants.{Of}
 use Rattle.life_typed.specs.declared.typed_program.TypedLocal.{TypedLocal}
 use Rattle.life_type_expr.specs.Operands.{place_of as place_typed, variable_of}
 use Rattle.life_core.specs.Function.{Function}
-use Rattle.life_core.specs.Operands.{Operand, object_named, whole}
+use Rattle.life_core.specs.Operands.{Operand, object_named}
 use Rattle.life_core.specs.declared.program.LocalKind.TheVariants.{Object}
 use Rattle.life_well_typed.specs.Expressions.{IsVariable, typed_in}
 use Rattle.life_well_typed.specs.Given.{is_number}
@@ -38,10 +38,11 @@ use Rattle.life_elab_laws.proofs.Parts.{leaf_part, seen_part, Makes}
 use Rattle.life_elab_laws.proofs.PointerForms.{placed_operand}
 use Rattle.life_elab_laws.proofs.Setting.{Setting}
 use Rattle.life_elab_laws.proofs.ObjectForms.{IsObjectAt, IsReached}
-use Rattle.life_elab_laws.proofs.StructSteps.{member_apart, member_placed, member_there, at_member, member_pointer, LiesNamed}
-use Rattle.life_elab_laws.proofs.StructTypes.{IsHeld, a_struct_held, a_value_held, an_owner_held, has_member, held_is, member_type_there, a_raw_held, a_view_held, a_walker_held}
+use Rattle.life_elab_laws.proofs.StructSteps.{member_apart, member_placed, member_there, at_member, member_pointer}
+use Rattle.life_elab_laws.proofs.StructTypes.{IsHeld, a_struct_held, a_value_held, an_owner_held, has_member, held_is, member_type_there, a_raw_held, a_unique_held, a_view_held, a_walker_held}
 use Rattle.life_elab_laws.proofs.TypedKinds.{a_number, kind_of_place, owner_named, place_same, value_place, walker_named, HasKind, a_pointer, a_view as a_view_kind}
 use Rattle.life_elab_laws.proofs.Values.{by_values}
+use Rattle.life_elab_laws.proofs.VariableParts.{LiesIn, lies_named, member_within, variable_lies}
 use Rattle.life_elab_laws.proofs.VariablePlaces.{IsVariableAt, IsVariableType, a_raw, a_reference, a_struct, a_unique, a_value, a_view, a_walker, an_alias, an_owner, kind_is, place_is, variable_there, variable_type, a_struct_alias, walker_is}
 use Rattle.life_elab_laws.proofs.Targets.{struct_target, struct_named}
 use Rattle.life_writer.specs.Pointers.{As, Pointing}
@@ -81,8 +82,8 @@ module _ (a : Around) (visible : List ℕ) (types : Types) (texts : ℕ) (fs : L
     pub place : e.category ≡ category.Place id constant
     pub here : type_at a.program.types id ≡ ty.Struct number
     pub names : (s : State) → Stood s → PlacedAs (ty.Struct number) constant s (at s)
-    -- one that holds pointers is a variable, or in one
-    pub lies : is_plain_struct a.program.types (ty.Struct number) ≡ false → (s : State) → Stood s → LiesNamed (at s).state (at s).given
+    -- one that holds pointers or unique_ptrs is a variable, or in one
+    pub lies : is_plain_struct a.program.types (ty.Struct number) ≡ false → LiesIn a visible types texts fs f setting at
 
   abbrev pub IsStruct : Form → Type 0
   IsStruct form = IsStructAt (typed_in form) ((uses a form).at)
@@ -143,13 +144,7 @@ module _ (a : Around) (visible : List ℕ) (types : Types) (texts : ℕ) (fs : L
             place = ap (λ (y : Typed). y.category) (named (ty.Struct number) at);
             here = as_type (ty.Struct number) at;
             names = λ s stands. named_there s stands;
-            lies = λ none s stands. let v = stands.seen x l c found in record {
-              location = whole (variable s x);
-              is = place_is a s x l v Object (kind_is a s x l v (ty.Struct number) at);
-              local = v.local;
-              there = v.there;
-              named = ap is_some v.named;
-            };
+            lies = λ none. variable_lies a visible types texts fs f setting x l (ty.Struct number) c found at refl;
           }
             where
               named_there : (s : State) → Stood s → PlacedAs (ty.Struct number) l.constant s (gives (variable_place s x) s)
@@ -180,27 +175,27 @@ module _ (a : Around) (visible : List ℕ) (types : Types) (texts : ℕ) (fs : L
             subst (λ (t : Ty). PlacedAs t is.constant z ((form_uses a form place e.ty e.category).at z)) s.1
             (subst (λ (k : Category). PlacedAs is.ty is.constant z ((form_uses a form place e.ty k).at z)) (sym is.place) (is.names place z stands));
         -- an element has no pointers
-        lies = λ none z stands. absurd (false≢true (sym none ∙ struct_within a.program.types s.0 (subst (λ (t : Ty). is_element a.program.types t ≡ true) s.1 is.worth)));
+        lies = λ none. absurd (false≢true (sym none ∙ struct_within a.program.types s.0 (subst (λ (t : Ty). is_element a.program.types t ≡ true) s.1 is.worth)));
       }
 
   -- ---- a member
 
   -- what it is, and how it is written
-  record HasMember (base : Form) (which : ℕ) (e : Typed) (number : ℕ) (constant : Bool) : Type 0 where
-    id : TyId
-    there : slice_get (members_at a.program.types number) which ≡ Some id
-    own : e.ty ≡ Of (type_at a.program.types id)
-    held : e.category ≡ category.Place id constant
-    kind : IsHeld a.program.types (type_at a.program.types id)
-    told : e ≡ place_typed a.program.types id constant e.place e.form
-    placed : (o : Operand) → IsPlaceOf types texts fs f (ty.Struct number) constant o → IsPlaceOf types texts fs f (type_at a.program.types id) constant (with_member which o)
-    names : (s : State) → Stood s → PlacedAs (type_at a.program.types id) constant s (member_at (uses a base) which s)
+  pub record HasMember (base : Form) (which : ℕ) (e : Typed) (number : ℕ) (constant : Bool) : Type 0 where
+    pub id : TyId
+    pub there : slice_get (members_at a.program.types number) which ≡ Some id
+    pub own : e.ty ≡ Of (type_at a.program.types id)
+    pub held : e.category ≡ category.Place id constant
+    pub kind : IsHeld a.program.types (type_at a.program.types id)
+    pub told : e ≡ place_typed a.program.types id constant e.place e.form
+    pub placed : (o : Operand) → IsPlaceOf types texts fs f (ty.Struct number) constant o → IsPlaceOf types texts fs f (type_at a.program.types id) constant (with_member which o)
+    pub names : (s : State) → Stood s → PlacedAs (type_at a.program.types id) constant s (member_at (uses a base) which s)
 
   module _ (base : Form) (which : ℕ) (e : Typed) (is : IsStruct base) (h : IsMember a.program.types (typed_in base).ty (typed_in base).category which e) where
     base_at : (s : State) → operand (uses a base) s ≡ (uses a base).at s
     base_at s = placed_operand a visible types texts fs f setting base is.id is.constant s is.place
 
-    found : HasMember base which e is.number is.constant
+    pub found : HasMember base which e is.number is.constant
     found = go (slice_get (members_at a.program.types is.number) which) refl told
       where
         told : IsMemberAt a.program.types (slice_get (members_at a.program.types is.number) which) is.constant e
@@ -232,15 +227,16 @@ module _ (a : Around) (visible : List ℕ) (types : Types) (texts : ℕ) (fs : L
             in_struct : (o : Operand) → IsPlaceOf types texts fs f (ty.Struct is.number) is.constant o → IsPlaceOf types texts fs f (type_at a.program.types id) is.constant (with_member which o)
             in_struct o q = member_placed types texts fs f is.number which id (type_at a.program.types id) is.constant o later (member_type_there a.program.types types setting.front id member) q
 
-    -- of a struct that holds pointers
-    member_lies : is_plain_struct a.program.types (ty.Struct is.number) ≡ false → (s : State) → Stood s → LiesNamed (member_at (uses a base) which s).state (member_at (uses a base) which s).given
-    member_lies none s stands = subst (λ (w : Gives Operand). LiesNamed (mapped (with_member which) w).state (mapped (with_member which) w).given) (sym (base_at s)) (let l = is.lies none s stands in record {
-      location = record l.location { members = l.location.members ++ which ∷ [] };
-      is = ap (with_member which) l.is;
-      local = l.local;
-      there = l.there;
-      named = l.named;
-    })
+    -- of a struct that holds pointers or unique_ptrs
+    pub member_lies : is_plain_struct a.program.types (ty.Struct is.number) ≡ false → LiesIn a visible types texts fs f setting (member_at (uses a base) which)
+    member_lies none = let l = member_within a visible types texts fs f setting (uses a base).at (is.lies none) which in record {
+      number = l.number;
+      declared = l.declared;
+      found = l.found;
+      seen = l.seen;
+      members = l.members;
+      here = λ s stands. ap (λ (w : Gives Operand). mapped (with_member which) w) (base_at s) ∙ l.here s stands;
+    }
 
     -- a pointer lies in the member itself
     abbrev pub pointing_at : State → Gives Pointing
@@ -257,7 +253,7 @@ module _ (a : Around) (visible : List ℕ) (types : Types) (texts : ℕ) (fs : L
     member_points : (t : Ty) → type_at a.program.types found.id ≡ t → is_location t ≡ true → (s : State) → Stood s → Makes types texts fs f None s (pointing_at s) (a_pointing types texts fs f (Of t))
     member_points t same loc s stands =
         let u = (uses a base).at s in
-        let l = is.lies (held_pointer (ap is_location same ∙ loc)) s stands in
+        let l = lies_named a visible types texts fs f setting (uses a base).at (is.lies (held_pointer (ap is_location same ∙ loc))) s stands in
         subst (λ (w : Gives Operand). Makes types texts fs f None s (mapped (λ o. As (location_in o)) (mapped (with_member which) w)) (a_pointing types texts fs f (Of t))) (sym (base_at s))
         (seen_part types texts fs f (no_gift types texts fs f) tt None s u (a_place types texts fs f (ty.Struct is.number) is.constant) (λ o. As (location_in (with_member which o))) (a_pointing types texts fs f (Of t)) (is.names s stands)
         (λ b q. at_member types texts fs f t which u.given u.state b l.location l.is l.local l.there l.named loc ((found.placed u.given q).typed ∙ same))
@@ -292,6 +288,7 @@ module _ (a : Around) (visible : List ℕ) (types : Types) (texts : ℕ) (fs : L
         go ty.Text same (an_owner_held o) q = absurd (false≢true q)
         go (ty.Vector item) same (an_owner_held o) q = absurd (false≢true q)
         go _ same (an_owner_held o) q = absurd (false≢true o)
+        go t same (a_unique_held target unique w) q = absurd (false≢true (sym (ap (λ (w : Ty). is_plain_type (Of w)) unique) ∙ q))
         go t same (a_struct_held n structure) q = absurd (false≢true (sym (ap (λ (w : Ty). is_plain_type (Of w)) structure) ∙ q))
 
     -- an iterator or a span
@@ -312,6 +309,7 @@ module _ (a : Around) (visible : List ℕ) (types : Types) (texts : ℕ) (fs : L
         go ty.Text same (an_owner_held o) n = absurd (false≢true n)
         go (ty.Vector item) same (an_owner_held o) n = absurd (false≢true n)
         go _ same (an_owner_held o) n = absurd (false≢true o)
+        go t same (a_unique_held target unique w) n = absurd (false≢true (sym (ap (λ (u : Ty). is_walker_type (Of u)) unique) ∙ n))
         go t same (a_struct_held number structure) n = absurd (false≢true (sym (ap (λ (u : Ty). is_walker_type (Of u)) structure) ∙ n))
 
     -- an owner
@@ -334,6 +332,7 @@ module _ (a : Around) (visible : List ℕ) (types : Types) (texts : ℕ) (fs : L
         owns u (a_view_held view) n = absurd (false≢true (sym (ap (λ (w : Ty). is_owner_type (Of w)) view) ∙ n))
         owns u (a_walker_held w) n = absurd (false≢true (sym (walker_is a.program.types u w).owner ∙ n))
         owns u (an_owner_held o) n = o
+        owns u (a_unique_held target same w) n = absurd (false≢true (sym (ap (λ (w : Ty). is_owner_type (Of w)) same) ∙ n))
         owns u (a_struct_held number same) n = absurd (false≢true (sym (ap (λ (w : Ty). is_owner_type (Of w)) same) ∙ n))
 
     -- a struct
@@ -357,6 +356,7 @@ module _ (a : Around) (visible : List ℕ) (types : Types) (texts : ℕ) (fs : L
         go u (a_view_held view) at = other u at (ap is_struct view)
         go u (a_walker_held w) at = other u at (walker_no_struct a.program.types u w)
         go u (an_owner_held o) at = other u at (owner_no_struct a.program.types u o)
+        go u (a_unique_held target same w) at = other u at (ap is_struct same)
         go u (a_struct_held number same) at = record {
           number = number;
           is = found.own ∙ ap Of (at ∙ same);
@@ -365,5 +365,5 @@ module _ (a : Around) (visible : List ℕ) (types : Types) (texts : ℕ) (fs : L
           place = found.held;
           here = at ∙ same;
           names = λ s stands. subst (λ (w : Ty). PlacedAs w is.constant s (member_at (uses a base) which s)) (at ∙ same) (found.names s stands);
-          lies = λ none s stands. member_lies (inside number (at ∙ same) none) s stands;
+          lies = λ none. member_lies (inside number (at ∙ same) none);
         }

@@ -1,5 +1,5 @@
--- The members of a struct that has come to life are given one after the other: each a value, a pointer, an owner or a struct.
-use Rattle.std.proofs.Common.{◌≡◌, ◌+◌, ℕ, zero, suc, Bool, true, false, not, List, [], ◌∷◌, None, Some, Option, inl, inr, slice_get, refl, sym, ap, ◌∙◌, subst, arith, ◌<◌, length}
+-- The members of a struct that has come to life are given one after the other: each a value, a pointer, an owner, a unique_ptr or a struct.
+use Rattle.std.proofs.Common.{◌≡◌, ◌+◌, ℕ, zero, suc, Bool, true, false, List, [], ◌∷◌, None, Some, Option, inl, inr, slice_get, refl, sym, ap, ◌∙◌, subst, arith, ◌<◌, length}
 use Rattle.std.specs.Prelude.{◌&&◌}
 use Rattle.std.proofs.lemmas.Bool.{and_parts, false≢true}
 use Rattle.life_served.specs.Served.{is_owner_of_values, is_plain_struct}
@@ -34,13 +34,17 @@ use Rattle.life_writer.specs.Lists.{assigned_members, member_target}
 use Rattle.life_writer.specs.Using.{temporary_of, value, with_member, location_in, pointing}
 use Rattle.life_writer.specs.Variables.{variable}
 use Rattle.life_writer.specs.Uses.{Act, Uses}
-use Rattle.life_writer.specs.Writing.{Gives, State, gives, mapped, emit}
+use Rattle.life_writer.specs.Writing.{Gives, State, gives, emit}
 use Rattle.life_elab_laws.proofs.AliasForms.{given_literal, literal_object, no_owner_given, walker_no_struct_given}
 use Rattle.life_elab_laws.proofs.ExpressionForms.{IsWhole, Standing}
 use Rattle.life_elab_laws.proofs.FormedFits.{given_owner}
 use Rattle.life_elab_laws.proofs.Gifts.{Gift, IsPlaceOf, a_number, a_place, both, nothing as no_gift, a_pointing}
+use Rattle.life_elab_laws.proofs.CopiedStructs.{listed_copied}
+use Rattle.life_elab_laws.proofs.FreshUniques.{IsFresh, given_null}
 use Rattle.life_elab_laws.proofs.GivenKinds.{taken_number}
-use Rattle.life_elab_laws.proofs.MadeForms.{Builds, IsOwning, is_made, stands_there, temporary_made, temporary_spare, held_stays, place_ready, owning_owner}
+use Rattle.life_elab_laws.proofs.HandedOwners.{owner_no_unique_given, unique_no_walker_given, walker_no_unique_given}
+use Rattle.life_elab_laws.proofs.ListedUniques.{IsRenewing, fresh_given, null_given}
+use Rattle.life_elab_laws.proofs.MadeForms.{Builds, IsOwning, is_made, stands_there, temporary_source, held_stays, place_ready, owning_owner}
 use Rattle.life_elab_laws.proofs.Making.{IsPlace}
 use Rattle.life_elab_laws.proofs.MoveSteps.{a_source, moves_part, owner_moves}
 use Rattle.life_elab_laws.proofs.MovedOwners.{given_moved, source_part}
@@ -52,7 +56,7 @@ use Rattle.life_elab_laws.proofs.ReplacedOwners.{IsMovingAt, IsReplaced}
 use Rattle.life_elab_laws.proofs.Saving.{saved_part}
 use Rattle.life_elab_laws.proofs.Setting.{Setting}
 use Rattle.life_elab_laws.proofs.StructSteps.{member_apart, member_placed, member_there, struct_copies_part, fills_member, member_pointer, type_in_member}
-use Rattle.life_elab_laws.proofs.StructTypes.{IsHeld, a_struct_held, a_value_held, an_owner_held, has_member, held_is, member_type_there, a_raw_held, a_view_held, a_walker_held}
+use Rattle.life_elab_laws.proofs.StructTypes.{IsHeld, a_struct_held, a_value_held, an_owner_held, has_member, held_is, member_type_there, a_raw_held, a_unique_held, a_view_held, a_walker_held}
 use Rattle.life_elab_laws.proofs.Types.{value_class}
 use Rattle.life_elab_laws.proofs.VariablePlaces.{stands_later, walker_is}
 use Rattle.life_elab_laws.proofs.MadeStructs.{IsAnyStruct, as_struct, struct_at, struct_by_at, struct_typed}
@@ -60,7 +64,7 @@ use Rattle.life_elab_laws.proofs.ServedTypes.{struct_tabled}
 use Rattle.life_elab_laws.proofs.GivenOwners.{named_ready}
 use Rattle.life_elab_laws.proofs.WrittenMembers.{IsWriting, Stores, writes_behind}
 use Rattle.life_core.specs.Step.{Copy, Move, Save}
-use Rattle.life_proper.specs.Placed.{result_at, type_in}
+use Rattle.life_proper.specs.Placed.{type_in}
 use Rattle.life_elab_laws.proofs.Aiming.{pointed_fine, pointed_keeps, pointed_ready}
 use Rattle.life_elab_laws.proofs.Instructions.{acted_as_part}
 use Rattle.life_elab_laws.proofs.Locations.{is_location}
@@ -76,11 +80,12 @@ use Rattle.life_proper.specs.declared.known.Known.TheVariants as known
 module _ (a : Around) (visible : List ℕ) (types : Types) (texts : ℕ) (fs : List Function) (f : Function) (setting : Setting a types fs f) where
   -- ---- what a member is given
 
-  -- it has a value, is an owner, an iterator or a span, or is a struct
+  -- it has a value, is an owner, an iterator or a span, a unique_ptr that is fresh, or a struct
   pub data IsListed (form : Form) : Type 0 where
     a_value_listed : IsWhole a visible types texts fs f setting form → ((typed_in form).ty ≡ TextLiteral → (uses a form).replacing ≡ None) → IsListed form
     an_owner_listed : IsOwning a visible types texts fs f setting form → IsReplaced a visible types texts fs f setting form → IsListed form
     a_walker_listed : IsWalker a visible types texts fs f setting form → IsListed form
+    a_unique_listed : IsFresh a visible types texts fs f setting form → IsRenewing a visible types texts fs f setting form → IsListed form
     a_struct_listed : IsAnyStruct a visible types texts fs f setting form → IsListed form
 
   abbrev pub AreListed : Form → Type 0
@@ -101,7 +106,7 @@ module _ (a : Around) (visible : List ℕ) (types : Types) (texts : ℕ) (fs : L
 
   -- ---- a member
 
-  module _ (m : ℕ) (id : TyId) (there : slice_get (members_at a.program.types number) m ≡ Some id) (e : Form) (behind at : Place) (s : State) (taken : is_taken a.program.types (Some (type_at a.program.types id)) (typed_in e) ≡ true) (stands : Stood s) (lies : Lies s) where
+  module _ (m : ℕ) (id : TyId) (there : slice_get (members_at a.program.types number) m ≡ Some id) (e : Form) (behind at : Place) (s : State) (listed : can_be_listed a.program.types id ≡ true) (taken : is_taken a.program.types (Some (type_at a.program.types id)) (typed_in e) ≡ true) (stands : Stood s) (lies : Lies s) where
     abbrev t : Ty
     t = type_at a.program.types id
 
@@ -140,7 +145,7 @@ module _ (a : Around) (visible : List ℕ) (types : Types) (texts : ℕ) (fs : L
     struct_stores : (which : ℕ) (constant : Bool) (from : Operand) → t ≡ ty.Struct which → Stores types texts fs f (ty.Struct number) to (a_place types texts fs f (ty.Struct which) constant) from at (Copy here from)
     struct_stores which constant from same = record {
       part = λ s.
-          struct_copies_part types texts fs f setting.structs (both types texts fs f P (a_place types texts fs f (ty.Struct which) constant)) (to, from) which constant here from at s
+          struct_copies_part types texts fs f setting.structs (both types texts fs f P (a_place types texts fs f (ty.Struct which) constant)) (to, from) which (setting.copies which (listed_copied a.program.types setting.values.ordered id which same listed)) constant here from at s
           (λ h. (subst (λ (y : Ty). IsPlaceOf types texts fs f y false here) same (here_typed h.0), h.1)) (λ n k q. (here_ready n k q.0, q.1));
       kept = λ x n k blank q. place_ready a visible types texts fs f setting x from n k blank q;
       seen = λ n k q z m. absurd m;
@@ -243,25 +248,10 @@ module _ (a : Around) (visible : List ℕ) (types : Types) (texts : ℕ) (fs : L
       built_member : (typed_in e).category ≡ category.Value → u.replacing ≡ None → Builds a visible types texts fs f setting t s (u.object s) → Writes s (assigned u t (member_target m to) at behind s)
       built_member held plain builds =
           let w = temporary_of u t s in
-          let made = temporary_made a visible types texts fs f setting t u.place s (u.object s) (inl owner) builds stands in
-          let spare = temporary_spare a visible types texts fs f setting t u.place s (u.object s) (inl owner) builds stands in
+          let made = temporary_source a visible types texts fs f setting t u.place s (u.object s) (inl owner) builds stands in
           as_owner category.Value held
           (subst (λ (r : Option (State → Gives Act)). Writes s (acted (replaced_by r (temporary_of u t) s) (member_target m to) at)) (sym plain)
-          (ways.behind s w (a_source types texts fs f t) at (Move here w.given) stands.opened (temporary_source w made spare) (move_stores w.given at owner)))
-        where
-          -- it may be moved: it isn't the result
-          temporary_source : (w : Gives ℕ) → Makes types texts fs f None s (mapped object_named w) (a_place types texts fs f t false) → not (result_at types f w.given) ≡ true → Makes types texts fs f None s w (a_source types texts fs f t)
-          temporary_source w made spare = record {
-            grown = made.grown;
-            registers = made.registers;
-            code = made.code;
-            written = made.written;
-            runs = λ b p. let r = made.runs b p in record {
-              fine = r.fine;
-              typed = (r.typed, spare);
-              goes = λ k alive q. let g = r.goes k alive q in record { after = g.after; falls = g.falls; keeps = g.keeps; gives = g.gives; alive = g.alive; apart = g.apart; bears = g.bears };
-            };
-          }
+          (ways.behind s w (a_source types texts fs f t) at (Move here w.given) stands.opened made (move_stores w.given at owner)))
 
       -- .. one that is moved out of a variable comes from there
       moved_member : (typed_in e).category ≡ category.Value → {name : Option ℕ} → IsMovingAt a visible types texts fs f setting name (typed_in e).ty u.replacing → Writes s (assigned u t (member_target m to) at behind s)
@@ -293,6 +283,13 @@ module _ (a : Around) (visible : List ℕ) (types : Types) (texts : ℕ) (fs : L
           as_owner (category.Place from.id from.constant) from.place
           (ways.behind s w (a_place types texts fs f t from.constant) at (Copy here w.given) stands.opened made (copy_stores from.constant w.given owner))
 
+    -- ---- a unique_ptr
+
+    unique_member : (target : TyId) → t ≡ ty.Unique target → (typed_in e).category ≡ category.Value → Writes s (acted (replaced_by u.replacing (temporary_of u (ty.Unique target)) s) (member_target m to) at) → Writes s (assigned u t (member_target m to) at behind s)
+    unique_member target same held w =
+        subst (λ (y : Ty). Writes s (assigned u y (member_target m to) at behind s)) (sym same)
+        (subst (λ (c : Category). Writes s (acted (owner_by c u (ty.Unique target) s) (member_target m to) at)) (sym held ∙ held_typed a visible types texts fs f setting e) w)
+
     one_member : IsListed a visible types texts fs f setting e → Writes s (assigned u t (member_target m to) at behind s)
     one_member is = go t refl (held_is a.program.types t (has_member a.program.types setting.values number m id there)) is
       where
@@ -311,6 +308,9 @@ module _ (a : Around) (visible : List ℕ) (types : Types) (texts : ℕ) (fs : L
         owned : IsOwning a visible types texts fs f setting e → IsOwner a visible types texts fs f setting e
         owned owner = owning_owner a visible types texts fs f setting e owner
 
+        unique_as : (y : Ty) → t ≡ y → (from : IsFresh a visible types texts fs f setting e) → fits_at_all (fits a.program.types y (Of (ty.Unique from.owned)) (typed_in e).category) ≡ true
+        unique_as y same from = fits_as y (ty.Unique from.owned) same from.is
+
         shows : (y : Ty) → t ≡ y → is_location y ≡ true → IsShown a visible types texts fs f setting e y → Writes s (assigned u t (member_target m to) at behind s)
         shows y same loc shown = pointer_member (ap is_location same ∙ loc) (subst (IsShown a visible types texts fs f setting e) (sym same) shown)
 
@@ -319,27 +319,43 @@ module _ (a : Around) (visible : List ℕ) (types : Types) (texts : ℕ) (fs : L
         go y same (a_value_held v) (an_owner_listed owner way) = let w = ap is_value same ∙ v in let n = taken_number a.program.types t (typed_in e) w taken in value_member (giving_number a visible types texts fs f setting e (inr owner) n) w n
         go y same (a_value_held v) (a_walker_listed from) = absurd (no_number from.ty from.is (walker_is a.program.types from.ty from.walker).value (taken_number a.program.types t (typed_in e) (ap is_value same ∙ v) taken))
         go y same (a_value_held v) (a_struct_listed from) = absurd (no_number (ty.Struct (its from).0) (its from).1 refl (taken_number a.program.types t (typed_in e) (ap is_value same ∙ v) taken))
+        go y same (a_value_held v) (a_unique_listed from renews) = absurd (no_number (ty.Unique from.owned) from.is refl (taken_number a.program.types t (typed_in e) (ap is_value same ∙ v) taken))
         go y same (a_raw_held target constant raw w) (a_value_listed whole plain) =
             shows (ty.Raw target constant) (same ∙ raw) refl (whole_raw a visible types texts fs f setting e whole target constant w (taken_as (ty.Raw target constant) (same ∙ raw)))
         go y same (a_raw_held target constant raw w) (an_owner_listed owner way) = absurd (owner_no_raw a visible types texts fs f setting e (owned owner) target constant (taken_as (ty.Raw target constant) (same ∙ raw)))
         go y same (a_raw_held target constant raw w) (a_walker_listed from) = absurd (no_raw_walker a visible types texts fs f setting e from target constant w (taken_as (ty.Raw target constant) (same ∙ raw)))
         go y same (a_raw_held target constant raw w) (a_struct_listed from) = absurd (no_raw_struct a visible types texts fs f setting e (its from).0 (its from).1 target constant (taken_as (ty.Raw target constant) (same ∙ raw)))
+        go y same (a_raw_held target constant raw w) (a_unique_listed from renews) = absurd (false≢true (unique_as (ty.Raw target constant) (same ∙ raw) from))
         go y same (a_view_held view) (a_value_listed whole plain) = shows ty.View (same ∙ view) refl (whole_view a visible types texts fs f setting e whole (taken_as ty.View (same ∙ view)))
         go y same (a_view_held view) (an_owner_listed owner way) = shows ty.View (same ∙ view) refl (string_view a visible types texts fs f setting e (owned owner) (taken_as ty.View (same ∙ view)))
         go y same (a_view_held view) (a_walker_listed from) = absurd (no_view_walker a visible types texts fs f setting e from (taken_as ty.View (same ∙ view)))
         go y same (a_view_held view) (a_struct_listed from) = absurd (no_view_struct a visible types texts fs f setting e (its from).0 (its from).1 (taken_as ty.View (same ∙ view)))
+        go y same (a_view_held view) (a_unique_listed from renews) = absurd (false≢true (unique_as ty.View (same ∙ view) from))
         go y same (a_walker_held w) (a_value_listed whole plain) = absurd (whole_no_walker a visible types texts fs f setting e whole y w (taken_as y same))
         go y same (a_walker_held w) (an_owner_listed owner way) = shows y same (walker_is a.program.types y w).location (owner_span a visible types texts fs f setting e (owned owner) y w (taken_as y same))
         go y same (a_walker_held w) (a_walker_listed from) = shows y same (walker_is a.program.types y w).location (walker_walker a visible types texts fs f setting e from y w (taken_as y same))
         go y same (a_walker_held w) (a_struct_listed from) = absurd (no_walker_struct a visible types texts fs f setting e (its from).0 (its from).1 y w (taken_as y same))
+        go y same (a_walker_held w) (a_unique_listed from renews) = absurd (walker_no_unique_given a.program.types y w from.owned (typed_in e).category (unique_as y same from))
         go y same (an_owner_held o) (a_value_listed whole plain) = literal_member (ap (is_owner_of_values a.program.types) same ∙ o) whole plain
         go y same (an_owner_held o) (an_owner_listed owner way) = owner_member (ap (is_owner_of_values a.program.types) same ∙ o) owner way
         go y same (an_owner_held o) (a_walker_listed from) = absurd (no_owner_given a.program.types y o from.ty (walker_is a.program.types from.ty from.walker).owner (typed_in e).category (fits_as y from.ty same from.is))
         go y same (an_owner_held o) (a_struct_listed from) = absurd (no_owner_given a.program.types y o (ty.Struct (its from).0) refl (typed_in e).category (fits_as y (ty.Struct (its from).0) same (its from).1))
+        go y same (an_owner_held o) (a_unique_listed from renews) = absurd (no_owner_given a.program.types y o (ty.Unique from.owned) refl (typed_in e).category (unique_as y same from))
         go y same (a_struct_held which is) (a_value_listed whole plain) = absurd (giving_no_struct a visible types texts fs f setting e (inl whole) which (taken_as (ty.Struct which) (same ∙ is)))
         go y same (a_struct_held which is) (an_owner_listed owner way) = absurd (giving_no_struct a visible types texts fs f setting e (inr owner) which (taken_as (ty.Struct which) (same ∙ is)))
         go y same (a_struct_held which is) (a_walker_listed from) = absurd (walker_no_struct_given a.program.types from.ty from.walker which (typed_in e).category (fits_as (ty.Struct which) from.ty (same ∙ is) from.is))
         go y same (a_struct_held which is) (a_struct_listed from) = struct_member which (same ∙ is) from
+        go y same (a_struct_held which is) (a_unique_listed from renews) = absurd (false≢true (unique_as (ty.Struct which) (same ∙ is) from))
+        go y same (a_unique_held target unique w) (a_value_listed whole plain) =
+            unique_member target (same ∙ unique) (given_null a visible types texts fs f setting (typed_in e) whole.kind.kind target (taken_as (ty.Unique target) (same ∙ unique))).1
+            (null_given a visible types texts fs f setting number to ways m id there target (same ∙ unique) w e at s (taken_as (ty.Unique target) (same ∙ unique)) stands lies whole)
+        go y same (a_unique_held target unique w) (an_owner_listed owner way) =
+            let o = owned owner in absurd (owner_no_unique_given a.program.types o.ty o.owner target (typed_in e).category (fits_as (ty.Unique target) o.ty (same ∙ unique) o.is))
+        go y same (a_unique_held target unique w) (a_walker_listed from) = absurd (unique_no_walker_given a.program.types from.ty from.walker target (typed_in e).category (fits_as (ty.Unique target) from.ty (same ∙ unique) from.is))
+        go y same (a_unique_held target unique w) (a_struct_listed from) = absurd (false≢true (fits_as (ty.Unique target) (ty.Struct (its from).0) (same ∙ unique) (its from).1))
+        go y same (a_unique_held target unique w) (a_unique_listed from renews) =
+            unique_member target (same ∙ unique) from.value
+            (fresh_given a visible types texts fs f setting number to ways m id there target (same ∙ unique) w e at s (taken_as (ty.Unique target) (same ∙ unique)) stands lies from renews)
 
   -- from one member on
   pub members_written : (m : ℕ) (ids : List TyId) → ((k : ℕ) (id : TyId) → slice_get ids k ≡ Some id → slice_get (members_at a.program.types number) (m + k) ≡ Some id) → (es : Form) (d : DelimitersForm) (s : State)
@@ -349,10 +365,10 @@ module _ (a : Around) (visible : List ℕ) (types : Types) (texts : ℕ) (fs : L
   members_written m (id ∷ ids) each no_form d s given all stands lies = absurd (false≢true all)
   members_written m (id ∷ ids) each (e ⨟ es) d s given all stands lies =
       let parts = and_parts (can_be_listed a.program.types id && is_taken a.program.types (Some (type_at a.program.types id)) (typed_in e)) (are_each a.program.types ids es) all in
-      let taken = (and_parts (can_be_listed a.program.types id) (is_taken a.program.types (Some (type_at a.program.types id)) (typed_in e)) parts.0).1 in
+      let both = and_parts (can_be_listed a.program.types id) (is_taken a.program.types (Some (type_at a.program.types id)) (typed_in e)) parts.0 in
       let r = assigned (uses a e) (type_of a id) (member_target m to) (uses a e).place (behind_first d) s in
       let here : m + zero ≡ m = omega arith in
-      let first = one_member m id (subst (λ (n : ℕ). slice_get (members_at a.program.types number) n ≡ Some id) here (each zero id refl)) e (behind_first d) (uses a e).place s taken stands lies given.0 in
+      let first = one_member m id (subst (λ (n : ℕ). slice_get (members_at a.program.types number) n ≡ Some id) here (each zero id refl)) e (behind_first d) (uses a e).place s both.0 both.1 stands lies given.0 in
       ways.chained s r (assigned_members a (suc m) ids to (all_uses a es) (behind_others d) r) stands.opened first
       (members_written (suc m) ids (λ k y at. let next : m + suc k ≡ suc m + k = omega arith in subst (λ (n : ℕ). slice_get (members_at a.program.types number) n ≡ Some y) next (each (suc k) y at)) es (behind_others d) r given.1 parts.1
       (stands_later a visible s r (ways.grows s r first) stands)

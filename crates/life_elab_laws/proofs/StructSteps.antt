@@ -1,17 +1,15 @@
 -- Places of members, and copies of structs.
-use Rattle.std.proofs.Common.{◌≡◌, ◌&&◌, ◌++◌, ◌||◌, nat_eq, ℕ, zero, suc, Bool, true, false, not, if◌then◌else◌, List, [], ◌∷◌, Option, Some, None, refl, ap, ◌∙◌, slice_get, unwrap_or, is_some, sym, subst}
-use Rattle.std.proofs.lemmas.Bool.{and_from, and_parts, false≢true}
+use Rattle.std.proofs.Common.{◌≡◌, ◌&&◌, ◌++◌, nat_eq, ℕ, Bool, true, false, not, if◌then◌else◌, List, [], ◌∷◌, Option, Some, None, refl, ap, ◌∙◌, slice_get, is_some, sym, subst}
+use Rattle.std.proofs.lemmas.Bool.{and_from, false≢true}
 use Rattle.std.specs.List.{starts_with}
-use Rattle.life_types.specs.Pointees.{or_void, ty_of}
-use Rattle.life_types.specs.Trees.{holds_unique, members_at, struct_of, tree_at, tree_of, tree_within}
+use Rattle.life_types.specs.Pointees.{ty_of}
+use Rattle.life_types.specs.Trees.{holds_unique, members_at}
 use Rattle.life_types.specs.TypeTests.{is_pointer}
 use Rattle.life_types.specs.Types.{Types}
 use Rattle.life_types.specs.declared.place.Place.{Place}
 use Rattle.life_types.specs.declared.ty.Ty.{Ty}
 use Rattle.life_types.specs.declared.ty.Ty.TheVariants as ty
 use Rattle.life_types.specs.declared.ty.TyId.{TyId}
-use Rattle.life_served.specs.Served.{have_each, is_struct_member}
-use Rattle.life_typed.specs.BaseTypes.{type_at}
 use Rattle.life_core.specs.Function.{Function}
 use Rattle.life_core.specs.Operands.{Name, Operand, Through, Location}
 use Rattle.life_core.specs.Step.{Copy}
@@ -31,6 +29,8 @@ use Rattle.life_elab_laws.proofs.Instructions.{acted_part}
 use Rattle.life_elab_laws.proofs.Making.{IsPlace, keeps_all, IsPointer, is_named, lies_by, fills_in, lies_in}
 use Rattle.life_elab_laws.proofs.Parts.{Part}
 use Rattle.life_elab_laws.proofs.Shaping.{IsFineStep}
+use Rattle.life_elab_laws.proofs.CopiedStructs.{is_copied_struct, struct_copied}
+use Rattle.life_elab_laws.proofs.OperandsThere.{type_either}
 use Rattle.life_elab_laws.proofs.StructTypes.{HasStructs}
 use Rattle.life_elab_laws.proofs.Types.{same_type}
 use Rattle.life_core.specs.Kinds.{is_register_at}
@@ -129,65 +129,29 @@ module _ (types : Types) (texts : ℕ) (fs : List Function) (f : Function) where
         ∙ member_lies l.members m (is_register_at f l.local) (is_named (slice_get f.locals l.local)) (ap is_named (b.locals l.local local there) ∙ named);
   }
 
--- ---- no struct that is served holds a unique_ptr
-
-module _ (types : Types) where
-  -- nor does a member, so many steps deep
-  abbrev MemberFree : ℕ → Type 0
-  MemberFree n = (id : TyId) → is_struct_member types (type_at types id) ≡ true → holds_unique (tree_within n types id) ≡ false
-
-  members_free : (n : ℕ) → MemberFree n → (ids : List TyId) → have_each (is_struct_member types) types ids ≡ true → holds_unique (struct_of (tree_within n types) ids) ≡ false
-  members_free n inside [] b = refl
-  members_free n inside (id ∷ ids) b =
-      let parts = and_parts (is_struct_member types (type_at types id)) (have_each (is_struct_member types) types ids) b in
-      ap (λ (b : Bool). b || holds_unique (struct_of (tree_within n types) ids)) (inside id parts.0) ∙ members_free n inside ids parts.1
-
-  held_free : HasStructs types → (n : ℕ) → MemberFree n → (o : Option Ty) → is_struct_member types (unwrap_or o ty.Void) ≡ true → holds_unique (tree_of types (tree_within n types) o) ≡ false
-  held_free structs n inside (Some (ty.Struct number)) b = members_free n inside (members_at types number) (structs.members number)
-  held_free structs n inside (Some ty.Text) b = refl
-  held_free structs n inside (Some (ty.Vector item)) b = refl
-  held_free structs n inside (Some ty.Bool) b = refl
-  held_free structs n inside (Some ty.Char) b = refl
-  held_free structs n inside (Some ty.Int) b = refl
-  held_free structs n inside (Some ty.Long) b = refl
-  held_free structs n inside (Some ty.Size) b = refl
-  held_free structs n inside (Some ty.View) b = refl
-  held_free structs n inside (Some (ty.Raw target constant)) b = refl
-  held_free structs n inside (Some (ty.Iterator item constant)) b = refl
-  held_free structs n inside (Some (ty.Span item constant)) b = refl
-  held_free structs n inside _ b = absurd (false≢true b)
-
-  member_free : HasStructs types → (n : ℕ) → MemberFree n
-  member_free structs zero id b = refl
-  member_free structs (suc n) id b = held_free structs n (member_free structs n) (slice_get types.types id.0) b
-
-  struct_free : HasStructs types → (number : ℕ) (b : Bool) (id : Option TyId) → (if b then ty_if types id else ty.Void) ≡ ty.Struct number → holds_unique (tree_if types id) ≡ false
-  unfolding tree_at
-  struct_free structs number false id e = absurd (void_struct number e)
-  struct_free structs number true None e = absurd (void_struct number e)
-  struct_free structs number true (Some id) e = go (slice_get types.types id.0) e
-    where
-      go : (o : Option Ty) → or_void o ≡ ty.Struct number → holds_unique (tree_of types (tree_within id.0 types) o) ≡ false
-      go None e = absurd (void_struct number e)
-      go (Some t) e = ap (λ (u : Ty). holds_unique (tree_of types (tree_within id.0 types) (Some u))) e ∙ members_free id.0 (member_free structs id.0) (members_at types number) (structs.members number)
-
 -- ---- copies
 
 module _ (types : Types) (texts : ℕ) (fs : List Function) (f : Function) (structs : HasStructs types) where
-  pub struct_copy_fine : (number : ℕ) (to from : Operand) → type_of types f to ≡ ty.Struct number → keeps_const false (is_const_place types f to) ≡ true → type_of types f from ≡ ty.Struct number → IsFineStep types texts fs f (Copy to from)
-  struct_copy_fine number to from at free source = record {
+  -- no unique_ptr is copied
+  struct_free : (number : ℕ) → is_copied_struct types number ≡ true → (b : Bool) (id : Option TyId) → (if b then ty_if types id else ty.Void) ≡ ty.Struct number → not (holds_unique (tree_if types id)) ≡ true
+  struct_free number copies false id e = absurd (void_struct number e)
+  struct_free number copies true None e = absurd (void_struct number e)
+  struct_free number copies true (Some id) e = struct_copied types structs.ordered id number (sym (type_either types id) ∙ e) ∙ copies
+
+  pub struct_copy_fine : (number : ℕ) → is_copied_struct types number ≡ true → (to from : Operand) → type_of types f to ≡ ty.Struct number → keeps_const false (is_const_place types f to) ≡ true → type_of types f from ≡ ty.Struct number → IsFineStep types texts fs f (Copy to from)
+  struct_copy_fine number copies to from at free source = record {
     given = refl;
     formed =
         and_from (same (type_of types f to) (type_of types f from)) _ (ap (λ (u : Ty). same u (type_of types f from)) at ∙ ap (same (ty.Struct number)) source ∙ same_type (ty.Struct number))
         (and_from (not (is_pointer (type_of types f to))) _ (ap (λ (u : Ty). not (is_pointer u)) at)
-        (and_from (not (holds_unique (tree_if types (operand_type types f to)))) (not (is_const_place types f to)) (ap not (struct_free types structs number (is_place types f to) (operand_type types f to) at)) free));
+        (and_from (not (holds_unique (tree_if types (operand_type types f to)))) (not (is_const_place types f to)) (struct_free number copies (is_place types f to) (operand_type types f to) at) free));
   }
 
-  pub struct_copies_part : {A : Type 0} (P : Gift types texts fs f A) (x : A) (number : ℕ) (constant : Bool) (to from : Operand) (place : Place) (s : State)
+  pub struct_copies_part : {A : Type 0} (P : Gift types texts fs f A) (x : A) (number : ℕ) → is_copied_struct types number ≡ true → (constant : Bool) (to from : Operand) (place : Place) (s : State)
       → (P.typed x → IsPlaceOf types texts fs f (ty.Struct number) false to × IsPlaceOf types texts fs f (ty.Struct number) constant from) → ((n : ℕ) (k : List Known) → P.ready x n k → IsPlace to n k × IsPlace from n k)
       → Part types texts fs f P x None s (gives tt (emit place (Copy to from) s)) (nothing types texts fs f)
-  struct_copies_part P x number constant to from place s typed ready =
+  struct_copies_part P x number copies constant to from place s typed ready =
       acted_part types texts fs f P x place (Copy to from) s
-      (λ h. let both = typed h in struct_copy_fine number to from both.0.typed both.0.held both.1.typed)
+      (λ h. let both = typed h in struct_copy_fine number copies to from both.0.typed both.0.held both.1.typed)
       (λ n k q. let both = ready n k q in uses_ready k (place_uses to ++ place_uses from) [] (both_known known.Ready k (place_uses to) (place_uses from) (place_there to n k both.0) (place_there from n k both.1)))
       (λ n m k q. keeps_all f m None k)

@@ -20,7 +20,7 @@ use Rattle.life_elab_laws.proofs.Shaped.{target_later, PlainStays, element_later
 use Rattle.life_elab_laws.proofs.Targets.{or_false}
 use Rattle.life_types.proofs.TreeLemmas.{Grows, tree_stays}
 
--- each type stands once, behind its parts, and a struct has few members, each of which is a value, a pointer, an owner or such a struct
+-- each type stands once, behind its parts, and a struct has few members, each of which is a value, a pointer, an owner, a unique_ptr or such a struct
 pub record HasStructs (types : Types) : Type 0 where
   pub ordered : IsOrdered types
   pub once : HasEachOnce types
@@ -49,6 +49,7 @@ module _ (types : Types) where
     a_view_held : t ≡ ty.View → IsHeld t
     a_walker_held : is_walker_of_values types t ≡ true → IsHeld t
     an_owner_held : is_owner_of_values types t ≡ true → IsHeld t
+    a_unique_held : (target : TyId) → t ≡ ty.Unique target → is_element types (type_at types target) ≡ true → IsHeld t
     a_struct_held : (number : ℕ) → t ≡ ty.Struct number → IsHeld t
 
   pub held_is : (t : Ty) → is_struct_member types t ≡ true → IsHeld t
@@ -63,6 +64,7 @@ module _ (types : Types) where
   held_is (ty.Span item constant) b = a_walker_held (or_false (is_element types (type_at types item)) b)
   held_is ty.Text b = an_owner_held refl
   held_is (ty.Vector item) b = an_owner_held (or_false (is_owner_of_values types (ty.Vector item)) b)
+  held_is (ty.Unique target) b = a_unique_held target refl (or_false (is_element types (type_at types target)) b)
   held_is (ty.Struct number) b = a_struct_held number refl
   held_is _ b = absurd (false≢true b)
 
@@ -138,6 +140,7 @@ module _ (few more : Types) (front : IsFront few.types more.types) where
     member_further stays (ty.Span item constant) b = or_left (is_element more (type_at more item)) false (element_later few more front stays item (or_false (is_element few (type_at few item)) b))
     member_further stays ty.Text b = refl
     member_further stays (ty.Vector item) b = or_left (is_owner_of_values more (ty.Vector item)) false (owner_later few more front stays (ty.Vector item) (or_false (is_owner_of_values few (ty.Vector item)) b))
+    member_further stays (ty.Unique target) b = or_left (is_element more (type_at more target)) false (element_later few more front stays target (or_false (is_element few (type_at few target)) b))
     member_further stays (ty.Struct number) b = refl
     member_further stays _ b = absurd (false≢true b)
 

@@ -9,7 +9,7 @@ use Rattle.life_types.specs.declared.ty.Ty.{Ty}
 use Rattle.life_types.specs.declared.ty.Ty.TheVariants as ty
 use Rattle.life_core.specs.Function.{Function}
 use Rattle.life_core.specs.Kinds.{is_object_at}
-use Rattle.life_core.specs.Operands.{whole}
+use Rattle.life_core.specs.Operands.{Location}
 use Rattle.life_core.specs.Step.{Make, Step}
 use Rattle.life_core.specs.Touched.{Touched, nothing as no_locals, touched_by}
 use Rattle.life_core.specs.Tree.{Acts, Tree, trees}
@@ -55,10 +55,10 @@ pub record Takes (f : Function) (uses : List ℕ) (x : ℕ) (step : Step) : Type
   pub gives : given_step step ≡ x ∷ []
 
 -- a unique_ptr is made to own it
-pub made_takes : (f : Function) (y x : ℕ) → Takes f (y ∷ []) x (Make (whole y) (made.Of x))
-made_takes f y x = record {
+pub made_takes : (f : Function) (l : Location) (x : ℕ) → Takes f (l.local ∷ []) x (Make l (made.Of x))
+made_takes f l x = record {
   keeps = refl;
-  touches = λ object. ap (λ (b : Bool). record no_locals { uses = y ∷ (if b then [] else x ∷ []); leaves = if b then x ∷ [] else [] }) object;
+  touches = λ object. ap (λ (b : Bool). record no_locals { uses = l.local ∷ (if b then [] else x ∷ []); leaves = if b then x ∷ [] else [] }) object;
   looks = refl;
   gives = refl;
 }

@@ -1,5 +1,5 @@
--- unique_ptrs that are named, and any that lie in a local: what they own, and a pointer to that.
-use Rattle.std.proofs.Common.{◌≡◌, ℕ, Bool, true, false, List, Contains, length, slice_get, Option, Some, None, Ok, refl, sym, ap, ◌∙◌, subst, unwrap_or}
+-- unique_ptrs that are named or members, and any that lie in a local: what they own, and a pointer to that.
+use Rattle.std.proofs.Common.{◌≡◌, ℕ, Bool, true, false, List, Contains, slice_get, Option, Some, None, Ok, refl, sym, ap, ◌∙◌, subst, unwrap_or}
 use Rattle.std.proofs.lemmas.Bool.{false≢true}
 use Rattle.life_elab_laws.proofs.UniqueSteps.{got_filling, got_given, target_part}
 use Rattle.life_writer.specs.Around.{Around, own_type}
@@ -7,13 +7,13 @@ use Rattle.life_writer.specs.declared.behind.Behind.{Behind}
 use Rattle.life_typed.specs.Delimiters.{DelimitersForm}
 use Rattle.life_typed.specs.TypedForm.{Form, Typed, dereference, local, method}
 use Rattle.life_core.specs.Function.{Function}
-use Rattle.life_core.specs.Operands.{Get, Operand, Owner, object_named, whole}
+use Rattle.life_core.specs.Operands.{Get, Location, Name, Operand, Owner}
 use Rattle.life_core.specs.declared.operand.Which.TheVariants as which
 use Rattle.life_well_typed.specs.Members.{IsCalled}
 use Rattle.life_well_typed.specs.Expressions.{IsVariable, typed_in}
 use Rattle.life_elab_laws.proofs.ExpressionForms.{IsForm, Placed, Points, Standing, no_literal, pointer_form, no_null}
-use Rattle.life_elab_laws.proofs.Making.{IsPlace}
-use Rattle.life_elab_laws.proofs.VariablePlaces.{IsVariableAt, IsVariableType, an_alias, a_raw, a_reference, a_struct, a_unique, a_value, a_view, a_walker, an_owner, kind_is, place_is, variable_there, variable_type, a_struct_alias, stands_later}
+use Rattle.life_elab_laws.proofs.VariableParts.{LiesIn, lies_at, variable_lies}
+use Rattle.life_elab_laws.proofs.VariablePlaces.{IsVariableType, an_alias, a_raw, a_reference, a_struct, a_unique, a_value, a_view, a_walker, an_owner, kind_is, place_is, variable_there, variable_type, a_struct_alias, stands_later}
 use Rattle.life_elab_laws.proofs.Parts.{Makes, leaf_part, seen_part, then_part}
 use Rattle.life_core.specs.declared.program.LocalKind.TheVariants.{Object}
 use Rattle.life_typed.specs.declared.typed_expr.Category.TheVariants as category
@@ -29,7 +29,7 @@ use Rattle.life_core.specs.Tree.{Tree}
 use Rattle.life_types.specs.declared.ty.TyId.{TyId}
 use Rattle.life_typed.specs.declared.typed_program.TypedLocal.{TypedLocal}
 use Rattle.life_types.specs.Types.{Types}
-use Rattle.life_elab_laws.proofs.Gifts.{a_place, a_pointing, nothing as no_gift}
+use Rattle.life_elab_laws.proofs.Gifts.{IsPlaceOf, a_place, a_pointing, nothing as no_gift}
 use Rattle.life_writer.specs.Pointers.{aimed}
 use Rattle.life_writer.specs.Bases.{base_by, element}
 use Rattle.life_elab_laws.proofs.Values.{by_values}
@@ -51,7 +51,7 @@ use Rattle.life_writer.specs.MethodForms.{got}
 use Rattle.life_writer.specs.Uses.{own}
 use Rattle.life_elab_laws.proofs.PointerForms.{own_typed, placed_operand}
 use Rattle.life_typed.specs.BaseTypes.{type_at}
-use Rattle.life_writer.specs.Variables.{variable, variable_place}
+use Rattle.life_writer.specs.Variables.{variable_place}
 use Rattle.life_elab_laws.proofs.ExpressionKinds.{variable_built}
 
 -- no owner of elements is one, and no iterator or span
@@ -69,7 +69,7 @@ module _ (a : Around) (visible : List ℕ) (types : Types) (texts : ℕ) (fs : L
   abbrev Stood : State → Type 0
   Stood s = Standing a visible types texts fs f setting s
 
-  -- ---- one that is named
+  -- ---- one that is named, or a member
 
   pub record IsUniqueAt (e : Typed) (at : State → Gives Operand) (decision : Behind → Option (State → Gives Tree)) : Type 0 where
     pub target : TyId
@@ -79,12 +79,9 @@ module _ (a : Around) (visible : List ℕ) (types : Types) (texts : ℕ) (fs : L
     pub constant : Bool
     pub place : e.category ≡ category.Place id constant
     pub owns : type_at a.program.types id ≡ ty.Unique target
-    pub number : ℕ
-    pub declared : TypedLocal
-    pub found : slice_get a.function.locals number ≡ Some declared
-    pub of_type : slice_get a.program.types.types declared.ty.0 ≡ Some (ty.Unique target)
-    pub seen : Contains visible number
-    pub here : (s : State) → Stood s → at s ≡ gives (object_named (variable s number)) s
+    -- in a variable, as the whole or as a member of it
+    pub lies : LiesIn a visible types texts fs f setting at
+    pub placed : (s : State) → Stood s → Placed a visible types texts fs f setting (ty.Unique target) false s (at s)
     pub undecided : (b : Behind) → decision b ≡ None
 
   abbrev pub IsUnique : Form → Type 0
@@ -100,12 +97,8 @@ module _ (a : Around) (visible : List ℕ) (types : Types) (texts : ℕ) (fs : L
     constant = is.constant;
     place = sym c ∙ is.place;
     owns = is.owns;
-    number = is.number;
-    declared = is.declared;
-    found = is.found;
-    of_type = is.of_type;
-    seen = is.seen;
-    here = is.here;
+    lies = is.lies;
+    placed = is.placed;
     undecided = λ b. still b is.undecided;
   }
 
@@ -148,12 +141,11 @@ module _ (a : Around) (visible : List ℕ) (types : Types) (texts : ℕ) (fs : L
             constant = l.constant;
             place = ap (λ (y : Typed). y.category) (named (ty.Unique target) at);
             owns = as_type (ty.Unique target) at;
-            number = x;
-            declared = l;
-            found = found;
-            of_type = at;
-            seen = c;
-            here = λ s stands. let v = stands.seen x l c found in ap (λ (o : Operand). gives o s) (place_is a s x l v Object (kind_is a s x l v (ty.Unique target) at));
+            lies = variable_lies a visible types texts fs f setting x l (ty.Unique target) c found at refl;
+            placed = λ s stands. let v = stands.seen x l c found in
+                leaf_part types texts fs f (variable_place s x) s (a_place types texts fs f (ty.Unique target) false)
+                (λ b. subst (IsPlaceOf types texts fs f (ty.Unique target) false) (sym (place_is a s x l v Object (kind_is a s x l v (ty.Unique target) at))) (object_formed types texts fs f a setting.front s b x l v (ty.Unique target) false at refl refl))
+                (λ b k alive. variable_there a s x l v f k alive);
             undecided = λ b. refl;
           }
 
@@ -164,36 +156,33 @@ module _ (a : Around) (visible : List ℕ) (types : Types) (texts : ℕ) (fs : L
     pub own_unique : own (uses a form) ≡ ty.Unique is.target
     own_unique = ap own_type (sym (own_typed a visible types texts fs f setting form) ∙ is.is)
 
-    -- an object of the function
-    pub unique_operand : (s : State) → Stood s → operand (uses a form) s ≡ gives (object_named (variable s is.number)) s
-    unique_operand s stands = placed_operand a visible types texts fs f setting form is.id is.constant s is.place ∙ is.here s stands
+    -- an object of the function, or in one
+    abbrev pub unique_at : State → Location
+    unique_at s = lies_at a visible types texts fs f setting (uses a form).at is.lies s
 
-    pub unique_placed : (s : State) → Stood s → Makes types texts fs f None s (gives (object_named (variable s is.number)) s) (a_place types texts fs f (ty.Unique is.target) false)
-    unique_placed s stands =
-        leaf_part types texts fs f (object_named (variable s is.number)) s (a_place types texts fs f (ty.Unique is.target) false)
-        (λ b. object_formed types texts fs f a setting.front s b is.number is.declared v (ty.Unique is.target) false is.of_type refl refl)
-        (λ b k alive. subst (λ (o : Operand). IsPlace o (length s.locals) k) (place_is a s is.number is.declared v Object (kind_is a s is.number is.declared v (ty.Unique is.target) is.of_type)) (variable_there a s is.number is.declared v f k alive))
-      where
-        v : IsVariableAt a s is.number is.declared
-        v = stands.seen is.number is.declared is.seen is.found
+    pub unique_operand : (s : State) → Stood s → operand (uses a form) s ≡ gives (Name (unique_at s)) s
+    unique_operand s stands = placed_operand a visible types texts fs f setting form is.id is.constant s is.place ∙ is.lies.here s stands
 
-  -- ---- any one that lies in a local: what it owns
+    pub unique_placed : (s : State) → Stood s → Makes types texts fs f None s (gives (Name (unique_at s)) s) (a_place types texts fs f (ty.Unique is.target) false)
+    unique_placed s stands = subst (λ (w : Gives Operand). Makes types texts fs f None s w (a_place types texts fs f (ty.Unique is.target) false)) (is.lies.here s stands) (is.placed s stands)
+
+  -- ---- any one that lies in a local, a temporary too: what it owns
 
   pub record IsLying (form : Form) : Type 0 where
     pub target : TyId
     pub is : (typed_in form).ty ≡ Of (ty.Unique target)
     pub worth : is_element a.program.types (type_at a.program.types target) ≡ true
     -- there, once it has come to life
-    pub local : State → Gives ℕ
-    pub here : (s : State) → Stood s → operand (uses a form) s ≡ mapped object_named (local s)
-    pub placed : (s : State) → Stood s → Placed a visible types texts fs f setting (ty.Unique target) false s (mapped object_named (local s))
+    pub location : State → Gives Location
+    pub here : (s : State) → Stood s → operand (uses a form) s ≡ mapped Name (location s)
+    pub placed : (s : State) → Stood s → Placed a visible types texts fs f setting (ty.Unique target) false s (mapped Name (location s))
 
   pub unique_lies : (form : Form) → IsUnique form → IsLying form
   unique_lies form is = record {
     target = is.target;
     is = is.is;
     worth = is.worth;
-    local = λ s. gives (variable s is.number) s;
+    location = λ s. gives (unique_at form is s) s;
     here = unique_operand form is;
     placed = unique_placed form is;
   }
@@ -205,12 +194,12 @@ module _ (a : Around) (visible : List ℕ) (types : Types) (texts : ℕ) (fs : L
     lying_target : (place : Place) (s : State) → Stood s → Placed a visible types texts fs f setting (type_at a.program.types is.target) false s (target_at (own (uses a form)) (uses a form) place (category.Place is.target false) s)
     lying_target place s stands =
         let placed = is.placed s stands in
-        let w = is.local s in
+        let w = is.location s in
         subst (Placed a visible types texts fs f setting (type_at a.program.types is.target) false s) (sym reached)
-        (then_part types texts fs f (no_gift types texts fs f) tt None s (mapped object_named w) _ (a_place types texts fs f (ty.Unique is.target) false) (a_place types texts fs f (type_at a.program.types is.target) false) stands.opened placed
+        (then_part types texts fs f (no_gift types texts fs f) tt None s (mapped Name w) _ (a_place types texts fs f (ty.Unique is.target) false) (a_place types texts fs f (type_at a.program.types is.target) false) stands.opened placed
         (target_part types texts fs f a.program.types place is.target false (type_at a.program.types is.target) w.given w.state setting.front setting.plain (stands_later a visible s w.state placed.grown stands).table refl is.worth))
       where
-        reached : target_at (own (uses a form)) (uses a form) place (category.Place is.target false) s ≡ (mapped object_named (is.local s) >> λ o s. element place (category.Place is.target false) (Owner o) which.Target s)
+        reached : target_at (own (uses a form)) (uses a form) place (category.Place is.target false) s ≡ (mapped Name (is.location s) >> λ o s. element place (category.Place is.target false) (Owner o) which.Target s)
         reached =
             ap (λ (t : Ty). target_at t (uses a form) place (category.Place is.target false) s) own_lying
             ∙ ap (λ (t : Ty). base_by t (uses a form) s >> λ b s. element place (category.Place is.target false) b which.Target s) own_lying
@@ -233,10 +222,10 @@ module _ (a : Around) (visible : List ℕ) (types : Types) (texts : ℕ) (fs : L
 
     -- ---- a pointer to it
 
-    pub lying_points : (s : State) → Stood s → Points a visible types texts fs f setting (Of (ty.Raw is.target false)) s (mapped (λ x. aimed (Get (whole x))) (is.local s))
+    pub lying_points : (s : State) → Stood s → Points a visible types texts fs f setting (Of (ty.Raw is.target false)) s (mapped (λ l. aimed (Get l)) (is.location s))
     lying_points s stands =
-        let w = is.local s in
-        seen_part types texts fs f (no_gift types texts fs f) tt None s (mapped object_named w) (a_place types texts fs f (ty.Unique is.target) false) (λ o. aimed (Get (location_in o))) (a_pointing types texts fs f (Of (ty.Raw is.target false)))
+        let w = is.location s in
+        seen_part types texts fs f (no_gift types texts fs f) tt None s (mapped Name w) (a_place types texts fs f (ty.Unique is.target) false) (λ o. aimed (Get (location_in o))) (a_pointing types texts fs f (Of (ty.Raw is.target false)))
         (is.placed s stands)
         (λ b q. got_given types texts fs f is.target false w.given (ap (is_element types) (element_there a.program.types types setting.front is.target is.worth) ∙ element_further a.program.types types setting.front setting.plain (type_at a.program.types is.target) is.worth) q)
         (λ n k q. got_filling types texts fs f w.given n k q)

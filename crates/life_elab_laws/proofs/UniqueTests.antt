@@ -16,16 +16,17 @@ use Rattle.life_types.specs.declared.ty.Ty.TheVariants as ty
 use Rattle.life_typed.specs.declared.typed_expr.Category.{Category}
 use Rattle.life_typed.specs.declared.typed_expr.Category.TheVariants as category
 use Rattle.life_typed.specs.declared.typed_expr.ExprType.{ExprType}
-use Rattle.life_elab_laws.proofs.Gifts.{Gift, held_stays}
+use Rattle.life_elab_laws.proofs.Gifts.{Gift, a_place, held_stays, nothing as no_gift}
 use Rattle.life_elab_laws.proofs.TypedKinds.{IsCombined, none_some, some_same}
 use Rattle.life_elab_laws.proofs.ExpressionForms.{IsForm, IsWhole, Standing, decided_form}
 use Rattle.life_elab_laws.proofs.Making.{IsHeld}
 use Rattle.life_elab_laws.proofs.PendingTemporaries.{IsTemporary}
-use Rattle.life_elab_laws.proofs.UniqueForms.{IsUnique, own_unique}
+use Rattle.life_elab_laws.proofs.UniqueForms.{IsUnique, own_unique, unique_at, unique_placed}
 use Rattle.life_elab_laws.proofs.AnsweredUniques.{IsHolding, answer_condition, answer_tested, holds_answer, holds_named, holding_unique}
 use Rattle.life_elab_laws.proofs.VariablePlaces.{IsVariableAt, stands_later}
 use Rattle.life_writer.specs.declared.rows.Side.TheVariants.{Left, Right}
-use Rattle.life_elab_laws.proofs.Parts.{Makes, leaf_part}
+use Rattle.life_elab_laws.proofs.OwnerSteps.{place_held}
+use Rattle.life_elab_laws.proofs.Parts.{Makes, seen_part}
 use Rattle.life_typed.specs.declared.typed_expr.ExprType.TheVariants.{NullPointer, Of, TextLiteral}
 use Rattle.life_core.specs.declared.operation.Operator.{Operator}
 use Rattle.life_types.specs.declared.place.Place.{Place}
@@ -49,27 +50,25 @@ use Rattle.life_elab_laws.proofs.ExpressionKinds.{inverted_as}
 use Rattle.life_types.specs.TypeTests.{is_iterator, is_raw, is_unique, is_value}
 use Rattle.life_well_typed.specs.Given.{is_number}
 use Rattle.life_served.specs.Served.{is_unique_type}
-use Rattle.life_elab_laws.proofs.UniqueSteps.{named_type}
+use Rattle.life_elab_laws.proofs.UniqueSteps.{lying_type}
 use Rattle.life_writer.specs.Conditions.{not_null, on}
-use Rattle.life_elab_laws.proofs.FormedVariables.{object_formed}
 use Rattle.life_elab_laws.proofs.Held.{one_there}
 use Rattle.life_elab_laws.proofs.ExpressionTypes.{nullable_raw as raw_if, own_no_unique}
 use Rattle.life_elab_laws.proofs.Locations.{raw_location}
 use Rattle.life_writer.specs.Rows.{row_between}
-use Rattle.std.proofs.lemmas.Option.{same_Some, slice_get_within}
+use Rattle.std.proofs.lemmas.Option.{same_Some}
 use Rattle.life_elab_laws.proofs.TemporaryEnds.{temporary_ends}
 use Rattle.life_proper.specs.Placed.{type_in}
 use Rattle.life_well_typed.specs.Expressions.{typed_in}
 use Rattle.life_proper.proofs.ReadyTests.{uses_ready}
-use Rattle.life_writer.specs.Variables.{variable}
-use Rattle.life_core.specs.Operands.{Location, Operand, whole}
+use Rattle.life_core.specs.Operands.{Location, Name, Operand}
 use Rattle.life_elab_laws.proofs.OwnLocals.{first_own}
 
 module _ (a : Around) (visible : List ℕ) (types : Types) (texts : ℕ) (fs : List Function) (f : Function) (setting : Setting a types fs f) where
   abbrev Stood : State → Type 0
   Stood s = Standing a visible types texts fs f setting s
 
-  -- ---- where a unique_ptr lies that is a variable
+  -- ---- where a unique_ptr lies that is in a variable
 
   pub record IsNamedUnique (target : TyId) (l : Location) : Type 0 where
     pub typed : type_in types f l ≡ ty.Unique target
@@ -84,27 +83,28 @@ module _ (a : Around) (visible : List ℕ) (types : Types) (texts : ℕ) (fs : L
   }
 
   module _ (form : Form) (is : IsUnique a visible types texts fs f setting form) where
-    abbrev x : State → ℕ
-    x s = variable s is.number
+    abbrev at : State → Location
+    at s = unique_at a visible types texts fs f setting form is s
 
-    named_part : (s : State) → Stood s → Makes types texts fs f None s (gives (whole (x s)) s) (a_named is.target)
+    named_part : (s : State) → Stood s → Makes types texts fs f None s (gives (at s) s) (a_named is.target)
     named_part s stands =
-        leaf_part types texts fs f (whole (x s)) s (a_named is.target)
-        (λ b. record {
-          typed = named_type types texts fs f is.target false (x s) (object_formed types texts fs f a setting.front s b is.number is.declared v (ty.Unique is.target) false is.of_type refl refl);
-          lasts = λ low t. none_some (sym t.nameless ∙ ap (λ (l : Local). l.name) (same_Some t.local v.local (sym t.there ∙ b.locals (x s) v.local v.there)) ∙ v.named);
+        seen_part types texts fs f (no_gift types texts fs f) tt None s (gives (Name (at s)) s) (a_place types texts fs f (ty.Unique is.target) false) location_in (a_named is.target)
+        (unique_placed a visible types texts fs f setting form is s stands)
+        (λ b q. record {
+          typed = lying_type types texts fs f is.target false (at s) q;
+          lasts = λ low t. none_some (sym t.nameless ∙ ap (λ (l : Local). l.name) (same_Some t.local v.local (sym t.there ∙ b.locals (at s).local v.local v.there)) ∙ v.named);
         })
-        (λ b k alive. (slice_get_within s.locals (x s) v.local v.there, alive.living (x s) v.lives))
+        (λ n k q. (place_held (Name (at s)) n k q).0)
       where
-        v : IsVariableAt a s is.number is.declared
-        v = stands.seen is.number is.declared is.seen is.found
+        v : IsVariableAt a s is.lies.number is.lies.declared
+        v = stands.seen is.lies.number is.lies.declared is.lies.seen is.lies.found
 
     -- it is tested where it lies
-    nullable_is : (s : State) → Stood s → nullable (uses a form) s ≡ gives (whole (x s)) s
+    nullable_is : (s : State) → Stood s → nullable (uses a form) s ≡ gives (at s) s
     nullable_is s stands =
         ap (λ (t : Ty). pointing_by t (uses a form) s >> λ p s. located (uses a form).place (tested_type t) p s) (own_unique a visible types texts fs f setting form is)
         ∙ ap (λ (c : Category). owned_by c (uses a form).at (temporary_of (uses a form) (own (uses a form))) s >> λ p s. located (uses a form).place (tested_type (ty.Unique is.target)) p s) (sym (held_typed a visible types texts fs f setting form) ∙ is.place)
-        ∙ ap (λ (w : Gives Operand). mapped (λ o. As (location_in o)) w >> λ p s. located (uses a form).place (tested_type (ty.Unique is.target)) p s) (is.here s stands)
+        ∙ ap (λ (w : Gives Operand). mapped (λ o. As (location_in o)) w >> λ p s. located (uses a form).place (tested_type (ty.Unique is.target)) p s) (is.lies.here s stands)
 
     unique_tested : (place : Place) (ends : Option Place) (s : State) → Stood s → Tests types texts fs f ends s (not_null place ends (nullable (uses a form)) s)
     unique_tested place ends s stands =

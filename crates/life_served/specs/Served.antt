@@ -1,4 +1,4 @@
--- Which programs are served so far: values, strings, vectors of values, of structs and of such owners, raw pointers and references to these, views of characters, literals, iterators and spans, unique_ptrs, and structs of values, strings, vectors and pointers and of such structs.
+-- Which programs are served so far: values, strings, vectors of values, of structs and of such owners, raw pointers and references to these, views of characters, literals, iterators and spans, unique_ptrs, and structs of all these but references and of such structs.
 use Rattle.std.specs.Prelude.{ℕ, zero, suc, ◌+◌, ◌-◌, ◌^◌, Bool, true, false, ◌&&◌, ◌||◌, not, if◌then◌else◌, List, [], ◌∷◌, drop, take, length, nat_lt, Option, Some, None, slice_get}
 use Rattle.life_types.specs.Trees.{is_plain, members_at, tree_at}
 use Rattle.life_types.specs.TypeTests.{is_reference, is_unique, is_value, is_view, is_void}
@@ -102,9 +102,9 @@ is_pointer_member types (ty.Raw target constant) = is_target types (type_at type
 is_pointer_member types ty.View = true
 is_pointer_member types t = is_walker_of_values types t
 
--- what a member of a struct is: a value, a pointer, an owner, or a struct, which stands before it in the table and is asked itself; a path that is too long is told before
+-- what a member of a struct is: a value, a pointer, an owner, a unique_ptr, or a struct, which stands before it in the table and is asked itself; a path that is too long is told before
 abbrev pub is_struct_member : Types → Ty → Bool
-is_struct_member types t = is_value t || (is_pointer_member types t || (is_owner_of_values types t || is_struct t))
+is_struct_member types t = is_value t || (is_pointer_member types t || (is_owner_of_values types t || (is_unique_of_element types t || is_struct t)))
 
 -- the members of a struct, of which there are 32 at most, as the limit on members has it
 abbrev pub are_struct_members : Types → List TyId → Bool
@@ -383,17 +383,18 @@ module _ (texts : ℕ) where
     is_served_form (e ⨟ es) = is_served_form e && is_served_form es
     is_served_form _ = false
 
-    -- .. that a function is called with: of any type
+    -- .. that a function is called with, or a struct is given for its members: of any type
     pub are_served_arguments : Form → Bool
     are_served_arguments nothing = true
     are_served_arguments (e ⨟ es) = (is_served_either e (is_served_owner e) (is_served_form e) || (is_served_walker e || (is_served_fresh e || is_served_struct e))) && are_served_arguments es
     are_served_arguments _ = false
 
-    -- a unique_ptr that is asked: one that is named, or that a call gives
+    -- a unique_ptr that is asked: one that is named, that is a member, or that a call gives
     pub is_served_unique : Form → Bool
     is_served_unique (local x) = true
     is_served_unique (call f arguments delimiters) = are_served_arguments arguments
     is_served_unique (paren inner closing) = is_served_unique inner
+    is_served_unique (member e which) = is_served_struct e
     is_served_unique (typed place t category form) = is_unique_type t && is_served_unique form
     is_served_unique _ = false
 
@@ -402,6 +403,7 @@ module _ (texts : ℕ) where
     is_served_fresh (call f arguments delimiters) = are_served_arguments arguments
     is_served_fresh (make_unique target argument closing) = is_served_content argument
     is_served_fresh (move x) = true
+    is_served_fresh (paren inner closing) = is_served_fresh inner
     is_served_fresh (typed place t category form) = is_unique_type t && is_served_fresh form
     is_served_fresh _ = false
 
@@ -409,7 +411,7 @@ module _ (texts : ℕ) where
     pub is_served_struct : Form → Bool
     is_served_struct (local x) = true
     is_served_struct (call f arguments delimiters) = are_served_arguments arguments
-    is_served_struct (construct structure elements delimiters) = are_served_parts elements
+    is_served_struct (construct structure elements delimiters) = are_served_arguments elements
     is_served_struct (paren inner closing) = is_served_struct inner
     is_served_struct (member e which) = is_served_struct e
     is_served_struct (dereference e) = is_served_form e || (is_served_walker e || is_served_unique e)
@@ -418,12 +420,6 @@ module _ (texts : ℕ) where
     is_served_struct (method base called arguments delimiters) = is_edge called && (is_owner_type (form_type base) && is_served_owner base)
     is_served_struct (typed place t category form) = is_struct_type t && is_served_struct form
     is_served_struct _ = false
-
-    -- what a struct is given for its members: values, pointers, owners and structs
-    pub are_served_parts : Form → Bool
-    are_served_parts nothing = true
-    are_served_parts (e ⨟ es) = (is_served_either e (is_served_owner e) (is_served_form e) || (is_served_walker e || is_served_struct e)) && are_served_parts es
-    are_served_parts _ = false
 
     -- what one that is made owns: what stands there at first, an owner, a value, or a struct
     pub is_served_content : Form → Bool
@@ -483,7 +479,7 @@ module _ (texts : ℕ) where
   are_served_elements _ = false
 
   abbrev pub are_served_listed : (members : Bool) → Form → Bool
-  are_served_listed members es = if members then are_served_parts es else are_served_elements es
+  are_served_listed members es = if members then are_served_arguments es else are_served_elements es
 
   abbrev pub is_served_expression : Typed → Bool
   is_served_expression e = is_served_form (whole e)
@@ -529,22 +525,22 @@ module _ (texts : ℕ) where
   is_served_declared types None value = true
   is_served_declared types (Some v) value = is_served_initial types (type_at types v.ty) value
 
-  -- an owner at a place
+  -- an owner that is assigned to: one at a place, or one that is made, which is a temporary
   abbrev pub is_served_target : Typed → Bool
-  is_served_target e = is_owner_type e.ty && is_served_object (whole e)
+  is_served_target e = is_owner_type e.ty && (is_served_object (whole e) || (not (is_place e.category) && is_served_owner (whole e)))
 
-  -- an owner is copied or made, also of a literal, a view sees a string, a span a vector, an iterator or a span becomes another one, a unique_ptr that is named owns another value, or a struct is copied, also one that is made
+  -- an owner is copied or made, also of a literal, a view sees a string, a span a vector, an iterator or a span becomes another one, a unique_ptr owns nothing more, one that is named owns another value, or a struct is copied, also one that is made
   abbrev pub is_served_renewed : (target e : Typed) → Bool
   is_served_renewed target e =
       (is_served_target target && (is_served_owning e || fills_owner e.form))
       || (((is_view_type target.ty && is_served_expression target) && is_served_owning e)
-      || ((is_served_walker (whole target) && (is_served_walker (whole e) || is_served_owning e)) || (((is_place target.category && is_served_unique (whole target)) && (is_nullptr e.form || is_served_fresh (whole e))) || (is_served_struct (whole target) && is_served_struct (whole e)))))
+      || ((is_served_walker (whole target) && (is_served_walker (whole e) || is_served_owning e)) || ((is_served_unique (whole target) && (is_nullptr e.form || (is_place target.category && is_served_fresh (whole e)))) || (is_served_struct (whole target) && is_served_struct (whole e)))))
 
   -- .. or anything else a value, or a vector elements, or a struct members
   abbrev pub is_served_assigned : Typed → InitialForm → Bool
   is_served_assigned target (one e) = (is_served_expression target && is_served_expression e) || is_served_renewed target e
   is_served_assigned target (several list) =
-      (is_served_target target && (is_vector_type target.ty && are_served_elements (forms list.elements))) || (is_served_struct (whole target) && are_served_parts (forms list.elements))
+      (is_served_target target && (is_vector_type target.ty && are_served_elements (forms list.elements))) || (is_served_struct (whole target) && are_served_arguments (forms list.elements))
 
   -- an owner is changed, which stands alone
   abbrev pub is_served_change : Form → Bool

@@ -35,7 +35,7 @@ abbrev pub made_anew : Bool → Told
 made_anew given = record { value = false; owner = false; walker = false; object = false; owns = false; unique = false; fresh = given; structure = false }
 
 abbrev pub parenthesised : Told → Told
-parenthesised t = record { value = t.value; owner = t.owner; walker = t.walker; object = t.object; owns = false; unique = t.unique; fresh = false; structure = t.structure }
+parenthesised t = record { value = t.value; owner = t.owner; walker = t.walker; object = t.object; owns = false; unique = t.unique; fresh = t.fresh; structure = t.structure }
 
 -- a place is one
 abbrev pub typed_as : ExprType → Category → Told → Told
@@ -43,7 +43,7 @@ typed_as ty category t = record { value = is_plain_type ty && t.value; owner = t
 
 -- a member of a struct that is named
 abbrev pub member_of : Told → Told
-member_of t = record { value = t.structure; owner = t.structure; walker = t.structure; object = t.structure; owns = false; unique = false; fresh = false; structure = t.structure }
+member_of t = record { value = t.structure; owner = t.structure; walker = t.structure; object = t.structure; owns = false; unique = t.structure; fresh = false; structure = t.structure }
 
 -- what stands at a place may be an owner or a struct
 abbrev pub placed : Bool → Told

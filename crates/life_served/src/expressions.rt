@@ -59,7 +59,7 @@ fn told_by(texts: usize, form: &ExprForm, operand: Told) -> Told
         ExprForm::Move(_) => moved_out(),
         ExprForm::MakeUnique { argument, .. } => made_anew(is_served_content(texts, argument)),
         ExprForm::Call { arguments, .. } => answered(are_served_arguments(texts, arguments)),
-        ExprForm::Construct { elements, .. } => constructed(are_served_parts(texts, elements)),
+        ExprForm::Construct { elements, .. } => constructed(are_served_arguments(texts, elements)),
         ExprForm::Paren { .. } => parenthesised(operand),
         ExprForm::TextOf { .. } => made_text(operand),
         ExprForm::Member(_) => member_of(operand),
@@ -97,29 +97,14 @@ fn are_served_expressions(texts: usize, expressions: &[TypedExpr]) -> bool
     true
 }
 
-// What a function is called with: of any type.
+/// What a function is called with, or a struct is given for its members: of any type.
 #[cycle(expressions)]
-fn are_served_arguments(texts: usize, arguments: &[TypedExpr]) -> bool
+pub fn are_served_arguments(texts: usize, arguments: &[TypedExpr]) -> bool
     ensures { result ≡ spec.are_served_arguments texts (forms (typed_views arguments.now)) }
 {
     'arguments: for argument in arguments {
         let told = told_of(texts, argument);
         let served = either(told) | (told.walker | (told.fresh | told.structure));
-        if !served {
-            return false;
-        }
-    }
-    true
-}
-
-/// What a struct is given for its members: values, pointers, owners and structs.
-#[cycle(expressions)]
-pub fn are_served_parts(texts: usize, elements: &[TypedExpr]) -> bool
-    ensures { result ≡ spec.are_served_parts texts (forms (typed_views elements.now)) }
-{
-    'elements: for element in elements {
-        let told = told_of(texts, element);
-        let served = either(told) | (told.walker | told.structure);
         if !served {
             return false;
         }

@@ -180,12 +180,14 @@ fn is_pointer_member(types: &TypeTable, ty: Ty) -> bool
     }
 }
 
-// What a member of a struct is: a value, a pointer, an owner, or a struct, which is asked itself.
+// What a member of a struct is: a value, a pointer, an owner, a unique_ptr, or a struct, which is asked itself.
 fn is_struct_member(types: &TypeTable, ty: Ty) -> bool
     ensures { result ≡ spec.is_struct_member types.now ty }
 {
     is_value(ty)
-        || (is_pointer_member(types, ty) || (is_owner_of_values(types, ty) || is_struct(ty)))
+        || (is_pointer_member(types, ty)
+            || (is_owner_of_values(types, ty)
+                || (is_unique_of_element(types, ty) || is_struct(ty))))
 }
 
 fn are_members(types: &TypeTable, members: &[TyId]) -> bool

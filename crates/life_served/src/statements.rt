@@ -1,5 +1,5 @@
 // Which statements are served.
-ghost use Rattle.std.specs.Prelude.{◌≡◌, ◌&&◌, map};
+ghost use Rattle.std.specs.Prelude.{◌≡◌, ◌&&◌, ◌||◌, not, map};
 ghost use Rattle.life_typed.specs.BaseTypes.{type_at as type_there};
 ghost use Rattle.life_typed.specs.Conversions.{is_place};
 ghost use Rattle.life_typed.specs.TypedForm.{forms, typed_view, typed_views};
@@ -7,7 +7,7 @@ ghost use Rattle.life_typed.specs.TypedStatement.{block_item_view, block_view, b
 ghost use Rattle.life_served.specs.Served as spec;
 
 use crate::expressions::{
-    are_served_elements, are_served_parts, calls_any, fills_owner, is_call, is_nullptr,
+    are_served_arguments, are_served_elements, calls_any, fills_owner, is_call, is_nullptr,
     is_served_change, is_served_condition, is_served_condition_if, is_served_if_any,
     is_served_reset, told_of,
 };
@@ -43,7 +43,7 @@ fn are_served_listed(texts: usize, members: bool, elements: &[TypedExpr]) -> boo
     ensures { result ≡ spec.are_served_listed texts members (forms (typed_views elements.now)) }
 {
     if members {
-        are_served_parts(texts, elements)
+        are_served_arguments(texts, elements)
     } else {
         are_served_elements(texts, elements)
     }
@@ -84,11 +84,11 @@ fn is_served_declaration(
 
 // ---- simple statements
 
-// An owner at a place.
-fn is_target(told: Told) -> bool
-    ensures { result ≡ told.owns && told.object }
+// An owner that is assigned to: one at a place, or one that is made, which is a temporary.
+fn is_target(told: Told, category: Category) -> bool
+    ensures { result ≡ told.owns && (told.object || (not (is_place category) && told.owner)) }
 {
-    told.owns & told.object
+    told.owns & (told.object | (!is_placed(category) & told.owner))
 }
 
 // An expression that is an owner.
@@ -98,11 +98,11 @@ fn is_owning(told: Told) -> bool
     told.owns & told.owner
 }
 
-// A unique_ptr that is named.
-fn is_holder(told: Told, category: Category) -> bool
-    ensures { result ≡ is_place category && told.unique }
+// A place that is given a unique_ptr that is made, moved, or given by a call.
+fn is_renewed(category: Category, told: Told) -> bool
+    ensures { result ≡ is_place category && told.fresh }
 {
-    is_placed(category) & told.unique
+    is_placed(category) & told.fresh
 }
 
 fn is_served_by_one(texts: usize, target: &TypedExpr, value: &TypedExpr) -> bool
@@ -112,10 +112,10 @@ fn is_served_by_one(texts: usize, target: &TypedExpr, value: &TypedExpr) -> bool
     let from = told_of(texts, value);
     let owning = is_owning(from);
     (to.value & from.value)
-        | ((is_target(to) & (owning | fills_owner(texts, &value.form)))
+        | ((is_target(to, target.category) & (owning | fills_owner(texts, &value.form)))
             | (((is_view_type(target.ty) & to.value) & owning)
                 | ((to.walker & (from.walker | owning))
-                    | ((is_holder(to, target.category) & (is_nullptr(&value.form) | from.fresh))
+                    | ((to.unique & (is_nullptr(&value.form) | is_renewed(target.category, from)))
                         | (to.structure & from.structure)))))
 }
 
@@ -126,9 +126,9 @@ fn is_served_assigned(texts: usize, target: &TypedExpr, value: &TypedInitial) ->
         TypedInitial::Expr(value) => is_served_by_one(texts, target, value),
         TypedInitial::List(list) => {
             let to = told_of(texts, target);
-            (is_target(to)
+            (is_target(to, target.category)
                 && (is_vector_type(target.ty) && are_served_elements(texts, &list.elements)))
-                || (to.structure && are_served_parts(texts, &list.elements))
+                || (to.structure && are_served_arguments(texts, &list.elements))
         }
     }
 }

@@ -21,7 +21,7 @@ pub struct Told {
     pub object: bool,
     /// And whether it is an owner.
     pub owns: bool,
-    /// As a unique_ptr that is named, or given by a call.
+    /// As a unique_ptr that is named, a member, or given by a call.
     pub unique: bool,
     /// As a unique_ptr that is made, moved out of a variable, or given by a call.
     pub fresh: bool,
@@ -109,7 +109,7 @@ pub fn parenthesised(inner: Told) -> Told
         object: inner.object,
         owns: false,
         unique: inner.unique,
-        fresh: false,
+        fresh: inner.fresh,
         structure: inner.structure,
     }
 }
@@ -140,7 +140,7 @@ pub fn member_of(base: Told) -> Told
         walker: base.structure,
         object: base.structure,
         owns: false,
-        unique: false,
+        unique: base.structure,
         fresh: false,
         structure: base.structure,
     }

@@ -1,6 +1,6 @@
 use Rattle.std.proofs.Common.{◌≡◌, drop, take}
 use Rattle.life_typed.specs.TypedForm.{forms, typed_views}
-use Rattle.life_served.specs.Served.{are_served_arguments, are_served_parts, is_served_form}
+use Rattle.life_served.specs.Served.{are_served_arguments, is_served_form}
 use Rattle.life_served.specs.Told.{inside, told}
 use Rattle.life_served.proofs.expressions.+expressions.Given as goal
 
@@ -11,9 +11,6 @@ invariant-are_served_expressions-expressions l =
 abbrev pub invariant-are_served_arguments-arguments : goal.invariant-are_served_arguments-arguments
 invariant-are_served_arguments-arguments l =
     are_served_arguments l.texts (forms (typed_views (drop l.argument-index l.arguments))) ≡ are_served_arguments l.texts (forms (typed_views l.arguments))
-
-abbrev pub invariant-are_served_parts-elements : goal.invariant-are_served_parts-elements
-invariant-are_served_parts-elements l = are_served_parts l.texts (forms (typed_views (drop l.element-index l.elements))) ≡ are_served_parts l.texts (forms (typed_views l.elements))
 
 abbrev pub invariant-told_within-operands : goal.invariant-told_within-operands
 invariant-told_within-operands l = l.told ≡ told l.texts (inside (take l.operand-index l.operands))
