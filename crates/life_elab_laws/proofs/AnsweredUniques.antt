@@ -8,7 +8,7 @@ use Rattle.life_types.specs.declared.ty.Ty.TheVariants as ty
 use Rattle.life_types.specs.declared.ty.TyId.{TyId}
 use Rattle.life_typed.specs.BaseTypes.{type_at}
 use Rattle.life_typed.specs.Conversions.{fits, fitting}
-use Rattle.life_typed.specs.TypedForm.{Form, Typed}
+use Rattle.life_typed.specs.TypedForm.{Form, Typed, make_unique}
 use Rattle.life_typed.specs.declared.typed_expr.Category.{Category}
 use Rattle.life_typed.specs.declared.typed_expr.Category.TheVariants as category
 use Rattle.life_typed.specs.declared.typed_expr.ExprType.{ExprType}
@@ -18,12 +18,12 @@ use Rattle.life_type_expr.specs.Lists.{fits_at_all}
 use Rattle.life_core.specs.Function.{Function}
 use Rattle.life_core.specs.Operands.{Get, Operand, whole, object_named, Location}
 use Rattle.life_core.specs.Tree.{Tree}
-use Rattle.life_well_typed.specs.Expressions.{typed_in}
+use Rattle.life_well_typed.specs.Expressions.{IsMadeOf, typed_in}
 use Rattle.life_well_typed.specs.Given.{is_given}
 use Rattle.life_served.specs.Served.{is_element, is_unique_type}
 use Rattle.life_writer.specs.Around.{Around, own_type}
 use Rattle.life_writer.specs.Conditions.{not_null}
-use Rattle.life_writer.specs.ExpressionForms.{uses}
+use Rattle.life_writer.specs.ExpressionForms.{form_uses, uses}
 use Rattle.life_writer.specs.Pointers.{aimed, located}
 use Rattle.life_writer.specs.Uses.{Remaining, own}
 use Rattle.life_writer.specs.Using.{condition, condition_by, nullable, operand_by, owned_by, pointing_by, read_or_made, temporary_of, tested_type}
@@ -32,10 +32,11 @@ use Rattle.life_writer.specs.declared.behind.Behind.{Behind}
 use Rattle.life_elab_laws.proofs.Conditions.{Tests, not_null_part}
 use Rattle.life_elab_laws.proofs.Elements.{element_target}
 use Rattle.life_elab_laws.proofs.ExpressionForms.{Standing, pointer_part}
-use Rattle.life_elab_laws.proofs.FreshUniques.{IsFreshAt, fresh_same}
+use Rattle.life_elab_laws.proofs.FreshUniques.{IsFreshAt, fresh_same, made_fresh}
 use Rattle.life_elab_laws.proofs.Gifts.{a_pointer}
 use Rattle.life_elab_laws.proofs.MadeForms.{temporary_made}
 use Rattle.life_elab_laws.proofs.OwnLocals.{first_own}
+use Rattle.life_elab_laws.proofs.OwnedContents.{IsGivingIfAny}
 use Rattle.life_elab_laws.proofs.Parts.{Makes}
 use Rattle.life_elab_laws.proofs.PointedCalls.{gives_plainly}
 use Rattle.life_elab_laws.proofs.PointerForms.{held_typed, own_typed}
@@ -65,6 +66,11 @@ module _ (a : Around) (visible : List ℕ) (types : Types) (texts : ℕ) (fs : L
 
   abbrev pub IsAnswered : Form → Type 0
   IsAnswered form = IsAnsweredAt (typed_in form) ((uses a form).object) ((uses a form).decision) ((uses a form).named)
+
+  -- one that is made is so too
+  pub made_answer : (id : TyId) (argument : Form) (closing : Place) (e : Typed) (place : Place) → IsGivingIfAny a visible types texts fs f setting argument → is_element a.program.types (type_at a.program.types id) ≡ true
+      → IsMadeOf a.program a.function.locals visible e (make_unique id argument closing) → let u = form_uses a (make_unique id argument closing) place e.ty e.category in IsAnsweredAt e u.object u.decision u.named
+  made_answer id argument closing e place giving worth h = record { fresh = made_fresh a visible types texts fs f setting id argument closing e place giving h; worth = worth; undecided = λ b. refl; nameless = refl }
 
   -- .. in parentheses
   answered_same : (e e' : Typed) (object : State → Gives Remaining) (decision other : Behind → Option (State → Gives Tree)) (named : Option ℕ) → e.ty ≡ e'.ty → e.category ≡ e'.category

@@ -99,16 +99,16 @@ module _ (a : Around) (visible : List ℕ) (types : Types) (texts : ℕ) (fs : L
 
   -- ---- whichever it is
 
-  pub assignable_owner : (target : Typed) → (is_owner_type target.ty && (is_served_object texts (whole_form target) || (not (is_place target.category) && is_served_owner texts (whole_form target)))) ≡ true
+  pub assignable_owner : (target : Typed) → (is_owner_type target.ty && (is_served_object texts a.program.types (whole_form target) || (not (is_place target.category) && is_served_owner texts a.program.types (whole_form target)))) ≡ true
       → is_constant target.category ≡ false → IsExpression a.program a.function.locals visible (whole_form target) → IsAssignable (whole_form target)
   assignable_owner target b free h =
-      let one = and_parts (is_owner_type target.ty) (is_served_object texts (whole_form target) || (not (is_place target.category) && is_served_owner texts (whole_form target))) b in
-      elim (or_cases (is_served_object texts (whole_form target)) (not (is_place target.category) && is_served_owner texts (whole_form target)) one.1) [
+      let one = and_parts (is_owner_type target.ty) (is_served_object texts a.program.types (whole_form target) || (not (is_place target.category) && is_served_owner texts a.program.types (whole_form target))) b in
+      elim (or_cases (is_served_object texts a.program.types (whole_form target)) (not (is_place target.category) && is_served_owner texts a.program.types (whole_form target)) one.1) [
         | inl object ↦
             let to = object_expression a visible types texts fs f setting (whole_form target) object one.0 h in
             object_assignable (whole_form target) to (sym (ap is_constant to.place) ∙ free) (named_target a visible types texts fs f setting (whole_form target) object one.0 h)
         | inr made ↦
-            let two = and_parts (not (is_place target.category)) (is_served_owner texts (whole_form target)) made in
+            let two = and_parts (not (is_place target.category)) (is_served_owner texts a.program.types (whole_form target)) made in
             temporary two.0 (owner_expression a visible types texts fs f setting (whole_form target) two.1 one.0 h)
       ]
     where

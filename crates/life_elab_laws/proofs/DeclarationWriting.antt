@@ -289,7 +289,7 @@ module _ (a : Around) (types : Types) (texts : ℕ) (fs : List Function) (f : Fu
 
     -- ---- built variable that is given one expression
 
-    module _ (e : Typed) (b : is_served_expression texts e ≡ true) (he : Whole e) (behind : Place) where
+    module _ (e : Typed) (b : is_served_expression texts a.program.types e ≡ true) (he : Whole e) (behind : Place) where
       whole_is : IsWhole a v.visible types texts fs f setting (whole_form e)
       whole_is = whole_expression a v.visible types texts fs f setting (whole_form e) b he
 
@@ -483,30 +483,30 @@ module _ (a : Around) (types : Types) (texts : ℕ) (fs : List Function) (f : Fu
           ∙ ap (λ (g : Form). ((uses a (typed e.place e.ty e.category g)).object s >> λ rest s. rest (home a u) s).state) same))
           (builds_does (ty.Unique target) is refl refl (gives (lived Plain made_null) s) (nothing_builds a v.visible types texts fs f setting target s))
 
-    owned_does : (e : Typed) → (he : Whole e) → (behind : Place) → is_served_owned texts (type_of a u.ty) e ≡ true → is_given a.program.types (type_of a u.ty) e ≡ true → Born (GivenThis e he behind (type_of a u.ty))
-    owned_does e he behind b given = elim (or_cases (takes_owner (type_of a u.ty) && is_served_owning texts e) _ b) [
+    owned_does : (e : Typed) → (he : Whole e) → (behind : Place) → is_served_owned texts a.program.types (type_of a u.ty) e ≡ true → is_given a.program.types (type_of a u.ty) e ≡ true → Born (GivenThis e he behind (type_of a u.ty))
+    owned_does e he behind b given = elim (or_cases (takes_owner (type_of a u.ty) && is_served_owning texts a.program.types e) _ b) [
       | inl owner ↦
-          let one = and_parts (takes_owner (type_of a u.ty)) (is_owner_type e.ty && is_served_owner texts (whole_form e)) owner in
-          let two = and_parts (is_owner_type e.ty) (is_served_owner texts (whole_form e)) one.1 in
+          let one = and_parts (takes_owner (type_of a u.ty)) (is_owner_type e.ty && is_served_owner texts a.program.types (whole_form e)) owner in
+          let two = and_parts (is_owner_type e.ty) (is_served_owner texts a.program.types (whole_form e)) one.1 in
           given_owner_does one.0 (owner_expression a v.visible types texts fs f setting (whole_form e) two.1 two.0 he) (variable_type a.program.types u.ty built)
       | inr other ↦ elim (or_cases (owns_elements (type_of a u.ty) && fills_owner texts e.form) _ other) [
         | inl fills ↦
             let one = and_parts (owns_elements (type_of a u.ty)) (fills_owner texts e.form) fills in
             owner_filled_does one.0 e.form refl one.1 he (variable_type a.program.types u.ty built)
-        | inr others ↦ elim (or_cases (is_walker (type_of a u.ty) && is_served_walker texts (whole_form e)) _ others) [
+        | inr others ↦ elim (or_cases (is_walker (type_of a u.ty) && is_served_walker texts a.program.types (whole_form e)) _ others) [
           | inl walks ↦
-              let one = and_parts (is_walker (type_of a u.ty)) (is_served_walker texts (whole_form e)) walks in
+              let one = and_parts (is_walker (type_of a u.ty)) (is_served_walker texts a.program.types (whole_form e)) walks in
               given_walker_does one.0 (walker_expression a v.visible types texts fs f setting (whole_form e) one.1 he) (variable_type a.program.types u.ty built)
-          | inr others ↦ elim (or_cases (is_unique (type_of a u.ty) && (is_nullptr e.form || is_served_fresh texts (whole_form e))) (takes_struct (type_of a u.ty) && is_served_struct texts (whole_form e)) others) [
+          | inr others ↦ elim (or_cases (is_unique (type_of a u.ty) && (is_nullptr e.form || is_served_fresh texts a.program.types (whole_form e))) (takes_struct (type_of a u.ty) && is_served_struct texts a.program.types (whole_form e)) others) [
             | inl fills ↦
-                let one = and_parts (is_unique (type_of a u.ty)) (is_nullptr e.form || is_served_fresh texts (whole_form e)) fills in
+                let one = and_parts (is_unique (type_of a u.ty)) (is_nullptr e.form || is_served_fresh texts a.program.types (whole_form e)) fills in
                 given_unique_does one.0 (variable_type a.program.types u.ty built)
-                (λ target is w. elim (or_cases (is_nullptr e.form) (is_served_fresh texts (whole_form e)) one.1) [
+                (λ target is w. elim (or_cases (is_nullptr e.form) (is_served_fresh texts a.program.types (whole_form e)) one.1) [
                   | inl filled ↦ null_unique_does e.form refl filled he target is
                   | inr fresh ↦ fresh_does e he behind target is w (as_given (ty.Unique target) is) (fresh_expression a v.visible types texts fs f setting (whole_form e) fresh he)
                 ])
             | inr structure ↦
-                let one = and_parts (takes_struct (type_of a u.ty)) (is_served_struct texts (whole_form e)) structure in
+                let one = and_parts (takes_struct (type_of a u.ty)) (is_served_struct texts a.program.types (whole_form e)) structure in
                 given_struct_does one.0 (struct_expression a v.visible types texts fs f setting (whole_form e) one.1 he) (variable_type a.program.types u.ty built)
           ]
         ]
@@ -718,11 +718,11 @@ module _ (a : Around) (types : Types) (texts : ℕ) (fs : List Function) (f : Fu
           (subst (λ (g : Gives ℕ). Born (g >> λ x s. gives (aimed_at list.opening (object_named x)) s >> λ rest s. rest (home a u) s).state) (sym (kept.lives (scoped list.opening (type_of a target)) s))
           (bound_owner_does a types texts fs f setting v in_loop last u s h at built target true is (struct_target a.program.types (type_at a.program.types target) pointless) (struct_built a.program.types target number here) list.opening w kept))
 
-    listed_does : (list : ListForm) (behind : Place) → (takes_list a.program.types (type_of a u.ty) && are_served_listed texts (lists_members a.program.types (type_of a u.ty)) (forms list.elements)) ≡ true → IsInitialised a.program a.function.locals a.function.result v.visible (Some u) (Some (several list)) → Born (given_initial a u (Some (several list)) behind s)
+    listed_does : (list : ListForm) (behind : Place) → (takes_list a.program.types (type_of a u.ty) && are_served_listed texts a.program.types (lists_members a.program.types (type_of a u.ty)) (forms list.elements)) ≡ true → IsInitialised a.program a.function.locals a.function.result v.visible (Some u) (Some (several list)) → Born (given_initial a u (Some (several list)) behind s)
     listed_does list behind b i = go one.0 (variable_type a.program.types u.ty built)
       where
-        one : (takes_list a.program.types (type_of a u.ty) ≡ true) × (are_served_listed texts (lists_members a.program.types (type_of a u.ty)) (forms list.elements) ≡ true)
-        one = and_parts (takes_list a.program.types (type_of a u.ty)) (are_served_listed texts (lists_members a.program.types (type_of a u.ty)) (forms list.elements)) b
+        one : (takes_list a.program.types (type_of a u.ty) ≡ true) × (are_served_listed texts a.program.types (lists_members a.program.types (type_of a u.ty)) (forms list.elements) ≡ true)
+        one = and_parts (takes_list a.program.types (type_of a u.ty)) (are_served_listed texts a.program.types (lists_members a.program.types (type_of a u.ty)) (forms list.elements)) b
 
         as_type : (t : Ty) → slice_get a.program.types.types u.ty.0 ≡ Some t → Born (ListGiven list behind (forms list.elements) t) → Born (ListGiven list behind (forms list.elements) (type_of a u.ty))
         as_type t is born = subst (λ (x : Ty). Born (ListGiven list behind (forms list.elements) x)) (sym (type_is t is)) born
@@ -731,17 +731,17 @@ module _ (a : Around) (types : Types) (texts : ℕ) (fs : List Function) (f : Fu
         as_listed t is = subst (λ (x : Ty). is_listed a.program.types x (forms list.elements) ≡ true) (type_is t is) i.0
 
         -- elements, or the members of a struct
-        served : (t : Ty) → slice_get a.program.types.types u.ty.0 ≡ Some t → are_served_listed texts (lists_members a.program.types t) (forms list.elements) ≡ true
-        served t is = subst (λ (x : Ty). are_served_listed texts (lists_members a.program.types x) (forms list.elements) ≡ true) (type_is t is) one.1
+        served : (t : Ty) → slice_get a.program.types.types u.ty.0 ≡ Some t → are_served_listed texts a.program.types (lists_members a.program.types t) (forms list.elements) ≡ true
+        served t is = subst (λ (x : Ty). are_served_listed texts a.program.types (lists_members a.program.types x) (forms list.elements) ≡ true) (type_is t is) one.1
 
         -- .. of a reference by what it is to
-        served_there : (target : TyId) (constant : Bool) → slice_get a.program.types.types u.ty.0 ≡ Some (ty.Reference target constant) → (b : Bool) → is_struct (type_at a.program.types target) ≡ b → are_served_listed texts b (forms list.elements) ≡ true
-        served_there target constant is b same = subst (λ (b : Bool). are_served_listed texts b (forms list.elements) ≡ true) same (served (ty.Reference target constant) is)
+        served_there : (target : TyId) (constant : Bool) → slice_get a.program.types.types u.ty.0 ≡ Some (ty.Reference target constant) → (b : Bool) → is_struct (type_at a.program.types target) ≡ b → are_served_listed texts a.program.types b (forms list.elements) ≡ true
+        served_there target constant is b same = subst (λ (b : Bool). are_served_listed texts a.program.types b (forms list.elements) ≡ true) same (served (ty.Reference target constant) is)
 
-        parts : are_served_arguments texts (forms list.elements) ≡ true → AreListed a v.visible types texts fs f setting (forms list.elements)
+        parts : are_served_arguments texts a.program.types (forms list.elements) ≡ true → AreListed a v.visible types texts fs f setting (forms list.elements)
         parts b = listings a v.visible types texts fs f setting (forms list.elements) b i.1
 
-        given : are_served_elements texts (forms list.elements) ≡ true → AreGiving a v.visible types texts fs f setting (forms list.elements)
+        given : are_served_elements texts a.program.types (forms list.elements) ≡ true → AreGiving a v.visible types texts fs f setting (forms list.elements)
         given b = givings a v.visible types texts fs f setting (forms list.elements) b i.1
 
         no_list : (t : Ty) → slice_get a.program.types.types u.ty.0 ≡ Some t → takes_list a.program.types t ≡ false → takes_list a.program.types (type_of a u.ty) ≡ true → Born (ListGiven list behind (forms list.elements) (type_of a u.ty))
@@ -779,8 +779,8 @@ module _ (a : Around) (types : Types) (texts : ℕ) (fs : List Function) (f : Fu
     initial_does : (initial : Option InitialForm) (behind : Place) → is_served_initial texts a.program.types (type_of a u.ty) initial ≡ true → IsInitialised a.program a.function.locals a.function.result v.visible (Some u) initial → Born (given_initial a u initial behind s)
     initial_does None behind b i = default_does i
     initial_does (Some (one e)) behind b i =
-        elim (or_cases (takes_value (type_of a u.ty) && is_served_expression texts e) (is_served_owned texts (type_of a u.ty) e) b) [
-          | inl value ↦ let parts = and_parts (takes_value (type_of a u.ty)) (is_served_expression texts e) value in one_does e parts.1 i.1 behind parts.0 i.0
+        elim (or_cases (takes_value (type_of a u.ty) && is_served_expression texts a.program.types e) (is_served_owned texts a.program.types (type_of a u.ty) e) b) [
+          | inl value ↦ let parts = and_parts (takes_value (type_of a u.ty)) (is_served_expression texts a.program.types e) value in one_does e parts.1 i.1 behind parts.0 i.0
           | inr owned ↦ owned_does e i.1 behind owned i.0
         ]
     initial_does (Some (several list)) behind b i = listed_does list behind b i

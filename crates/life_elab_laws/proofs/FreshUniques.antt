@@ -143,14 +143,14 @@ module _ (a : Around) (visible : List ℕ) (types : Types) (texts : ℕ) (fs : L
       go _ at u = absurd (false≢true u)
 
   -- whatever it is made to own
-  content_builds : (target id : TyId) (argument : Form) (closing place : Place) → IsContentOf a visible types texts fs f setting target id argument closing → (s : State) → Stood s
+  pub content_builds : (target id : TyId) (argument : Form) (closing place : Place) → IsContentOf a visible types texts fs f setting target id argument closing → (s : State) → Stood s
       → BuildsTo target s (mapped (lived Plain) (mapped (made_at place) (owned_operand (type_of a id) (uses_if a argument) closing s)))
   content_builds target id argument closing place (is_found owned) s stands = owned_builds target (λ at. place) (owned_operand (type_of a id) (uses_if a argument) closing s) s (owned.makes s stands)
   content_builds target id argument closing place (is_over t plain holds makes) s stands =
       let over = makes s stands in
       subst (λ (w : Gives Made). BuildsTo target s (mapped (lived Plain) (mapped (made_at place) w))) (sym over.is) (taken_builds a visible types texts fs f setting t plain target holds place s over.given over.over)
 
-  pub made_fresh : (id : TyId) (argument : Form) (closing : Place) (e : Typed) (place : Place) → IsGivingIfAny a visible types texts fs f setting argument
+  abbrev pub made_fresh : (id : TyId) (argument : Form) (closing : Place) (e : Typed) (place : Place) → IsGivingIfAny a visible types texts fs f setting argument
       → IsMadeOf a.program a.function.locals visible e (make_unique id argument closing) → IsFreshAt e ((form_uses a (make_unique id argument closing) place e.ty e.category).object)
   made_fresh id argument closing e place giving h = record {
     owned = id;

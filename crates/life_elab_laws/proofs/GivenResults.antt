@@ -477,7 +477,7 @@ module _ (a : Around) (types : Types) (texts : ℕ) (fs : List Function) (f : Fu
       whole_back : IsWhole a v.visible types texts fs f setting (whole_form e) → statements.object_named u.named s ≡ None → Back Given
       whole_back is none = plain_back (value_builds a v.visible types texts fs f setting (whole_form e) is t owner its_given token s h.stands) none
 
-      owner_back : (b : is_served_owner texts (whole_form e) ≡ true) (n : is_owner_type e.ty ≡ true) → Back Given
+      owner_back : (b : is_served_owner texts a.program.types (whole_form e) ≡ true) (n : is_owner_type e.ty ≡ true) → Back Given
       owner_back b n = go (statements.object_named u.named s) refl
         where
           from : IsOwning a v.visible types texts fs f setting (whole_form e)
@@ -541,7 +541,7 @@ module _ (a : Around) (types : Types) (texts : ℕ) (fs : List Function) (f : Fu
         go (no_value at w) = absurd (no_owner_given a.program.types t o ty.Void refl e.category (as_told (Of ty.Void) at))
         go (a_null at w) = absurd (null_refused a.program.types t o e.category (as_told NullPointer at))
 
-    pub returned_does : HasRegister a s → (keyword : Place) (given : Option Typed) (token : Place) → is_served_returned texts given ≡ true → IsReturned a.program a.function.locals a.function.result v.visible given
+    pub returned_does : HasRegister a s → (keyword : Place) (given : Option Typed) (token : Place) → is_served_returned texts a.program.types given ≡ true → IsReturned a.program a.function.locals a.function.result v.visible given
         → Back (left 0 keyword (Returns keyword) (result_given a given keyword token s))
     returned_does register keyword None token b r = return_does a types texts fs f setting v in_loop s h (λ gives. false≢true (sym gives.0 ∙ r)) keyword
     returned_does register keyword (Some e) token b r = sorted (result_sort t (λ number whole. struct_built a.program.types a.function.result number whole) kind r.0)
@@ -551,12 +551,12 @@ module _ (a : Around) (types : Types) (texts : ℕ) (fs : List Function) (f : Fu
 
         -- a unique_ptr, which is made, moved or given, or is named
         uniques : Bool
-        uniques = is_served_fresh texts (whole_form e) || is_served_unique texts (whole_form e)
+        uniques = is_served_fresh texts a.program.types (whole_form e) || is_served_unique texts a.program.types (whole_form e)
 
-        fresh : is_served_fresh texts (whole_form e) ≡ true → IsFresh a v.visible types texts fs f setting (whole_form e)
+        fresh : is_served_fresh texts a.program.types (whole_form e) ≡ true → IsFresh a v.visible types texts fs f setting (whole_form e)
         fresh b = fresh_expression a v.visible types texts fs f setting (whole_form e) b r.2
 
-        held : is_served_unique texts (whole_form e) ≡ true → IsHolding a v.visible types texts fs f setting (whole_form e)
+        held : is_served_unique texts a.program.types (whole_form e) ≡ true → IsHolding a v.visible types texts fs f setting (whole_form e)
         held b = holding_expression a v.visible types texts fs f setting (whole_form e) b r.2
 
         -- neither is given to a register
@@ -568,16 +568,16 @@ module _ (a : Around) (types : Types) (texts : ℕ) (fs : List Function) (f : Fu
 
         in_register : (IsBuilt a.program.types t → ⊥) → IsResultRegister a s → Back (left 0 keyword (Returns keyword) (result_given a (Some e) keyword token s))
         in_register plain there =
-            elim (or_cases (is_served_any texts e) (is_served_walker texts (whole_form e) || (is_served_struct texts (whole_form e) || uniques)) b) [
-              | inl any ↦ elim (either_served (whole_form e) (is_served_owner texts (whole_form e)) (is_served_expression texts e) any) [
+            elim (or_cases (is_served_any texts a.program.types e) (is_served_walker texts a.program.types (whole_form e) || (is_served_struct texts a.program.types (whole_form e) || uniques)) b) [
+              | inl any ↦ elim (either_served (whole_form e) (is_served_owner texts a.program.types (whole_form e)) (is_served_expression texts a.program.types e) any) [
                 | inl value ↦ whole_returned there plain e keyword token r (whole_expression a v.visible types texts fs f setting (whole_form e) value r.2) kind
                 | inr owner ↦ owner_returned there plain e keyword token r (owner_expression a v.visible types texts fs f setting (whole_form e) owner.1 owner.0 r.2) kind
               ]
-              | inr others ↦ elim (or_cases (is_served_walker texts (whole_form e)) (is_served_struct texts (whole_form e) || uniques) others) [
+              | inr others ↦ elim (or_cases (is_served_walker texts a.program.types (whole_form e)) (is_served_struct texts a.program.types (whole_form e) || uniques) others) [
                 | inl walker ↦ walker_returned there plain e keyword token r (walker_expression a v.visible types texts fs f setting (whole_form e) walker r.2) kind
-                | inr others ↦ elim (or_cases (is_served_struct texts (whole_form e)) uniques others) [
+                | inr others ↦ elim (or_cases (is_served_struct texts a.program.types (whole_form e)) uniques others) [
                   | inl structure ↦ struct_returned there plain e keyword token r (struct_expression a v.visible types texts fs f setting (whole_form e) structure r.2) kind
-                  | inr unique ↦ elim (or_cases (is_served_fresh texts (whole_form e)) (is_served_unique texts (whole_form e)) unique) [
+                  | inr unique ↦ elim (or_cases (is_served_fresh texts a.program.types (whole_form e)) (is_served_unique texts a.program.types (whole_form e)) unique) [
                     | inl made ↦ let is = fresh made in absurd (unique_refused there plain e keyword token r is.owned is.is (λ target held at w. value_place (sym is.value ∙ at)) kind)
                     | inr holds ↦ absurd (holding_refused plain there (held holds))
                   ]
@@ -588,20 +588,20 @@ module _ (a : Around) (types : Types) (texts : ℕ) (fs : List Function) (f : Fu
         -- .. to an owner nothing but one is given, or a literal
         as_owner_object : is_owner_of_values a.program.types t ≡ true → IsResultObject a s → Back (left 0 keyword (Returns keyword) (result_given a (Some e) keyword token s))
         as_owner_object o there =
-            elim (or_cases (is_served_any texts e) (is_served_walker texts (whole_form e) || (is_served_struct texts (whole_form e) || uniques)) b) [
-              | inl any ↦ elim (either_served (whole_form e) (is_served_owner texts (whole_form e)) (is_served_expression texts e) any) [
+            elim (or_cases (is_served_any texts a.program.types e) (is_served_walker texts a.program.types (whole_form e) || (is_served_struct texts a.program.types (whole_form e) || uniques)) b) [
+              | inl any ↦ elim (either_served (whole_form e) (is_served_owner texts a.program.types (whole_form e)) (is_served_expression texts a.program.types e) any) [
                 | inl value ↦
                     let is = whole_expression a v.visible types texts fs f setting (whole_form e) value r.2 in
                     whole_back there o e keyword token r is (no_name e o (its_given there o e keyword token r) is)
                 | inr owner ↦ owner_back there o e keyword token r owner.1 owner.0
               ]
-              | inr others ↦ elim (or_cases (is_served_walker texts (whole_form e)) (is_served_struct texts (whole_form e) || uniques) others) [
+              | inr others ↦ elim (or_cases (is_served_walker texts a.program.types (whole_form e)) (is_served_struct texts a.program.types (whole_form e) || uniques) others) [
                 | inl walker ↦
                     let is = walker_expression a v.visible types texts fs f setting (whole_form e) walker r.2 in
                     refused o there is.ty is.is (walker_is a.program.types is.ty is.walker).owner
-                | inr others ↦ elim (or_cases (is_served_struct texts (whole_form e)) uniques others) [
+                | inr others ↦ elim (or_cases (is_served_struct texts a.program.types (whole_form e)) uniques others) [
                   | inl structure ↦ let is = struct_typed a v.visible types texts fs f setting (whole_form e) (struct_expression a v.visible types texts fs f setting (whole_form e) structure r.2) in refused o there (ty.Struct is.0) is.1 refl
-                  | inr unique ↦ elim (or_cases (is_served_fresh texts (whole_form e)) (is_served_unique texts (whole_form e)) unique) [
+                  | inr unique ↦ elim (or_cases (is_served_fresh texts a.program.types (whole_form e)) (is_served_unique texts a.program.types (whole_form e)) unique) [
                     | inl made ↦ let is = fresh made in refused o there (ty.Unique is.owned) is.is refl
                     | inr holds ↦ let is = holding_lies a v.visible types texts fs f setting (whole_form e) (held holds) in refused o there (ty.Unique is.target) is.is refl
                   ]
@@ -626,22 +626,22 @@ module _ (a : Around) (types : Types) (texts : ℕ) (fs : List Function) (f : Fu
 
             by_form : is_given a.program.types (ty.Unique x.0) e ≡ true → Back (left 0 keyword (Returns keyword) (result_given a (Some e) keyword token s))
             by_form given =
-                elim (or_cases (is_served_any texts e) (is_served_walker texts (whole_form e) || (is_served_struct texts (whole_form e) || uniques)) b) [
-                  | inl any ↦ elim (either_served (whole_form e) (is_served_owner texts (whole_form e)) (is_served_expression texts e) any) [
+                elim (or_cases (is_served_any texts a.program.types e) (is_served_walker texts a.program.types (whole_form e) || (is_served_struct texts a.program.types (whole_form e) || uniques)) b) [
+                  | inl any ↦ elim (either_served (whole_form e) (is_served_owner texts a.program.types (whole_form e)) (is_served_expression texts a.program.types e) any) [
                     | inl value ↦ null_back a types texts fs f setting v in_loop s h there x.0 x.1 x.2 e keyword token r (whole_expression a v.visible types texts fs f setting (whole_form e) value r.2) given
                     | inr owner ↦
                         let is = owning_owner a v.visible types texts fs f setting (whole_form e) (owner_expression a v.visible types texts fs f setting (whole_form e) owner.1 owner.0 r.2) in
                         absurd (owner_no_unique_given a.program.types is.ty is.owner x.0 e.category (subst (λ (k : ExprType). fits_at_all (fits a.program.types (ty.Unique x.0) k e.category) ≡ true) is.is given))
                   ]
-                  | inr others ↦ elim (or_cases (is_served_walker texts (whole_form e)) (is_served_struct texts (whole_form e) || uniques) others) [
+                  | inr others ↦ elim (or_cases (is_served_walker texts a.program.types (whole_form e)) (is_served_struct texts a.program.types (whole_form e) || uniques) others) [
                     | inl walker ↦
                         let is = walker_expression a v.visible types texts fs f setting (whole_form e) walker r.2 in
                         absurd (unique_no_walker_given a.program.types is.ty is.walker x.0 e.category (subst (λ (k : ExprType). fits_at_all (fits a.program.types (ty.Unique x.0) k e.category) ≡ true) is.is given))
-                    | inr others ↦ elim (or_cases (is_served_struct texts (whole_form e)) uniques others) [
+                    | inr others ↦ elim (or_cases (is_served_struct texts a.program.types (whole_form e)) uniques others) [
                       | inl structure ↦ let is = struct_typed a v.visible types texts fs f setting (whole_form e) (struct_expression a v.visible types texts fs f setting (whole_form e) structure r.2) in
                           absurd (false≢true (subst (λ (k : ExprType). fits_at_all (fits a.program.types (ty.Unique x.0) k e.category) ≡ true) is.1 given))
-                      | inr unique ↦ elim (or_cases (is_served_fresh texts (whole_form e)) (is_served_unique texts (whole_form e)) unique) [
-                        | inl made ↦ fresh_back a types texts fs f setting v in_loop s h there x.0 x.1 x.2 e keyword token r (fresh made) (fresh_nameless a v.visible texts e.form e (and_parts (is_unique_type e.ty) (is_served_fresh texts e.form) made).1 r.2 e.place) given
+                      | inr unique ↦ elim (or_cases (is_served_fresh texts a.program.types (whole_form e)) (is_served_unique texts a.program.types (whole_form e)) unique) [
+                        | inl made ↦ fresh_back a types texts fs f setting v in_loop s h there x.0 x.1 x.2 e keyword token r (fresh made) (fresh_nameless a v.visible texts e.form e (and_parts (is_unique_type e.ty) (is_served_fresh texts a.program.types e.form) made).1 r.2 e.place) given
                         | inr holds ↦ holding_back given (held holds)
                       ]
                     ]
@@ -651,23 +651,23 @@ module _ (a : Around) (types : Types) (texts : ℕ) (fs : List Function) (f : Fu
         -- .. and to a struct another one
         as_struct_object : (number : ℕ) → t ≡ ty.Struct number → IsTabled a.program.types (ty.Struct number) → IsResultObject a s → Back (left 0 keyword (Returns keyword) (result_given a (Some e) keyword token s))
         as_struct_object number whole tabled there =
-            elim (or_cases (is_served_any texts e) (is_served_walker texts (whole_form e) || (is_served_struct texts (whole_form e) || uniques)) b) [
-              | inl any ↦ elim (either_served (whole_form e) (is_served_owner texts (whole_form e)) (is_served_expression texts e) any) [
+            elim (or_cases (is_served_any texts a.program.types e) (is_served_walker texts a.program.types (whole_form e) || (is_served_struct texts a.program.types (whole_form e) || uniques)) b) [
+              | inl any ↦ elim (either_served (whole_form e) (is_served_owner texts a.program.types (whole_form e)) (is_served_expression texts a.program.types e) any) [
                 | inl value ↦
                     absurd (kind_no_struct a.program.types e (whole_expression a v.visible types texts fs f setting (whole_form e) value r.2).kind.kind (struct_fits a.program.types number e.ty e.category taken))
                 | inr owner ↦
                     let is = owning_owner a v.visible types texts fs f setting (whole_form e) (owner_expression a v.visible types texts fs f setting (whole_form e) owner.1 owner.0 r.2) in
                     absurd (owner_no_struct_given a.program.types is.ty is.owner number e.category (as_told (Of is.ty) is.is))
               ]
-              | inr others ↦ elim (or_cases (is_served_walker texts (whole_form e)) (is_served_struct texts (whole_form e) || uniques) others) [
+              | inr others ↦ elim (or_cases (is_served_walker texts a.program.types (whole_form e)) (is_served_struct texts a.program.types (whole_form e) || uniques) others) [
                 | inl walker ↦
                     let is = walker_expression a v.visible types texts fs f setting (whole_form e) walker r.2 in
                     absurd (walker_no_struct_given a.program.types is.ty is.walker number e.category (as_told (Of is.ty) is.is))
-                | inr others ↦ elim (or_cases (is_served_struct texts (whole_form e)) uniques others) [
+                | inr others ↦ elim (or_cases (is_served_struct texts a.program.types (whole_form e)) uniques others) [
                   | inl structure ↦
                       struct_back a types texts fs f setting v in_loop s h there number whole tabled (subst (λ (x : Ty). gives_back a.program.types x ≡ true) whole setting.result) r.0 keyword token e
                       ((as_struct a v.visible types texts fs f setting (whole_form e) number (struct_expression a v.visible types texts fs f setting (whole_form e) structure r.2) taken).unseen token)
-                  | inr unique ↦ elim (or_cases (is_served_fresh texts (whole_form e)) (is_served_unique texts (whole_form e)) unique) [
+                  | inr unique ↦ elim (or_cases (is_served_fresh texts a.program.types (whole_form e)) (is_served_unique texts a.program.types (whole_form e)) unique) [
                     | inl made ↦ absurd (false≢true (as_told (Of (ty.Unique (fresh made).owned)) (fresh made).is))
                     | inr holds ↦ let is = holding_lies a v.visible types texts fs f setting (whole_form e) (held holds) in absurd (false≢true (as_told (Of (ty.Unique is.target)) is.is))
                   ]

@@ -129,9 +129,9 @@ module _ (a : Around) (visible : List ℕ) (types : Types) (texts : ℕ) (fs : L
       go (ty.Vector element) o p = absurd (false≢true p)
       go _ o p = absurd (false≢true o)
 
-  pub item_part : nat_lt (end_line a) texts ≡ true → (i : ItemForm) (behind : Place) (s : State) → is_served_item texts i ≡ true → IsItem a.program a.function.locals a.function.result visible i → Stands a visible s → Acts a visible types texts fs f setting s (item a i behind s)
+  pub item_part : nat_lt (end_line a) texts ≡ true → (i : ItemForm) (behind : Place) (s : State) → is_served_item texts a.program.types i ≡ true → IsItem a.program a.function.locals a.function.result visible i → Stands a visible s → Acts a visible types texts fs f setting s (item a i behind s)
   item_part lines (printed e) behind s b h stands =
-      elim (either_served (whole_form e) (is_served_owner texts (whole_form e)) (is_served_expression texts e) b) [
+      elim (either_served (whole_form e) (is_served_owner texts a.program.types (whole_form e)) (is_served_expression texts a.program.types e) b) [
         | inl value ↦
             let is = whole_expression a visible types texts fs f setting (whole_form e) value h.2 in
             elim (printed_type a.program.types e is.kind.kind h.0) [

@@ -75,10 +75,10 @@ module _ (a : Around) (visible : List ℕ) where
     named_form _ e h x at place = absurd (none-some x at)
 
   -- .. and one that is made anew, moved or given has none
-  pub fresh_nameless : (texts : ℕ) (form : Form) (e : Typed) → is_served_fresh texts form ≡ true → IsMadeOf a.program a.function.locals visible e form → (place : Place) → (form_uses a form place e.ty e.category).named ≡ None
+  pub fresh_nameless : (texts : ℕ) (form : Form) (e : Typed) → is_served_fresh texts a.program.types form ≡ true → IsMadeOf a.program a.function.locals visible e form → (place : Place) → (form_uses a form place e.ty e.category).named ≡ None
   fresh_nameless texts (make_unique target argument closing) e b h place = refl
   fresh_nameless texts (paren (typed at t c form) closing) e b h place =
-      fresh_nameless texts form (record { place = at; ty = t; category = c; form = form }) (and_parts (is_unique_type t) (is_served_fresh texts form) b).1 h.1 at
+      fresh_nameless texts form (record { place = at; ty = t; category = c; form = form }) (and_parts (is_unique_type t) (is_served_fresh texts a.program.types form) b).1 h.1 at
   fresh_nameless texts (paren _ closing) e b h place = absurd h.1
   fresh_nameless texts (move x) e b h place = refl
   fresh_nameless texts (call g given delimiters) e b h place = refl

@@ -11,10 +11,10 @@ use Rattle.life_types.specs.declared.ty.Ty.{Ty}
 use Rattle.life_types.specs.declared.ty.Ty.TheVariants as ty
 use Rattle.life_tree.specs.declared.operator.CompoundOperator.{CompoundOperator}
 use Rattle.life_tree.specs.declared.operator.StepOperator.{StepOperator}
-use Rattle.life_served.specs.Served.{are_served_elements, calls_any, fills_owner, form_type, is_call, is_changing, is_nullptr, is_number_type, is_owner_of_values, is_owner_type, is_served_any, is_served_change, is_served_either, is_served_expression, is_served_left, is_served_object, is_served_owner, is_served_owning, is_served_renewed, is_served_reset, is_served_simple, is_served_struct, is_served_unique, is_served_walker, is_vector, is_vector_type, is_view_type, is_walker_of_values, is_walker_type, is_struct_type, is_element, is_served_fresh, is_unique_type, are_served_arguments}
+use Rattle.life_served.specs.Served.{are_served_elements, calls_any, makes_unique, fills_owner, form_type, is_call, is_changing, is_nullptr, is_number_type, is_owner_of_values, is_owner_type, is_served_any, is_served_change, is_served_either, is_served_expression, is_served_left, is_served_object, is_served_owner, is_served_owning, is_served_renewed, is_served_reset, is_served_simple, is_served_struct, is_served_unique, is_served_walker, is_vector, is_vector_type, is_view_type, is_walker_of_values, is_walker_type, is_struct_type, is_element, is_served_fresh, is_unique_type, are_served_arguments}
 use Rattle.life_typed.specs.Operators.{promoted}
 use Rattle.life_typed.specs.Statements.{can_step, compounded}
-use Rattle.life_typed.specs.TypedForm.{Form, Typed, call, forms, method, text, typed, whole as whole_form}
+use Rattle.life_typed.specs.TypedForm.{Form, Typed, call, forms, make_unique, method, text, typed, whole as whole_form}
 use Rattle.life_typed.specs.TypedStatement.{InitialForm, ListForm, SimpleForm, assign, compound, discarded, one, several, step}
 use Rattle.life_typed.specs.declared.typed_expr.Category.{Category}
 use Rattle.life_typed.specs.declared.typed_expr.Category.TheVariants as category
@@ -109,7 +109,7 @@ use Rattle.life_elab_laws.proofs.Elements.{one_element}
 use Rattle.life_elab_laws.proofs.PushedElements.{AreGiving}
 use Rattle.life_elab_laws.proofs.StructReferences.{kind_no_struct}
 use Rattle.life_elab_laws.proofs.StructForms.{IsStruct}
-use Rattle.life_elab_laws.proofs.AnsweredUniques.{holding_lies, unique_itself}
+use Rattle.life_elab_laws.proofs.AnsweredUniques.{IsHolding, holding_lies, holds_answer, holds_named, unique_itself}
 use Rattle.life_elab_laws.proofs.MadeStructs.{with_place, with_target, with_value}
 use Rattle.life_elab_laws.proofs.ReferredStructs.{struct_called}
 use Rattle.life_elab_laws.proofs.ServedTypes.{IsTabled}
@@ -143,7 +143,7 @@ module _ (a : Around) (visible : List ℕ) (types : Types) (texts : ℕ) (fs : L
   abbrev pub Acts : State → State → Type 0
   Acts s s' = Makes types texts fs f None s (gives tt s') (nothing types texts fs f)
 
-  abbrev whole : (e : Typed) → is_served_expression texts e ≡ true → Whole e → IsWhole a visible types texts fs f setting (whole_form e)
+  abbrev whole : (e : Typed) → is_served_expression texts a.program.types e ≡ true → Whole e → IsWhole a visible types texts fs f setting (whole_form e)
   whole e b h = whole_expression a visible types texts fs f setting (whole_form e) b h
 
   -- what is written is a place of its own type that isn't const
@@ -205,7 +205,7 @@ module _ (a : Around) (visible : List ℕ) (types : Types) (texts : ℕ) (fs : L
   pointer_assigned_part target e equals behind s u loc at from is pointed_one taken stands =
       pointer_given_part target e equals behind s u e.ty loc (λ s stands. pointer_whole a visible types texts fs f setting (whole_form target) at u is loc (own (uses a (whole_form target))) s stands) (points_whole a visible types texts fs f setting (whole_form e) from pointed_one s stands) taken stands
 
-  assigned_part : (target e : Typed) (equals behind : Place) (s : State) → (bt : is_served_expression texts target ≡ true) → (be : is_served_expression texts e ≡ true) → IsSimple a.program a.function.locals a.function.result visible (assign target equals (one e)) → Standing s
+  assigned_part : (target e : Typed) (equals behind : Place) (s : State) → (bt : is_served_expression texts a.program.types target ≡ true) → (be : is_served_expression texts a.program.types e ≡ true) → IsSimple a.program a.function.locals a.function.result visible (assign target equals (one e)) → Standing s
       → Acts s (assigned a target equals (one e) behind s)
   assigned_part target e equals behind s bt be h stands = go is.kind.kind
     where
@@ -355,7 +355,7 @@ module _ (a : Around) (visible : List ℕ) (types : Types) (texts : ℕ) (fs : L
       (seen_part types texts fs f no_gift tt None s (pointer u (own u) s) (a_pointer types texts fs f ty.View) (λ (l : Location). tt) no_gift
       (pointer_whole a visible types texts fs f setting (whole_form e) is ty.View at refl (own u) s stands) (λ b h. tt) (λ n k h. tt))
 
-  discarded_part : (form : Form) (e : Typed) (behind : Place) (s : State) → e.form ≡ form → is_served_expression texts e ≡ true → Whole e → is_call form ≡ true → Standing s → Acts s (thrown e.category (uses a (whole_form e)) behind s)
+  discarded_part : (form : Form) (e : Typed) (behind : Place) (s : State) → e.form ≡ form → is_served_expression texts a.program.types e ≡ true → Whole e → is_call form ≡ true → Standing s → Acts s (thrown e.category (uses a (whole_form e)) behind s)
   discarded_part (call g given d) e behind s same b h calls stands = by_answer is.answers
     where
       is : IsCall a visible types texts fs f setting (record { function = g; arguments = given; delimiters = d }) e.ty e.category
@@ -436,15 +436,15 @@ module _ (a : Around) (visible : List ℕ) (types : Types) (texts : ℕ) (fs : L
       (seen_part types texts fs f no_gift tt None s w (a_place types texts fs f (ty.Unique target) false) (λ (o : Operand). tt) no_gift
       (temporary_made a visible types texts fs f setting (ty.Unique target) u.place s (u.object s) (inr (inl worth)) builds stands) (λ b h. tt) (λ n k h. tt))
 
-  fresh_left : (form : Form) (e : Typed) (behind : Place) (s : State) → e.form ≡ form → calls_any form ≡ true → is_served_fresh texts (whole_form e) ≡ true → Whole e → Standing s → Acts s (thrown e.category (uses a (whole_form e)) behind s)
+  fresh_left : (form : Form) (e : Typed) (behind : Place) (s : State) → e.form ≡ form → calls_any form ≡ true → is_served_fresh texts a.program.types (whole_form e) ≡ true → Whole e → Standing s → Acts s (thrown e.category (uses a (whole_form e)) behind s)
   fresh_left (call g given d) e behind s same calls b h stands =
-      let parts = and_parts (is_unique_type e.ty) (is_served_fresh texts e.form) b in
+      let parts = and_parts (is_unique_type e.ty) (is_served_fresh texts a.program.types e.form) b in
       let made : IsMadeOf a.program a.function.locals visible e (call g given d) = subst (IsMadeOf a.program a.function.locals visible e) same h in
       let x = called_unique a visible types texts fs f setting g e parts.0 made.0 in
       let from = fresh_expression a visible types texts fs f setting (whole_form e) b h in
       fresh_thrown e behind s x.0 x.2 x.1 from.value (from.builds x.0 x.1 (unique_itself a.program.types e x.0 x.2 from.value) s stands) stands
   fresh_left (method base m given d) e behind s same calls b h stands =
-      absurd (false≢true (sym (ap (is_served_fresh texts) same) ∙ (and_parts (is_unique_type e.ty) (is_served_fresh texts e.form) b).1))
+      absurd (false≢true (sym (ap (is_served_fresh texts a.program.types) same) ∙ (and_parts (is_unique_type e.ty) (is_served_fresh texts a.program.types e.form) b).1))
   fresh_left _ e behind s same calls b h stands = absurd (false≢true calls)
 
   -- ---- changes of owners
@@ -453,11 +453,11 @@ module _ (a : Around) (visible : List ℕ) (types : Types) (texts : ℕ) (fs : L
   not_true false e = refl
   not_true true e = absurd (false≢true e)
 
-  changed_statement : (form : Form) (e : Typed) (behind : Place) (s : State) → e.form ≡ form → is_served_change texts form ≡ true → Whole e → Standing s → Acts s (thrown e.category (uses a (whole_form e)) behind s)
+  changed_statement : (form : Form) (e : Typed) (behind : Place) (s : State) → e.form ≡ form → is_served_change texts a.program.types form ≡ true → Whole e → Standing s → Acts s (thrown e.category (uses a (whole_form e)) behind s)
   changed_statement (method base m given d) e behind s same b h stands =
       let one = and_parts (is_changing m) _ b in
-      let two = and_parts (is_owner_type (form_type base)) (is_served_owner texts base && are_served_elements texts given) one.1 in
-      let three = and_parts (is_served_owner texts base) (are_served_elements texts given) two.1 in
+      let two = and_parts (is_owner_type (form_type base)) (is_served_owner texts a.program.types base && are_served_elements texts a.program.types given) one.1 in
+      let three = and_parts (is_served_owner texts a.program.types base) (are_served_elements texts a.program.types given) two.1 in
       let made : IsMadeOf a.program a.function.locals visible e (method base m given d) = subst (IsMadeOf a.program a.function.locals visible e) same h in
       change_part a visible types texts fs f setting base m given d e behind s same
       (asked_expression a visible types texts fs f setting base three.0 (ap is_owner_type (operand_typed base) ∙ two.0) made.1)
@@ -481,22 +481,22 @@ module _ (a : Around) (visible : List ℕ) (types : Types) (texts : ℕ) (fs : L
       by_walker _ w = absurd (false≢true w)
 
   -- it is a value, whichever call gives it
-  walker_left : (form : Form) (e : Typed) → e.form ≡ form → calls_any form ≡ true → is_served_walker texts (whole_form e) ≡ true → Whole e → e.category ≡ category.Value
+  walker_left : (form : Form) (e : Typed) → e.form ≡ form → calls_any form ≡ true → is_served_walker texts a.program.types (whole_form e) ≡ true → Whole e → e.category ≡ category.Value
   walker_left (call g given d) e same calls b h =
       let made : IsMadeOf a.program a.function.locals visible e (call g given d) = subst (IsMadeOf a.program a.function.locals visible e) same h in
-      walker_value a visible types texts fs f setting g e (and_parts (is_walker_type e.ty) (is_served_walker texts e.form) b).0 made.0
+      walker_value a visible types texts fs f setting g e (and_parts (is_walker_type e.ty) (is_served_walker texts a.program.types e.form) b).0 made.0
   walker_left (method base m given d) e same calls b h =
       let made : IsMadeOf a.program a.function.locals visible e (method base m given d) = subst (IsMadeOf a.program a.function.locals visible e) same h in
       by_base (typed_in base).ty made.0
     where
-      walks : is_served_walker texts (method base m given d) ≡ true
-      walks = ap (is_served_walker texts) (sym same) ∙ (and_parts (is_walker_type e.ty) (is_served_walker texts e.form) b).1
+      walks : is_served_walker texts a.program.types (method base m given d) ≡ true
+      walks = ap (is_served_walker texts a.program.types) (sym same) ∙ (and_parts (is_walker_type e.ty) (is_served_walker texts a.program.types e.form) b).1
 
       answered : (has : Bool) (x : ExprType × Category) → x.1 ≡ category.Value → (if has then Some x else None) ≡ Some (e.ty, e.category) → e.category ≡ category.Value
       answered true x v is = (gives_as x e is).1 ∙ v
       answered false x v is = absurd (none_some is)
 
-      by_member : (m : Method) → is_served_walker texts (method base m given d) ≡ true → (t : Ty) (constant : Bool) → method_answer a.program.types t constant m ≡ Some (e.ty, e.category) → e.category ≡ category.Value
+      by_member : (m : Method) → is_served_walker texts a.program.types (method base m given d) ≡ true → (t : Ty) (constant : Bool) → method_answer a.program.types t constant m ≡ Some (e.ty, e.category) → e.category ≡ category.Value
       by_member methods.Begin w t constant is = answered (has_method t methods.Begin) (answer a.program.types t constant methods.Begin) refl is
       by_member methods.End w t constant is = answered (has_method t methods.End) (answer a.program.types t constant methods.End) refl is
       by_member methods.Subspan w t constant is = answered (has_method t methods.Subspan) (answer a.program.types t constant methods.Subspan) refl is
@@ -522,35 +522,56 @@ module _ (a : Around) (visible : List ℕ) (types : Types) (texts : ℕ) (fs : L
       (temporary_made a visible types texts fs f setting (ty.Struct number) u.place s (u.object s) (inr (inr tabled)) builds stands) (λ b h. tt) (λ n k h. tt))
 
   -- a call refers to the struct that it answers, or makes it, and one of a member refers to it
-  struct_left : (form : Form) (e : Typed) (behind : Place) (s : State) → e.form ≡ form → calls_any form ≡ true → is_served_struct texts (whole_form e) ≡ true → Whole e → Standing s → Acts s (thrown e.category (uses a (whole_form e)) behind s)
+  struct_left : (form : Form) (e : Typed) (behind : Place) (s : State) → e.form ≡ form → calls_any form ≡ true → is_served_struct texts a.program.types (whole_form e) ≡ true → Whole e → Standing s → Acts s (thrown e.category (uses a (whole_form e)) behind s)
   struct_left (call g given d) e behind s same calls b h stands =
       let made : IsMadeOf a.program a.function.locals visible e (call g given d) = subst (IsMadeOf a.program a.function.locals visible e) same h in
       let from = struct_expression a visible types texts fs f setting (whole_form e) b h in
-      elim (struct_called a visible types texts fs f setting g e (and_parts (is_struct_type e.ty) (is_served_struct texts e.form) b).0 made.0) [
+      elim (struct_called a visible types texts fs f setting g e (and_parts (is_struct_type e.ty) (is_served_struct texts a.program.types e.form) b).0 made.0) [
         | inl place ↦ struct_thrown e behind s (with_place a visible types texts fs f setting (whole_form e) from place.0 place.1 place.2) stands
         | inr whole ↦ struct_made_thrown e behind s whole.0 whole.1 whole.2 whole.3 (with_value a visible types texts fs f setting (whole_form e) from whole.0 whole.2 whole.3 s stands) stands
       ]
   struct_left (method base m given d) e behind s same calls b h stands =
       let made : IsMadeOf a.program a.function.locals visible e (method base m given d) = subst (IsMadeOf a.program a.function.locals visible e) same h in
-      let served = sym (ap (is_served_struct texts) same) ∙ (and_parts (is_struct_type e.ty) (is_served_struct texts e.form) b).1 in
+      let served = sym (ap (is_served_struct texts a.program.types) same) ∙ (and_parts (is_struct_type e.ty) (is_served_struct texts a.program.types e.form) b).1 in
       let place = edge_of a visible types texts fs f setting base m given d e served made.0 (λ o n. owner_expression a visible types texts fs f setting base o n made.1) in
       struct_thrown e behind s (with_place a visible types texts fs f setting (whole_form e) (struct_expression a visible types texts fs f setting (whole_form e) b h) place.id place.constant place.place) stands
   struct_left _ e behind s same calls b h stands = absurd (false≢true calls)
 
-  left_statement : (e : Typed) (behind : Place) (s : State) → is_served_left texts e ≡ true → Whole e → Standing s → Acts s (thrown e.category (uses a (whole_form e)) behind s)
-  left_statement e behind s b h stands =
-      let one = and_parts (calls_any e.form) (is_served_owning texts e || (is_served_walker texts (whole_form e) || (is_served_struct texts (whole_form e) || is_served_fresh texts (whole_form e)))) b in
-      elim (or_cases (is_served_owning texts e) (is_served_walker texts (whole_form e) || (is_served_struct texts (whole_form e) || is_served_fresh texts (whole_form e))) one.1) [
+  -- .. or that is made
+  made_left : (form : Form) (e : Typed) (behind : Place) (s : State) → e.form ≡ form → makes_unique form ≡ true → is_served_unique texts a.program.types (whole_form e) ≡ true → Whole e → Standing s → Acts s (thrown e.category (uses a (whole_form e)) behind s)
+  made_left (make_unique id argument closing) e behind s same makes b h stands = go (holding_expression a visible types texts fs f setting (whole_form e) b h)
+    where
+      made : IsMadeOf a.program a.function.locals visible e (make_unique id argument closing)
+      made = subst (IsMadeOf a.program a.function.locals visible e) same h
+
+      go : IsHolding a visible types texts fs f setting (whole_form e) → Acts s (thrown e.category (uses a (whole_form e)) behind s)
+      go (holds_named is) = absurd (value_place (sym (ap (λ (y : Typed). y.category) made.0) ∙ is.place))
+      go (holds_answer is) =
+          fresh_thrown e behind s is.fresh.owned is.fresh.is is.worth is.fresh.value (is.fresh.builds is.fresh.owned is.worth (unique_itself a.program.types e is.fresh.owned is.fresh.is is.fresh.value) s stands) stands
+  made_left _ e behind s same makes b h stands = absurd (false≢true makes)
+
+  called_left : (e : Typed) (behind : Place) (s : State) → (calls_any e.form && (is_served_owning texts a.program.types e || (is_served_walker texts a.program.types (whole_form e) || (is_served_struct texts a.program.types (whole_form e) || is_served_fresh texts a.program.types (whole_form e))))) ≡ true
+      → Whole e → Standing s → Acts s (thrown e.category (uses a (whole_form e)) behind s)
+  called_left e behind s b h stands =
+      let one = and_parts (calls_any e.form) (is_served_owning texts a.program.types e || (is_served_walker texts a.program.types (whole_form e) || (is_served_struct texts a.program.types (whole_form e) || is_served_fresh texts a.program.types (whole_form e)))) b in
+      elim (or_cases (is_served_owning texts a.program.types e) (is_served_walker texts a.program.types (whole_form e) || (is_served_struct texts a.program.types (whole_form e) || is_served_fresh texts a.program.types (whole_form e))) one.1) [
         | inl owner ↦
-            let two = and_parts (is_owner_type e.ty) (is_served_owner texts (whole_form e)) owner in
+            let two = and_parts (is_owner_type e.ty) (is_served_owner texts a.program.types (whole_form e)) owner in
             owning_thrown e behind s (owner_expression a visible types texts fs f setting (whole_form e) two.1 two.0 h) stands
-        | inr others ↦ elim (or_cases (is_served_walker texts (whole_form e)) (is_served_struct texts (whole_form e) || is_served_fresh texts (whole_form e)) others) [
+        | inr others ↦ elim (or_cases (is_served_walker texts a.program.types (whole_form e)) (is_served_struct texts a.program.types (whole_form e) || is_served_fresh texts a.program.types (whole_form e)) others) [
           | inl walks ↦ walker_thrown e behind s (walker_expression a visible types texts fs f setting (whole_form e) walks h) (walker_left e.form e refl one.0 walks h) stands
-          | inr others ↦ elim (or_cases (is_served_struct texts (whole_form e)) (is_served_fresh texts (whole_form e)) others) [
+          | inr others ↦ elim (or_cases (is_served_struct texts a.program.types (whole_form e)) (is_served_fresh texts a.program.types (whole_form e)) others) [
             | inl structure ↦ struct_left e.form e behind s refl one.0 structure h stands
             | inr fresh ↦ fresh_left e.form e behind s refl one.0 fresh h stands
           ]
         ]
+      ]
+
+  left_statement : (e : Typed) (behind : Place) (s : State) → is_served_left texts a.program.types e ≡ true → Whole e → Standing s → Acts s (thrown e.category (uses a (whole_form e)) behind s)
+  left_statement e behind s b h stands =
+      elim (or_cases (calls_any e.form && (is_served_owning texts a.program.types e || (is_served_walker texts a.program.types (whole_form e) || (is_served_struct texts a.program.types (whole_form e) || is_served_fresh texts a.program.types (whole_form e))))) (makes_unique e.form && is_served_unique texts a.program.types (whole_form e)) b) [
+        | inl calls ↦ called_left e behind s calls h stands
+        | inr makes ↦ let parts = and_parts (makes_unique e.form) (is_served_unique texts a.program.types (whole_form e)) makes in made_left e.form e behind s refl parts.0 parts.1 h stands
       ]
 
   -- ---- assignments of owners
@@ -664,15 +685,15 @@ module _ (a : Around) (visible : List ℕ) (types : Types) (texts : ℕ) (fs : L
 
   -- an owner, by a copy of another one, or by one that is made
   owner_assigned_part : (target e : Typed) (equals behind : Place) (s : State)
-      → ((is_owner_type target.ty && (is_served_object texts (whole_form target) || (not (is_place_category target.category) && is_served_owner texts (whole_form target)))) && ((is_owner_type e.ty && is_served_owner texts (whole_form e)) || (fills_owner texts e.form))) ≡ true
+      → ((is_owner_type target.ty && (is_served_object texts a.program.types (whole_form target) || (not (is_place_category target.category) && is_served_owner texts a.program.types (whole_form target)))) && ((is_owner_type e.ty && is_served_owner texts a.program.types (whole_form e)) || (fills_owner texts e.form))) ≡ true
       → IsSimple a.program a.function.locals a.function.result visible (assign target equals (one e)) → Standing s → Acts s (assigned a target equals (one e) behind s)
   owner_assigned_part target e equals behind s b h stands =
-      let both = and_parts (is_owner_type target.ty && (is_served_object texts (whole_form target) || (not (is_place_category target.category) && is_served_owner texts (whole_form target)))) ((is_owner_type e.ty && is_served_owner texts (whole_form e)) || (fills_owner texts e.form)) b in
+      let both = and_parts (is_owner_type target.ty && (is_served_object texts a.program.types (whole_form target) || (not (is_place_category target.category) && is_served_owner texts a.program.types (whole_form target)))) ((is_owner_type e.ty && is_served_owner texts a.program.types (whole_form e)) || (fills_owner texts e.form)) b in
       let to = assignable_owner a visible types texts fs f setting target both.0 (to_free target.category (is_constant target.category) refl (and_parts (is_place target.ty target.category) (not (is_constant target.category)) h.0.0).1) h.0.1 in
       let given : is_given a.program.types to.ty e ≡ true = subst (λ (t : Ty). is_given a.program.types t e ≡ true) (own_same target.ty ∙ ap own_type to.is) h.1.0 in
-      elim (or_cases (is_owner_type e.ty && is_served_owner texts (whole_form e)) (fills_owner texts e.form) both.1) [
+      elim (or_cases (is_owner_type e.ty && is_served_owner texts a.program.types (whole_form e)) (fills_owner texts e.form) both.1) [
         | inl owner ↦
-            let source = and_parts (is_owner_type e.ty) (is_served_owner texts (whole_form e)) owner in
+            let source = and_parts (is_owner_type e.ty) (is_served_owner texts a.program.types (whole_form e)) owner in
             from_owner to given (owner_expression a visible types texts fs f setting (whole_form e) source.1 source.0 h.1.1) (replaced a visible types texts fs f setting (whole_form e) source.1 source.0 h.1.1)
         | inr fills ↦ filled_part target e equals behind s to e.form refl fills given h.1.1 stands
       ]
@@ -700,11 +721,11 @@ module _ (a : Around) (visible : List ℕ) (types : Types) (texts : ℕ) (fs : L
       from_owner to given (is_made from) way = made to given from way
 
   -- .. of a list of its elements
-  list_assigned_part : (target : Typed) (list : ListForm) (equals behind : Place) (s : State) → ((is_owner_type target.ty && (is_served_object texts (whole_form target) || (not (is_place_category target.category) && is_served_owner texts (whole_form target)))) && (is_vector_type target.ty && are_served_elements texts (forms list.elements))) ≡ true → IsSimple a.program a.function.locals a.function.result visible (assign target equals (several list)) → Standing s
+  list_assigned_part : (target : Typed) (list : ListForm) (equals behind : Place) (s : State) → ((is_owner_type target.ty && (is_served_object texts a.program.types (whole_form target) || (not (is_place_category target.category) && is_served_owner texts a.program.types (whole_form target)))) && (is_vector_type target.ty && are_served_elements texts a.program.types (forms list.elements))) ≡ true → IsSimple a.program a.function.locals a.function.result visible (assign target equals (several list)) → Standing s
       → Acts s (assigned a target equals (several list) behind s)
   list_assigned_part target list equals behind s b h stands =
-      let both = and_parts (is_owner_type target.ty && (is_served_object texts (whole_form target) || (not (is_place_category target.category) && is_served_owner texts (whole_form target)))) (is_vector_type target.ty && are_served_elements texts (forms list.elements)) b in
-      let one = and_parts (is_vector_type target.ty) (are_served_elements texts (forms list.elements)) both.1 in
+      let both = and_parts (is_owner_type target.ty && (is_served_object texts a.program.types (whole_form target) || (not (is_place_category target.category) && is_served_owner texts a.program.types (whole_form target)))) (is_vector_type target.ty && are_served_elements texts a.program.types (forms list.elements)) b in
+      let one = and_parts (is_vector_type target.ty) (are_served_elements texts a.program.types (forms list.elements)) both.1 in
       let to = assignable_owner a visible types texts fs f setting target both.0 (to_free target.category (is_constant target.category) refl (and_parts (is_place target.ty target.category) (not (is_constant target.category)) h.0.0).1) h.0.1 in
       go to to.ty refl to.owner (ap is_vector (sym (ap own_type to.is)) ∙ vector_own target.ty one.0) (givings a visible types texts fs f setting (forms list.elements) one.1 h.1.1) (subst (λ (t : Ty). is_listed a.program.types t (forms list.elements) ≡ true) (own_same target.ty ∙ ap own_type to.is) h.1.0)
     where
@@ -725,13 +746,13 @@ module _ (a : Around) (visible : List ℕ) (types : Types) (texts : ℕ) (fs : L
 
   -- a view of the whole of a string
   view_assigned_part : (target e : Typed) (equals behind : Place) (s : State)
-      → ((is_view_type target.ty && is_served_expression texts target) && (is_owner_type e.ty && is_served_owner texts (whole_form e))) ≡ true → IsSimple a.program a.function.locals a.function.result visible (assign target equals (one e)) → Standing s
+      → ((is_view_type target.ty && is_served_expression texts a.program.types target) && (is_owner_type e.ty && is_served_owner texts a.program.types (whole_form e))) ≡ true → IsSimple a.program a.function.locals a.function.result visible (assign target equals (one e)) → Standing s
       → Acts s (assigned a target equals (one e) behind s)
   view_assigned_part target e equals behind s b h stands =
-      let both = and_parts (is_view_type target.ty && is_served_expression texts target) (is_owner_type e.ty && is_served_owner texts (whole_form e)) b in
-      let goal = and_parts (is_view_type target.ty) (is_served_expression texts target) both.0 in
+      let both = and_parts (is_view_type target.ty && is_served_expression texts a.program.types target) (is_owner_type e.ty && is_served_owner texts a.program.types (whole_form e)) b in
+      let goal = and_parts (is_view_type target.ty) (is_served_expression texts a.program.types target) both.0 in
       let seen = view_own target.ty goal.0 in
-      let source = and_parts (is_owner_type e.ty) (is_served_owner texts (whole_form e)) both.1 in
+      let source = and_parts (is_owner_type e.ty) (is_served_owner texts a.program.types (whole_form e)) both.1 in
       let from = asked_expression a visible types texts fs f setting (whole_form e) source.1 source.0 h.1.1 in
       let is = whole target goal.1 h.0.1 in
       let viewed : own_type target.ty ≡ ty.View = view_is (own_type target.ty) seen in
@@ -750,40 +771,40 @@ module _ (a : Around) (visible : List ℕ) (types : Types) (texts : ℕ) (fs : L
 
   -- an iterator or a span
   walker_reassigned_part : (target e : Typed) (equals behind : Place) (s : State)
-      → (is_served_walker texts (whole_form target) && (is_served_walker texts (whole_form e) || (is_owner_type e.ty && is_served_owner texts (whole_form e)))) ≡ true → IsSimple a.program a.function.locals a.function.result visible (assign target equals (one e)) → Standing s
+      → (is_served_walker texts a.program.types (whole_form target) && (is_served_walker texts a.program.types (whole_form e) || (is_owner_type e.ty && is_served_owner texts a.program.types (whole_form e)))) ≡ true → IsSimple a.program a.function.locals a.function.result visible (assign target equals (one e)) → Standing s
       → Acts s (assigned a target equals (one e) behind s)
   walker_reassigned_part target e equals behind s b h stands =
-      let owned : Bool = is_owner_type e.ty && is_served_owner texts (whole_form e) in
-      let parts = and_parts (is_served_walker texts (whole_form target)) (is_served_walker texts (whole_form e) || owned) b in
+      let owned : Bool = is_owner_type e.ty && is_served_owner texts a.program.types (whole_form e) in
+      let parts = and_parts (is_served_walker texts a.program.types (whole_form target)) (is_served_walker texts a.program.types (whole_form e) || owned) b in
       let to = walker_expression a visible types texts fs f setting (whole_form target) parts.0 h.0.1 in
       let given : is_given a.program.types to.ty e ≡ true = subst (λ (t : Ty). is_given a.program.types t e ≡ true) (own_same target.ty ∙ ap own_type to.is) h.1.0 in
-      elim (or_cases (is_served_walker texts (whole_form e)) owned parts.1) [
+      elim (or_cases (is_served_walker texts a.program.types (whole_form e)) owned parts.1) [
         | inl walker ↦ walker_assigned_part target e equals behind s to (walker_expression a visible types texts fs f setting (whole_form e) walker h.1.1) given stands
         | inr owner ↦
-            let source = and_parts (is_owner_type e.ty) (is_served_owner texts (whole_form e)) owner in
+            let source = and_parts (is_owner_type e.ty) (is_served_owner texts a.program.types (whole_form e)) owner in
             span_assigned_part target e equals behind s to (asked_expression a visible types texts fs f setting (whole_form e) source.1 source.0 h.1.1) given stands
       ]
 
   -- a unique_ptr
-  unique_reassigned_part : (target e : Typed) (equals behind : Place) (s : State) → (is_served_unique texts (whole_form target) && (is_nullptr e.form || (is_place_category target.category && is_served_fresh texts (whole_form e)))) ≡ true
+  unique_reassigned_part : (target e : Typed) (equals behind : Place) (s : State) → (is_served_unique texts a.program.types (whole_form target) && (is_nullptr e.form || (is_place_category target.category && is_served_fresh texts a.program.types (whole_form e)))) ≡ true
       → IsSimple a.program a.function.locals a.function.result visible (assign target equals (one e)) → Standing s → Acts s (assigned a target equals (one e) behind s)
   unique_reassigned_part target e equals behind s b h stands =
-      let parts = and_parts (is_served_unique texts (whole_form target)) (is_nullptr e.form || (is_place_category target.category && is_served_fresh texts (whole_form e))) b in
-      elim (or_cases (is_nullptr e.form) (is_place_category target.category && is_served_fresh texts (whole_form e)) parts.1) [
+      let parts = and_parts (is_served_unique texts a.program.types (whole_form target)) (is_nullptr e.form || (is_place_category target.category && is_served_fresh texts a.program.types (whole_form e))) b in
+      elim (or_cases (is_nullptr e.form) (is_place_category target.category && is_served_fresh texts a.program.types (whole_form e)) parts.1) [
         | inl none ↦
             unique_nulled_part a visible types texts fs f setting target e equals behind (holding_lies a visible types texts fs f setting (whole_form target) (holding_expression a visible types texts fs f setting (whole_form target) parts.0 h.0.1))
             e.form s refl none h.1.1 stands
         | inr others ↦
-            let both = and_parts (is_place_category target.category) (is_served_fresh texts (whole_form e)) others in
+            let both = and_parts (is_place_category target.category) (is_served_fresh texts a.program.types (whole_form e)) others in
             let to = named_unique a visible types texts fs f setting (whole_form target) both.0 parts.0 h.0.1 in
             let given = subst (λ (t : Ty). is_given a.program.types t e ≡ true) (own_same target.ty ∙ ap own_type to.is) h.1.0 in
-            let name = named_unique_target a visible types texts fs f setting (whole_form target) parts.0 h.0.1 in
+            let name = named_unique_target a visible types texts fs f setting (whole_form target) parts.0 both.0 h.0.1 in
             let other = (and_parts (is_none (whole_fault a.program.types target.category)) (is_none (self_fault target.form (one e))) h.2).1 in
             unique_renewed_part a visible types texts fs f setting target e equals behind to (fresh_expression a visible types texts fs f setting (whole_form e) both.1 h.1.1) given name
             (renewing a visible types texts fs f setting (whole_form e) both.1 h.1.1) s other stands
       ]
 
-  reset_statement : (form : Form) (e : Typed) (behind : Place) (s : State) → e.form ≡ form → is_served_reset texts form ≡ true → Whole e → Standing s → Acts s (thrown e.category (uses a (whole_form e)) behind s)
+  reset_statement : (form : Form) (e : Typed) (behind : Place) (s : State) → e.form ≡ form → is_served_reset texts a.program.types form ≡ true → Whole e → Standing s → Acts s (thrown e.category (uses a (whole_form e)) behind s)
   reset_statement (method base methods.Reset given d) e behind s same b h stands =
       let made : IsMadeOf a.program a.function.locals visible e (method base methods.Reset given d) = subst (IsMadeOf a.program a.function.locals visible e) same h in
       reset_part a visible types texts fs f setting base given d e behind s same (holding_lies a visible types texts fs f setting base (holding_expression a visible types texts fs f setting base b made.1)) made.0 stands
@@ -791,7 +812,7 @@ module _ (a : Around) (visible : List ℕ) (types : Types) (texts : ℕ) (fs : L
   reset_statement _ e behind s same b h stands = absurd (false≢true b)
 
   -- a struct that is assigned to stands at a place
-  placed_target : (target : Typed) → is_served_struct texts (whole_form target) ≡ true → (is_place target.ty target.category && not (is_constant target.category)) ≡ true → Whole target → IsStruct a visible types texts fs f setting (whole_form target)
+  placed_target : (target : Typed) → is_served_struct texts a.program.types (whole_form target) ≡ true → (is_place target.ty target.category && not (is_constant target.category)) ≡ true → Whole target → IsStruct a visible types texts fs f setting (whole_form target)
   placed_target target b free h =
       with_target a visible types texts fs f setting (whole_form target) (struct_expression a visible types texts fs f setting (whole_form target) b h) (and_parts (is_place target.ty target.category) (not (is_constant target.category)) free).0
 
@@ -801,10 +822,10 @@ module _ (a : Around) (visible : List ℕ) (types : Types) (texts : ℕ) (fs : L
       assigned_copied a.program.types setting.values.ordered to.id to.number to.here target.category to.constant to.place (and_parts (is_none (whole_fault a.program.types target.category)) (is_none (self_fault target.form value)) h).0
 
   -- .. also of a list
-  parts_assigned_part : (target : Typed) (list : ListForm) (equals behind : Place) (s : State) → (is_served_struct texts (whole_form target) && are_served_arguments texts (forms list.elements)) ≡ true
+  parts_assigned_part : (target : Typed) (list : ListForm) (equals behind : Place) (s : State) → (is_served_struct texts a.program.types (whole_form target) && are_served_arguments texts a.program.types (forms list.elements)) ≡ true
       → IsSimple a.program a.function.locals a.function.result visible (assign target equals (several list)) → Standing s → Acts s (assigned a target equals (several list) behind s)
   parts_assigned_part target list equals behind s b h stands =
-      let parts = and_parts (is_served_struct texts (whole_form target)) (are_served_arguments texts (forms list.elements)) b in
+      let parts = and_parts (is_served_struct texts a.program.types (whole_form target)) (are_served_arguments texts a.program.types (forms list.elements)) b in
       let to = placed_target target parts.0 h.0.0 h.0.1 in
       members_assigned_part a visible types texts fs f setting target list equals behind s to
       (to_free target.category to.constant (ap is_constant to.place) (and_parts (is_place target.ty target.category) (not (is_constant target.category)) h.0.0).1)
@@ -813,25 +834,25 @@ module _ (a : Around) (visible : List ℕ) (types : Types) (texts : ℕ) (fs : L
       (subst (λ (t : Ty). is_listed a.program.types t (forms list.elements) ≡ true) (own_same target.ty ∙ ap own_type to.is) h.1.0) stands
 
   -- a struct is copied
-  struct_reassigned_part : (target e : Typed) (equals behind : Place) (s : State) → (is_served_struct texts (whole_form target) && is_served_struct texts (whole_form e)) ≡ true
+  struct_reassigned_part : (target e : Typed) (equals behind : Place) (s : State) → (is_served_struct texts a.program.types (whole_form target) && is_served_struct texts a.program.types (whole_form e)) ≡ true
       → IsSimple a.program a.function.locals a.function.result visible (assign target equals (one e)) → Standing s → Acts s (assigned a target equals (one e) behind s)
   struct_reassigned_part target e equals behind s b h stands =
-      let parts = and_parts (is_served_struct texts (whole_form target)) (is_served_struct texts (whole_form e)) b in
+      let parts = and_parts (is_served_struct texts a.program.types (whole_form target)) (is_served_struct texts a.program.types (whole_form e)) b in
       let to = placed_target target parts.0 h.0.0 h.0.1 in
       let from = struct_expression a visible types texts fs f setting (whole_form e) parts.1 h.1.1 in
       let given = subst (λ (t : Ty). is_given a.program.types t e ≡ true) (own_same target.ty ∙ ap own_type to.is) h.1.0 in
       struct_assigned_part a visible types texts fs f setting target e equals behind s to (to_free target.category to.constant (ap is_constant to.place) (and_parts (is_place target.ty target.category) (not (is_constant target.category)) h.0.0).1)
       (whole_copied target (one e) to h.2) from given stands
 
-  reassigned_part : (target e : Typed) (equals behind : Place) (s : State) → is_served_renewed texts target e ≡ true → IsSimple a.program a.function.locals a.function.result visible (assign target equals (one e)) → Standing s
+  reassigned_part : (target e : Typed) (equals behind : Place) (s : State) → is_served_renewed texts a.program.types target e ≡ true → IsSimple a.program a.function.locals a.function.result visible (assign target equals (one e)) → Standing s
       → Acts s (assigned a target equals (one e) behind s)
-  reassigned_part target e equals behind s b h stands = elim (or_cases ((is_owner_type target.ty && (is_served_object texts (whole_form target) || (not (is_place_category target.category) && is_served_owner texts (whole_form target)))) && ((is_owner_type e.ty && is_served_owner texts (whole_form e)) || (fills_owner texts e.form))) _ b) [
+  reassigned_part target e equals behind s b h stands = elim (or_cases ((is_owner_type target.ty && (is_served_object texts a.program.types (whole_form target) || (not (is_place_category target.category) && is_served_owner texts a.program.types (whole_form target)))) && ((is_owner_type e.ty && is_served_owner texts a.program.types (whole_form e)) || (fills_owner texts e.form))) _ b) [
     | inl owners ↦ owner_assigned_part target e equals behind s owners h stands
-    | inr others ↦ elim (or_cases ((is_view_type target.ty && is_served_expression texts target) && (is_owner_type e.ty && is_served_owner texts (whole_form e))) _ others) [
+    | inr others ↦ elim (or_cases ((is_view_type target.ty && is_served_expression texts a.program.types target) && (is_owner_type e.ty && is_served_owner texts a.program.types (whole_form e))) _ others) [
       | inl views ↦ view_assigned_part target e equals behind s views h stands
-      | inr others ↦ elim (or_cases (is_served_walker texts (whole_form target) && (is_served_walker texts (whole_form e) || (is_owner_type e.ty && is_served_owner texts (whole_form e)))) _ others) [
+      | inr others ↦ elim (or_cases (is_served_walker texts a.program.types (whole_form target) && (is_served_walker texts a.program.types (whole_form e) || (is_owner_type e.ty && is_served_owner texts a.program.types (whole_form e)))) _ others) [
         | inl walks ↦ walker_reassigned_part target e equals behind s walks h stands
-        | inr others ↦ elim (or_cases (is_served_unique texts (whole_form target) && (is_nullptr e.form || (is_place_category target.category && is_served_fresh texts (whole_form e)))) (is_served_struct texts (whole_form target) && is_served_struct texts (whole_form e)) others) [
+        | inr others ↦ elim (or_cases (is_served_unique texts a.program.types (whole_form target) && (is_nullptr e.form || (is_place_category target.category && is_served_fresh texts a.program.types (whole_form e)))) (is_served_struct texts a.program.types (whole_form target) && is_served_struct texts a.program.types (whole_form e)) others) [
           | inl uniques ↦ unique_reassigned_part target e equals behind s uniques h stands
           | inr structs ↦ struct_reassigned_part target e equals behind s structs h stands
         ]
@@ -868,10 +889,10 @@ module _ (a : Around) (visible : List ℕ) (types : Types) (texts : ℕ) (fs : L
   -- ---- assignments that compute
 
   -- of numbers
-  counted_part : (target : Typed) (o : CompoundOperator) (place : Place) (e : Typed) (behind : Place) (s : State) → (is_served_expression texts target && is_served_expression texts e) ≡ true
+  counted_part : (target : Typed) (o : CompoundOperator) (place : Place) (e : Typed) (behind : Place) (s : State) → (is_served_expression texts a.program.types target && is_served_expression texts a.program.types e) ≡ true
       → IsSimple a.program a.function.locals a.function.result visible (compound target o place e) → Standing s → Acts s (done a (compound target o place e) behind s)
   counted_part target o place e behind s b h stands =
-      let parts = and_parts (is_served_expression texts target) (is_served_expression texts e) b in
+      let parts = and_parts (is_served_expression texts a.program.types target) (is_served_expression texts a.program.types e) b in
       let is = whole target parts.0 h.1.1 in
       let plain = own_no_text a.program.types target is.kind.kind in
       let n = compounded_numbers o (own_type target.ty) e.ty plain (subst (λ (t : Ty). fits_at_all (compounded o t e.ty) ≡ true) (own_same target.ty) h.0) in
@@ -880,14 +901,14 @@ module _ (a : Around) (visible : List ℕ) (types : Types) (texts : ℕ) (fs : L
       (promoted_value (own_type target.ty) (own_type e.ty)) (promoted_is (own_type target.ty) (own_type e.ty)) stands)
 
   -- .. of characters
-  gained_part : (target : Typed) (o : CompoundOperator) (place : Place) (e : Typed) (behind : Place) (s : State) → (is_served_owning texts target && is_served_any texts e) ≡ true
+  gained_part : (target : Typed) (o : CompoundOperator) (place : Place) (e : Typed) (behind : Place) (s : State) → (is_served_owning texts a.program.types target && is_served_any texts a.program.types e) ≡ true
       → IsSimple a.program a.function.locals a.function.result visible (compound target o place e) → Standing s → Acts s (done a (compound target o place e) behind s)
   gained_part target o place e behind s b h stands =
-      let either : Bool = is_served_either (whole_form e) (is_served_owner texts (whole_form e)) (is_served_expression texts e) in
-      let two = and_parts (is_served_owning texts target) either b in
-      let one = and_parts (is_owner_type target.ty) (is_served_owner texts (whole_form target)) two.0 in
+      let either : Bool = is_served_either (whole_form e) (is_served_owner texts a.program.types (whole_form e)) (is_served_expression texts a.program.types e) in
+      let two = and_parts (is_served_owning texts a.program.types target) either b in
+      let one = and_parts (is_owner_type target.ty) (is_served_owner texts a.program.types (whole_form target)) two.0 in
       let to = asked_expression a visible types texts fs f setting (whole_form target) one.1 one.0 h.1.1 in
-      let from : IsEither a visible types texts fs f setting (whole_form e) = elim (either_served (whole_form e) (is_served_owner texts (whole_form e)) (is_served_expression texts e) two.1) [
+      let from : IsEither a visible types texts fs f setting (whole_form e) = elim (either_served (whole_form e) (is_served_owner texts a.program.types (whole_form e)) (is_served_expression texts a.program.types e) two.1) [
         | inl value ↦ inl (whole e value h.2)
         | inr owner ↦ inr (asked_expression a visible types texts fs f setting (whole_form e) owner.1 owner.0 h.2)
       ] in
@@ -899,7 +920,7 @@ module _ (a : Around) (visible : List ℕ) (types : Types) (texts : ℕ) (fs : L
 
   -- ---- steps
 
-  number_stepped_part : (target : Typed) (o : StepOperator) (place behind : Place) (s : State) → is_served_expression texts target ≡ true → IsSimple a.program a.function.locals a.function.result visible (step target o place) → Standing s
+  number_stepped_part : (target : Typed) (o : StepOperator) (place behind : Place) (s : State) → is_served_expression texts a.program.types target ≡ true → IsSimple a.program a.function.locals a.function.result visible (step target o place) → Standing s
       → Acts s (done a (step target o place) behind s)
   number_stepped_part target o place behind s b h stands =
       let is = whole target b h.1.1 in
@@ -909,7 +930,7 @@ module _ (a : Around) (visible : List ℕ) (types : Types) (texts : ℕ) (fs : L
       (stepped_part target o place (promoted (own_type target.ty) (own_type target.ty)) s is (free_place a.program.types target is.kind h.1.0) (own_counts target.ty n)
       (promoted_value (own_type target.ty) (own_type target.ty)) (promoted_is (own_type target.ty) (own_type target.ty)) stands)
 
-  walker_stepped_part : (target : Typed) (o : StepOperator) (place behind : Place) (s : State) → is_served_walker texts (whole_form target) ≡ true → IsSimple a.program a.function.locals a.function.result visible (step target o place) → Standing s
+  walker_stepped_part : (target : Typed) (o : StepOperator) (place behind : Place) (s : State) → is_served_walker texts a.program.types (whole_form target) ≡ true → IsSimple a.program a.function.locals a.function.result visible (step target o place) → Standing s
       → Acts s (done a (step target o place) behind s)
   walker_stepped_part target o place behind s b h stands =
       let is = walker_expression a visible types texts fs f setting (whole_form target) b h.1.1 in
@@ -924,31 +945,31 @@ module _ (a : Around) (visible : List ℕ) (types : Types) (texts : ℕ) (fs : L
 
   -- ---- any of these
 
-  pub done_part : (it : SimpleForm) (behind : Place) (s : State) → is_served_simple texts it ≡ true → IsSimple a.program a.function.locals a.function.result visible it → Standing s → Acts s (done a it behind s)
+  pub done_part : (it : SimpleForm) (behind : Place) (s : State) → is_served_simple texts a.program.types it ≡ true → IsSimple a.program a.function.locals a.function.result visible it → Standing s → Acts s (done a it behind s)
   done_part (assign target equals (one e)) behind s b h stands =
-      elim (or_cases (is_served_expression texts target && is_served_expression texts e) (is_served_renewed texts target e) b) [
-        | inl values ↦ let parts = and_parts (is_served_expression texts target) (is_served_expression texts e) values in assigned_part target e equals behind s parts.0 parts.1 h stands
+      elim (or_cases (is_served_expression texts a.program.types target && is_served_expression texts a.program.types e) (is_served_renewed texts a.program.types target e) b) [
+        | inl values ↦ let parts = and_parts (is_served_expression texts a.program.types target) (is_served_expression texts a.program.types e) values in assigned_part target e equals behind s parts.0 parts.1 h stands
         | inr owned ↦ reassigned_part target e equals behind s owned h stands
       ]
   done_part (assign target equals (several list)) behind s b h stands =
-      elim (or_cases ((is_owner_type target.ty && (is_served_object texts (whole_form target) || (not (is_place_category target.category) && is_served_owner texts (whole_form target)))) && (is_vector_type target.ty && are_served_elements texts (forms list.elements))) (is_served_struct texts (whole_form target) && are_served_arguments texts (forms list.elements)) b) [
+      elim (or_cases ((is_owner_type target.ty && (is_served_object texts a.program.types (whole_form target) || (not (is_place_category target.category) && is_served_owner texts a.program.types (whole_form target)))) && (is_vector_type target.ty && are_served_elements texts a.program.types (forms list.elements))) (is_served_struct texts a.program.types (whole_form target) && are_served_arguments texts a.program.types (forms list.elements)) b) [
         | inl elements ↦ list_assigned_part target list equals behind s elements h stands
         | inr members ↦ parts_assigned_part target list equals behind s members h stands
       ]
   done_part (compound target o place e) behind s b h stands =
-      elim (or_cases (is_served_expression texts target && is_served_expression texts e) (is_served_owning texts target && is_served_any texts e) b) [ inl values ↦ counted_part target o place e behind s values h stands | inr texts_too ↦ gained_part target o place e behind s texts_too h stands ]
-  done_part (step target o place) behind s b h stands = elim (or_cases (is_served_expression texts target) (is_served_walker texts (whole_form target)) b) [ inl value ↦ number_stepped_part target o place behind s value h stands | inr walks ↦ walker_stepped_part target o place behind s walks h stands ]
-  done_part (discarded e) behind s b h stands = elim (or_cases ((((is_call e.form || is_number_type e.ty) && is_served_expression texts e) || is_served_change texts e.form) || is_served_left texts e) (is_served_reset texts e.form) b) [ inl known ↦ known_part known | inr resets ↦ reset_statement e.form e behind s refl resets h stands ]
+      elim (or_cases (is_served_expression texts a.program.types target && is_served_expression texts a.program.types e) (is_served_owning texts a.program.types target && is_served_any texts a.program.types e) b) [ inl values ↦ counted_part target o place e behind s values h stands | inr texts_too ↦ gained_part target o place e behind s texts_too h stands ]
+  done_part (step target o place) behind s b h stands = elim (or_cases (is_served_expression texts a.program.types target) (is_served_walker texts a.program.types (whole_form target)) b) [ inl value ↦ number_stepped_part target o place behind s value h stands | inr walks ↦ walker_stepped_part target o place behind s walks h stands ]
+  done_part (discarded e) behind s b h stands = elim (or_cases ((((is_call e.form || is_number_type e.ty) && is_served_expression texts a.program.types e) || is_served_change texts a.program.types e.form) || is_served_left texts a.program.types e) (is_served_reset texts a.program.types e.form) b) [ inl known ↦ known_part known | inr resets ↦ reset_statement e.form e behind s refl resets h stands ]
     where
       a_number : (t : ExprType) → is_number_type t ≡ true → is_number t ≡ true
       a_number (Of t) n = n
       a_number _ n = absurd (false≢true n)
 
-      known_part : ((((is_call e.form || is_number_type e.ty) && is_served_expression texts e) || is_served_change texts e.form) || is_served_left texts e) ≡ true → Acts s (done a (discarded e) behind s)
+      known_part : ((((is_call e.form || is_number_type e.ty) && is_served_expression texts a.program.types e) || is_served_change texts a.program.types e.form) || is_served_left texts a.program.types e) ≡ true → Acts s (done a (discarded e) behind s)
       known_part b =
-          elim (or_cases (((is_call e.form || is_number_type e.ty) && is_served_expression texts e) || is_served_change texts e.form) (is_served_left texts e) b) [
-            | inl others ↦ elim (or_cases ((is_call e.form || is_number_type e.ty) && is_served_expression texts e) (is_served_change texts e.form) others) [
-              | inl value ↦ let parts = and_parts (is_call e.form || is_number_type e.ty) (is_served_expression texts e) value in elim (or_cases (is_call e.form) (is_number_type e.ty) parts.0) [
+          elim (or_cases (((is_call e.form || is_number_type e.ty) && is_served_expression texts a.program.types e) || is_served_change texts a.program.types e.form) (is_served_left texts a.program.types e) b) [
+            | inl others ↦ elim (or_cases ((is_call e.form || is_number_type e.ty) && is_served_expression texts a.program.types e) (is_served_change texts a.program.types e.form) others) [
+              | inl value ↦ let parts = and_parts (is_call e.form || is_number_type e.ty) (is_served_expression texts a.program.types e) value in elim (or_cases (is_call e.form) (is_number_type e.ty) parts.0) [
                 | inl calls ↦ discarded_part e.form e behind s refl parts.1 h calls stands
                 | inr n ↦ number_thrown e behind s (whole e parts.1 h) (a_number e.ty n) stands
               ]

@@ -82,17 +82,17 @@ module _ (a : Around) (types : Types) (texts : ℕ) (fs : List Function) (f : Fu
 
   -- ---- the parts of loops
 
-  pub decided : (v : Visible) (e : Typed) (behind : Place) (s : State) → is_served_condition texts e ≡ true → Decides a.program a.function.locals a.function.result v.visible e → Follows types f a v s → Tests types texts fs f (Some behind) s (condition (uses a (whole_form e)) (ending behind) s)
+  pub decided : (v : Visible) (e : Typed) (behind : Place) (s : State) → is_served_condition texts a.program.types e ≡ true → Decides a.program a.function.locals a.function.result v.visible e → Follows types f a v s → Tests types texts fs f (Some behind) s (condition (uses a (whole_form e)) (ending behind) s)
   decided v e behind s b h follows = deciding_condition a v.visible types texts fs f setting (whole_form e) (deciding_expression a v.visible types texts fs f setting (whole_form e) b h.1) h.0 (ending behind) s follows.stands
 
-  pub decided_or_true : (v : Visible) (keyword : Place) (e : Option Typed) (behind : Place) (s : State) → is_served_condition_if texts e ≡ true → DecidesIfAny a.program a.function.locals a.function.result v.visible e → Follows types f a v s
+  pub decided_or_true : (v : Visible) (keyword : Place) (e : Option Typed) (behind : Place) (s : State) → is_served_condition_if texts a.program.types e ≡ true → DecidesIfAny a.program a.function.locals a.function.result v.visible e → Follows types f a v s
       → Tests types texts fs f (Some behind) s (condition_or_true a keyword e behind s)
   decided_or_true v keyword None behind s b h follows =
       level_tests types texts fs f behind s (condition_or_true a keyword None behind s) refl
       (non_zero_part types texts fs f keyword None ty.Bool (computed None ty.Bool keyword (constant (pos 1))) s _ follows.stands.pends (temporary_ends types texts fs f (first_own a) setting.own) (constant_part types texts fs f None ty.Bool keyword (pos 1) (with_code [] s) refl tt))
   decided_or_true v keyword (Some e) behind s b h follows = decided v e behind s b h follows
 
-  pub stepped : (v : Visible) (it : Option SimpleForm) (place : Place) (s : State) → is_served_step texts it ≡ true → IsSimpleIfAny a.program a.function.locals a.function.result v.visible it → Follows types f a v s → DoesLevel types texts fs f a v false s (simple_if a it place s)
+  pub stepped : (v : Visible) (it : Option SimpleForm) (place : Place) (s : State) → is_served_step texts a.program.types it ≡ true → IsSimpleIfAny a.program a.function.locals a.function.result v.visible it → Follows types f a v s → DoesLevel types texts fs f a v false s (simple_if a it place s)
   stepped v None place s b h follows = record { does = does_nothing types texts fs f a v false s follows; level = refl }
   stepped v (Some it) place s b h follows = simple_does a types texts fs f setting v false it place s b h follows
 
@@ -138,7 +138,7 @@ module _ (a : Around) (types : Types) (texts : ℕ) (fs : List Function) (f : Fu
         record { does = level_of last in_loop (after branches v) t end h.1; stopped = end.over }) in
         done_alone (branching branches last) in_loop v s all.does all.stopped (λ before e. e)
     statement_does (while_loop keyword decides closing body) in_loop v s b h follows register =
-        let parts = and_parts (is_served_condition texts decides) (is_served_statement texts a.program.types a.function.locals body) b in
+        let parts = and_parts (is_served_condition texts a.program.types decides) (is_served_statement texts a.program.types a.function.locals body) b in
         done_alone (while_loop keyword decides closing body) in_loop v s
         (loop_done v (after body v) in_loop (condition (uses a (whole_form decides)) (ending closing)) (statement a body) (λ t. t) s follows register (decided v decides closing s parts.0 h.0 follows)
         (λ t later there. level_of body true v t (statement_does body true v t parts.1 h.2 later there) h.1)
@@ -147,8 +147,8 @@ module _ (a : Around) (types : Types) (texts : ℕ) (fs : List Function) (f : Fu
         (λ before e. e)
     statement_does (for_loop keyword start first decides second stepping closing body) in_loop v s b h follows register =
         let one = and_parts (is_served_start texts a.program.types a.function.locals start) _ b in
-        let two = and_parts (is_served_condition_if texts decides) _ one.1 in
-        let three = and_parts (is_served_step texts stepping) (is_served_statement texts a.program.types a.function.locals body) two.1 in
+        let two = and_parts (is_served_condition_if texts a.program.types decides) _ one.1 in
+        let three = and_parts (is_served_step texts a.program.types stepping) (is_served_statement texts a.program.types a.function.locals body) two.1 in
         let v1 = after_start start v in
         let begins = begun v in_loop start first s one.0 h.0 follows in
         let s1 = started a start first s in
@@ -167,7 +167,7 @@ module _ (a : Around) (types : Types) (texts : ℕ) (fs : List Function) (f : Fu
         (λ e. runs_on e)
         (λ before e. e)
     statement_does (range_loop keyword x name colon range closing body) in_loop v s b h follows register =
-        let one = and_parts (is_served_range texts range) _ b in
+        let one = and_parts (is_served_range texts a.program.types range) _ b in
         let two = and_parts (takes_elements a.program.types (slice_get a.function.locals x) (range_element range.ty (is_const_place range.category))) (is_served_statement texts a.program.types a.function.locals body) one.1 in
         done_alone (range_loop keyword x name colon range closing body) in_loop v s
         (range_does a types texts fs f setting v (after body (with_next v)) in_loop x range colon closing (last_token body closing) (statement a body) s one.0 two.0 h.0 follows register
@@ -216,8 +216,8 @@ module _ (a : Around) (types : Types) (texts : ℕ) (fs : List Function) (f : Fu
         → Follows types f a v s → HasRegister a s → (last : State → State) (x : Visible) (over : Bool)
         → ((t : State) → Follows types f a (after branches v) t → HasRegister a t → DoesOver x in_loop over t (last t)) → DoesOver x in_loop (all_end branches && over) s (branches_of a branches last s)
     branches_do (chain (branch keyword decides closing body) others) in_loop v s b h follows register last x over end =
-        let parts = and_parts (is_served_condition texts decides && is_served_statement texts a.program.types a.function.locals body) (is_served_statement texts a.program.types a.function.locals others) b in
-        let inner = and_parts (is_served_condition texts decides) (is_served_statement texts a.program.types a.function.locals body) parts.0 in
+        let parts = and_parts (is_served_condition texts a.program.types decides && is_served_statement texts a.program.types a.function.locals body) (is_served_statement texts a.program.types a.function.locals others) b in
+        let inner = and_parts (is_served_condition texts a.program.types decides) (is_served_statement texts a.program.types a.function.locals body) parts.0 in
         let w = condition (uses a (whole_form decides)) (ending closing) s in
         let test = decided v decides closing s inner.0 h.0 follows in
         let ready = tested_follows types texts fs f a v in_loop s w follows test in

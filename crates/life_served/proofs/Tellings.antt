@@ -1,6 +1,7 @@
 -- What is told of a form with a value by what is told of its operand, and of a call of a member function, where it is `erase` and where it isn't.
 use Rattle.std.proofs.Common.{◌≡◌, ℕ, Bool, false, true, ◌&&◌, ◌||◌, refl, sym, ap, ◌∙◌, subst}
 use Rattle.std.proofs.lemmas.Bool.{false≢true}
+use Rattle.life_types.specs.Types.{Types}
 use Rattle.life_typed.specs.TypedForm.{Form, address_of, member, negate}
 use Rattle.life_typed.specs.declared.typed_expr.Method.{Method}
 use Rattle.life_typed.specs.declared.typed_expr.Method.TheVariants as methods
@@ -25,12 +26,12 @@ pub erased_called : (m : Method) (t : Told) (given walks : Bool) → is_erase m 
 erased_called methods.Erase t given walks is = refl
 erased_called _ t given walks is = absurd (false≢true is)
 
-module _ (texts : ℕ) where
-  pub tells_negate : (f : Form) (t : Told) → told texts f ≡ t → value_alone t.value ≡ told texts (negate f)
-  tells_negate f t h = subst (λ (t : Told). value_alone t.value ≡ told texts (negate f)) h refl
+module _ (texts : ℕ) (types : Types) where
+  pub tells_negate : (f : Form) (t : Told) → told texts types f ≡ t → value_alone t.value ≡ told texts types (negate f)
+  tells_negate f t h = subst (λ (t : Told). value_alone t.value ≡ told texts types (negate f)) h refl
 
-  pub tells_address : (f : Form) (t : Told) → told texts f ≡ t → addressed t ≡ told texts (address_of f)
-  tells_address f t h = subst (λ (t : Told). addressed t ≡ told texts (address_of f)) h refl
+  pub tells_address : (f : Form) (t : Told) → told texts types f ≡ t → addressed t ≡ told texts types (address_of f)
+  tells_address f t h = subst (λ (t : Told). addressed t ≡ told texts types (address_of f)) h refl
 
-  pub tells_member : (f : Form) (t : Told) (which : ℕ) → told texts f ≡ t → member_of t ≡ told texts (member f which)
-  tells_member f t which h = subst (λ (t : Told). member_of t ≡ told texts (member f which)) h refl
+  pub tells_member : (f : Form) (t : Told) (which : ℕ) → told texts types f ≡ t → member_of t ≡ told texts types (member f which)
+  tells_member f t which h = subst (λ (t : Told). member_of t ≡ told texts types (member f which)) h refl

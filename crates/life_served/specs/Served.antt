@@ -339,6 +339,11 @@ calls_any (call f arguments delimiters) = true
 calls_any (method base called arguments delimiters) = true
 calls_any _ = false
 
+-- .. or `std::make_unique`
+abbrev pub makes_unique : Form → Bool
+makes_unique (make_unique target argument closing) = true
+makes_unique _ = false
+
 -- a unique_ptr is made of nothing
 abbrev pub is_nullptr : Form → Bool
 is_nullptr null = true
@@ -348,8 +353,13 @@ is_nullptr _ = false
 abbrev pub is_served_either : (base : Form) (owner value : Bool) → Bool
 is_served_either base owner value = if is_owner_type (form_type base) then owner else value
 
--- in a program with so many texts
-module _ (texts : ℕ) where
+-- what an owner is made of as a whole, beside other owners: a literal that is there, in a program with so many texts
+abbrev pub fills_owner : (texts : ℕ) → Form → Bool
+fills_owner texts (text n) = nat_lt n texts
+fills_owner texts _ = false
+
+-- in a program with so many texts and these types
+module _ (texts : ℕ) (types : Types) where
   abbrev mutual
     -- an expression that is neither an owner nor an iterator or a span, or several
     pub is_served_form : Form → Bool
@@ -393,6 +403,7 @@ module _ (texts : ℕ) where
     pub is_served_unique : Form → Bool
     is_served_unique (local x) = true
     is_served_unique (call f arguments delimiters) = are_served_arguments arguments
+    is_served_unique (make_unique target argument closing) = is_element types (type_at types target) && is_served_content argument
     is_served_unique (paren inner closing) = is_served_unique inner
     is_served_unique (member e which) = is_served_struct e
     is_served_unique (typed place t category form) = is_unique_type t && is_served_unique form
@@ -500,30 +511,25 @@ module _ (texts : ℕ) where
   abbrev pub is_served_owning : Typed → Bool
   is_served_owning e = is_owner_type e.ty && is_served_owner (whole e)
 
-  -- what an owner is made of as a whole, beside other owners: a literal that is there
-  abbrev pub fills_owner : Form → Bool
-  fills_owner (text n) = nat_lt n texts
-  fills_owner _ = false
-
   -- ---- declarations and simple statements
 
   -- an owner, a view, a span or a reference is given an owner, an owner a literal, an iterator or a span another one, a unique_ptr what it owns, or a struct or a reference a struct
   abbrev pub is_served_owned : Ty → Typed → Bool
   is_served_owned t e =
       (takes_owner t && is_served_owning e)
-      || ((owns_elements t && fills_owner e.form) || ((is_walker t && is_served_walker (whole e)) || ((is_unique t && (is_nullptr e.form || is_served_fresh (whole e))) || (takes_struct t && is_served_struct (whole e)))))
+      || ((owns_elements t && fills_owner texts e.form) || ((is_walker t && is_served_walker (whole e)) || ((is_unique t && (is_nullptr e.form || is_served_fresh (whole e))) || (takes_struct t && is_served_struct (whole e)))))
 
   abbrev pub is_served_given : Ty → Typed → Bool
   is_served_given t e = (takes_value t && is_served_expression e) || is_served_owned t e
 
-  abbrev pub is_served_initial : Types → Ty → Option InitialForm → Bool
-  is_served_initial types t None = true
-  is_served_initial types t (Some (one e)) = is_served_given t e
-  is_served_initial types t (Some (several list)) = takes_list types t && are_served_listed (lists_members types t) (forms list.elements)
+  abbrev pub is_served_initial : Ty → Option InitialForm → Bool
+  is_served_initial t None = true
+  is_served_initial t (Some (one e)) = is_served_given t e
+  is_served_initial t (Some (several list)) = takes_list types t && are_served_listed (lists_members types t) (forms list.elements)
 
-  abbrev pub is_served_declared : Types → Option TypedLocal → Option InitialForm → Bool
-  is_served_declared types None value = true
-  is_served_declared types (Some v) value = is_served_initial types (type_at types v.ty) value
+  abbrev pub is_served_declared : Option TypedLocal → Option InitialForm → Bool
+  is_served_declared None value = true
+  is_served_declared (Some v) value = is_served_initial (type_at types v.ty) value
 
   -- an owner that is assigned to: one at a place, or one that is made, which is a temporary
   abbrev pub is_served_target : Typed → Bool
@@ -532,7 +538,7 @@ module _ (texts : ℕ) where
   -- an owner is copied or made, also of a literal, a view sees a string, a span a vector, an iterator or a span becomes another one, a unique_ptr owns nothing more, one that is named owns another value, or a struct is copied, also one that is made
   abbrev pub is_served_renewed : (target e : Typed) → Bool
   is_served_renewed target e =
-      (is_served_target target && (is_served_owning e || fills_owner e.form))
+      (is_served_target target && (is_served_owning e || fills_owner texts e.form))
       || (((is_view_type target.ty && is_served_expression target) && is_served_owning e)
       || ((is_served_walker (whole target) && (is_served_walker (whole e) || is_served_owning e)) || ((is_served_unique (whole target) && (is_nullptr e.form || (is_place target.category && is_served_fresh (whole e)))) || (is_served_struct (whole target) && is_served_struct (whole e)))))
 
@@ -568,9 +574,11 @@ module _ (texts : ℕ) where
   abbrev pub is_served_stepped : Typed → Bool
   is_served_stepped target = is_served_expression target || is_served_walker (whole target)
 
-  -- a call that gives an owner, a struct, an iterator, a span or a unique_ptr
+  -- a call that gives an owner, a struct, an iterator, a span or a unique_ptr, or a unique_ptr that is made
   abbrev pub is_served_left : Typed → Bool
-  is_served_left e = calls_any e.form && (is_served_owning e || (is_served_walker (whole e) || (is_served_struct (whole e) || is_served_fresh (whole e))))
+  is_served_left e =
+      (calls_any e.form && (is_served_owning e || (is_served_walker (whole e) || (is_served_struct (whole e) || is_served_fresh (whole e)))))
+      || (makes_unique e.form && is_served_unique (whole e))
 
   -- a call, a number that is left, or a change of an owner or of a unique_ptr
   abbrev pub is_served_alone : Typed → Bool
@@ -603,9 +611,9 @@ module _ (texts : ℕ) where
   -- ---- statements
 
   -- in a function with these parameters and variables
-  module _ (types : Types) (locals : List TypedLocal) where
+  module _ (locals : List TypedLocal) where
     abbrev pub is_served_declaration : DeclarationForm → Bool
-    is_served_declaration d = is_served_declared types (slice_get locals d.local) d.value
+    is_served_declaration d = is_served_declared (slice_get locals d.local) d.value
 
     abbrev pub is_served_start : Option ForStartForm → Bool
     is_served_start None = true

@@ -1,6 +1,7 @@
 -- What is told of an expression: as which of the things that it may be used as it is served; and what that makes of what is applied to it.
 use Rattle.std.specs.Prelude.{ℕ, Bool, Box, false, true, ◌&&◌, ◌||◌, if◌then◌else◌, List, map, None, Option, Some}
 use Rattle.std.specs.declared.alloc.Global.{Global}
+use Rattle.life_types.specs.Types.{Types}
 use Rattle.life_typed.specs.TypedForm.{Form, nested, nothing, operand_view, typed_view, whole}
 use Rattle.life_typed.specs.declared.typed_expr.BinaryOperator.{BinaryOperator}
 use Rattle.life_typed.specs.Conversions.{is_place}
@@ -12,8 +13,8 @@ use Rattle.life_typed.specs.declared.typed_expr.TypedOperand.{TypedOperand}
 use Rattle.life_served.specs.Served.{form_type, is_asking, is_edge, is_end, is_equality, is_erase, is_get, is_owner_type, is_plain_type, is_served_form, is_served_fresh, is_served_object, is_served_owner, is_served_struct, is_served_unique, is_served_walker, is_struct_type, is_subspan, is_testing, is_unique_type, is_walker_type}
 use Rattle.life_served.specs.declared.told.Told.{Told}
 
-abbrev pub told : ℕ → Form → Told
-told texts f = record { value = is_served_form texts f; owner = is_served_owner texts f; walker = is_served_walker texts f; object = is_served_object texts f; owns = is_owner_type (form_type f); unique = is_served_unique texts f; fresh = is_served_fresh texts f; structure = is_served_struct texts f }
+abbrev pub told : ℕ → Types → Form → Told
+told texts types f = record { value = is_served_form texts types f; owner = is_served_owner texts types f; walker = is_served_walker texts types f; object = is_served_object texts types f; owns = is_owner_type (form_type f); unique = is_served_unique texts types f; fresh = is_served_fresh texts types f; structure = is_served_struct texts types f }
 
 abbrev pub value_alone : Bool → Told
 value_alone value = record { value = value; owner = false; walker = false; object = false; owns = false; unique = false; fresh = false; structure = false }
@@ -31,8 +32,8 @@ abbrev pub moved_out : Told
 moved_out = record { value = false; owner = true; walker = false; object = false; owns = false; unique = false; fresh = true; structure = false }
 
 -- .. as a unique_ptr is that is made
-abbrev pub made_anew : Bool → Told
-made_anew given = record { value = false; owner = false; walker = false; object = false; owns = false; unique = false; fresh = given; structure = false }
+abbrev pub made_anew : (owned given : Bool) → Told
+made_anew owned given = record { value = false; owner = false; walker = false; object = false; owns = false; unique = owned && given; fresh = given; structure = false }
 
 abbrev pub parenthesised : Told → Told
 parenthesised t = record { value = t.value; owner = t.owner; walker = t.walker; object = t.object; owns = false; unique = t.unique; fresh = t.fresh; structure = t.structure }

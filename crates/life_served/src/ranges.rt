@@ -11,10 +11,10 @@ use life_typed::{Category, TypedExpr, TypedLocal, range_element};
 use life_types::{Ty, TyId, TypeTable, is_value};
 
 /// An owner that is there or made, a view or a span.
-pub fn is_served_range(texts: usize, range: &TypedExpr) -> bool
-    ensures { result ≡ spec.is_served_range texts (typed_view range.now) }
+pub fn is_served_range(texts: usize, types: &TypeTable, range: &TypedExpr) -> bool
+    ensures { result ≡ spec.is_served_range texts types.now (typed_view range.now) }
 {
-    let told = told_of(texts, range);
+    let told = told_of(texts, types, range);
     (told.owns & told.owner) | ((is_view_type(range.ty) & told.value) | told.walker)
 }
 

@@ -58,8 +58,8 @@ fn is_served_function(texts: usize, types: &TypeTable, function: &TypedFunction)
 /// Whether a program is served: each type in it is `void`, a value type, `std::string`, a struct, a `std::vector` of
 /// these, one in the other down to eight, a raw pointer or a reference to one of these, `std::string_view`, an iterator
 /// or a span, or a `std::unique_ptr` to a value, a string, a vector or a struct; no struct with pointers or unique_ptrs
-/// is taken or given by value; and no unique_ptr that is made stands alone, or where it is asked or dereferenced. A
-/// table of types without numbers that are left counts as not served.
+/// is taken or given by value, no unique_ptr that is moved is asked where it stands, and one that a call gives is
+/// assigned nothing but `nullptr`. A table of types without numbers that are left counts as not served.
 pub fn is_served(typed: &Typed) -> bool
     ensures { result ≡ spec.is_served (program_view typed.now) }
 {

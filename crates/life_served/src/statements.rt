@@ -9,7 +9,7 @@ ghost use Rattle.life_served.specs.Served as spec;
 use crate::expressions::{
     are_served_arguments, are_served_elements, calls_any, fills_owner, is_call, is_nullptr,
     is_served_change, is_served_condition, is_served_condition_if, is_served_if_any,
-    is_served_reset, told_of,
+    is_served_reset, makes_unique, told_of,
 };
 use crate::kinds::{
     is_number_type, is_placed, is_vector_type, is_view_type, is_walker, lists_members,
@@ -26,10 +26,10 @@ use life_types::{Ty, TyId, TypeTable, is_unique};
 // ---- declarations
 
 // By one expression.
-fn is_served_given(texts: usize, ty: Ty, value: &TypedExpr) -> bool
-    ensures { result ≡ spec.is_served_given texts ty (typed_view value.now) }
+fn is_served_given(texts: usize, types: &TypeTable, ty: Ty, value: &TypedExpr) -> bool
+    ensures { result ≡ spec.is_served_given texts types.now ty (typed_view value.now) }
 {
-    let told = told_of(texts, value);
+    let told = told_of(texts, types, value);
     (takes_value(ty) & told.value)
         | ((takes_owner(ty) & (told.owns & told.owner))
             | ((owns_elements(ty) & fills_owner(texts, &value.form))
@@ -39,13 +39,13 @@ fn is_served_given(texts: usize, ty: Ty, value: &TypedExpr) -> bool
 }
 
 // By a list in braces.
-fn are_served_listed(texts: usize, members: bool, elements: &[TypedExpr]) -> bool
-    ensures { result ≡ spec.are_served_listed texts members (forms (typed_views elements.now)) }
+fn are_served_listed(texts: usize, types: &TypeTable, members: bool, elements: &[TypedExpr]) -> bool
+    ensures { result ≡ spec.are_served_listed texts types.now members (forms (typed_views elements.now)) }
 {
     if members {
-        are_served_arguments(texts, elements)
+        are_served_arguments(texts, types, elements)
     } else {
-        are_served_elements(texts, elements)
+        are_served_elements(texts, types, elements)
     }
 }
 
@@ -60,10 +60,10 @@ fn is_served_initial(
     let ty = type_at(types, id);
     match value {
         None => true,
-        Some(TypedInitial::Expr(value)) => is_served_given(texts, ty, value),
+        Some(TypedInitial::Expr(value)) => is_served_given(texts, types, ty, value),
         Some(TypedInitial::List(list)) => {
             takes_list(types, ty)
-                && are_served_listed(texts, lists_members(types, ty), &list.elements)
+                && are_served_listed(texts, types, lists_members(types, ty), &list.elements)
         }
     }
 }
@@ -105,11 +105,11 @@ fn is_renewed(category: Category, told: Told) -> bool
     is_placed(category) & told.fresh
 }
 
-fn is_served_by_one(texts: usize, target: &TypedExpr, value: &TypedExpr) -> bool
-    ensures { result ≡ spec.is_served_assigned texts (typed_view target.now) (one (typed_view value.now)) }
+fn is_served_by_one(texts: usize, types: &TypeTable, target: &TypedExpr, value: &TypedExpr) -> bool
+    ensures { result ≡ spec.is_served_assigned texts types.now (typed_view target.now) (one (typed_view value.now)) }
 {
-    let to = told_of(texts, target);
-    let from = told_of(texts, value);
+    let to = told_of(texts, types, target);
+    let from = told_of(texts, types, value);
     let owning = is_owning(from);
     (to.value & from.value)
         | ((is_target(to, target.category) & (owning | fills_owner(texts, &value.form)))
@@ -119,92 +119,108 @@ fn is_served_by_one(texts: usize, target: &TypedExpr, value: &TypedExpr) -> bool
                         | (to.structure & from.structure)))))
 }
 
-fn is_served_assigned(texts: usize, target: &TypedExpr, value: &TypedInitial) -> bool
-    ensures { result ≡ spec.is_served_assigned texts (typed_view target.now) (initial_view value.now) }
+fn is_served_assigned(
+    texts: usize,
+    types: &TypeTable,
+    target: &TypedExpr,
+    value: &TypedInitial,
+) -> bool
+    ensures { result ≡ spec.is_served_assigned texts types.now (typed_view target.now) (initial_view value.now) }
 {
     match value {
-        TypedInitial::Expr(value) => is_served_by_one(texts, target, value),
+        TypedInitial::Expr(value) => is_served_by_one(texts, types, target, value),
         TypedInitial::List(list) => {
-            let to = told_of(texts, target);
+            let to = told_of(texts, types, target);
             (is_target(to, target.category)
-                && (is_vector_type(target.ty) && are_served_elements(texts, &list.elements)))
-                || (to.structure && are_served_arguments(texts, &list.elements))
+                && (is_vector_type(target.ty) && are_served_elements(texts, types, &list.elements)))
+                || (to.structure && are_served_arguments(texts, types, &list.elements))
         }
     }
 }
 
 // Of a number, or a string gains characters.
-fn is_served_compound(texts: usize, target: &TypedExpr, value: &TypedExpr) -> bool
-    ensures { result ≡ spec.is_served_compound texts (typed_view target.now) (typed_view value.now) }
+fn is_served_compound(
+    texts: usize,
+    types: &TypeTable,
+    target: &TypedExpr,
+    value: &TypedExpr,
+) -> bool
+    ensures { result ≡ spec.is_served_compound texts types.now (typed_view target.now) (typed_view value.now) }
 {
-    let to = told_of(texts, target);
-    let from = told_of(texts, value);
+    let to = told_of(texts, types, target);
+    let from = told_of(texts, types, value);
     (to.value & from.value) | (is_owning(to) & either(from))
 }
 
 // Of a number, or of an iterator.
-fn is_served_stepped(texts: usize, target: &TypedExpr) -> bool
-    ensures { result ≡ spec.is_served_stepped texts (typed_view target.now) }
+fn is_served_stepped(texts: usize, types: &TypeTable, target: &TypedExpr) -> bool
+    ensures { result ≡ spec.is_served_stepped texts types.now (typed_view target.now) }
 {
-    let told = told_of(texts, target);
+    let told = told_of(texts, types, target);
     told.value | told.walker
 }
 
-// A call that gives an owner, a struct at a place, an iterator, a span or a unique_ptr.
-fn is_served_left(texts: usize, expression: &TypedExpr) -> bool
-    ensures { result ≡ spec.is_served_left texts (typed_view expression.now) }
+// A call that gives an owner, a struct at a place, an iterator, a span or a unique_ptr, or a unique_ptr that is made.
+fn is_served_left(texts: usize, types: &TypeTable, expression: &TypedExpr) -> bool
+    ensures { result ≡ spec.is_served_left texts types.now (typed_view expression.now) }
 {
-    let told = told_of(texts, expression);
-    calls_any(&expression.form) & (is_owning(told) | (told.walker | (told.structure | told.fresh)))
+    let told = told_of(texts, types, expression);
+    (calls_any(&expression.form)
+        & (is_owning(told) | (told.walker | (told.structure | told.fresh))))
+        | (makes_unique(&expression.form) & told.unique)
 }
 
 // A call, a number that is left, or a change of an owner or of a unique_ptr.
-fn is_served_alone(texts: usize, expression: &TypedExpr) -> bool
-    ensures { result ≡ spec.is_served_alone texts (typed_view expression.now) }
+fn is_served_alone(texts: usize, types: &TypeTable, expression: &TypedExpr) -> bool
+    ensures { result ≡ spec.is_served_alone texts types.now (typed_view expression.now) }
 {
-    let told = told_of(texts, expression);
+    let told = told_of(texts, types, expression);
     let stands = is_call(&expression.form) | is_number_type(expression.ty);
-    (((stands & told.value) | is_served_change(texts, expression))
-        | is_served_left(texts, expression))
-        | is_served_reset(texts, expression)
+    (((stands & told.value) | is_served_change(texts, types, expression))
+        | is_served_left(texts, types, expression))
+        | is_served_reset(texts, types, expression)
 }
 
-fn is_served_simple(texts: usize, simple: &TypedSimple) -> bool
-    ensures { result ≡ spec.is_served_simple texts (simple_view simple.now) }
+fn is_served_simple(texts: usize, types: &TypeTable, simple: &TypedSimple) -> bool
+    ensures { result ≡ spec.is_served_simple texts types.now (simple_view simple.now) }
 {
     match simple {
-        TypedSimple::Assign { target, value, .. } => is_served_assigned(texts, target, value),
-        TypedSimple::Compound { target, value, .. } => is_served_compound(texts, target, value),
-        TypedSimple::Step { target, .. } => is_served_stepped(texts, target),
-        TypedSimple::Call(expression) => is_served_alone(texts, expression),
+        TypedSimple::Assign { target, value, .. } => is_served_assigned(
+            texts, types, target, value,
+        ),
+        TypedSimple::Compound { target, value, .. } => is_served_compound(
+            texts, types, target, value,
+        ),
+        TypedSimple::Step { target, .. } => is_served_stepped(texts, types, target),
+        TypedSimple::Call(expression) => is_served_alone(texts, types, expression),
     }
 }
 
-fn is_served_step(texts: usize, step: &Option<TypedSimple>) -> bool
-    ensures { result ≡ spec.is_served_step texts (optional_view simple_view step.now) }
+fn is_served_step(texts: usize, types: &TypeTable, step: &Option<TypedSimple>) -> bool
+    ensures { result ≡ spec.is_served_step texts types.now (optional_view simple_view step.now) }
 {
     match step {
-        Some(simple) => is_served_simple(texts, simple),
+        Some(simple) => is_served_simple(texts, types, simple),
         None => true,
     }
 }
 
 // ---- what is printed
 
-fn is_served_item(texts: usize, item: &TypedItem) -> bool
-    ensures { result ≡ spec.is_served_item texts (item_view item.now) }
+fn is_served_item(texts: usize, types: &TypeTable, item: &TypedItem) -> bool
+    ensures { result ≡ spec.is_served_item texts types.now (item_view item.now) }
 {
     match item {
-        TypedItem::Value(value) => either(told_of(texts, value)),
+        TypedItem::Value(value) => either(told_of(texts, types, value)),
         TypedItem::EndLine(_) => true,
     }
 }
 
-fn are_served_items(texts: usize, items: &[TypedItem]) -> bool
-    ensures { result ≡ spec.are_served_items texts (map item_view items.now) }
+fn are_served_items(texts: usize, types: &TypeTable, items: &[TypedItem]) -> bool
+    ensures { result ≡ spec.are_served_items texts types.now (map item_view items.now) }
 {
     'items: for item in items {
-        if !is_served_item(texts, item) {
+        if !is_served_item(texts, types, item) {
             return false;
         }
     }
@@ -214,12 +230,12 @@ fn are_served_items(texts: usize, items: &[TypedItem]) -> bool
 // ---- statements
 
 // What is given back.
-fn is_served_returned(texts: usize, value: &Option<TypedExpr>) -> bool
-    ensures { result ≡ spec.is_served_returned texts (optional_view typed_view value.now) }
+fn is_served_returned(texts: usize, types: &TypeTable, value: &Option<TypedExpr>) -> bool
+    ensures { result ≡ spec.is_served_returned texts types.now (optional_view typed_view value.now) }
 {
     match value {
         Some(value) => {
-            let told = told_of(texts, value);
+            let told = told_of(texts, types, value);
             either(told) | (told.walker | (told.structure | (told.fresh | told.unique)))
         }
         None => true,
@@ -238,7 +254,7 @@ fn is_served_start(
         Some(TypedForStart::Declaration(declaration)) => {
             is_served_declaration(texts, types, locals, declaration)
         }
-        Some(TypedForStart::Simple(simple)) => is_served_simple(texts, simple),
+        Some(TypedForStart::Simple(simple)) => is_served_simple(texts, types, simple),
         None => true,
     }
 }
@@ -255,7 +271,7 @@ fn is_served_statement(
     match statement {
         TypedStmt::Block(block) => is_served_block(block, texts, types, locals),
         TypedStmt::Empty(_) => true,
-        TypedStmt::Simple { simple, .. } => is_served_simple(texts, simple),
+        TypedStmt::Simple { simple, .. } => is_served_simple(texts, types, simple),
         TypedStmt::If { branches, last } => {
             are_served_branches(branches, texts, types, locals)
                 && match last {
@@ -268,12 +284,13 @@ fn is_served_statement(
             body,
             ..
         } => {
-            is_served_condition(texts, condition) && is_served_statement(body, texts, types, locals)
+            is_served_condition(texts, types, condition)
+                && is_served_statement(body, texts, types, locals)
         }
         TypedStmt::For { head, body, .. } => {
             is_served_start(texts, types, locals, &head.start)
-                && (is_served_condition_if(texts, &head.condition)
-                    && (is_served_step(texts, &head.step)
+                && (is_served_condition_if(texts, types, &head.condition)
+                    && (is_served_step(texts, types, &head.step)
                         && is_served_statement(body, texts, types, locals)))
         }
         TypedStmt::RangeFor {
@@ -282,15 +299,15 @@ fn is_served_statement(
             body,
             ..
         } => {
-            is_served_range(texts, range)
+            is_served_range(texts, types, range)
                 && (takes_elements(types, locals, *local, element_of(range))
                     && is_served_statement(body, texts, types, locals))
         }
         TypedStmt::Break { .. } => true,
         TypedStmt::Continue { .. } => true,
-        TypedStmt::Return { value, .. } => is_served_returned(texts, value),
-        TypedStmt::Print { items, .. } => are_served_items(texts, items),
-        TypedStmt::Assert { condition, .. } => is_served_condition(texts, condition),
+        TypedStmt::Return { value, .. } => is_served_returned(texts, types, value),
+        TypedStmt::Print { items, .. } => are_served_items(texts, types, items),
+        TypedStmt::Assert { condition, .. } => is_served_condition(texts, types, condition),
     }
 }
 
@@ -354,6 +371,6 @@ fn is_served_branch(
 ) -> bool
     ensures { result ≡ spec.is_served_statement texts types.now locals.now (branch_view branch.now) }
 {
-    is_served_condition(texts, &branch.condition)
+    is_served_condition(texts, types, &branch.condition)
         && is_served_statement(&branch.body, texts, types, locals)
 }

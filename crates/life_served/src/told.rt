@@ -21,7 +21,7 @@ pub struct Told {
     pub object: bool,
     /// And whether it is an owner.
     pub owns: bool,
-    /// As a unique_ptr that is named, a member, or given by a call.
+    /// As a unique_ptr that is named, a member, made, or given by a call.
     pub unique: bool,
     /// As a unique_ptr that is made, moved out of a variable, or given by a call.
     pub fresh: bool,
@@ -82,9 +82,10 @@ pub fn moved_out() -> Told
         structure: false,
     }
 }
-/// What is made by `std::make_unique` is a unique_ptr.
-pub fn made_anew(given: bool) -> Told
-    ensures { result ≡ spec.made_anew given }
+
+/// What is made by `std::make_unique` is a unique_ptr, which is asked where it may own that.
+pub fn made_anew(owned: bool, given: bool) -> Told
+    ensures { result ≡ spec.made_anew owned given }
 {
     Told {
         value: false,
@@ -92,7 +93,7 @@ pub fn made_anew(given: bool) -> Told
         walker: false,
         object: false,
         owns: false,
-        unique: false,
+        unique: owned & given,
         fresh: given,
         structure: false,
     }

@@ -4,4 +4,4 @@ use Rattle.life_served.specs.Served.{are_served_elements}
 use Rattle.life_served.proofs.expressions.are_served_elements.Given as goal
 
 abbrev pub invariant-elements : goal.invariant-elements
-invariant-elements l = are_served_elements l.texts (forms (typed_views (drop l.element-index l.elements))) ≡ are_served_elements l.texts (forms (typed_views l.elements))
+invariant-elements l = are_served_elements l.texts l.types (forms (typed_views (drop l.element-index l.elements))) ≡ are_served_elements l.texts l.types (forms (typed_views l.elements))

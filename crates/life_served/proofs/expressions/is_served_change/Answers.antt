@@ -6,5 +6,5 @@ use Rattle.life_served.proofs.expressions.is_served_change.Goals as goal
 
 pub returns : goal.returns
 returns c =
-    c.is_change_of.ensures (inside (within c.args.expression.now)) (sym (c.told_within.ensures ∙ ap (λ xs. told c.args.texts (inside xs)) c.deref.ensures.value))
-    ∙ sym (ap (is_served_change c.args.texts) (form_seen c.args.expression.now))
+    c.is_change_of.ensures (inside (within c.args.expression.now)) (sym (c.told_within.ensures ∙ ap (λ xs. told c.args.texts c.args.types.now (inside xs)) c.deref.ensures.value))
+    ∙ sym (ap (is_served_change c.args.texts c.args.types.now) (form_seen c.args.expression.now))

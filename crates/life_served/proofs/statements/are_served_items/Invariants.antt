@@ -4,4 +4,4 @@ use Rattle.life_served.specs.Served.{are_served_items}
 use Rattle.life_served.proofs.statements.are_served_items.Given as goal
 
 abbrev pub invariant-items : goal.invariant-items
-invariant-items l = are_served_items l.texts (map item_view (drop l.item-index l.items)) ≡ are_served_items l.texts (map item_view l.items)
+invariant-items l = are_served_items l.texts l.types (map item_view (drop l.item-index l.items)) ≡ are_served_items l.texts l.types (map item_view l.items)
