@@ -12,6 +12,7 @@ pub mod CellLemmas
 pub mod CodeLists
 pub mod EmptyStore
 pub mod FitLemmas
+pub mod FlatSteps
 pub mod FrameLemmas
 pub mod FreshObjects
 pub mod GiveLemmas
@@ -30,6 +31,7 @@ pub mod QuickSteps
 pub mod Quiet
 pub mod RowsStaying
 pub mod RunLemmas
+pub mod ScopedSteps
 pub mod ShapeLemmas
 pub mod Single
 pub mod SlotBirths
@@ -44,6 +46,7 @@ pub mod SoundPrograms
 pub mod SoundResults
 pub mod SoundReturns
 pub mod SoundSteps
+pub mod SpotLemmas
 pub mod StepLemmas
 pub mod TargetLemmas
 pub mod TestedPlaces

@@ -4,6 +4,7 @@ pub mod CallOperands
 pub mod Carried
 pub mod Cells
 pub mod Fits
+pub mod Flats
 pub mod Frames
 pub mod Layouts
 pub mod Near
@@ -11,6 +12,7 @@ pub mod Quick
 pub mod Returning
 pub mod Runs
 pub mod Sound
+pub mod Spots
 pub mod Steps
 pub mod Walk
 pub mod Walking

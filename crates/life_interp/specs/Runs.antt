@@ -13,6 +13,7 @@ use Rattle.life_interp.specs.Walking.{Sunk, Takes, TakesPart}
 use Rattle.life_types.specs.declared.place.Place.{Place}
 use Rattle.life_interp.specs.declared.ending.Ending.{Ending}
 use Rattle.life_interp.specs.declared.ending.Ending.TheVariants as ending
+use Rattle.life_interp.specs.declared.flat.Flat.{Flat}
 use Rattle.life_interp.specs.declared.outcome.Outcome.{Outcome}
 use Rattle.life_interp.specs.declared.outcome.Outcome.TheVariants as outcome
 
@@ -32,6 +33,9 @@ RunEnds run k outcome.NoMemory = TakesFront k run.output
 
 abbrev pub links_seen : Vec LinkRef Global → List Linked
 links_seen links = map link_seen links.items
+
+abbrev pub table_seen : Vec Flat Global → List Flat
+table_seen table = table.items
 
 -- the entry isn't begun: it traps, or memory is wanted
 abbrev pub IsBarred : Ending → Type 0

@@ -1,7 +1,10 @@
 // Single tests.
 ghost use Rattle.std.specs.Prelude.{◌≡◌};
+ghost use Rattle.life_types.specs.Types.{Types};
+ghost use Rattle.life_core.specs.Function.{Function};
 ghost use Rattle.life_core.specs.Operands.{location_of};
-ghost use Rattle.life_core.specs.Step.{asked_of, NotNull};
+ghost use Rattle.life_core.specs.Step.{asked_of, NonZero, NotNull};
+ghost use Rattle.life_store.specs.Content.{Content};
 ghost use Rattle.life_pointers.specs.Pointers.{pointer_seen};
 ghost use Rattle.life_cells.specs.Asked.{IsTestable};
 ghost use Rattle.life_cells.specs.Cells.{state_in};
@@ -28,11 +31,19 @@ pub(crate) fn ask<S: Store>(
     ensures { Asks (types_in scope.now) (function_in scope.now) (asked_of test.now) (meant (types_in scope.now) (S.content store.now) (S.rows store.now)) cells.now result }
 {
     match test {
-        Test::NonZero(register) => match number_at(cells, *register) {
-            None => None,
-            Some(value) => Some(value != 0),
-        },
+        Test::NonZero(register) => ask_register(cells, *register),
         Test::NotNull(location) => ask_pointer(scope, store, cells, location),
+    }
+}
+
+/// Whether a register isn't 0.
+#[inline(always)]
+pub(crate) fn ask_register(cells: &[Cell], register: u32) -> Option<bool>
+    ensures { (types : Types) (f : Function) (c : Content) → Asks types f (NonZero register) c cells.now result }
+{
+    match number_at(cells, register) {
+        None => None,
+        Some(value) => Some(value != 0),
     }
 }
 

@@ -3,10 +3,12 @@ ghost use Rattle.std.specs.Prelude.{◌≡◌, ◌≤◌, ◌<◌, IfOk, IfSome,
 ghost use Rattle.life_core.specs.Function.{program_of};
 ghost use Rattle.life_core.specs.Linked.{code_of};
 ghost use Rattle.life_core_served.specs.ProperPrograms.{IsProperProgram};
+ghost use Rattle.life_interp.specs.Flats.{table_in};
 ghost use Rattle.life_interp.specs.Layouts.{AreReady};
-ghost use Rattle.life_interp.specs.Runs.{links_seen, RunEnds};
+ghost use Rattle.life_interp.specs.Runs.{links_seen, table_seen, RunEnds};
 ghost use Rattle.life_store.specs.Meaning.{run_of, IsAdmitted};
 
+use crate::flat::Flat;
 use crate::layouts::Layouts;
 use crate::outcome::Outcome;
 use crate::run::{MOST_STEPS, run_on};
@@ -33,6 +35,7 @@ pub(crate) fn run_entry<'p, O: Sink>(
     alloc: Global,
     program: &'p CoreProgram,
     code: &[Vec<LinkRef<'p>>],
+    tables: &[Vec<Flat>],
     layouts: &Layouts,
     entry: FnId,
     input: &[i64],
@@ -42,6 +45,7 @@ pub(crate) fn run_entry<'p, O: Sink>(
     out: &mut O,
 ) -> Outcome
     requires linked { map links_seen code.now ≡ map code_of (program_of program.now).functions }
+    requires tables { map table_seen tables.now ≡ map table_in (map code_of (program_of program.now).functions) }
     requires layouts { AreReady (program_of program.now).types layouts.now }
     requires proper { IsProperProgram (program_of program.now) }
     requires entry { entry.0 < length (program_of program.now).functions }
@@ -57,6 +61,6 @@ pub(crate) fn run_entry<'p, O: Sink>(
     }
     let mut store = PlainStore::new(alloc, limits.cells);
     run_on(
-        alloc, program, code, layouts, entry, input, growth, limits, steps, &mut store, out,
+        alloc, program, code, tables, layouts, entry, input, growth, limits, steps, &mut store, out,
     )
 }

@@ -1,20 +1,27 @@
 // Instructions that bring locals to life and end them.
-ghost use Rattle.std.specs.Prelude.{◌≡◌, ◌≤◌, ◌<◌, ◌+◌, IfErr, IfOk, OnOk, slice_get, Some, ℕ};
+ghost use Rattle.std.specs.Prelude.{◌≡◌, ◌≤◌, ◌<◌, ◌+◌, ◌∷◌, [], IfErr, IfOk, OnErr, OnOk, slice_get, Some, ℕ};
 ghost use Rattle.life_core.specs.Function.{function_of, Function};
+ghost use Rattle.life_core.specs.Holdings.{held_by, AnObject};
+ghost use Rattle.life_core.specs.Step.{End, Live};
+ghost use Rattle.life_core.specs.declared.instr.Form.TheVariants as form;
 ghost use Rattle.life_pointers.specs.Pointers.{pointer_seen, PointerFits};
 ghost use Rattle.life_cells.specs.Fits.{meant, IsFit};
+ghost use Rattle.life_cells.specs.Scopes.{function_in, texts_in, types_in};
 ghost use Rattle.life_interp.specs.Fits.{most_births, CanBear, CanStep, Grows};
 ghost use Rattle.life_interp.specs.Layouts.{AreReady};
+ghost use Rattle.life_interp.specs.Quick.{Attempts};
 ghost use Rattle.life_interp.specs.Steps.{BirthFails, IsStanding, LeavesBoth, StandsIn};
 ghost use Rattle.life_seen.specs.Housed.{IsHoused, Later, Shows};
 ghost use Rattle.life_seen.specs.Kinds.{Kinds};
 ghost use Rattle.life_seen.specs.Rowed.{AreRowed};
 ghost use Rattle.life_seen.specs.Seen.{seen};
 ghost use Rattle.life_store.specs.Cells.{at};
-ghost use Rattle.life_store.specs.Content.{live_words_of, Content};
+ghost use Rattle.life_store.specs.Content.{live_words_of, with_birth, Content};
 ghost use Rattle.life_store.specs.Doing.{with_value_object, cell, born_object, born_pointer, end_cell, end_locals, live_local, Setting};
+ghost use Rattle.life_store.specs.Held.{resized_at};
 ghost use Rattle.life_store.specs.Parts.{local_parts};
 ghost use Rattle.life_store.specs.References.{Rows};
+ghost use Rattle.life_store.specs.declared.object.BirthFault.TheVariants as birth_fault;
 ghost use Rattle.life_types.specs.Trees.{IsOrdered};
 ghost use Rattle.life_values.specs.Fresh.{AreWide};
 
@@ -23,13 +30,12 @@ use crate::ending::Ending;
 use crate::frame::is_free;
 use crate::layouts::Layouts;
 use crate::sort::{Sort, sort_of};
-use life_cells::{Cell, holding, object_at, own_pointer, put_cell};
-use life_core::{CoreFn, Form};
+use life_cells::{Cell, Scope, holding, object_at, own_pointer, put_cell};
+use life_core::{CoreFn, Form, Local};
 use life_pointers::{Pointer, empty_view};
 use life_store::{BirthFault, ObjRef, Store, TrapKind};
 use life_types::{TyId, TypeTable};
 use life_values::end_deep;
-use life_words::born_sized;
 
 /// Brings a local to life.
 pub(crate) fn live<S: Store>(
@@ -101,6 +107,9 @@ fn born<S: Store>(
     ensures fits { OnOk result (IsFit types.now (S.content store.new) (S.rows store.new) cells.new.items) }
     ensures later { OnOk result (Later (S.content store.old) (S.content store.new) (S.rows store.old) (S.rows store.new)) }
     ensures grows { OnOk result (Grows most_births (S.content store.old) (S.content store.new)) }
+    ensures cells_stay { OnErr result (cells.new ≡ cells.old) }
+    ensures content_stays { OnErr result (S.content store.new ≡ S.content store.old) }
+    ensures rows_stay { OnErr result (S.rows store.new ≡ S.rows store.old) }
     ensures limit { S.limit store.new ≡ S.limit store.old }
 {
     match new_object(store, ty) {
@@ -123,12 +132,38 @@ pub(crate) fn new_object<S: Store>(store: &mut S, ty: TyId) -> Result<ObjRef, En
     ensures later { OnOk result (Later (S.content store.old) (S.content store.new) (S.rows store.old) (S.rows store.new)) }
     ensures room { OnOk result (live_words_of (S.content store.old) + 3 ≤ S.limit store.old) }
     ensures full { IfErr result (BirthFails (S.limit store.old) (S.content store.old)) }
+    ensures content_stays { OnErr result (S.content store.new ≡ S.content store.old) }
+    ensures rows_stay { OnErr result (S.rows store.new ≡ S.rows store.old) }
     ensures limit { S.limit store.new ≡ S.limit store.old }
 {
-    match born_sized(store, ty, 1, 1) {
+    match born_one(store, ty) {
         Err(BirthFault::Cells) => Err(Ending::Trap(TrapKind::Cells)),
         Err(BirthFault::NoMemory) => Err(Ending::NoMemory),
         Ok(object) => Ok(object),
+    }
+}
+
+// A new object of one word, which is 0. Where there is none, the store is as it was.
+fn born_one<S: Store>(store: &mut S, ty: TyId) -> Result<ObjRef, BirthFault>
+    requires { CanBear (S.content store.old) }
+    ensures number { IfOk result (λ r. r.birth ≡ (S.content store.old).births) }
+    ensures shows { (kinds : Kinds) → IsHoused kinds (S.content store.old) (S.rows store.old)
+        → OnOk result (Shows kinds (S.content store.new) (S.rows store.new) (resized_at (S.content store.old).births 1 0 (with_birth ty 1 1 (seen kinds (S.content store.old) (S.rows store.old))))) }
+    ensures rowed { (kinds : Kinds) → AreRowed kinds (S.content store.old) (S.rows store.old) → OnOk result (AreRowed kinds (S.content store.new) (S.rows store.new)) }
+    ensures placed { IfOk result (λ r. at (S.rows store.new) r.birth ≡ Some r.row) }
+    ensures later { OnOk result (Later (S.content store.old) (S.content store.new) (S.rows store.old) (S.rows store.new)) }
+    ensures room { OnOk result (live_words_of (S.content store.old) + 3 ≤ S.limit store.old) }
+    ensures cells { IfErr result (λ fault. fault ≡ birth_fault.Cells → S.limit store.old < live_words_of (S.content store.old) + 3) }
+    ensures content_stays { OnErr result (S.content store.new ≡ S.content store.old) }
+    ensures rows_stay { OnErr result (S.rows store.new ≡ S.rows store.old) }
+    ensures limit { S.limit store.new ≡ S.limit store.old }
+{
+    match life_words::born(store, ty, 1, 1) {
+        Err(fault) => Err(fault),
+        Ok(object) => match store.resize(object, 1, 0) {
+            Err(_) => unreachable!(),
+            Ok(()) => Ok(object),
+        },
     }
 }
 
@@ -179,6 +214,9 @@ fn end_one<S: Store>(
     ensures later { OnOk result (Later (S.content store.old) (S.content store.new) (S.rows store.old) (S.rows store.new)) }
     ensures births { OnOk result ((S.content store.new).births ≡ (S.content store.old).births) }
     ensures clock { OnOk result ((S.content store.new).clock ≡ (S.content store.old).clock) }
+    ensures cells_stay { OnErr result (cells.new ≡ cells.old) }
+    ensures content_stays { OnErr result (S.content store.new ≡ S.content store.old) }
+    ensures rows_stay { OnErr result (S.rows store.new ≡ S.rows store.old) }
     ensures limit { S.limit store.new ≡ S.limit store.old }
 {
     match object_at(cells, local) {
@@ -197,5 +235,84 @@ fn end_one<S: Store>(
                 Ok(())
             }
         },
+    }
+}
+
+/// Brings a number to life as a declaration without initialiser leaves it, if nothing stops it; else nothing changes.
+#[inline(always)]
+pub(crate) fn live_at_once<S: Store>(
+    scope: &Scope<'_>,
+    store: &mut S,
+    cells: &mut Vec<Cell>,
+    local: u32,
+) -> bool
+    requires fits { IsFit (types_in scope.now) (S.content store.old) (S.rows store.old) cells.old.items }
+    requires countable { CanStep (S.content store.old) }
+    ensures done { Attempts (types_in scope.now) (function_in scope.now) (S.limit store.old) (texts_in scope.now) (Live local form.Plain) (S.content store.old) (S.content store.new) (S.rows store.old) (S.rows store.new) cells.old cells.new result }
+    ensures limit { S.limit store.new ≡ S.limit store.old }
+{
+    match declared_at(scope.function, local) {
+        None => false,
+        Some(declared) => match sort_of(scope.types, declared) {
+            Sort::Object => free_born(scope, store, cells, declared, local),
+            Sort::Blank => false,
+            Sort::Number => false,
+            Sort::Pointer => false,
+            Sort::View => false,
+        },
+    }
+}
+
+// The local with this number, if the function has it.
+fn declared_at(f: &CoreFn, local: u32) -> Option<Local>
+    ensures { result ≡ slice_get (function_of f.now).locals local }
+{
+    f.locals.get(local as usize).copied()
+}
+
+// A new object for the local, which holds one where it is ready, if nothing of it is alive.
+#[inline(always)]
+fn free_born<S: Store>(
+    scope: &Scope<'_>,
+    store: &mut S,
+    cells: &mut Vec<Cell>,
+    declared: Local,
+    local: u32,
+) -> bool
+    requires fits { IsFit (types_in scope.now) (S.content store.old) (S.rows store.old) cells.old.items }
+    requires countable { CanStep (S.content store.old) }
+    requires declared { slice_get (function_in scope.now).locals local ≡ Some declared }
+    requires object { AnObject ≡ held_by (types_in scope.now) (Some declared) }
+    ensures done { Attempts (types_in scope.now) (function_in scope.now) (S.limit store.old) (texts_in scope.now) (Live local form.Plain) (S.content store.old) (S.content store.new) (S.rows store.old) (S.rows store.new) cells.old cells.new result }
+    ensures limit { S.limit store.new ≡ S.limit store.old }
+{
+    if !is_free(cells, local) {
+        return false;
+    }
+    match born(scope.types, store, cells, declared.ty, local) {
+        Err(_) => false,
+        Ok(()) => true,
+    }
+}
+
+/// Ends a local with all beneath its object, if nothing stops it; else nothing changes.
+#[inline(always)]
+pub(crate) fn end_at_once<S: Store>(
+    scope: &Scope<'_>,
+    layouts: &Layouts,
+    store: &mut S,
+    cells: &mut Vec<Cell>,
+    local: u32,
+) -> bool
+    requires layouts { AreReady (types_in scope.now) layouts.now }
+    requires ordered { IsOrdered (types_in scope.now) }
+    requires fits { IsFit (types_in scope.now) (S.content store.old) (S.rows store.old) cells.old.items }
+    requires stands { (rest : ℕ → ℕ) × StandsIn (types_in scope.now) (function_in scope.now) rest (meant (types_in scope.now) (S.content store.old) (S.rows store.old)) cells.old.items }
+    ensures done { Attempts (types_in scope.now) (function_in scope.now) (S.limit store.old) (texts_in scope.now) (End (local ∷ [])) (S.content store.old) (S.content store.new) (S.rows store.old) (S.rows store.new) cells.old cells.new result }
+    ensures limit { S.limit store.new ≡ S.limit store.old }
+{
+    match end_one(scope.types, layouts, store, cells, local) {
+        Err(_) => false,
+        Ok(()) => true,
     }
 }

@@ -3,11 +3,13 @@ ghost use Rattle.std.specs.Prelude.{◌≡◌, ◌≤◌, ◌<◌, IfOk, IfSome,
 ghost use Rattle.life_core.specs.Function.{program_of};
 ghost use Rattle.life_core.specs.Linked.{code_of};
 ghost use Rattle.life_core_served.specs.ProperPrograms.{IsProperProgram};
+ghost use Rattle.life_interp.specs.Flats.{table_in};
 ghost use Rattle.life_interp.specs.Layouts.{AreReady};
-ghost use Rattle.life_interp.specs.Runs.{links_seen, RunEnds};
+ghost use Rattle.life_interp.specs.Runs.{links_seen, table_seen, RunEnds};
 ghost use Rattle.life_store.specs.Meaning.{run_of, IsAdmitted};
 
 use crate::entry::{all_links, run_entry};
+use crate::flat::{Flat, all_flat};
 use crate::layouts::{Layouts, prepared};
 use crate::outcome::Outcome;
 use crate::run::MOST_STEPS;
@@ -23,9 +25,11 @@ pub struct Machine<'p> {
     pub limits: Limits,
     alloc: Global,
     code: Vec<Vec<LinkRef<'p>>>,
+    tables: Vec<Vec<Flat>>,
     layouts: Layouts,
     ghost laid: { AreReady (program_of program.now).types layouts },
     ghost linked: { map links_seen code.items ≡ map code_of (program_of program.now).functions },
+    ghost flat: { map table_seen tables.items ≡ map table_in (map code_of (program_of program.now).functions) },
 }
 
 impl<'p> Drop for Machine<'p> {
@@ -35,6 +39,7 @@ impl<'p> Drop for Machine<'p> {
             limits: _,
             alloc: _,
             code: _code,
+            tables: _tables,
             layouts: _layouts,
         } = self;
     }
@@ -54,11 +59,13 @@ impl<'p> Machine<'p> {
     {
         let layouts = prepared(alloc, &p.types)?;
         let code = all_links(alloc, p)?;
+        let tables = all_flat(alloc, &code)?;
         Ok(Machine {
             program: p,
             limits,
             alloc,
             code,
+            tables,
             layouts,
         })
     }
@@ -87,6 +94,7 @@ impl<'p> Machine<'p> {
             self.alloc,
             self.program,
             &self.code,
+            &self.tables,
             &self.layouts,
             entry,
             input,

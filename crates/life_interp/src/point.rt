@@ -222,9 +222,9 @@ pub(crate) fn first_way(leads: Leads) -> Option<u32>
     }
 }
 
-// The way on where a test didn't hold.
+/// .. and where a test didn't hold.
 #[inline(always)]
-fn second_way(leads: Leads) -> Option<u32>
+pub(crate) fn second_way(leads: Leads) -> Option<u32>
     ensures { result ≡ second_way (leads_seen leads) }
 {
     match leads {

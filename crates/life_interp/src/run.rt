@@ -6,8 +6,9 @@ ghost use Rattle.life_core_served.specs.ProperPrograms.{IsProperProgram};
 ghost use Rattle.life_cells.specs.Cells.{cell_seen, cells_seen};
 ghost use Rattle.life_cells.specs.Fits.{meant, CellFits, CellsFit, IsFit};
 ghost use Rattle.life_interp.specs.Fits.{most_births, CanStep, Grows};
+ghost use Rattle.life_interp.specs.Flats.{table_in};
 ghost use Rattle.life_interp.specs.Layouts.{AreReady};
-ghost use Rattle.life_interp.specs.Runs.{barred_as, links_seen, IsBarred, RunEnds};
+ghost use Rattle.life_interp.specs.Runs.{barred_as, links_seen, table_seen, IsBarred, RunEnds};
 ghost use Rattle.life_interp.specs.Steps.{Begins};
 ghost use Rattle.life_seen.specs.Housed.{IsHoused};
 ghost use Rattle.life_seen.specs.Kinds.{kinds_of};
@@ -22,6 +23,7 @@ ghost use Rattle.life_store.specs.State as state;
 
 use crate::calls::given_cells;
 use crate::ending::{Ending, Halt};
+use crate::flat::Flat;
 use crate::frames::Frames;
 use crate::layouts::Layouts;
 use crate::outcome::Outcome;
@@ -43,6 +45,7 @@ pub(crate) fn run_on<'p, S: Store, O: Sink>(
     alloc: Global,
     program: &'p CoreProgram,
     code: &[Vec<LinkRef<'p>>],
+    tables: &[Vec<Flat>],
     layouts: &Layouts,
     entry: FnId,
     input: &[i64],
@@ -54,6 +57,7 @@ pub(crate) fn run_on<'p, S: Store, O: Sink>(
 ) -> Outcome
     requires proper { IsProperProgram (program_of program.now) }
     requires linked { map links_seen code.now ≡ map code_of (program_of program.now).functions }
+    requires tables { map table_seen tables.now ≡ map table_in (map code_of (program_of program.now).functions) }
     requires layouts { AreReady (program_of program.now).types layouts.now }
     requires entry { entry.0 < length (program_of program.now).functions }
     requires admitted { IfSome (slice_get (program_of program.now).functions entry.0) (λ f. IsAdmitted (program_of program.now) f input.now) }
@@ -81,6 +85,7 @@ pub(crate) fn run_on<'p, S: Store, O: Sink>(
                 alloc,
                 program,
                 code,
+                tables,
                 layouts,
                 growth,
                 limits.depth,

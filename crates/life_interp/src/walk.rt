@@ -6,17 +6,20 @@ ghost use Rattle.life_cells.specs.Fits.{meant, IsFit};
 ghost use Rattle.life_changes.specs.Bounded.{IsBounded};
 ghost use Rattle.life_interp.specs.Fits.{most_births, CanWalk};
 ghost use Rattle.life_interp.specs.Frames.{all_cells, AllBegin, AreFrames};
+ghost use Rattle.life_interp.specs.Flats.{table_in};
 ghost use Rattle.life_interp.specs.Layouts.{AreReady};
-ghost use Rattle.life_interp.specs.Runs.{links_seen};
+ghost use Rattle.life_interp.specs.Runs.{links_seen, table_seen};
 ghost use Rattle.life_interp.specs.Steps.{IsSet};
 ghost use Rattle.life_interp.specs.Walk.{walk};
 ghost use Rattle.life_interp.specs.Walking.{from, IsSoundWalk, WalkEnds};
 ghost use Rattle.life_store.specs.Doing.{Setting};
 
 use crate::ending::Halt;
+use crate::flat::Flat;
 use crate::frames::Frames;
 use crate::layouts::Layouts;
-use crate::quick::pass_on;
+use crate::point::pass;
+use crate::quick::stride;
 use life_base::Sink;
 use life_core::{CoreProgram, LinkRef};
 use life_store::{Growth, Store};
@@ -27,6 +30,7 @@ pub(crate) fn walk<'p, S: Store, O: Sink>(
     alloc: Global,
     program: &'p CoreProgram,
     code: &[Vec<LinkRef<'p>>],
+    tables: &[Vec<Flat>],
     layouts: &Layouts,
     growth: Growth,
     depth: u32,
@@ -38,6 +42,7 @@ pub(crate) fn walk<'p, S: Store, O: Sink>(
     out: &mut O,
 ) -> Halt
     requires linked { map links_seen code.now ≡ map code_of (program_of program.now).functions }
+    requires tables { map table_seen tables.now ≡ map table_in (map code_of (program_of program.now).functions) }
     requires layouts { AreReady (program_of program.now).types layouts.now }
     requires begin { AllBegin (program_of program.now).functions }
     requires frames { AreFrames (program_of program.now).functions frames.old }
@@ -52,13 +57,17 @@ pub(crate) fn walk<'p, S: Store, O: Sink>(
 {
     let mut left = steps;
     while left > 0 {
-        match pass_on(
+        let rest = stride(program, tables, layouts, left, store, frames);
+        if rest == 0 {
+            return Halt::OutOfSteps;
+        }
+        match pass(
             alloc, program, code, layouts, growth, depth, store, frames, input, taken, out,
         ) {
             Ok(()) => {}
             Err(halt) => return halt,
         }
-        left -= 1;
+        left = rest - 1;
     }
     Halt::OutOfSteps
 }

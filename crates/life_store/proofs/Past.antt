@@ -1,5 +1,5 @@
 -- The moment up to which objects were changed.
-use Rattle.std.proofs.Common.{◌≡◌, ℕ, zero, suc, ◌≤◌, ◌<◌, List, [], ◌∷◌, ◌++◌, length, Some, None, sym, subst, arith, ⊎_elim}
+use Rattle.std.proofs.Common.{◌≡◌, ℕ, zero, suc, ◌+◌, ◌≤◌, ◌<◌, List, [], ◌∷◌, ◌++◌, length, Option, Some, None, IfSome, refl, sym, subst, arith, ⊎_elim}
 use Rattle.std.proofs.lemmas.Bool.Decides.{leb_tells}
 use Rattle.std.proofs.lemmas.Option.{none-some, same_Some}
 use Rattle.std.specs.Prelude.{slice_get, slice_set}
@@ -17,6 +17,14 @@ past_at moment (Some d ∷ rows) (suc i) e h there = past_at moment rows i e h.1
 
 pub past_entry : (moment : ℕ) (rows : List Row) (r : ObjRef) (e : Entry) → ArePast moment rows → entry_at rows r ≡ Some e → e.object.end ≤ moment
 past_entry moment rows r e h found = past_at moment rows r.row e h (entry_there rows r e found)
+
+-- .. where the reference refers to one
+end_there : (moment : ℕ) (there : Option Entry) → ((e : Entry) → there ≡ Some e → e.object.end ≤ moment) → IfSome there (λ (e : Entry). e.object.end ≤ moment + 1)
+end_there moment None h = tt
+end_there moment (Some e) h = omega (arith, h e refl)
+
+pub past_there : (moment : ℕ) (rows : List Row) (r : ObjRef) → ArePast moment rows → IfSome (entry_at rows r) (λ (e : Entry). e.object.end ≤ moment + 1)
+past_there moment rows r h = end_there moment (entry_at rows r) (λ e found. past_entry moment rows r e h found)
 
 pub past_later : (moment later : ℕ) (rows : List Row) → moment ≤ later → ArePast moment rows → ArePast later rows
 past_later moment later [] le h = tt

@@ -33,16 +33,19 @@ missing a t r ok is h =
     ∙ object_is (table_in a) r ok.numbered
     ∙ ap (option_map (λ (x : Entry). x.object)) h
 
--- what has a word of an object that lives has it where that lies
-held_there : (slot word : ℕ) (there : Option Entry) → IfSome (option_map (λ (e : Entry). e.object) there) (HasWord slot word) → IfSome there (λ (e : Entry). HasWord slot word e.object)
-held_there slot word None h = tt
-held_there slot word (Some e) h = h
+-- what holds of an object that lives holds of it where that lies
+held_there : (P : Object → Type 0) (there : Option Entry) → IfSome (option_map (λ (e : Entry). e.object) there) P → IfSome there (λ (e : Entry). P e.object)
+held_there P None h = tt
+held_there P (Some e) h = h
+
+pub object_there : (a : Inside) (t : Table) (r : ObjRef) (P : Object → Type 0) → IsSound a → table_in a ≡ t → IfSome (object_of (content_of t) (rows_of t) r) P → IfSome (entry_at a.rows.items r) (λ (e : Entry). P e.object)
+object_there a t r P ok is h =
+    held_there P (entry_at a.rows.items r)
+    (subst (λ (o : Option Object). IfSome o P) (ap (λ (x : Table). object_of (content_of x) (rows_of x) r) (sym is) ∙ object_is (table_in a) r ok.numbered) h)
 
 pub word_there : (a : Inside) (t : Table) (r : ObjRef) (slot word : ℕ) → IsSound a → table_in a ≡ t → IfSome (object_of (content_of t) (rows_of t) r) (HasWord slot word)
     → IfSome (entry_at a.rows.items r) (λ (e : Entry). HasWord slot word e.object)
-word_there a t r slot word ok is h =
-    held_there slot word (entry_at a.rows.items r)
-    (subst (λ (o : Option Object). IfSome o (HasWord slot word)) (ap (λ (x : Table). object_of (content_of x) (rows_of x) r) (sym is) ∙ object_is (table_in a) r ok.numbered) h)
+word_there a t r slot word ok is h = object_there a t r (HasWord slot word) ok is h
 
 -- what is there isn't missing, and what holds of it if it is there holds of it
 pub none_there : (there : Option Entry) → is_some there ≡ false → there ≡ None

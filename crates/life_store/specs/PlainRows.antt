@@ -1,7 +1,7 @@
 -- The rows of the plain store, and the content that lies in them.
 use Rattle.std.specs.Prelude.{◌≢◌, ℕ, zero, suc, ◌+◌, ◌<◌, ◌≤◌, nat_eq, cond, List, [], ◌∷◌, Option, Some, None, slice_get}
 use Rattle.life_store.specs.Cells.{Cells, none, set}
-use Rattle.life_store.specs.Content.{Object, Content, cost, with_word}
+use Rattle.life_store.specs.Content.{Object, Content, cost, resized, with_word}
 use Rattle.life_store.specs.References.{Rows}
 use Rattle.life_store.specs.declared.object.ObjRef.{ObjRef}
 use Rattle.life_store.specs.declared.plain_rows.Entry.{Entry}
@@ -65,6 +65,10 @@ entry_at rows r = entry_if r.birth (slice_get rows r.row)
 -- the object has another word
 abbrev pub entry_with : ℕ → ℕ → ℕ → Entry → Entry
 entry_with slot word value e = record { birth = e.birth; object = with_word slot word value e.object }
+
+-- the object has so many slots
+abbrev pub entry_resized : ℕ → ℕ → ℕ → Entry → Entry
+entry_resized moment length since e = record { birth = e.birth; object = resized moment length since e.object }
 
 -- what the plain store keeps
 pub record Table : Type 0 where

@@ -6,6 +6,7 @@ mod plain;
 mod plain_object;
 mod plain_rows;
 mod run;
+mod spare;
 mod store;
 
 pub use object::{BirthFault, Dead, ObjRef, Shape};

@@ -4,18 +4,23 @@ ghost use Rattle.life_store.specs.PlainRows.{content_of, rows_of};
 
 use crate::object::{BirthFault, Dead, ObjRef, Shape};
 use crate::plain_object::PlainObject;
-use crate::plain_rows::{Entry, entry_at, fill_row, put_entry, put_word, take_entry, vacant_row};
+use crate::plain_rows::{
+    Entry, entry_at, fill_row, put_entry, put_word, resize_at, take_entry, vacant_row,
+};
+use crate::spare::{keep, object_from};
 use crate::store::Store;
 use life_types::TyId;
 use std::alloc::Global;
 use std::marker::Model;
 
 /// Objects in rows. A birth takes the lowest row that is vacant, and all memory that the object's
-/// later calls need; no other call takes memory.
+/// later calls need: what a number had that ended, where some is kept, and else new memory.
 #[derive(Drop)]
 pub struct PlainStore {
     alloc: Global,
     rows: Vec<Option<Entry>>,
+    // Memory of objects that ended.
+    spare: Vec<PlainObject>,
     // No row below this one is vacant.
     lowest: usize,
     births: u64,
@@ -44,6 +49,7 @@ impl PlainStore {
         PlainStore {
             alloc,
             rows: Vec::new(alloc),
+            spare: Vec::new(alloc),
             lowest: 0,
             births: 0,
             clock: 0,
@@ -64,7 +70,7 @@ impl Store for PlainStore {
         let Some(live) = live_after(self.live, width, capacity, self.limit) else {
             return Err(BirthFault::Cells);
         };
-        let object = PlainObject::new(self.alloc, ty, width, capacity, self.clock)?;
+        let object = object_from(&mut self.spare, self.alloc, ty, width, capacity, self.clock)?;
         let birth = self.births;
         let row = vacant_row(&self.rows, self.lowest);
         fill_row(&mut self.rows, row, Entry { birth, object })?;
@@ -83,6 +89,7 @@ impl Store for PlainStore {
         };
         self.live -= entry.object.cost();
         self.lowest = self.lowest.min(object.row as usize);
+        keep(&mut self.spare, entry.object);
         Ok(())
     }
 
@@ -100,12 +107,11 @@ impl Store for PlainStore {
     }
 
     fn resize(&mut self, object: ObjRef, length: u32, since: u32) -> Result<(), Dead> {
-        let Some(mut entry) = take_entry(&mut self.rows, object) else {
+        let moment = self.clock + 1;
+        if !resize_at(&mut self.rows, object, length, since, moment) {
             return Err(Dead);
-        };
-        self.clock += 1;
-        entry.object.resize(length, since, self.clock);
-        put_entry(&mut self.rows, object.row, entry);
+        }
+        self.clock = moment;
         Ok(())
     }
 

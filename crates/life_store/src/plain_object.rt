@@ -1,5 +1,5 @@
 // One object of the plain store.
-ghost use Rattle.std.specs.Prelude.{◌≡◌, ◌≤◌, ◌+◌, ◌*◌, ◌^◌, ◌-◌, ◌++◌, IfOk, length, replicate, take, vec_capacity};
+ghost use Rattle.std.specs.Prelude.{◌≡◌, ◌≤◌, ◌+◌, ◌*◌, ◌^◌, ◌-◌, ◌++◌, true, IfOk, length, replicate, take, vec_capacity};
 ghost use Rattle.life_store.specs.Content.{are_settled, cost, newborn, resized, with_word, word_at};
 ghost use Rattle.life_store.specs.References.{shape_of, CanResize, HasWord};
 
@@ -55,6 +55,29 @@ impl PlainObject {
             stamps,
             end,
         })
+    }
+
+    /// Makes it an object without slots again, which takes the memory that it has.
+    pub(crate) fn renew(&mut self, ty: TyId, end: u64)
+        ensures { self.new ≡ newborn ty self.old.width self.old.capacity end }
+    {
+        self.ty = ty;
+        self.words.truncate(0);
+        self.stamps.truncate(0);
+        self.end = end;
+    }
+
+    /// Whether it has at most so many slots of so many words each.
+    #[inline(always)]
+    pub(crate) fn has_room(&self, width: u64, capacity: u32) -> bool
+        ensures width { result ≡ true → self.now.width ≡ width }
+        ensures capacity { result ≡ true → self.now.capacity ≡ capacity }
+    {
+        if self.width == width {
+            self.capacity == capacity
+        } else {
+            false
+        }
     }
 
     /// How many live words it takes.

@@ -1,8 +1,8 @@
 // The rows of the plain store: where each object lies while it lives.
 ghost use Rattle.std.specs.Option.{option_copied};
 ghost use Rattle.std.specs.Prelude.{◌≡◌, ◌≤◌, ◌<◌, ◌++◌, ◌∷◌, [], length, slice_get, slice_set, false, is_some, IfSome, MatchOption, None, OnErr, OnOk, Some};
-ghost use Rattle.life_store.specs.PlainRows.{entry_at, entry_with, AreTaken};
-ghost use Rattle.life_store.specs.References.{HasWord};
+ghost use Rattle.life_store.specs.PlainRows.{entry_at, entry_resized, entry_with, AreTaken};
+ghost use Rattle.life_store.specs.References.{CanResize, HasWord};
 
 use crate::object::ObjRef;
 use crate::plain_object::PlainObject;
@@ -90,6 +90,43 @@ fn put_in_row(row: &mut Option<Entry>, slot: u32, word: u64, value: u64)
 {
     if let Some(entry) = row {
         entry.object.put(slot, word, value);
+    }
+}
+
+/// Gives the object to which the reference refers so many slots, where that lies, if it lives.
+pub(crate) fn resize_at(
+    rows: &mut Vec<Option<Entry>>,
+    object: ObjRef,
+    length: u32,
+    since: u32,
+    moment: u64,
+) -> bool
+    requires fits { IfSome (entry_at rows.old.items object) (λ e. CanResize length since e.object) }
+    requires later { IfSome (entry_at rows.old.items object) (λ e. e.object.end ≤ moment) }
+    ensures lives { result ≡ is_some (entry_at rows.old.items object) }
+    ensures resized { IfSome (entry_at rows.old.items object) (λ e. rows.new.items ≡ slice_set rows.old.items object.row (Some (entry_resized moment length since e))) }
+    ensures stays { result ≡ false → rows.new.items ≡ rows.old.items }
+{
+    let row = object.row as usize;
+    if row < rows.len() {
+        if let Some(entry) = &rows[row] {
+            if entry.birth == object.birth {
+                resize_in_row(&mut rows[row], length, since, moment);
+                return true;
+            }
+        }
+    }
+    false
+}
+
+// The same in its row.
+fn resize_in_row(row: &mut Option<Entry>, length: u32, since: u32, moment: u64)
+    requires fits { IfSome row.old (λ e. CanResize length since e.object) }
+    requires later { IfSome row.old (λ e. e.object.end ≤ moment) }
+    ensures { IfSome row.old (λ e. row.new ≡ Some (entry_resized moment length since e)) }
+{
+    if let Some(entry) = row {
+        entry.object.resize(length, since, moment);
     }
 }
 

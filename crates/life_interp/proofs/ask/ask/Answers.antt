@@ -21,3 +21,10 @@ returns-in-NotNull g c =
     let f = function_in c.args.scope.now in
     let m = meant types (g.S.Store.content c.args.store.now) (g.S.Store.rows c.args.store.now) in
     subst (λ (t : machine.Test). Asks types f (asked_of t) m c.args.cells.now c.ask_pointer.result) (sym c.in-NotNull.is) c.ask_pointer.ensures
+
+pub returns-in-NonZero : goal.returns-in-NonZero
+returns-in-NonZero g c =
+    let types = types_in c.args.scope.now in
+    let f = function_in c.args.scope.now in
+    let m = meant types (g.S.Store.content c.args.store.now) (g.S.Store.rows c.args.store.now) in
+    subst (λ (t : machine.Test). Asks types f (asked_of t) m c.args.cells.now c.ask_register.result) (sym c.in-NonZero.is) (c.ask_register.ensures types f m)

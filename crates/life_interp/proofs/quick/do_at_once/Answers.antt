@@ -1,212 +1,149 @@
-use Rattle.std.proofs.Common.{◌≡◌, Bool, List, OnOk, refl, subst, sym}
-use Rattle.std.specs.declared.alloc.Global.{Global}
-use Rattle.std.specs.declared.vec.Vec.{Vec}
-use Rattle.life_core.specs.Operands.{operand_of}
-use Rattle.life_core.specs.Step.{step_of}
-use Rattle.life_core.specs.declared.instr.Instr.{Instr}
-use Rattle.life_store.specs.Doing.{does}
-use Rattle.life_cells.specs.Cells.{state_in}
-use Rattle.life_cells.specs.Fits.{meant, CellsFit, IsFit}
-use Rattle.life_cells.specs.Scopes.{function_in, types_in}
-use Rattle.life_cells.specs.Steps.{Comes}
-use Rattle.life_cells.specs.declared.cell.Cell.{Cell}
-use Rattle.life_cells.proofs.FitLemmas.{other_cells}
-use Rattle.life_cells.proofs.LocationLemmas.{keeps_itself}
-use Rattle.life_interp.specs.Accessed.{HasPlaces, IsNumberPlace}
-use Rattle.life_interp.specs.Quick.{AreLeft, DoesTo, IsPlainStep, WhereDone, Whether}
-use Rattle.life_interp.specs.Steps.{stored, LeavesCells}
-use Rattle.life_interp.proofs.QuickSteps.{comes_done, either_way, err_so, err_two, leaves_done, left_fits, where_done}
+use Rattle.std.proofs.Common.{[], ◌∷◌, ap, subst, sym, ◌∙◌}
+use Rattle.std.proofs.lemmas.Option.{none-some, same_Some}
+use Rattle.life_core.specs.Operands.{Owner, behind, object_named, whole}
+use Rattle.life_core.specs.Step.{Step, Element, End, Eval, Live, Load, Save}
+use Rattle.life_core.specs.declared.instr.Form.TheVariants as form
+use Rattle.life_core.specs.declared.operand.Which.TheVariants as which
+use Rattle.life_cells.specs.Scopes.{function_in, texts_in, types_in}
+use Rattle.life_interp.specs.Flats.{step_in}
+use Rattle.life_interp.specs.Quick.{Attempts}
 use Rattle.life_interp.proofs.quick.do_at_once.Goals as goal
+
+-- ---- a number comes to life
+
+pub returns-in-Live-clause-done : goal.returns-in-Live-clause-done
+returns-in-Live-clause-done g c = λ i here.
+    let types = types_in c.args.scope.now in
+    let f = function_in c.args.scope.now in
+    let content = g.S.Store.content c.args.store.now in
+    let rows = g.S.Store.rows c.args.store.now in
+    let cells = c.args.cells.now in
+    let new = c.live_at_once.new in
+    subst (λ (j : Step). Attempts types f (g.S.Store.limit c.args.store.now) (texts_in c.args.scope.now) j content (g.S.Store.content new.store) rows (g.S.Store.rows new.store) cells new.cells c.live_at_once.result)
+    (same_Some (Live c.in-Live.local form.Plain) i (sym (ap step_in c.in-Live.is) ∙ here))
+    c.live_at_once.ensures.done
+
+-- ---- .. and ends
+
+pub end_at_once-requires : goal.end_at_once-requires
+end_at_once-requires g c =
+    let e = ap step_in c.in-End.is in
+    record {
+      layouts = c.requires.layouts;
+      ordered = c.requires.ordered (End (c.in-End.local ∷ [])) e;
+      fits = c.requires.fits;
+      stands = c.requires.stands (End (c.in-End.local ∷ [])) e;
+    }
+
+pub returns-in-End-clause-done : goal.returns-in-End-clause-done
+returns-in-End-clause-done g c = λ i here.
+    let types = types_in c.args.scope.now in
+    let f = function_in c.args.scope.now in
+    let content = g.S.Store.content c.args.store.now in
+    let rows = g.S.Store.rows c.args.store.now in
+    let cells = c.args.cells.now in
+    let new = c.end_at_once.new in
+    subst (λ (j : Step). Attempts types f (g.S.Store.limit c.args.store.now) (texts_in c.args.scope.now) j content (g.S.Store.content new.store) rows (g.S.Store.rows new.store) cells new.cells c.end_at_once.result)
+    (same_Some (End (c.in-End.local ∷ [])) i (sym (ap step_in c.in-End.is) ∙ here))
+    c.end_at_once.ensures.done
 
 -- ---- a value is made
 
-pub returns-in-Eval-clause-step : goal.returns-in-Eval-clause-step
-returns-in-Eval-clause-step g c = λ s texts.
+pub returns-in-Eval-clause-done : goal.returns-in-Eval-clause-done
+returns-in-Eval-clause-done g c = λ i here.
     let types = types_in c.args.scope.now in
     let f = function_in c.args.scope.now in
     let content = g.S.Store.content c.args.store.now in
     let rows = g.S.Store.rows c.args.store.now in
-    let m = meant types content rows in
-    let cells = c.args.cells.now.items in
-    let new = c.evaluate.new.cells in
-    let left = AreLeft content content rows rows c.args.cells.now new in
-    subst (λ (b : Bool). Whether b (DoesTo (does s types f (step_of c.args.instr.now)) m cells m new.items) left) (sym c.is_done.ensures)
-    (leaves_done (does s types f (step_of c.args.instr.now)) m m cells new.items c.evaluate.result left
-    (subst (λ (i : Instr). LeavesCells (does s types f (step_of i)) m cells new.items c.evaluate.result) (sym c.in-Eval.is) (c.evaluate.ensures.step m))
-    (err_so c.evaluate.result (new ≡ c.args.cells.now) left (λ e. record { content = refl; rows = refl; cells = e }) c.evaluate.ensures.stays))
-
-pub returns-in-Eval-clause-plain : goal.returns-in-Eval-clause-plain
-returns-in-Eval-clause-plain g c = subst (λ (i : Instr). WhereDone c.is_done.result (IsPlainStep (step_of i))) (sym c.in-Eval.is) (where_done c.is_done.result _ (record { own = tt; stays = tt }))
-
-pub returns-in-Eval-clause-fits : goal.returns-in-Eval-clause-fits
-returns-in-Eval-clause-fits g c =
-    let types = types_in c.args.scope.now in
-    let f = function_in c.args.scope.now in
-    let content = g.S.Store.content c.args.store.now in
-    let rows = g.S.Store.rows c.args.store.now in
-    let m = meant types content rows in
-    let cells = c.args.cells.now.items in
-    let new = c.evaluate.new.cells in
-    other_cells types content rows cells new.items c.requires.fits
-    (either_way c.evaluate.result (CellsFit content rows new.items) (c.evaluate.ensures.fits content rows c.requires.fits.held)
-    (err_so c.evaluate.result (new ≡ c.args.cells.now) (CellsFit content rows new.items) (λ e. subst (λ (v : Vec Cell Global). CellsFit content rows v.items) (sym e) c.requires.fits.held) c.evaluate.ensures.stays))
-
-pub returns-in-Eval-clause-keeps : goal.returns-in-Eval-clause-keeps
-returns-in-Eval-clause-keeps g c = keeps_itself (g.S.Store.content c.args.store.now) (g.S.Store.rows c.args.store.now)
+    let cells = c.args.cells.now in
+    subst (λ (j : Step). Attempts types f (g.S.Store.limit c.args.store.now) (texts_in c.args.scope.now) j content content rows rows cells c.eval_at_once.new.cells c.eval_at_once.result)
+    (same_Some (Eval c.in-Eval.into c.in-Eval.operation) i (sym (ap step_in c.in-Eval.is) ∙ here))
+    (c.eval_at_once.ensures (g.S.Store.limit c.args.store.now) content rows c.requires.fits)
 
 -- ---- .. or read
 
-pub load-requires-clause-number : goal.load-requires-clause-number
-load-requires-clause-number g c =
+pub load_named-requires-clause-place : goal.load_named-requires-clause-place
+load_named-requires-clause-place g c = c.requires.places (Load c.in-Load.into (object_named c.in-Load.local)) (ap step_in c.in-Load.is)
+
+pub returns-in-Load-clause-done : goal.returns-in-Load-clause-done
+returns-in-Load-clause-done g c = λ i here.
     let types = types_in c.args.scope.now in
     let f = function_in c.args.scope.now in
     let content = g.S.Store.content c.args.store.now in
     let rows = g.S.Store.rows c.args.store.now in
-    let m = meant types content rows in
-    let cells = c.args.cells.now.items in
-    subst (λ (i : Instr). HasPlaces types f (state_in m cells) (step_of i)) c.in-Load.is c.requires.places
+    let cells = c.args.cells.now in
+    subst (λ (j : Step). Attempts types f (g.S.Store.limit c.args.store.now) (texts_in c.args.scope.now) j content content rows rows cells c.load_named.new.cells c.load_named.result)
+    (same_Some (Load c.in-Load.into (object_named c.in-Load.local)) i (sym (ap step_in c.in-Load.is) ∙ here))
+    c.load_named.ensures
 
-pub returns-in-Load-clause-step : goal.returns-in-Load-clause-step
-returns-in-Load-clause-step g c = λ s texts.
+-- ---- .. behind a pointer
+
+pub load_pointed-requires-clause-place : goal.load_pointed-requires-clause-place
+load_pointed-requires-clause-place g c = c.requires.places (Load c.in-LoadThrough.into (behind c.in-LoadThrough.pointer)) (ap step_in c.in-LoadThrough.is)
+
+pub returns-in-LoadThrough-clause-done : goal.returns-in-LoadThrough-clause-done
+returns-in-LoadThrough-clause-done g c = λ i here.
     let types = types_in c.args.scope.now in
     let f = function_in c.args.scope.now in
     let content = g.S.Store.content c.args.store.now in
     let rows = g.S.Store.rows c.args.store.now in
-    let m = meant types content rows in
-    let cells = c.args.cells.now.items in
-    let new = c.load.new.cells in
-    let left = AreLeft content content rows rows c.args.cells.now new in
-    subst (λ (b : Bool). Whether b (DoesTo (does s types f (step_of c.args.instr.now)) m cells m new.items) left) (sym c.is_done-in-Load.ensures)
-    (comes_done (does s types f (step_of c.args.instr.now)) m m cells new.items c.load.result left
-    (subst (λ (i : Instr). Comes (does s types f (step_of i)) m cells m new.items c.load.result) (sym c.in-Load.is) (c.load.ensures.step s texts))
-    (err_so c.load.result (new ≡ c.args.cells.now) left (λ e. record { content = refl; rows = refl; cells = e }) c.load.ensures.stays))
-
-pub returns-in-Load-clause-plain : goal.returns-in-Load-clause-plain
-returns-in-Load-clause-plain g c = subst (λ (i : Instr). WhereDone c.is_done-in-Load.result (IsPlainStep (step_of i))) (sym c.in-Load.is) (where_done c.is_done-in-Load.result _ (record { own = tt; stays = tt }))
-
-pub returns-in-Load-clause-fits : goal.returns-in-Load-clause-fits
-returns-in-Load-clause-fits g c =
-    let types = types_in c.args.scope.now in
-    let f = function_in c.args.scope.now in
-    let content = g.S.Store.content c.args.store.now in
-    let rows = g.S.Store.rows c.args.store.now in
-    let m = meant types content rows in
-    let cells = c.args.cells.now.items in
-    let new = c.load.new.cells in
-    either_way c.load.result (IsFit types content rows new.items) c.load.ensures.fits
-    (err_so c.load.result (new ≡ c.args.cells.now) (IsFit types content rows new.items) (λ e. subst (λ (v : Vec Cell Global). IsFit types content rows v.items) (sym e) c.requires.fits) c.load.ensures.stays)
-
-pub returns-in-Load-clause-keeps : goal.returns-in-Load-clause-keeps
-returns-in-Load-clause-keeps g c = keeps_itself (g.S.Store.content c.args.store.now) (g.S.Store.rows c.args.store.now)
+    let cells = c.args.cells.now in
+    subst (λ (j : Step). Attempts types f (g.S.Store.limit c.args.store.now) (texts_in c.args.scope.now) j content content rows rows cells c.load_pointed.new.cells c.load_pointed.result)
+    (same_Some (Load c.in-LoadThrough.into (behind c.in-LoadThrough.pointer)) i (sym (ap step_in c.in-LoadThrough.is) ∙ here))
+    c.load_pointed.ensures
 
 -- ---- .. or written
 
-pub save-requires-clause-number : goal.save-requires-clause-number
-save-requires-clause-number g c =
+pub save_named-requires-clause-place : goal.save_named-requires-clause-place
+save_named-requires-clause-place g c = c.requires.places (Save (object_named c.in-Save.local) c.in-Save.from) (ap step_in c.in-Save.is)
+
+pub returns-in-Save-clause-done : goal.returns-in-Save-clause-done
+returns-in-Save-clause-done g c = λ i here.
     let types = types_in c.args.scope.now in
     let f = function_in c.args.scope.now in
     let content = g.S.Store.content c.args.store.now in
     let rows = g.S.Store.rows c.args.store.now in
-    let m = meant types content rows in
-    let cells = c.args.cells.now.items in
-    subst (λ (cs : List Cell). IsNumberPlace types f (operand_of c.in-Save.to) (state_in m cs)) (sym c.deref.ensures.value)
-    (subst (λ (i : Instr). HasPlaces types f (state_in m cells) (step_of i)) c.in-Save.is c.requires.places)
+    let cells = c.args.cells.now in
+    subst (λ (j : Step). Attempts types f (g.S.Store.limit c.args.store.now) (texts_in c.args.scope.now) j content (g.S.Store.content c.save_named.new.store) rows (g.S.Store.rows c.save_named.new.store) cells c.save_named.new.cells c.save_named.result)
+    (same_Some (Save (object_named c.in-Save.local) c.in-Save.from) i (sym (ap step_in c.in-Save.is) ∙ here))
+    c.save_named.ensures.done
 
-pub returns-in-Save-clause-step : goal.returns-in-Save-clause-step
-returns-in-Save-clause-step g c = λ s texts.
+-- ---- .. behind a pointer
+
+pub save_pointed-requires-clause-place : goal.save_pointed-requires-clause-place
+save_pointed-requires-clause-place g c = c.requires.places (Save (behind c.in-SaveThrough.pointer) c.in-SaveThrough.from) (ap step_in c.in-SaveThrough.is)
+
+pub returns-in-SaveThrough-clause-done : goal.returns-in-SaveThrough-clause-done
+returns-in-SaveThrough-clause-done g c = λ i here.
     let types = types_in c.args.scope.now in
     let f = function_in c.args.scope.now in
     let content = g.S.Store.content c.args.store.now in
     let rows = g.S.Store.rows c.args.store.now in
-    let m = meant types content rows in
-    let cells = c.args.cells.now.items in
-    let d = g.S.Store.content c.save.new.store in
-    let after = g.S.Store.rows c.save.new.store in
-    let left = AreLeft content d rows after c.args.cells.now c.args.cells.now in
-    subst (λ (b : Bool). Whether b (DoesTo (does s types f (step_of c.args.instr.now)) m cells (meant types d after) cells) left) (sym c.is_done-in-Save.ensures)
-    (comes_done (does s types f (step_of c.args.instr.now)) m (meant types d after) cells cells c.save.result left
-    (subst (λ (i : Instr). Comes (does s types f (step_of i)) m cells (meant types d after) cells c.save.result) (sym c.in-Save.is)
-    (subst (λ (cs : List Cell). Comes (stored types f (operand_of c.in-Save.to) c.in-Save.from) m cs (meant types d after) cs c.save.result) c.deref.ensures.value c.save.ensures.step))
-    (err_so c.save.result (d ≡ content) left (λ e. record { content = e; rows = c.save.ensures.keeps.rows; cells = refl }) c.save.ensures.stays))
-
-pub returns-in-Save-clause-plain : goal.returns-in-Save-clause-plain
-returns-in-Save-clause-plain g c = subst (λ (i : Instr). WhereDone c.is_done-in-Save.result (IsPlainStep (step_of i))) (sym c.in-Save.is) (where_done c.is_done-in-Save.result _ (record { own = tt; stays = tt }))
-
-pub returns-in-Save-clause-fits : goal.returns-in-Save-clause-fits
-returns-in-Save-clause-fits g c =
-    let types = types_in c.args.scope.now in
-    let f = function_in c.args.scope.now in
-    let content = g.S.Store.content c.args.store.now in
-    let rows = g.S.Store.rows c.args.store.now in
-    let m = meant types content rows in
-    let cells = c.args.cells.now.items in
-    let d = g.S.Store.content c.save.new.store in
-    let after = g.S.Store.rows c.save.new.store in
-    either_way c.save.result (IsFit types d after cells) (subst (λ (cs : List Cell). OnOk c.save.result (IsFit types d after cs)) c.deref.ensures.value c.save.ensures.fits)
-    (err_so c.save.result (d ≡ content) (IsFit types d after cells) (λ e. left_fits types content d rows after cells e c.save.ensures.keeps.rows c.requires.fits) c.save.ensures.stays)
+    let cells = c.args.cells.now in
+    subst (λ (j : Step). Attempts types f (g.S.Store.limit c.args.store.now) (texts_in c.args.scope.now) j content (g.S.Store.content c.save_pointed.new.store) rows (g.S.Store.rows c.save_pointed.new.store) cells c.save_pointed.new.cells c.save_pointed.result)
+    (same_Some (Save (behind c.in-SaveThrough.pointer) c.in-SaveThrough.from) i (sym (ap step_in c.in-SaveThrough.is) ∙ here))
+    c.save_pointed.ensures.done
 
 -- ---- an element is pointed to
 
-pub element-requires-clause-pointer : goal.element-requires-clause-pointer
-element-requires-clause-pointer g c =
+pub index_named-requires-clause-place : goal.index_named-requires-clause-place
+index_named-requires-clause-place g c = (c.requires.places (Element (whole c.in-Index.pointer) (Owner (object_named c.in-Index.owner)) (which.Index c.in-Index.index)) (ap step_in c.in-Index.is)).1
+
+pub returns-in-Index-clause-done : goal.returns-in-Index-clause-done
+returns-in-Index-clause-done g c = λ i here.
     let types = types_in c.args.scope.now in
     let f = function_in c.args.scope.now in
     let content = g.S.Store.content c.args.store.now in
     let rows = g.S.Store.rows c.args.store.now in
-    let m = meant types content rows in
-    let cells = c.args.cells.now.items in
-    (subst (λ (i : Instr). HasPlaces types f (state_in m cells) (step_of i)) c.in-Element.is c.requires.places).0
+    let cells = c.args.cells.now in
+    subst (λ (j : Step). Attempts types f (g.S.Store.limit c.args.store.now) (texts_in c.args.scope.now) j content content rows rows cells c.index_named.new.cells c.index_named.result)
+    (same_Some (Element (whole c.in-Index.pointer) (Owner (object_named c.in-Index.owner)) (which.Index c.in-Index.index)) i (sym (ap step_in c.in-Index.is) ∙ here))
+    c.index_named.ensures
 
-pub element-requires-clause-base : goal.element-requires-clause-base
-element-requires-clause-base g c =
-    let types = types_in c.args.scope.now in
-    let f = function_in c.args.scope.now in
-    let content = g.S.Store.content c.args.store.now in
-    let rows = g.S.Store.rows c.args.store.now in
-    let m = meant types content rows in
-    let cells = c.args.cells.now.items in
-    (subst (λ (i : Instr). HasPlaces types f (state_in m cells) (step_of i)) c.in-Element.is c.requires.places).1
+-- ---- nothing is done
 
-pub returns-in-Element-clause-step : goal.returns-in-Element-clause-step
-returns-in-Element-clause-step g c = λ s texts.
-    let types = types_in c.args.scope.now in
-    let f = function_in c.args.scope.now in
-    let content = g.S.Store.content c.args.store.now in
-    let rows = g.S.Store.rows c.args.store.now in
-    let m = meant types content rows in
-    let cells = c.args.cells.now.items in
-    let d = g.S.Store.content c.element.new.store in
-    let after = g.S.Store.rows c.element.new.store in
-    let new = c.element.new.cells in
-    let left = AreLeft content d rows after c.args.cells.now new in
-    subst (λ (b : Bool). Whether b (DoesTo (does s types f (step_of c.args.instr.now)) m cells (meant types d after) new.items) left) (sym c.is_done-in-Element.ensures)
-    (comes_done (does s types f (step_of c.args.instr.now)) m (meant types d after) cells new.items c.element.result left
-    (subst (λ (i : Instr). Comes (does s types f (step_of i)) m cells (meant types d after) new.items c.element.result) (sym c.in-Element.is) (c.element.ensures.step))
-    (err_two c.element.result (new ≡ c.args.cells.now) (d ≡ content) left (λ e h. record { content = h; rows = c.element.ensures.keeps.rows; cells = e }) c.element.ensures.stays c.element.ensures.content_stays))
+pub returns-in-Other-clause-done : goal.returns-in-Other-clause-done
+returns-in-Other-clause-done g c = λ i here. absurd (none-some i (sym (ap step_in c.in-Other.is) ∙ here))
 
-pub returns-in-Element-clause-plain : goal.returns-in-Element-clause-plain
-returns-in-Element-clause-plain g c = subst (λ (i : Instr). WhereDone c.is_done-in-Element.result (IsPlainStep (step_of i))) (sym c.in-Element.is) (where_done c.is_done-in-Element.result _ (record { own = tt; stays = tt }))
-
-pub returns-in-Element-clause-fits : goal.returns-in-Element-clause-fits
-returns-in-Element-clause-fits g c =
-    let types = types_in c.args.scope.now in
-    let f = function_in c.args.scope.now in
-    let content = g.S.Store.content c.args.store.now in
-    let rows = g.S.Store.rows c.args.store.now in
-    let m = meant types content rows in
-    let cells = c.args.cells.now.items in
-    let d = g.S.Store.content c.element.new.store in
-    let after = g.S.Store.rows c.element.new.store in
-    let new = c.element.new.cells in
-    either_way c.element.result (IsFit types d after new.items) c.element.ensures.fits
-    (err_two c.element.result (new ≡ c.args.cells.now) (d ≡ content) (IsFit types d after new.items)
-    (λ e h. subst (λ (v : Vec Cell Global). IsFit types d after v.items) (sym e) (left_fits types content d rows after cells h c.element.ensures.keeps.rows c.requires.fits))
-    c.element.ensures.stays c.element.ensures.content_stays)
-
--- ---- anything else is left
-
-pub returns-in_default-clause-step : goal.returns-in_default-clause-step
-returns-in_default-clause-step g c = λ s texts. record { content = refl; rows = refl; cells = refl }
-
-pub returns-in_default-clause-keeps : goal.returns-in_default-clause-keeps
-returns-in_default-clause-keeps g c = keeps_itself (g.S.Store.content c.args.store.now) (g.S.Store.rows c.args.store.now)
+pub returns-in-Test-clause-done : goal.returns-in-Test-clause-done
+returns-in-Test-clause-done g c = λ i here. absurd (none-some i (sym (ap step_in c.in-Test.is) ∙ here))

@@ -93,6 +93,7 @@ walk-requires g c =
     let clock : (g.S.Store.content c.args.store.now).clock ≡ 0 = ap (λ (x : Content). x.clock) c.requires.empty in
     record {
       linked = c.requires.linked;
+      tables = c.requires.tables;
       layouts = c.requires.layouts;
       begin = all_begin p c.requires.proper;
       frames = record { here = c.requires.entry; there = subst (AreThere p.functions) (sym c.new.ensures.items) tt };
