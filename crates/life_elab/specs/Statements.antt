@@ -5,7 +5,7 @@ use Rattle.life_types.specs.declared.ty.Ty.TheVariants as ty
 use Rattle.life_core.specs.Operands.{Text, whole}
 use Rattle.life_core.specs.Step.{Ports, WritesView}
 use Rattle.life_core.specs.Tree.{Tree, Skip, Choice, Stops, Turns, trees}
-use Rattle.life_writer.specs.Around.{Around}
+use Rattle.life_writer.specs.Around.{Around, end_line}
 use Rattle.life_writer.specs.Building.{Fill, built}
 use Rattle.life_writer.specs.Pointers.{aimed, pointed}
 use Rattle.life_writer.specs.Registers.{wanted}
@@ -32,9 +32,6 @@ left outside keyword leaves s = write leaves (end_past outside keyword s)
 -- ---- output
 
 -- endl writes the last text, which has the one byte 10
-abbrev pub end_line : Around → ℕ
-end_line a = length a.program.texts
-
 abbrev pub line : Around → Place → State → State
 line a place s =
     built (Fill place (pointed (aimed (Text (end_line a))))) (wanted place None ty.View) s >> λ r s. emit place (Ports (WritesView (whole r))) s

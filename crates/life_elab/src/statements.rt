@@ -33,8 +33,7 @@ use life_typed::{
 };
 use life_types::{Class, NoMemory, Place, Ty, is_value};
 use life_writer::{
-    Act, Around, Behind, Destination, Keeping, Last, Pointing, Writer, class, named, number,
-    own_type,
+    Act, Around, Behind, Destination, Keeping, Last, Pointing, Writer, class, named, own_type,
 };
 
 // A loop: while the condition holds, the body and then the step.
@@ -273,7 +272,7 @@ fn write_item(
 fn end_line(writer: &mut Writer, a: &Around, place: Place) -> Result<(), NoMemory>
     ensures { OnOk result (state_of writer.new ≡ shared.line (around_of a.now) place (state_of writer.old)) }
 {
-    let source = Source::Text(number(a.program.texts.len())?);
+    let source = Source::Text(a.end_line()?);
     let last = Last::Point(place, Pointing::At(source));
     let register = writer.built(last, Destination::Register(place, None, Ty::View))?;
     let view = Location::whole(writer.alloc, register);

@@ -1,5 +1,5 @@
 -- What stays the same while a function is written: the program and the function.
-use Rattle.std.specs.Prelude.{ℕ, List, [], Option, Some, None, length, map, slice_get, take}
+use Rattle.std.specs.Prelude.{ℕ, if◌then◌else◌, List, [], Option, Some, None, length, map, nat_lt, slice_get, take}
 use Rattle.life_types.specs.declared.ty.Ty.{Ty}
 use Rattle.life_types.specs.declared.ty.Ty.TheVariants as ty
 use Rattle.life_types.specs.declared.ty.TyId.{TyId}
@@ -17,6 +17,16 @@ pub record Around : Type 0 where
 -- the type with a number
 abbrev pub type_of : Around → TyId → Ty
 type_of a id = type_at a.program.types id
+
+-- ---- texts
+
+-- what endl writes stands behind the texts of the file
+abbrev pub end_line : Around → ℕ
+end_line a = length a.program.texts
+
+-- the text of a literal with a number; one that the file doesn't have counts as the end of a line
+abbrev pub text_in : ProgramForm → ℕ → ℕ
+text_in p n = if nat_lt n (length p.texts) then n else length p.texts
 
 -- ---- functions
 

@@ -12,7 +12,7 @@ use Rattle.life_typed.specs.declared.typed_expr.ExprType.TheVariants as expr_typ
 use Rattle.life_core.specs.Operands.{Location, Operand, Place as Aimed, Through, behind as through, whole}
 use Rattle.life_core.specs.Step.{Advance, Same, Step}
 use Rattle.life_core.specs.declared.operand.Which.TheVariants as which
-use Rattle.life_writer.specs.Around.{Around, own_type, parameter_types, type_of}
+use Rattle.life_writer.specs.Around.{Around, own_type, parameter_types, text_in, type_of}
 use Rattle.life_writer.specs.Bases.{base, element, reference_to}
 use Rattle.life_writer.specs.Behind.{closed_by, ending}
 use Rattle.life_writer.specs.Building.{Fill, built}
@@ -165,7 +165,7 @@ module _ (a : Around) where
     form_uses (number n) place t c = computed_uses (constant (values.long n)) place t c
     form_uses (character n) place t c = computed_uses (constant (pos n)) place t c
     form_uses (boolean b) place t c = computed_uses (constant (values.truth b)) place t c
-    form_uses (text n) place t c = literal_uses n place t c
+    form_uses (text n) place t c = literal_uses (text_in a.program n) place t c
     form_uses null place t c = null_uses place t c
     form_uses (local x) place t c = variable_uses x place t c
     form_uses (call f es d) place t c = call_uses f (all_uses es) d place t c

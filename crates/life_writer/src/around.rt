@@ -26,6 +26,23 @@ impl<'a> Around<'a> {
         }
     }
 
+    /// The text that `endl` writes, which stands behind those of the file.
+    pub fn end_line(&self) -> Result<u32, NoMemory>
+        ensures { IfOk result (λ n. n ≡ spec.end_line (around_of self.now)) }
+    {
+        number(self.program.texts.len())
+    }
+
+    /// The text of a literal with this number; one that the file doesn't have counts as the end of a line.
+    pub fn text_of(&self, text: u32) -> Result<u32, NoMemory>
+        ensures { IfOk result (λ n. n ≡ spec.text_in (around_of self.now).program text) }
+    {
+        if (text as usize) < self.program.texts.len() {
+            return Ok(text);
+        }
+        self.end_line()
+    }
+
     /// The parameters of a function, by its number.
     pub fn parameters(&self, function: u32) -> &'a [TypedLocal]
         ensures { map (λ (l : TypedLocal). l.ty) result.now ≡ spec.parameter_types (around_of self.now) function }

@@ -76,6 +76,7 @@ impl Writer {
         let place = node.place;
         match node.shape {
             Shape::Text(text) => {
+                let text = a.text_of(text)?;
                 let view = self.located(place, Ty::View, Pointing::At(Source::Text(text)))?;
                 Ok(Last::Lived(Act::Set(view)))
             }

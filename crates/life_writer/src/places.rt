@@ -243,7 +243,7 @@ impl Writer {
     {
         match node.shape {
             Shape::Null => Ok(Pointing::At(Source::Null)),
-            Shape::Text(text) => Ok(Pointing::At(Source::Text(text))),
+            Shape::Text(text) => Ok(Pointing::At(Source::Text(a.text_of(text)?))),
             Shape::Local(number) => {
                 let local = self.variable(number);
                 Ok(Pointing::As(Location::whole(self.alloc, local)))
