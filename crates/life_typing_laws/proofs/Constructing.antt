@@ -40,7 +40,7 @@ module _ (p : ProgramForm) (locals : List TypedLocal) (v : Visible) (scope : Sco
       → misfits kinds.WrongType (members s.members) types (lower_kind None (count_fault kinds.WrongType (members s.members) (length es))) 0 es ≡ None
       → IsTyped p locals v types (value place (ty.Struct n) (construct n (forms es) delimiters))
   constructed_typed n s place es delimiters here are places fine = record {
-    is = (refl, subst (λ (ids : List TyId). are_members p.types ids (forms es) ≡ true) (sym same) (members_listed s.members types p.types sound.ordered final.grown es there places fine), are);
+    is = (refl, subst (λ (ids : List TyId). are_members p.types ids (forms es) ≡ true) (sym same) (members_listed s.members types p.types sound.ordered final.grown es there places fine), are, (s.ty.0, final.grown.types s.ty.0 (ty.Struct n) has.type));
     parts = slice_get_within types.structs n (types_of s.members) has.members;
     place = tt;
   }

@@ -1,13 +1,10 @@
 -- Declarations of variables.
-use Rattle.std.proofs.Common.{◌≡◌, ℕ, Bool, true, false, Option, None, Some, Result, Ok, Err, List, [], ◌∷◌, length, slice_get, refl, sym, ap, subst, ◌∙◌, true≢false}
-use Rattle.std.specs.Prelude.{is_some}
-use Rattle.std.proofs.lemmas.Option.{slice_get_within}
-use Rattle.life_types.specs.Trees.{IsOrdered, is_plain, tree_at}
+use Rattle.std.proofs.Common.{◌≡◌, ℕ, Bool, true, false, Option, None, Some, Ok, List, [], ◌∷◌, length, refl, sym, ap, subst, ◌∙◌, true≢false}
+use Rattle.life_types.specs.Trees.{IsOrdered}
 use Rattle.life_types.specs.Types.{Types, HasParts, HasType}
 use Rattle.life_types.specs.declared.place.Place.{Place}
 use Rattle.life_types.specs.declared.ty.NameId.{NameId}
 use Rattle.life_types.specs.declared.ty.Ty.{Ty}
-use Rattle.life_types.specs.declared.ty.Ty.TheVariants as ty
 use Rattle.life_types.specs.declared.ty.TyId.{TyId}
 use Rattle.life_tree.specs.declared.declaration.AutoType.{AutoType}
 use Rattle.life_tree.specs.declared.declaration.Declaration.{Declaration}
@@ -24,37 +21,36 @@ use Rattle.life_typed.specs.BaseTypes.{base_types, type_at}
 use Rattle.life_typed.specs.Conversions.{fits}
 use Rattle.life_typed.specs.Programs.{ProgramForm}
 use Rattle.life_typed.specs.TypedStatement.{DeclarationForm, InitialForm, ListForm, one, several}
-use Rattle.life_typed.specs.TypedForm.{forms}
-use Rattle.life_typed.specs.declared.typed_expr.Category.{Category}
-use Rattle.life_typed.specs.declared.typed_expr.ExprType.{ExprType}
+use Rattle.life_typed.specs.TypedForm.{Typed, forms}
 use Rattle.life_typed.specs.declared.typed_program.TypedLocal.{TypedLocal}
 use Rattle.life_names.specs.Checked.{Checked, ◌>>=◌}
 use Rattle.life_names.specs.Environment.{Scope, declared}
 use Rattle.life_names.specs.Found.{allowed, given}
-use Rattle.life_names.specs.Table.{type_added}
 use Rattle.life_names.specs.WrittenTypes.{is_const_value, with_const, written, written_local}
 use Rattle.life_names.specs.declared.environment.Entity.TheVariants as entity
-use Rattle.life_names.specs.declared.fault.IllKind.{IllKind}
 use Rattle.life_names.specs.declared.fault.IllKind.TheVariants as kinds
 use Rattle.life_names.specs.declared.written.Written.{Written}
 use Rattle.life_type_expr.specs.Expressions.{expr_meaning}
 use Rattle.life_type_expr.specs.Lists.{lower_kind}
-use Rattle.life_type_stmt.specs.Autos.{auto_declared, auto_from, auto_given, auto_local, auto_object, auto_reference, auto_target, auto_value, auto_written, lone_elements, lone_list, reference_fault, type_number}
-use Rattle.life_type_stmt.specs.Conditions.{unless as plainly}
+use Rattle.life_type_stmt.specs.Autos.{auto_given, auto_local, auto_value, lone_elements, lone_list}
 use Rattle.life_type_stmt.specs.Declarations.{auto_declaration, declaration, declaration_by, default_fault, local_of, redeclared, variable_fault, visible_fault, written_declaration}
-use Rattle.life_type_stmt.specs.Given.{given_first, value_fault}
+use Rattle.life_type_stmt.specs.Given.{given_first}
 use Rattle.life_well_typed.specs.Given.{is_given}
 use Rattle.life_well_typed.specs.Members.{is_listed}
 use Rattle.life_well_typed.specs.Statements.{IsDeclaration, IsInitialised}
 use Rattle.life_well_typed.specs.Visible.{Visible, with_next}
+use Rattle.life_typing_laws.proofs.Autos.{auto_is}
 use Rattle.life_typing_laws.proofs.Fitting.{given_later, lower_none, misfit_none}
-use Rattle.life_typing_laws.proofs.Growing.{IsAdded, IsGrown, added, grown_not, grown_on, parts_there, same_type_at, stays_there, structs_stay, type_is}
+use Rattle.life_well_typed.proofs.ObjectsKept.{object_there}
+use Rattle.life_well_typed.specs.Tables.{HasObjects, HasTargetIfAny, IsObject}
+use Rattle.life_typing_laws.proofs.Present.{typed_target}
+use Rattle.life_typing_laws.proofs.Growing.{IsGrown, grown_not, grown_on, object_later, parts_there, same_type_at, structs_stay}
 use Rattle.life_typing_laws.proofs.Scopes.{IsDeclared, IsFree, Moves, behind_declared, declared_is, declared_moves, declared_sound, declared_there, final_before, final_then, moves_after, sound_now}
 use Rattle.life_typing_laws.specs.Sound.{Grows, HasStructs, IsFinal, IsSound}
 use Rattle.life_typing_laws.proofs.Steps.{allowed_ok, bound, given_ok, same_value}
 use Rattle.life_typing_laws.proofs.Typed.{PlaceThere, place_stays}
 use Rattle.life_typing_laws.proofs.Values.{FirstRead, Nothing, One, Several, Value, ValueRead, first_is, none_read, one_read, some_read}
-use Rattle.life_typing_laws.proofs.Written.{struct_found, written_finds}
+use Rattle.life_typing_laws.proofs.Written.{written_finds}
 
 -- ---- what a declaration does
 
@@ -133,17 +129,20 @@ free_of name scope fine n e = never (rw e at fine)
     never : visible_fault (entity.Function n) ≡ None → ⊥
     never h = cc
 
--- a variable of this type is declared over the last table, with what it was given between the first and the middle one
+-- a variable of this type, which isn't void, is declared over the last table, with what it was given between the first and the middle one
 module _ (name : Identifier) (v : Visible) (scope : Scope) (types : Types) (sound : IsSound v scope types) where
-  new_local : (w : Written) (first : Option InitialForm) (before middle after : Types) (n : ℕ × Scope) → IsGrown types before → IsGrown middle after → HasType after w.ty
+  new_local : (w : Written) (first : Option InitialForm) (before middle after : Types) (n : ℕ × Scope) → IsGrown types before → IsGrown middle after → IsObject after w.ty
       → IsRead v (type_at after w.ty) first scope before middle → NeedsParts before (type_at after w.ty) first → IsGivenTo after w.ty first → IsFree name.id scope → declared (local_of name w) scope ≡ Ok n
       → IsNew name v scope types ((record { local = n.0; name = name; value = first }, n.1), after)
-  new_local w first before middle after n early late there read needs given_to free h =
+  new_local w first before middle after n early late object read needs given_to free h =
       subst (λ (m : ℕ). IsNew name v scope types ((record { local = m; name = name; value = first }, n.1), after)) (sym d.number)
       (subst (λ (s : Scope). IsNew name v scope types ((record { local = length scope.locals; name = name; value = first }, s), after)) (sym d.behind) made)
     where
       d : IsDeclared (local_of name w) scope n
       d = declared_is (local_of name w) scope n h
+
+      there : HasType after w.ty
+      there = object_there after w.ty object
 
       grown : IsGrown types after
       grown = grown_on types before after early (grown_on before middle after read.grown late)
@@ -152,7 +151,7 @@ module _ (name : Identifier) (v : Visible) (scope : Scope) (types : Types) (soun
       sound_after = sound_now v scope types after sound grown
 
       last : Moves (name.id ∷ []) scope (behind_declared (local_of name w) scope) after after
-      last = declared_moves (local_of name w) v scope after sound_after there free
+      last = declared_moves (local_of name w) v scope after sound_after object free
 
       counted : length scope.locals ≡ v.declared
       counted = sound.declared
@@ -160,7 +159,7 @@ module _ (name : Identifier) (v : Visible) (scope : Scope) (types : Types) (soun
       made : IsNew name v scope types ((record { local = length scope.locals; name = name; value = first }, behind_declared (local_of name w) scope), after)
       made = record {
         moves = moves_after v (name.id ∷ []) scope (behind_declared (local_of name w) scope) types after after sound grown last;
-        sound = declared_sound (local_of name w) v scope after sound_after there;
+        sound = declared_sound (local_of name w) v scope after sound_after object;
         is = λ p locals result final.
             let final_after : IsFinal p locals scope after = final_before p locals (name.id ∷ []) scope (behind_declared (local_of name w) scope) after after last final in
             let final_middle : IsFinal p locals scope middle = final_then p locals scope middle after late final_after in (
@@ -180,7 +179,7 @@ needs_parts types t (Some (several l)) parts = parts
 
 pub record IsWritten (types : Types) (x : Written × Types) : Type 0 where
   pub grown : IsGrown types x.1
-  pub there : HasType x.1 x.0.ty
+  pub object : IsObject x.1 x.0.ty
 
 pub local_written : (t : TypeName) (place : Place) (scope : Scope) (types : Types) (x : Written × Types) → IsOrdered types → Grows base_types types → HasStructs types scope.structs → written_local t place scope types ≡ Ok x
     → IsWritten types x
@@ -189,7 +188,7 @@ local_written t place scope types x ordered base structs h =
     let found = written_finds t place scope types step.value ordered base structs step.gave in
     let same : ◌≡◌ {A = Written × Types} (record { ty = step.value.0; constant = is_const_value t }, step.value.1) x =
     same_value {A = Written} (record { ty = step.value.0; constant = is_const_value t }, step.value.1) x step.behind in
-    subst (IsWritten types) same (record { grown = found.grown; there = found.there })
+    subst (IsWritten types) same (record { grown = found.grown; object = found.object })
 
 module _ (name : Identifier) (scope : Scope) where
   abbrev pub finished : Written → Option InitialForm → Types → ℕ × Scope → Checked (DeclarationForm × Scope)
@@ -224,13 +223,16 @@ module _ (name : Identifier) (scope : Scope) where
           → IsRead v (type_at w.1 w.0.ty) first.0 scope w.1 first.1 → variable_fault first.1 (type_at w.1 w.0.ty) first.0 ≡ None → IsFree name.id scope → declared (local_of name w.0) scope ≡ Ok n
           → IsNew name v scope types ((record { local = n.0; name = name; value = first.0 }, n.1), first.1)
       of v types sound w first n is read fault free number =
-          new_local name v scope types sound w.0 first.0 w.1 first.1 first.1 n is.grown (grown_not first.1 read.grown.ordered) (stays_there w.1 first.1 w.0.ty read.grown.grows is.there)
+          new_local name v scope types sound w.0 first.0 w.1 first.1 first.1 n is.grown (grown_not first.1 read.grown.ordered) (object_later w.1 first.1 w.0.ty read.grown.grows is.object)
           (subst (λ (t : Ty). IsRead v t first.0 scope w.1 first.1) (sym same) read)
-          (needs_parts w.1 (type_at first.1 w.0.ty) first.0 (subst (HasParts w.1) (sym same) (parts_there w.1 w.0.ty is.grown.ordered is.there)))
+          (needs_parts w.1 (type_at first.1 w.0.ty) first.0 (subst (HasParts w.1) (sym same) (parts_there w.1 w.0.ty is.grown.ordered there)))
           (subst (λ (t : Ty). variable_fault first.1 t first.0 ≡ None) (sym same) fault) free number
         where
+          there : HasType w.1 w.0.ty
+          there = object_there w.1 w.0.ty is.object
+
           same : type_at first.1 w.0.ty ≡ type_at w.1 w.0.ty
-          same = same_type_at w.1 first.1 w.0.ty read.grown.grows is.there
+          same = same_type_at w.1 first.1 w.0.ty read.grown.grows there
 
 -- ---- with `auto`
 
@@ -283,77 +285,36 @@ auto_first_is t (Some (initializer.List l)) v scope types x h single sound =
     let step = bound (lone_list l scope types) (λ y. Ok (Some y.0, y.1)) x h in
     some_read v t scope types step.value x step.behind (lone_never l scope types step.value step.gave (some_single step.value x step.behind single))
 
--- the number of the type, in a table that has grown
-number_is : (place : Place) (t : Ty) (scope : Scope) (types : Types) (x : TyId × Types) → IsOrdered types → HasStructs types scope.structs → type_number place t scope types ≡ Ok x → IsAdded t types x
-number_is place (ty.Struct number) scope types x ordered structs h = struct_found (slice_get scope.structs number) number place types x ordered (λ s there. structs number s there) h
-number_is place t scope types x ordered structs h = added place t types x ordered h
-
--- the type that is declared, and what it is given
-pub record IsAuto (types : Types) (e : ExprType) (c : Category) (x : Written × Types) : Type 0 where
-  pub grown : IsGrown types x.1
-  pub there : HasType x.1 x.0.ty
-  pub given : value_fault kinds.WrongType x.1 (type_at x.1 x.0.ty) e c ≡ None
-
-object_is : (constant : Bool) (place : Place) (t : Ty) (id : TyId) (e : ExprType) (c : Category) (types : Types) (x : Written × Types) → slice_get types.types id.0 ≡ Some t → IsOrdered types
-    → auto_object constant place t id e c types ≡ Ok x → IsAuto types e c x
-object_is constant place t id e c types x is ordered h =
-    let fine = allowed_ok {B = Written} (value_fault kinds.WrongType types t e c) place (λ _. Ok (record { ty = id; constant = constant }, types)) x h in
-    let same = same_value {A = Written} (record { ty = id; constant = constant }, types) x fine.1 in
-    subst (IsAuto types e c) same (record {
-      grown = grown_not types ordered;
-      there = slice_get_within types.types id.0 t is;
-      given = subst (λ (u : Ty). value_fault kinds.WrongType types u e c ≡ None) (sym (type_is types id t is)) fine.0;
-    })
-
-abbrev behind_reference : Bool → Place → TyId → ExprType → Category → TyId × Types → Checked Written
-behind_reference constant place id e c r =
-    given (allowed (reference_fault (is_plain (tree_at r.1 id)) (value_fault kinds.WrongType r.1 (ty.Reference id constant) e c)) place) (λ _. Ok (record { ty = r.0; constant = false }, r.1))
-
-reference_is : (constant : Bool) (place : Place) (id : TyId) (e : ExprType) (c : Category) (types : Types) (x : Written × Types) → IsOrdered types
-    → auto_reference constant place id e c types ≡ Ok x → IsAuto types e c x
-reference_is constant place id e c types x ordered h =
-    let step = bound (type_added place (ty.Reference id constant) types) (behind_reference constant place id e c) x h in
-    let new = added place (ty.Reference id constant) types step.value ordered step.gave in
-    let fine = allowed_ok {B = Written} (reference_fault (is_plain (tree_at step.value.1 id)) (value_fault kinds.WrongType step.value.1 (ty.Reference id constant) e c)) place
-    (λ _. Ok (record { ty = step.value.0; constant = false }, step.value.1)) x step.behind in
-    let same = same_value {A = Written} (record { ty = step.value.0; constant = false }, step.value.1) x fine.1 in
-    subst (IsAuto types e c) same (record {
-      grown = new.grown;
-      there = slice_get_within step.value.1.types step.value.0.0 (ty.Reference id constant) new.is;
-      given = subst (λ (u : Ty). value_fault kinds.WrongType step.value.1 u e c ≡ None) (sym (type_is step.value.1 step.value.0 (ty.Reference id constant) new.is))
-          (lower_none (value_fault kinds.WrongType step.value.1 (ty.Reference id constant) e c) (plainly (is_plain (tree_at step.value.1 id)) kinds.NotPlain) fine.0).0;
-    })
-
-auto_of : (a : AutoType) (place : Place) (t : Ty) (e : ExprType) (c : Category) (scope : Scope) (types : Types) (x : Written × Types) → IsOrdered types → HasStructs types scope.structs
-    → auto_from a place (Ok t) e c scope types ≡ Ok x → IsAuto types e c x
-auto_of a place t e c scope types x ordered structs h =
-    let step = bound (type_number place t scope types) (λ id. auto_declared a.reference (is_some a.constant) place t id.0 e c id.1) x h in
-    let new = number_is place t scope types step.value ordered structs step.gave in
-    behind step.value new (go a.reference step.value new step.behind)
+-- what it is given is well typed, so its type holds objects
+first_target : (v : Visible) (t : Ty) (scope : Scope) (types : Types) (x : Option InitialForm × Types) → IsSound v scope types → Grows types x.1 → FirstRead v t scope types x
+    → (e : Typed) → x.0 ≡ Some (one e) → HasObjects x.1 → HasTargetIfAny x.1 e.ty
+first_target v t scope types x sound grows (Nothing none same) e is objects = absurd (never (sym none ∙ is))
   where
-    go : (r : Option Place) (y : TyId × Types) → IsAdded t types y → auto_declared r (is_some a.constant) place t y.0 e c y.1 ≡ Ok x → IsAuto y.1 e c x
-    go None y new h = object_is (is_some a.constant) place t y.0 e c y.1 x new.is new.grown.ordered h
-    go (Some reference) y new h = reference_is (is_some a.constant) place y.0 e c y.1 x new.grown.ordered h
-
-    behind : (y : TyId × Types) → IsAdded t types y → IsAuto y.1 e c x → IsAuto types e c x
-    behind y new auto = record { grown = grown_on types y.1 x.1 new.grown auto.grown; there = auto.there; given = auto.given }
-
-pub auto_is : (a : AutoType) (place : Place) (e : ExprType) (c : Category) (scope : Scope) (types : Types) (x : Written × Types) → IsOrdered types → HasStructs types scope.structs → auto_written a place e c scope types ≡ Ok x
-    → IsAuto types e c x
-auto_is a place e c scope types x ordered structs h = go (auto_target e) h
+    never : ◌≡◌ {A = Option InitialForm} None (Some (one e)) → ⊥
+    never h = cc
+first_target v t scope types x sound grows (Value value first) e is objects = of first.read (same_first (sym first.is ∙ is))
   where
-    go : (r : Result Ty IllKind) → auto_from a place r e c scope types ≡ Ok x → IsAuto types e c x
-    go (Ok t) h = auto_of a place t e c scope types x ordered structs h
-    go (Err kind) h = absurd (cc)
+    same_first : ◌≡◌ {A = Option InitialForm} (Some value) (Some (one e)) → value ≡ one e
+    same_first h = cc
+
+    same_one : (y : Typed) → ◌≡◌ {A = InitialForm} (one y) (one e) → y ≡ e
+    same_one y h = cc
+
+    of : ValueRead v t scope types (value, x.1) → value ≡ one e → HasTargetIfAny x.1 e.ty
+    of (One read) same = subst (λ (y : Typed). HasTargetIfAny x.1 y.ty) (same_one read.value (read.is ∙ same)) (typed_target v scope types x.1 read.value sound grows objects read.typed)
+    of (Several read) same = absurd (never (read.is ∙ same))
+      where
+        never : several read.list ≡ one e → ⊥
+        never h = cc
 
 -- .. by what it is given
 local_auto : (a : AutoType) (place : Place) (first : Option InitialForm) (scope : Scope) (types : Types) (x : Written × Types) → IsOrdered types → HasStructs types scope.structs
-    → auto_local a place first scope types ≡ Ok x → (IsWritten types x) × IsGivenTo x.1 x.0.ty first
-local_auto a place None scope types x ordered structs h = absurd (cc)
-local_auto a place (Some (one e)) scope types x ordered structs h =
-    let auto = auto_is a place e.ty e.category scope types x ordered structs h in
-    (record { grown = auto.grown; there = auto.there }, auto.given)
-local_auto a place (Some (several l)) scope types x ordered structs h = absurd (cc)
+    → ((e : Typed) → first ≡ Some (one e) → HasObjects types → HasTargetIfAny types e.ty) → auto_local a place first scope types ≡ Ok x → (IsWritten types x) × IsGivenTo x.1 x.0.ty first
+local_auto a place None scope types x ordered structs target h = absurd (cc)
+local_auto a place (Some (one e)) scope types x ordered structs target h =
+    let auto = auto_is a place e.ty e.category scope types x ordered structs (target e refl) h in
+    (record { grown = auto.grown; object = auto.object }, auto.given)
+local_auto a place (Some (several l)) scope types x ordered structs target h = absurd (cc)
 
 module _ (name : Identifier) (scope : Scope) where
   abbrev pub behind_local : Option InitialForm → Written × Types → Checked (DeclarationForm × Scope)
@@ -371,10 +332,12 @@ module _ (name : Identifier) (scope : Scope) where
       let same = same_value {A = DeclarationForm × Scope} ((record { local = number.value.0; name = name; value = first.value.0 }, number.value.1), w.value.1) x number.behind in
       let single = auto_single a name.place first.value.0 scope first.value.1 w.value w.gave in
       let own = type_at w.value.1 w.value.0.ty in
-      let read = read_of v own scope types first.value sound.ordered (auto_first_is own i v scope types first.value first.gave single sound) in
-      let auto = local_auto a name.place first.value.0 scope first.value.1 w.value read.grown.ordered (structs_stay types first.value.1 scope.structs read.grown.grows sound.structs_there) w.gave in
+      let gave = auto_first_is own i v scope types first.value first.gave single sound in
+      let read = read_of v own scope types first.value sound.ordered gave in
+      let auto = local_auto a name.place first.value.0 scope first.value.1 w.value read.grown.ordered (structs_stay types first.value.1 scope.structs read.grown.grows sound.structs_there)
+      (λ e is objects. first_target v own scope types first.value sound read.grown.grows gave e is objects) w.gave in
       subst (IsNew name v scope types) same
-      (new_local name v scope types sound w.value.0 first.value.0 types first.value.1 w.value.1 number.value (grown_not types sound.ordered) auto.0.grown auto.0.there read (single_needs types own first.value.0 single) auto.1 (free_of name.id scope fine.0) number.gave)
+      (new_local name v scope types sound w.value.0 first.value.0 types first.value.1 w.value.1 number.value (grown_not types sound.ordered) auto.0.grown auto.0.object read (single_needs types own first.value.0 single) auto.1 (free_of name.id scope fine.0) number.gave)
 
 -- ---- all declarations
 

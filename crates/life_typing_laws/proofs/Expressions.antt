@@ -25,6 +25,7 @@ use Rattle.life_type_expr.specs.Named.{function_named, local_named}
 use Rattle.life_type_expr.specs.Operands.{answer_of, variable, variable_of}
 use Rattle.life_well_typed.specs.Expressions.{AreExpressions, HasResult, IsMadeOf, IsVariable, are_given, parameter_types}
 use Rattle.life_well_typed.specs.Visible.{Visible}
+use Rattle.life_well_typed.proofs.ObjectsKept.{object_there}
 use Rattle.life_typing_laws.proofs.Fitting.{arguments_given, first_none}
 use Rattle.life_typing_laws.proofs.Growing.{grown_not, parts_there}
 use Rattle.life_typing_laws.proofs.Operands.{answer_form, answer_stays, function_is, local_is, variable_stays}
@@ -89,7 +90,7 @@ name_good name v scope types x e sound =
     subst (λ (s : Types). IsGood v scope types (x.0, s)) n.3 (record {
       grown = grown_not types sound.ordered;
       is = λ p locals final.
-          let there : HasType types l.1.ty = sound.locals_there l.0 l.1 l_is.there in
+          let there : HasType types l.1.ty = object_there types l.1.ty (sound.locals_there l.0 l.1 l_is.there) in
           let parts : HasParts types (type_at types l.1.ty) = parts_there types l.1.ty sound.ordered there in
           let stays = variable_stays types p.types final.grown l name.place x.0 there parts n.2 in
           let kept : slice_get locals l.0 ≡ Some l.1 = final.kept l.0 l.1 l_is.there in

@@ -22,7 +22,8 @@ use Rattle.life_typing.specs.Resolves.{bodies_of, finished, no_flags, resolved, 
 use Rattle.life_typing.specs.Structs.{with_structure}
 use Rattle.life_well_typed.specs.Functions.{AreWellTyped, IsWellTyped, IsWellTypedFunction}
 use Rattle.life_well_typed.specs.Mains.{HasIntMain, HaveIntMains}
-use Rattle.life_well_typed.specs.Results.{HasResults, HasTable, HaveResults}
+use Rattle.life_well_typed.specs.Results.{HasResults, HasTable, HaveResults, HaveVariables}
+use Rattle.life_well_typed.specs.Tables.{AreVariables, HasObjects, HasTarget}
 use Rattle.life_typing_laws.proofs.BodiesCome.{BodiesCome, all_flags_size, bodies_come_on, flag_comes, no_flag}
 use Rattle.life_typing_laws.proofs.Each.{EachHolds}
 use Rattle.life_typing_laws.proofs.Growing.{grows_not}
@@ -116,6 +117,10 @@ each_int : (names : List (List ℕ)) (types : Types) (fs : List FunctionForm) �
 each_int names types [] int = tt
 each_int names types (f ∷ fs) int = (int 0 f refl, each_int names types fs (λ n g e. int (suc n) g e))
 
+each_variables : (types : Types) (fs : List FunctionForm) → ((n : ℕ) (f : FunctionForm) → slice_get fs n ≡ Some f → AreVariables types f.locals) → HaveVariables types fs
+each_variables types [] are = tt
+each_variables types (f ∷ fs) are = (are 0 f refl, each_variables types fs (λ n g e. are (suc n) g e))
+
 each_well : (p : ProgramForm) (fs : List FunctionForm) → ((n : ℕ) (f : FunctionForm) → slice_get fs n ≡ Some f → IsWellTypedFunction p f) → AreWellTyped p fs
 each_well p [] well = tt
 each_well p (f ∷ fs) well = (well 0 f refl, each_well p fs (λ n g e. well (suc n) g e))
@@ -134,6 +139,13 @@ base_once =
   where
     nothing_at : (m : ℕ) (t : Ty) → ◌≡◌ {A = Option Ty} None (Some t) → ⊥
     nothing_at m t e = cc
+
+-- .. and are made of nothing
+base_objects : HasObjects base_types
+base_objects = record {
+  targets = λ n t e. held_at (λ (u : Ty). HasTarget base_types u) base_types.types n t (tt, (tt, (tt, (tt, (tt, (tt, (tt, (tt, tt)))))))) e;
+  members = λ n ids e. absurd (nothing_there n ids e);
+}
 
 -- all that is known of a resolved program
 abbrev pub IsWhole : ProgramForm → Type 0
@@ -171,6 +183,12 @@ module _ (tree : Program) (q : ProgressView) (ends : Ends (bodies_of tree) (text
       let same : found.item.result ≡ f.result = sym k.is.result ∙ ap (λ (g : FunctionForm). g.result) (same_some k.form f (sym k.form_there ∙ e)) in
       subst (λ (id : TyId). HasType q.types id) same (ends.under.sound.results_there n found.item found.there)
 
+  function_variables : (n : ℕ) (f : FunctionForm) → slice_get q.functions n ≡ Some f → AreVariables q.types f.locals
+  function_variables n f e =
+      let found : IsThere q.scope.functions n = within q.scope.functions n (omega (arith, slice_get_within q.functions n f e, ends.under.known.forms_count)) in
+      let k = ends.under.known.each n found.item found.there in
+      subst (λ (g : FunctionForm). AreVariables q.types g.locals) (same_some k.form f (sym k.form_there ∙ e)) (body_now n found.item k).variables
+
   function_well : (n : ℕ) (f : FunctionForm) → slice_get q.functions n ≡ Some f → IsWellTypedFunction p f
   function_well n f e =
       let found : IsThere q.scope.functions n = within q.scope.functions n (omega (arith, slice_get_within q.functions n f e, ends.under.known.forms_count)) in
@@ -193,6 +211,8 @@ module _ (tree : Program) (q : ProgressView) (ends : Ends (bodies_of tree) (text
     once = ends.under.sound.based.once base_once;
     chars = ap (λ (o : Option Ty). unwrap_or o ty.Void) (ends.under.sound.based.types 2 ty.Char refl);
     structs = ends.under.structs;
+    objects = ends.under.sound.based.objects base_objects;
+    variables = each_variables p.types q.functions function_variables;
   }
 
   all_well : IsWhole p

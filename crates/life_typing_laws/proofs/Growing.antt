@@ -5,13 +5,14 @@ use Rattle.std.specs.Prelude.{nat_lt}
 use Rattle.std.proofs.lemmas.Bool.{and_parts, ltb-true}
 use Rattle.std.proofs.lemmas.Option.{slice_get_within}
 use Rattle.life_types.specs.Trees.{IsOrdered, HasPartsBelow}
+use Rattle.life_types.specs.TypeTests.{is_void}
 use Rattle.life_types.specs.Types.{Types, HasType, HasTypes, HasParts, with_type}
 use Rattle.life_types.specs.contracts.ty.TyPartialEq.TheImpl.{ghosts as compared}
 use Rattle.life_types.specs.declared.place.Place.{Place}
 use Rattle.life_types.specs.declared.ty.Ty.{Ty}
 use Rattle.life_types.specs.declared.ty.Ty.TheVariants as ty
 use Rattle.life_types.specs.declared.ty.TyId.{TyId}
-use Rattle.life_types.proofs.TreeLemmas.{grows_more, ordered_more, IsThere, within}
+use Rattle.life_types.proofs.TreeLemmas.{Grows as Kept, grows_more, ordered_more, IsThere, within}
 use Rattle.life_typed.specs.BaseTypes.{type_at}
 use Rattle.life_names.specs.Checked.{Checked, broken}
 use Rattle.life_names.specs.Environment.{StructureView}
@@ -21,15 +22,17 @@ use Rattle.life_names.specs.declared.fault.IllKind.{IllKind}
 use Rattle.life_names.specs.declared.fault.IllKind.TheVariants as kinds
 use Rattle.life_typing.specs.Structs.{types_of}
 use Rattle.life_typing_laws.specs.Sound.{Grows, HasStruct, HasStructs}
+use Rattle.life_well_typed.proofs.ObjectsKept.{object_there, objects_more}
 use Rattle.life_well_typed.proofs.Once.{once_more, same_type}
+use Rattle.life_well_typed.specs.Tables.{HasObjects, HasTarget, IsObject}
 
 -- ---- growing
 
 pub grows_not : (types : Types) → Grows types types
-grows_not types = record { types = λ n t e. e; once = λ h. h; structs = λ n ids e. e }
+grows_not types = record { types = λ n t e. e; once = λ h. h; objects = λ h. h; structs = λ n ids e. e }
 
 pub grows_on : (a b c : Types) → Grows a b → Grows b c → Grows a c
-grows_on a b c first second = record { types = λ n t e. second.types n t (first.types n t e); once = λ h. second.once (first.once h); structs = λ n ids e. second.structs n ids (first.structs n ids e) }
+grows_on a b c first second = record { types = λ n t e. second.types n t (first.types n t e); once = λ h. second.once (first.once h); objects = λ h. second.objects (first.objects h); structs = λ n ids e. second.structs n ids (first.structs n ids e) }
 
 -- a table that has grown, with the same structs, and is in order
 pub record IsGrown (few more : Types) : Type 0 where
@@ -68,6 +71,22 @@ pub same_type_at : (old new : Types) (id : TyId) → Grows old new → HasType o
 same_type_at old new id grows there =
     let found : IsThere old.types id.0 = within old.types id.0 there in
     type_is new id found.item (grows.types id.0 found.item found.there) ∙ sym (type_is old id found.item found.there)
+
+-- an object too
+pub object_later : (old new : Types) (id : TyId) → Grows old new → IsObject old id → IsObject new id
+object_later old new id grows object = ap is_void (same_type_at old new id grows (object_there old id object)) ∙ object
+
+abbrev pub AreObjects : Types → List TyId → Type 0
+AreObjects types [] = Unit {0}
+AreObjects types (id ∷ ids) = IsObject types id × AreObjects types ids
+
+pub objects_later : (old new : Types) (ids : List TyId) → Grows old new → AreObjects old ids → AreObjects new ids
+objects_later old new [] grows are = tt
+objects_later old new (id ∷ ids) grows are = (object_later old new id grows are.0, objects_later old new ids grows are.1)
+
+pub objects_there : (types : Types) (ids : List TyId) → AreObjects types ids → HasTypes types ids
+objects_there types [] are = tt
+objects_there types (id ∷ ids) are = (object_there types id are.0, objects_there types ids are.1)
 
 -- ---- the parts of a type
 
@@ -142,37 +161,57 @@ over types t ts = (record { 0 = number_of ts t }, record types { types = ts })
 abbrev pub grown_by : Types → Ty → TyId × Types
 grown_by types t = over types t (with_type types.types t)
 
-pub with_added : (types : Types) (t : Ty) → IsOrdered types → HasParts types t → IsAdded t types (grown_by types t)
-with_added types t ordered there = go (list_any (compared.eq t) types.types) refl
+with_old : (types : Types) (t : Ty) → list_any (compared.eq t) types.types ≡ true → with_type types.types t ≡ types.types
+with_old types t is = ap (λ b. if b then types.types else types.types ++ t ∷ []) is
+
+with_new : (types : Types) (t : Ty) → list_any (compared.eq t) types.types ≡ false → with_type types.types t ≡ types.types ++ t ∷ []
+with_new types t is = ap (λ b. if b then types.types else types.types ++ t ∷ []) is
+
+pub with_added : (types : Types) (t : Ty) → IsOrdered types → HasParts types t → (HasObjects types → HasTarget types t) → IsAdded t types (grown_by types t)
+with_added types t ordered there target = go (list_any (compared.eq t) types.types) refl
   where
-    old : list_any (compared.eq t) types.types ≡ true → with_type types.types t ≡ types.types
-    old is = ap (λ b. if b then types.types else types.types ++ t ∷ []) is
-
-    new : list_any (compared.eq t) types.types ≡ false → with_type types.types t ≡ types.types ++ t ∷ []
-    new is = ap (λ b. if b then types.types else types.types ++ t ∷ []) is
-
     go : (b : Bool) → list_any (compared.eq t) types.types ≡ b → IsAdded t types (over types t (with_type types.types t))
-    go true is = subst (λ (ts : List Ty). IsAdded t types (over types t ts)) (sym (old is)) (record { grown = grown_not types ordered; is = number_in types.types t is })
-    go false is = subst (λ (ts : List Ty). IsAdded t types (over types t ts)) (sym (new is))
+    go true is = subst (λ (ts : List Ty). IsAdded t types (over types t ts)) (sym (with_old types t is)) (record { grown = grown_not types ordered; is = number_in types.types t is })
+    go false is = subst (λ (ts : List Ty). IsAdded t types (over types t ts)) (sym (with_new types t is))
         (record {
           grown = record {
-            grows = record { types = (grows_more types ordered t there).types; once = once_more types.structs types.types t is; structs = λ n ids e. e };
+            grows = record {
+              types = (grows_more types ordered t there).types;
+              once = once_more types.structs types.types t is;
+              objects = λ objects. objects_more types t ordered there (target objects) objects;
+              structs = λ n ids e. e;
+            };
             ordered = ordered_more types ordered t there;
             structs = refl;
           };
           is = number_in (types.types ++ t ∷ []) t (any_last types.types t);
         })
 
-pub added : (place : Place) (t : Ty) (types : Types) (x : TyId × Types) → IsOrdered types → type_added place t types ≡ Ok x → IsAdded t types x
+-- what was there stays, whatever is added
+pub added_keeps : (place : Place) (t : Ty) (types : Types) (x : TyId × Types) → IsOrdered types → type_added place t types ≡ Ok x → Kept types x.1
 unfolding type_added
-added place t types x ordered e = go (can_add types t) refl e
+added_keeps place t types x ordered e = go (can_add types t) refl e
+  where
+    kept : HasParts types t → (b : Bool) → list_any (compared.eq t) types.types ≡ b → Kept types (grown_by types t).1
+    kept there true is = subst (λ (ts : List Ty). Kept types (over types t ts).1) (sym (with_old types t is)) (record { types = λ n u e. e; structs = λ n ids e. e })
+    kept there false is = subst (λ (ts : List Ty). Kept types (over types t ts).1) (sym (with_new types t is)) (grows_more types ordered t there)
+
+    go : (b : Bool) → can_add types t ≡ b → ◌≡◌ {A = Checked TyId} (if b then Ok (grown_by types t) else broken kinds.Unsupported place) (Ok x) → Kept types x.1
+    go true can is =
+        let same : grown_by types t ≡ x = cc in
+        subst (λ (y : TyId × Types). Kept types y.1) same (kept (parts_are_there types t (and_parts (nat_lt (length types.types) (2 ^ 32 - 1)) (has_parts types t) can).1) (list_any (compared.eq t) types.types) refl)
+    go false can is = absurd (cc)
+
+pub added : (place : Place) (t : Ty) (types : Types) (x : TyId × Types) → IsOrdered types → (HasObjects types → HasTarget types t) → type_added place t types ≡ Ok x → IsAdded t types x
+unfolding type_added
+added place t types x ordered target e = go (can_add types t) refl e
   where
     go : (b : Bool) → can_add types t ≡ b → ◌≡◌ {A = Checked TyId} (if b then Ok (grown_by types t) else broken kinds.Unsupported place) (Ok x) → IsAdded t types x
     go true can is =
         let same : grown_by types t ≡ x = cc in
-        subst (IsAdded t types) same (with_added types t ordered (parts_are_there types t (and_parts (nat_lt (length types.types) (2 ^ 32 - 1)) (has_parts types t) can).1))
+        subst (IsAdded t types) same (with_added types t ordered (parts_are_there types t (and_parts (nat_lt (length types.types) (2 ^ 32 - 1)) (has_parts types t) can).1) target)
     go false can is = absurd (cc)
 
-pub sound_added : (fault : Option IllKind) (place : Place) (t : Ty) (types : Types) (x : TyId × Types) → IsOrdered types → sound fault place t types ≡ Ok x → IsAdded t types x
-sound_added None place t types x ordered e = added place t types x ordered e
-sound_added (Some kind) place t types x ordered e = absurd (cc)
+pub sound_added : (fault : Option IllKind) (place : Place) (t : Ty) (types : Types) (x : TyId × Types) → IsOrdered types → (fault ≡ None → HasTarget types t) → sound fault place t types ≡ Ok x → IsAdded t types x
+sound_added None place t types x ordered target e = added place t types x ordered (λ objects. target refl) e
+sound_added (Some kind) place t types x ordered target e = absurd (cc)

@@ -2,7 +2,7 @@
 use Rattle.std.proofs.Common.{◌≡◌, ℕ, suc, ◌+◌, Bool, true, false, Ok, Err, List, [], ◌∷◌, ◌++◌, length, refl, ap, subst, arith, length-append, if◌then◌else◌}
 use Rattle.std.proofs.lemmas.Option.{slice_get_within}
 use Rattle.life_types.specs.Trees.{IsOrdered}
-use Rattle.life_types.specs.Types.{Types, HasType, HasTypes}
+use Rattle.life_types.specs.Types.{Types, HasType}
 use Rattle.life_types.specs.declared.place.Place.{Place}
 use Rattle.life_types.specs.declared.ty.Ty.TheVariants as ty
 use Rattle.life_types.specs.declared.ty.TyId.{TyId}
@@ -21,21 +21,29 @@ use Rattle.life_names.specs.declared.fault.IllKind.TheVariants as kinds
 use Rattle.life_typing.specs.Headers.{Header, Known, behind_result, function_seen, header_types, ill_at, not_const_value, nothing_known, parameter_types, result_type, returned_as, seen_unless, sound, with_known, with_next}
 use Rattle.life_typing.specs.Pointing.{reach_at}
 use Rattle.life_typing_laws.proofs.Domains.{Pointing, Returned}
-use Rattle.life_typing_laws.proofs.Growing.{IsGrown, grown_not, grown_on, grows_on, stay_there, stays_there, structs_stay}
+use Rattle.life_well_typed.proofs.ObjectsKept.{object_there}
+use Rattle.life_well_typed.specs.Tables.{IsObject}
+use Rattle.life_typing_laws.proofs.Growing.{AreObjects, IsGrown, grown_not, grown_on, grows_on, objects_later, stays_there, structs_stay}
 use Rattle.life_typing_laws.proofs.Steps.{bound}
 use Rattle.life_typing_laws.proofs.Written.{IsFound, written_finds}
 use Rattle.life_typing_laws.specs.Sound.{Grows, HasStructs}
 
 -- ---- the result
 
+-- void too
+record IsResult (types : Types) (x : TyId × Types) : Type 0 where
+  grown : IsGrown types x.1
+  there : HasType x.1 x.0
+
 result_finds : (r : ResultType) (place : Place) (scope : Scope) (types : Types) (x : TyId × Types) → IsOrdered types → Grows base_types types → HasStructs types scope.structs → result_type r place scope types ≡ Ok x
-    → IsFound types x
+    → IsResult types x
 result_finds (returned_type.Void at) place scope types x ordered base there e =
     let same : ◌≡◌ {A = TyId × Types} (VOID, types) x = cc in
-    subst (IsFound types) same (record { grown = grown_not types ordered; there = slice_get_within types.types 0 ty.Void (base.types 0 ty.Void refl) })
+    subst (IsResult types) same (record { grown = grown_not types ordered; there = slice_get_within types.types 0 ty.Void (base.types 0 ty.Void refl) })
 result_finds (returned_type.Type t) place scope types x ordered base there e =
     let step = bound (written t place scope types) (not_const_value t place) x e in
-    subst (IsFound types) (go (is_const_value t) step.value step.behind) (written_finds t place scope types step.value ordered base there step.gave)
+    let found = written_finds t place scope types step.value ordered base there step.gave in
+    subst (IsResult types) (go (is_const_value t) step.value step.behind) (record { grown = found.grown; there = object_there step.value.1 step.value.0 found.object })
   where
     go : (constant : Bool) (y : TyId × Types) → ◌≡◌ {A = Checked TyId} (if constant then broken kinds.WrongType place else Ok y) (Ok x) → y ≡ x
     go true y h = absurd (cc)
@@ -43,14 +51,14 @@ result_finds (returned_type.Type t) place scope types x ordered base there e =
 
 -- ---- the parameters
 
-there_more : (types : Types) (ids : List TyId) (id : TyId) → HasTypes types ids → HasType types id → HasTypes types (ids ++ id ∷ [])
-there_more types [] id there last = (last, tt)
-there_more types (i ∷ ids) id there last = (there.0, there_more types ids id there.1 last)
+objects_more : (types : Types) (ids : List TyId) (id : TyId) → AreObjects types ids → IsObject types id → AreObjects types (ids ++ id ∷ [])
+objects_more types [] id are last = (last, tt)
+objects_more types (i ∷ ids) id are last = (are.0, objects_more types ids id are.1 last)
 
 -- what was read behind these, over a table in which they are
 pub record AreRead (returned : Returned) (before : Known) (ps : List Parameter) (types : Types) (known : Known) (after : Types) : Type 0 where
   pub grown : IsGrown types after
-  pub there : HasTypes after known.types
+  pub objects : AreObjects after known.types
   pub types_count : length known.types ≡ length before.types + length ps
   pub reaches_count : length known.reaches ≡ length before.reaches + length ps
 
@@ -73,15 +81,15 @@ module _ (structs : List Pointing) (scope : Scope) (first : Returned) where
   -- what is read behind one more
   abbrev Later : List Parameter → Known → Returned → Known → Types → TyId × Types → Type 0
   Later ps before returned known after x =
-      IsOrdered x.1 → Grows base_types x.1 → HasStructs x.1 scope.structs → HasTypes x.1 (before.types ++ x.0 ∷ []) → parameter_types structs first (with_known x.1 structs x.0 before) ps scope x.1 ≡ sound returned known after
+      IsOrdered x.1 → Grows base_types x.1 → HasStructs x.1 scope.structs → AreObjects x.1 (before.types ++ x.0 ∷ []) → parameter_types structs first (with_known x.1 structs x.0 before) ps scope x.1 ≡ sound returned known after
       → (first ≡ returned) × AreRead returned (with_known x.1 structs x.0 before) ps x.1 known after
 
-  parameters_read : (ps : List Parameter) (before : Known) (types : Types) (returned : Returned) (known : Known) (after : Types) → IsOrdered types → Grows base_types types → HasStructs types scope.structs → HasTypes types before.types
+  parameters_read : (ps : List Parameter) (before : Known) (types : Types) (returned : Returned) (known : Known) (after : Types) → IsOrdered types → Grows base_types types → HasStructs types scope.structs → AreObjects types before.types
       → parameter_types structs first before ps scope types ≡ sound returned known after → (first ≡ returned) × AreRead returned before ps types known after
   parameters_read [] before types returned known after ordered base has there e = (ap (returned_in first) e, made)
     where
       at_once : AreRead returned before [] types before types
-      at_once = record { grown = grown_not types ordered; there = there; types_count = omega arith; reaches_count = omega arith }
+      at_once = record { grown = grown_not types ordered; objects = there; types_count = omega arith; reaches_count = omega arith }
 
       made : AreRead returned before [] types known after
       made = subst (λ (t : Types). AreRead returned before [] types known t) (ap (table_in types) e) (subst (λ (k : Known). AreRead returned before [] types k types) (ap (known_in before) e) at_once)
@@ -92,12 +100,12 @@ module _ (structs : List Pointing) (scope : Scope) (first : Returned) where
           → (first ≡ returned) × AreRead returned before (p ∷ ps) types known after
       of x others is h =
           let found : IsFound types x = written_finds p.ty p.name.place scope types x ordered base has is in
-          let now : HasTypes x.1 (before.types ++ x.0 ∷ []) = there_more x.1 before.types x.0 (stay_there types x.1 before.types found.grown.grows there) found.there in
+          let now : AreObjects x.1 (before.types ++ x.0 ∷ []) = objects_more x.1 before.types x.0 (objects_later types x.1 before.types found.grown.grows there) found.object in
           let later = others found.grown.ordered (grows_on base_types types x.1 base found.grown.grows) (structs_stay types x.1 scope.structs found.grown.grows has) now h in (
             later.0,
             record {
               grown = grown_on types x.1 after found.grown later.1.grown;
-              there = later.1.there;
+              objects = later.1.objects;
               types_count = one_more before.types x.0 known.types (length ps) later.1.types_count;
               reaches_count = one_more before.reaches (reach_at x.1 structs x.0) known.reaches (length ps) later.1.reaches_count;
             },
@@ -123,7 +131,7 @@ by_seen f scope Holds same new = of (meaning scope f.name.id)
 pub record HeaderRead (ps : List Parameter) (types : Types) (returned : Returned) (known : Known) (after : Types) : Type 0 where
   pub grown : IsGrown types after
   pub result : HasType after returned.ty
-  pub there : HasTypes after known.types
+  pub objects : AreObjects after known.types
   pub types_count : length known.types ≡ length ps
   pub reaches_count : length known.reaches ≡ length ps
 
@@ -135,14 +143,14 @@ header_read structs f scope types returned known after ordered base has e = go (
         → HeaderRead f.parameters.items types returned known after
     go (Err fault) is h = absurd (cc)
     go (Ok x) is h =
-        let found : IsFound types x = result_finds f.returned f.name.place scope types x ordered base has is in
+        let found : IsResult types x = result_finds f.returned f.name.place scope types x ordered base has is in
         let read = parameters_read structs (function_seen f scope) (returned_as x.1 structs x.0) f.parameters.items nothing_known x.1 returned known after
         found.grown.ordered (grows_on base_types types x.1 base found.grown.grows)
         (by_seen f scope (λ (s : Scope). HasStructs x.1 s.structs) (structs_stay types x.1 scope.structs found.grown.grows has) (structs_stay types x.1 scope.structs found.grown.grows has)) tt h in
         record {
           grown = grown_on types x.1 after found.grown read.1.grown;
           result = stays_there x.1 after returned.ty read.1.grown.grows (subst (λ (r : Returned). HasType x.1 r.ty) read.0 found.there);
-          there = read.1.there;
+          objects = read.1.objects;
           types_count = omega (arith, read.1.types_count);
           reaches_count = omega (arith, read.1.reaches_count);
         }

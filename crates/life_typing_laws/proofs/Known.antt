@@ -10,7 +10,8 @@ use Rattle.life_typing.specs.Names.{DeclaredView}
 use Rattle.life_well_typed.specs.Expressions.{parameter_types}
 use Rattle.life_well_typed.specs.Functions.{IsWellTypedFunction, lists_parameters}
 use Rattle.life_typing_laws.proofs.Steps.{same_some}
-use Rattle.life_typing_laws.proofs.Growing.{grows_not, grows_on}
+use Rattle.life_well_typed.specs.Tables.{AreVariables}
+use Rattle.life_typing_laws.proofs.Growing.{grows_not, grows_on, object_later}
 use Rattle.life_typing_laws.proofs.Pieces.{CountIs, parameter_piece}
 use Rattle.life_typing_laws.proofs.Scopes.{set_else, set_length, set_there}
 use Rattle.life_typing_laws.specs.Sound.{Grows, HasFunction, Keeps}
@@ -27,6 +28,7 @@ pub record HasInEnd (p : ProgramForm) (names : List (List ℕ)) (types : Types) 
 pub record HasBody (names : List (List ℕ)) (types : Types) (signatures : List SignatureView) (form : FunctionForm) (s : SignatureView) : Type 0 where
   pub parameters : parameter_types (Some form) ≡ s.parameters
   pub is : (p : ProgramForm) → HasInEnd p names types signatures → IsWellTypedFunction p form
+  pub variables : AreVariables types form.locals
 
 pub record IsKnown (names : List (List ℕ)) (types : Types) (signatures : List SignatureView) (form : FunctionForm) (d : DeclaredView) (s : SignatureView) : Type 0 where
   pub result : form.result ≡ s.result
@@ -46,6 +48,7 @@ known_on names a b before after form d s grows keeps known = record {
   body = λ has. record {
     parameters = (known.body has).parameters;
     is = λ p final. (known.body has).is p (record { named = final.named; grown = grows_on a b p.types grows final.grown; functions = λ n t e. final.functions n t (keeps n t e) });
+    variables = λ n l e. object_later a b l.ty grows ((known.body has).variables n l e);
   };
 }
 

@@ -1,4 +1,5 @@
 pub mod Apart
+pub mod Autos
 pub mod Behind
 pub mod BlockParts
 pub mod Blocks
@@ -39,6 +40,7 @@ pub mod OwnNames
 pub mod Parameters
 pub mod Pieces
 pub mod Prefixes
+pub mod Present
 pub mod ProgramLaws
 pub mod Promises
 pub mod Ranges

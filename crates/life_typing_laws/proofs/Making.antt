@@ -1,5 +1,5 @@
 -- `std::make_unique` is well typed; the type that it makes may be added to the table.
-use Rattle.std.proofs.Common.{◌≡◌, ℕ, Bool, true, false, Option, None, Some, Ok, List, [], ◌∷◌, length, refl, sym, subst, ◌∙◌, if◌then◌else◌}
+use Rattle.std.proofs.Common.{◌≡◌, ℕ, true, Option, None, Some, Ok, List, [], ◌∷◌, length, refl, sym, subst, ◌∙◌}
 use Rattle.life_types.specs.Trees.{IsOrdered, TypeTree, is_plain, tree_at}
 use Rattle.life_types.specs.Types.{Types, HasType}
 use Rattle.life_types.specs.declared.place.Place.{Place}
@@ -24,24 +24,17 @@ use Rattle.life_well_typed.specs.Expressions.{AreExpressions, IsExpressionIfAny}
 use Rattle.life_well_typed.specs.Members.{is_optional}
 use Rattle.life_well_typed.specs.Visible.{Visible}
 use Rattle.life_typing_laws.proofs.Fitting.{first_none, lower_none, misfit_none, same_tree_at, given_later}
-use Rattle.life_typing_laws.proofs.Growing.{IsGrown, grown_on, parts_there, same_type_at, stays_there}
+use Rattle.life_well_typed.proofs.ObjectsKept.{object_there}
+use Rattle.life_well_typed.specs.Tables.{IsObject}
+use Rattle.life_typing_laws.proofs.Growing.{IsGrown, grown_on, object_later, parts_there, same_type_at}
 use Rattle.life_typing_laws.proofs.Reading.{IsPassed, PlacesThere, passed_is}
 use Rattle.life_typing_laws.proofs.Scopes.{sound_now}
 use Rattle.life_typing_laws.proofs.Steps.{bound, same_value}
 use Rattle.life_typing_laws.proofs.Typed.{Good, GoodList, IsGood, IsTyped, PlaceThere}
-use Rattle.life_typing_laws.proofs.Written.{IsFound, argument_finds}
+use Rattle.life_typing_laws.proofs.Written.{IsFound, argument_finds, held_plain}
 use Rattle.life_typing_laws.specs.Sound.{Grows, IsFinal, IsSound}
 
 -- ---- the element
-
--- what is held is plain
-held_plain : (constant : Bool) (types : Types) (id : TyId) → held_fault constant types id ≡ None → is_plain (tree_at types id) ≡ true
-held_plain true types id e = absurd (cc)
-held_plain false types id e = go (is_plain (tree_at types id)) e
-  where
-    go : (b : Bool) → ◌≡◌ {A = Option IllKind} (if b then None else Some kinds.NotPlain) None → b ≡ true
-    go true e = refl
-    go false e = absurd (cc)
 
 -- it is there, in a table that has grown, and is plain
 record IsElement (types : Types) (x : TyId × Types) : Type 0 where
@@ -120,15 +113,18 @@ unique_good place element l good v scope types x e sound = made (makes place ele
         sound_then : IsSound v scope m.id.1
         sound_then = sound_now v scope types m.id.1 sound m.found.found.grown
 
+        object : IsObject m.y.1 m.id.0
+        object = object_later m.id.1 m.y.1 m.id.0 m.passed.read.grown.grows m.found.found.object
+
         there : HasType m.y.1 m.id.0
-        there = stays_there m.id.1 m.y.1 m.id.0 m.passed.read.grown.grows m.found.found.there
+        there = object_there m.y.1 m.id.0 object
 
         typed : (p : ProgramForm) (locals : List TypedLocal) → IsFinal p locals scope m.y.1
             → IsTyped p locals v m.y.1 (value place (ty.Unique m.id.0) (make_unique m.id.0 (optional_form (first_of m.y.0)) l.delimiters.closing))
         typed p locals final = record {
           is = (
             refl,
-            subst (λ (t : TypeTree). is_plain t ≡ true) (sym plain_still) m.found.plain,
+            record { object = object_later m.y.1 p.types m.id.0 final.grown object; plain = subst (λ (t : TypeTree). is_plain t ≡ true) (sym plain_still) m.found.plain },
             optional_taken m.y.1 p.types m.id.0 m.passed.read.grown.ordered final.grown there m.y.0 (subst (PlacesThere m.y.1) (sym m.passed.read.all) (m.passed.read.places p locals final)) m.passed.fine,
             optional_typed p locals v.visible m.y.0 (subst (λ (es : List Typed). AreExpressions p locals v.visible (forms es)) (sym m.passed.read.all) (m.passed.read.are p locals final)),
           );
@@ -137,4 +133,4 @@ unique_good place element l good v scope types x e sound = made (makes place ele
         }
           where
             plain_still : tree_at p.types m.id.0 ≡ tree_at m.id.1 m.id.0
-            plain_still = same_tree_at m.y.1 p.types m.passed.read.grown.ordered final.grown m.id.0 there ∙ same_tree_at m.id.1 m.y.1 m.found.found.grown.ordered m.passed.read.grown.grows m.id.0 m.found.found.there
+            plain_still = same_tree_at m.y.1 p.types m.passed.read.grown.ordered final.grown m.id.0 there ∙ same_tree_at m.id.1 m.y.1 m.found.found.grown.ordered m.passed.read.grown.grows m.id.0 (object_there m.id.1 m.id.0 m.found.found.object)

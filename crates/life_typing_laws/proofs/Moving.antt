@@ -14,6 +14,7 @@ use Rattle.life_type_expr.specs.Named.{local_named}
 use Rattle.life_type_expr.specs.Operands.{move_fault_of, moved, moved_unless, value}
 use Rattle.life_well_typed.specs.Expressions.{IsMoved}
 use Rattle.life_typing_laws.specs.Sound.{Grows}
+use Rattle.life_well_typed.proofs.ObjectsKept.{object_there}
 use Rattle.life_typing_laws.proofs.Growing.{grown_not, parts_there, same_type_at}
 use Rattle.life_typing_laws.proofs.Operands.{local_is}
 use Rattle.life_typing_laws.proofs.Steps.{found_ok, given_ok}
@@ -51,7 +52,7 @@ move_good place name v scope types x e sound =
     subst (λ (s : Types). IsGood v scope types (x.0, s)) last.1 (record {
       grown = grown_not types sound.ordered;
       is = λ p locals final.
-          let there : HasType types l.1.ty = sound.locals_there l.0 l.1 l_is.there in
+          let there : HasType types l.1.ty = object_there types l.1.ty (sound.locals_there l.0 l.1 l_is.there) in
           let parts : HasParts types (type_at types l.1.ty) = parts_there types l.1.ty sound.ordered there in
           let stays : moved p.types place l ≡ Ok (value place (type_at types l.1.ty) (move l.0)) =
           same_moved types p.types place l final.grown there ∙ last.0 ∙ ap (λ (y : Typed). Ok y) (sym is) in

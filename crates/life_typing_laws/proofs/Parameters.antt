@@ -4,14 +4,12 @@ use Rattle.std.specs.Prelude.{nat_lt}
 use Rattle.std.proofs.lemmas.Bool.{ltb-true}
 use Rattle.std.proofs.lemmas.List.{map-append}
 use Rattle.std.proofs.lemmas.Option.{slice_get_within}
-use Rattle.life_types.specs.Types.{Types, HasType, HasTypes}
+use Rattle.life_types.specs.Types.{Types}
 use Rattle.life_types.specs.declared.ty.NameId.{NameId}
-use Rattle.life_types.specs.declared.ty.Ty.TheVariants as ty
 use Rattle.life_types.specs.declared.ty.TyId.{TyId}
 use Rattle.life_types.proofs.TreeLemmas.{IsThere, last_in, stays_in, within}
 use Rattle.life_tree.specs.declared.function.Parameter.{Parameter}
 use Rattle.life_tree.specs.declared.identifier.Identifier.{Identifier}
-use Rattle.life_typed.specs.BaseTypes.{base_types}
 use Rattle.life_typed.specs.declared.typed_program.TypedLocal.{TypedLocal}
 use Rattle.life_names.specs.Environment.{Scope, declared}
 use Rattle.life_names.specs.declared.environment.Entity.TheVariants as entity
@@ -21,18 +19,20 @@ use Rattle.life_typing.specs.Parameters.{declared_behind, known_parameter, is_se
 use Rattle.life_typing_laws.proofs.Domains.{Reach}
 use Rattle.life_well_typed.specs.Expressions.{type_of}
 use Rattle.life_well_typed.specs.Visible.{with_parameters}
+use Rattle.life_well_typed.specs.Tables.{IsObject}
+use Rattle.life_typing_laws.proofs.Growing.{AreObjects}
 use Rattle.life_typing_laws.proofs.Reading.{append_none}
 use Rattle.life_typing_laws.proofs.Scopes.{IsDeclared, IsFree, Moves, behind_declared, declared_is, declared_moves, declared_sound, moves_not, moves_on}
 use Rattle.life_typing_laws.proofs.Steps.{Answered, answered}
-use Rattle.life_typing_laws.specs.Sound.{Grows, IsSound}
+use Rattle.life_typing_laws.specs.Sound.{IsSound}
 
 -- ---- their types
 
--- a type that is known is there, and so is void
-known_there : (known : List TyId) (types : Types) (k : ℕ) → HasTypes types known → Grows base_types types → HasType types (known_or_void known k)
-known_there [] types k there base = let last = slice_get_within types.types 0 ty.Void (base.types 0 ty.Void refl) in last
-known_there (id ∷ ids) types zero there base = there.0
-known_there (id ∷ ids) types (suc k) there base = known_there ids types k there.1 base
+-- a type that is known isn't void
+known_object : (known : List TyId) (types : Types) (k : ℕ) → AreObjects types known → k < length known → IsObject types (known_or_void known k)
+known_object [] types k are few = absurd (omega (arith, few))
+known_object (id ∷ ids) types zero are few = are.0
+known_object (id ∷ ids) types (suc k) are few = known_object ids types k are.1 (omega (arith, few))
 
 -- .. of these parameters, the first of which has the number k
 abbrev pub parameter_ids : List TyId → ℕ → List Parameter → List TyId
@@ -89,10 +89,10 @@ more_hides q hides scope = hides ++ is_seen scope q.name.id ∷ []
 abbrev with_known_type : Parameter → List TyId → ℕ → TypedLocal
 with_known_type q known k = parameter_local q (known_or_void known k)
 
-module _ (known : List TyId) (types : Types) (there : HasTypes types known) where
+module _ (known : List TyId) (types : Types) (objects : AreObjects types known) where
   pub parameters_are : (ps : List Parameter) (hides : List Bool) (scope : Scope) (x : List Bool × Scope) → IsSound (with_parameters (length hides)) scope types → HideNothing x.0
-      → declared_behind hides known ps scope ≡ Ok x → AreParameters known (length hides) ps scope types x
-  parameters_are [] hides scope x sound nothing_hidden e =
+      → length known ≡ length hides + length ps → declared_behind hides known ps scope ≡ Ok x → AreParameters known (length hides) ps scope types x
+  parameters_are [] hides scope x sound nothing_hidden all e =
       let same : ◌≡◌ {A = List Bool × Scope} (hides, scope) x = cc in
       let none : length hides ≡ length hides + 0 = omega arith in
       subst (AreParameters known (length hides) [] scope types) same (record {
@@ -100,7 +100,7 @@ module _ (known : List TyId) (types : Types) (there : HasTypes types known) wher
         moves = moves_not (with_parameters (length hides)) scope types sound;
         ids = sym (append_none (map type_of scope.locals));
       })
-  parameters_are (q ∷ ps) hides scope x sound nothing_hidden e = made (λ s sound_now h. parameters_are ps (more_hides q hides scope) s x sound_now nothing_hidden h)
+  parameters_are (q ∷ ps) hides scope x sound nothing_hidden all e = made (λ s sound_now h. parameters_are ps (more_hides q hides scope) s x sound_now nothing_hidden (all ∙ sym total) h)
     where
       step : Answered (declared (with_known_type q known (length hides)) scope) (λ (y : ℕ × Scope). declared_behind (more_hides q hides scope) known ps y.1) x
       step = answered (declared (with_known_type q known (length hides)) scope) (λ (y : ℕ × Scope). declared_behind (more_hides q hides scope) known ps y.1) x e
@@ -108,8 +108,8 @@ module _ (known : List TyId) (types : Types) (there : HasTypes types known) wher
       d : IsDeclared (with_known_type q known (length hides)) scope step.value
       d = declared_is (with_known_type q known (length hides)) scope step.value step.gave
 
-      there_now : HasType types (with_known_type q known (length hides)).ty
-      there_now = known_there known types (length hides) there sound.based
+      object_now : IsObject types (with_known_type q known (length hides)).ty
+      object_now = known_object known types (length hides) objects (omega (arith, all))
 
       unseen : is_seen scope q.name.id ≡ false
       unseen = nothing_hidden (length hides) (is_seen scope q.name.id)
@@ -119,7 +119,7 @@ module _ (known : List TyId) (types : Types) (there : HasTypes types known) wher
       free = free_unseen q.name.id scope unseen
 
       next : IsSound (with_parameters (suc (length hides))) (behind_declared (with_known_type q known (length hides)) scope) types
-      next = declared_sound (with_known_type q known (length hides)) (with_parameters (length hides)) scope types sound there_now
+      next = declared_sound (with_known_type q known (length hides)) (with_parameters (length hides)) scope types sound object_now
 
       one_more : suc (length hides) ≡ length (more_hides q hides scope)
       one_more = simp length-append (omega arith)
@@ -132,7 +132,7 @@ module _ (known : List TyId) (types : Types) (there : HasTypes types known) wher
       total = omega (arith, one_more)
 
       first : Moves ((with_known_type q known (length hides)).name ∷ []) scope step.value.1 types types
-      first = subst (λ (s : Scope). Moves ((with_known_type q known (length hides)).name ∷ []) scope s types types) (sym d.behind) (declared_moves (with_known_type q known (length hides)) (with_parameters (length hides)) scope types sound there_now free)
+      first = subst (λ (s : Scope). Moves ((with_known_type q known (length hides)).name ∷ []) scope s types types) (sym d.behind) (declared_moves (with_known_type q known (length hides)) (with_parameters (length hides)) scope types sound object_now free)
 
       ids_now : map type_of step.value.1.locals ≡ map type_of scope.locals ++ known_or_void known (length hides) ∷ []
       ids_now = subst (λ (s : Scope). map type_of s.locals ≡ map type_of scope.locals ++ known_or_void known (length hides) ∷ []) (sym d.behind) (map-append type_of scope.locals ((with_known_type q known (length hides)) ∷ []))

@@ -33,9 +33,13 @@ use Rattle.life_type_stmt.specs.Ranges.{RangeForm, RangeHead, auto_head, element
 use Rattle.life_well_typed.specs.Statements.{IsRange, TakesElements}
 use Rattle.life_well_typed.specs.Visible.{Visible, with_next}
 use Rattle.life_typing_laws.specs.Sound.{Grows, IsFinal, IsSound}
-use Rattle.life_typing_laws.proofs.Declarations.{IsAuto, IsWritten, auto_is, free_of, local_written}
+use Rattle.life_typing_laws.proofs.Autos.{IsAuto, auto_is}
+use Rattle.life_typing_laws.proofs.Declarations.{IsWritten, free_of, local_written}
 use Rattle.life_typing_laws.proofs.Fitting.{fit_at_all, misfit_none, same_fits}
-use Rattle.life_typing_laws.proofs.Growing.{IsGrown, grown_not, grown_on, parts_there, same_type_at, stays_there, structs_stay}
+use Rattle.life_well_typed.proofs.ObjectsKept.{object_there}
+use Rattle.life_well_typed.proofs.TargetsHeld.{target_at}
+use Rattle.life_well_typed.specs.Tables.{IsObject}
+use Rattle.life_typing_laws.proofs.Growing.{IsGrown, grown_not, grown_on, object_later, parts_there, same_type_at, stays_there, structs_stay}
 use Rattle.life_typing_laws.proofs.Indexing.{indexed_there}
 use Rattle.life_typing_laws.proofs.Scopes.{IsDeclared, IsFree, Moves, behind_declared, declared_is, declared_moves, declared_sound, declared_there, final_before, final_then, moves_after, sound_now}
 use Rattle.life_typing_laws.proofs.Steps.{allowed_ok, bound, given_ok, same_value}
@@ -96,16 +100,19 @@ RangeTyped v scope middle range = (p : ProgramForm) (locals : List TypedLocal) �
 
 module _ (name : Identifier) (v : Visible) (scope : Scope) (types : Types) (sound : IsSound v scope types) where
   -- over what is read in the middle table, it is declared over the last
-  new_head : (w : Written) (r : RangeForm) (middle after : Types) (n : ℕ × Scope) → IsGrown types middle → IsGrown middle after → HasType after w.ty → RangeTyped v scope middle r.range
+  new_head : (w : Written) (r : RangeForm) (middle after : Types) (n : ℕ × Scope) → IsGrown types middle → IsGrown middle after → IsObject after w.ty → RangeTyped v scope middle r.range
       → range_element r.range.ty (is_constant r.range.category) ≡ Some r.element
       → value_fault kinds.WrongType after (type_at after w.ty) (element_type middle r.element) (element_place r.element) ≡ None → IsFree name.id scope → declared (local_of name w) scope ≡ Ok n
       → IsHead name v scope types ((record { local = n.0; range = r.range }, n.1), after)
-  new_head w r middle after n early late there typed elements fault free h =
+  new_head w r middle after n early late object typed elements fault free h =
       subst (λ (m : ℕ). IsHead name v scope types ((record { local = m; range = r.range }, n.1), after)) (sym d.number)
       (subst (λ (s : Scope). IsHead name v scope types ((record { local = length scope.locals; range = r.range }, s), after)) (sym d.behind) made)
     where
       d : IsDeclared (local_of name w) scope n
       d = declared_is (local_of name w) scope n h
+
+      there : HasType after w.ty
+      there = object_there after w.ty object
 
       sound_middle : IsSound v scope middle
       sound_middle = sound_now v scope types middle sound early
@@ -114,7 +121,7 @@ module _ (name : Identifier) (v : Visible) (scope : Scope) (types : Types) (soun
       sound_after = sound_now v scope middle after sound_middle late
 
       last : Moves (name.id ∷ []) scope (behind_declared (local_of name w) scope) after after
-      last = declared_moves (local_of name w) v scope after sound_after there free
+      last = declared_moves (local_of name w) v scope after sound_after object free
 
       fits_element : (p : ProgramForm) → Grows after p.types → HasType middle r.element.0
           → fits_at_all (fits p.types (type_at p.types w.ty) (element_type p.types r.element) (element_place r.element)) ≡ true
@@ -131,7 +138,7 @@ module _ (name : Identifier) (v : Visible) (scope : Scope) (types : Types) (soun
       made : IsHead name v scope types ((record { local = length scope.locals; range = r.range }, behind_declared (local_of name w) scope), after)
       made = record {
         moves = moves_after v (name.id ∷ []) scope (behind_declared (local_of name w) scope) types after after sound (grown_on types middle after early late) last;
-        sound = declared_sound (local_of name w) v scope after sound_after there;
+        sound = declared_sound (local_of name w) v scope after sound_after object;
         is = λ p locals result final.
             let final_after : IsFinal p locals scope after = final_before p locals (name.id ∷ []) scope (behind_declared (local_of name w) scope) after after last final in
             let range_typed = typed p locals (final_then p locals scope middle after late final_after) in
@@ -171,9 +178,9 @@ module _ (name : Identifier) (scope : Scope) where
           → value_fault kinds.WrongType r.1 (type_at w.1 w.0.ty) (element_type r.1 r.0.element) (element_place r.0.element) ≡ None → declared (local_of name w.0) scope ≡ Ok n
           → IsHead name v scope types ((record { local = n.0; range = r.0.range }, n.1), r.1)
       of w r n is gone fault number =
-          new_head name v scope types sound w.0 r.0 r.1 r.1 n (grown_on types w.1 r.1 is.grown range.grown) (grown_not r.1 range.grown.ordered) (stays_there w.1 r.1 w.0.ty range.grown.grows is.there)
+          new_head name v scope types sound w.0 r.0 r.1 r.1 n (grown_on types w.1 r.1 is.grown range.grown) (grown_not r.1 range.grown.ordered) (object_later w.1 r.1 w.0.ty range.grown.grows is.object)
           (λ p locals final. range.is p locals final) gone.elements
-          (subst (λ (u : Ty). value_fault kinds.WrongType r.1 u (element_type r.1 r.0.element) (element_place r.0.element) ≡ None) (sym (same_type_at w.1 r.1 w.0.ty range.grown.grows is.there)) fault)
+          (subst (λ (u : Ty). value_fault kinds.WrongType r.1 u (element_type r.1 r.0.element) (element_place r.0.element) ≡ None) (sym (same_type_at w.1 r.1 w.0.ty range.grown.grows (object_there w.1 w.0.ty is.object))) fault)
           (free_of name.id scope gone.free) number
         where
           range : IsGood v scope w.1 (r.0.range, r.1)
@@ -195,13 +202,13 @@ module _ (name : Identifier) (scope : Scope) where
           → auto_written a name.place (element_type r.1 r.0.element) (element_place r.0.element) scope r.1 ≡ Ok w → declared (local_of name w.0) scope ≡ Ok n
           → IsHead name v scope types ((record { local = n.0; range = r.0.range }, n.1), w.1)
       of r w n gone gave number =
-          new_head name v scope types sound w.0 r.0 r.1 w.1 n range.grown auto.grown auto.there (λ p locals final. range.is p locals final) gone.elements auto.given (free_of name.id scope gone.free) number
+          new_head name v scope types sound w.0 r.0 r.1 w.1 n range.grown auto.grown auto.object (λ p locals final. range.is p locals final) gone.elements auto.given (free_of name.id scope gone.free) number
         where
           range : IsGood v scope types (r.0.range, r.1)
           range = expr_good e v scope types (r.0.range, r.1) gone.reads sound
 
           auto : IsAuto r.1 (element_type r.1 r.0.element) (element_place r.0.element) w
-          auto = auto_is a name.place (element_type r.1 r.0.element) (element_place r.0.element) scope r.1 w range.grown.ordered (structs_stay types r.1 scope.structs range.grown.grows sound.structs_there) gave
+          auto = auto_is a name.place (element_type r.1 r.0.element) (element_place r.0.element) scope r.1 w range.grown.ordered (structs_stay types r.1 scope.structs range.grown.grows sound.structs_there) (λ objects. target_at r.1 objects r.0.element.0) gave
 
   pub head_is : (t : DeclaredType) (colon : Place) (e : Expr) (v : Visible) (types : Types) (x : (RangeHead × Scope) × Types) → IsSound v scope types → range_head t name colon e scope types ≡ Ok x
       → IsHead name v scope types x

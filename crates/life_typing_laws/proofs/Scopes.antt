@@ -2,7 +2,7 @@
 use Rattle.std.proofs.Common.{◌≡◌, ◌⊎◌, inl, inr, ⊎_elim, ℕ, zero, suc, ◌-◌, ◌^◌, Bool, true, false, List, [], ◌∷◌, ◌++◌, Some, Ok, Contains, length, slice_get, slice_set, refl, sym, ap, subst, ◌∙◌, arith, length-append}
 use Rattle.std.specs.Prelude.{Result, Err, nat_lt, if◌then◌else◌}
 use Rattle.std.proofs.lemmas.List.Elements.{Contains-append_left, Contains-append_right}
-use Rattle.life_types.specs.Types.{Types, HasType}
+use Rattle.life_types.specs.Types.{Types}
 use Rattle.life_types.specs.declared.ty.NameId.{NameId}
 use Rattle.life_types.proofs.TreeLemmas.{in_more, last_in, stays_in}
 use Rattle.life_typed.specs.Programs.{ProgramForm}
@@ -11,8 +11,9 @@ use Rattle.life_names.specs.Checked.{Ill}
 use Rattle.life_names.specs.Environment.{Scope, SignatureView, StructureView, declared, forgotten, seen_as, with_local}
 use Rattle.life_names.specs.declared.environment.Entity.TheVariants as entity
 use Rattle.life_names.specs.declared.fault.IllKind.TheVariants as kinds
+use Rattle.life_well_typed.specs.Tables.{IsObject}
 use Rattle.life_well_typed.specs.Visible.{Visible, with_next}
-use Rattle.life_typing_laws.proofs.Growing.{IsGrown, grown_not, grown_on, grows_on, stay_there, stays_there, struct_stays}
+use Rattle.life_typing_laws.proofs.Growing.{IsGrown, grown_not, grown_on, grows_on, object_later, stay_there, stays_there, struct_stays}
 use Rattle.life_typing_laws.specs.Sound.{IsFinal, IsSound, Keeps}
 
 -- ---- lists in which one element is changed
@@ -124,7 +125,7 @@ forgotten_texts (name ∷ names) scope = forgotten_texts names (seen_as name ent
 pub record Moves (names : List NameId) (before after : Scope) (old new : Types) : Type 0 where
   pub grown : IsGrown old new
   pub locals : Keeps before.locals after.locals
-  pub locals_there : (n : ℕ) (l : TypedLocal) → slice_get after.locals n ≡ Some l → HasType new l.ty
+  pub locals_there : (n : ℕ) (l : TypedLocal) → slice_get after.locals n ≡ Some l → IsObject new l.ty
   pub functions : after.functions ≡ before.functions
   pub structs : after.structs ≡ before.structs
   pub shows : ShowsNoMore names before after
@@ -212,7 +213,7 @@ pub table_moves : (v : Visible) (scope : Scope) (old new : Types) → IsSound v 
 table_moves v scope old new sound grown = record {
   grown = grown;
   locals = λ n l e. e;
-  locals_there = λ n l e. stays_there old new l.ty grown.grows (sound.locals_there n l e);
+  locals_there = λ n l e. object_later old new l.ty grown.grows (sound.locals_there n l e);
   functions = refl;
   structs = refl;
   shows = λ k n e. inr e;
@@ -267,15 +268,15 @@ declared_is l scope x e = go (nat_lt (length scope.locals) (2 ^ 32 - 1)) e
         record { number = ap (λ (y : ℕ × Scope). y.0) (sym same); behind = ap (λ (y : ℕ × Scope). y.1) (sym same) }
     go false e = absurd (cc)
 
-declared_locals : (l : TypedLocal) (v : Visible) (scope : Scope) (types : Types) → IsSound v scope types → HasType types l.ty
-    → (n : ℕ) (x : TypedLocal) → slice_get (scope.locals ++ l ∷ []) n ≡ Some x → HasType types x.ty
+declared_locals : (l : TypedLocal) (v : Visible) (scope : Scope) (types : Types) → IsSound v scope types → IsObject types l.ty
+    → (n : ℕ) (x : TypedLocal) → slice_get (scope.locals ++ l ∷ []) n ≡ Some x → IsObject types x.ty
 declared_locals l v scope types sound there n x e = ⊎_elim (λ old. sound.locals_there n x old) (λ new. there_as new.1) (in_more scope.locals l n x e)
   where
-    there_as : l ≡ x → HasType types x.ty
-    there_as same = subst (λ (y : TypedLocal). HasType types y.ty) same there
+    there_as : l ≡ x → IsObject types x.ty
+    there_as same = subst (λ (y : TypedLocal). IsObject types y.ty) same there
 
 -- it moves on by one name
-pub declared_moves : (l : TypedLocal) (v : Visible) (scope : Scope) (types : Types) → IsSound v scope types → HasType types l.ty → IsFree l.name scope
+pub declared_moves : (l : TypedLocal) (v : Visible) (scope : Scope) (types : Types) → IsSound v scope types → IsObject types l.ty → IsFree l.name scope
     → Moves (l.name ∷ []) scope (behind_declared l scope) types types
 declared_moves l v scope types sound there free = record {
   grown = grown_not types sound.ordered;
@@ -296,7 +297,7 @@ declared_moves l v scope types sound there free = record {
     taken : (k n : ℕ) → l.name.0 ≡ k → slice_get scope.visible k ≡ Some (entity.Function n) → ⊥
     taken k n here e = free n (subst (λ (i : ℕ). slice_get scope.visible i ≡ Some (entity.Function n)) (sym here) e)
 
-pub declared_sound : (l : TypedLocal) (v : Visible) (scope : Scope) (types : Types) → IsSound v scope types → HasType types l.ty → IsSound (with_next v) (behind_declared l scope) types
+pub declared_sound : (l : TypedLocal) (v : Visible) (scope : Scope) (types : Types) → IsSound v scope types → IsObject types l.ty → IsSound (with_next v) (behind_declared l scope) types
 declared_sound l v scope types sound there = record {
   ordered = sound.ordered;
   based = sound.based;

@@ -2,6 +2,7 @@
 use Rattle.std.proofs.Common.{◌≡◌, ⊎_elim, inl, inr, ℕ, suc, ◌+◌, ◌<◌, ◌-◌, ◌^◌, Bool, true, false, not, ◌&&◌, Some, Ok, List, [], ◌∷◌, ◌++◌, length, slice_get, if◌then◌else◌, refl, sym, ap, subst, ◌∙◌, arith, length-append}
 use Rattle.std.specs.Prelude.{nat_lt}
 use Rattle.life_types.specs.Trees.{IsOrdered}
+use Rattle.life_types.specs.TypeTests.{is_reference as is_reference_type}
 use Rattle.life_types.specs.Types.{Types, HasTypes}
 use Rattle.life_types.specs.declared.place.Place.{Place}
 use Rattle.life_types.specs.declared.ty.NameId.{NameId}
@@ -31,13 +32,15 @@ use Rattle.life_well_typed.specs.Results.{HaveMembers}
 use Rattle.life_well_typed.specs.Visible.{with_parameters}
 use Rattle.life_typing_laws.proofs.BodiesCome.{BodiesCome, Comes}
 use Rattle.life_typing_laws.proofs.Declaring.{numbered_is}
-use Rattle.life_typing_laws.proofs.Growing.{IsAdded, IsGrown, grown_by, grown_not, grown_on, grows_on, stay_there, stays_there, struct_stays, structs_stay, with_added}
+use Rattle.life_well_typed.proofs.ObjectsKept.{object_there, objects_struct}
+use Rattle.life_well_typed.specs.Tables.{AreMemberTypes, IsMemberType}
+use Rattle.life_typing_laws.proofs.Growing.{IsAdded, IsGrown, grown_by, grown_not, grown_on, grows_on, object_later, same_type_at, stay_there, stays_there, struct_stays, structs_stay, with_added}
 use Rattle.life_typing_laws.proofs.Known.{known_grown}
 use Rattle.life_typing_laws.proofs.Scopes.{IsFree, set_else, set_length, set_other}
 use Rattle.life_typing_laws.proofs.Staying.{free_not_seen}
 use Rattle.life_typing_laws.proofs.Steps.{answered, same_answer}
 use Rattle.life_typing_laws.proofs.Visible.{IsUnderway}
-use Rattle.life_typing_laws.proofs.Written.{IsFound, written_finds}
+use Rattle.life_typing_laws.proofs.Written.{value_finds, written_finds}
 use Rattle.life_typing_laws.specs.Sound.{Grows, HasStruct, HasStructs, IsSound}
 
 -- ---- its members
@@ -46,21 +49,35 @@ use Rattle.life_typing_laws.specs.Sound.{Grows, HasStruct, HasStructs, IsSound}
 record AreMembers (types : Types) (x : List MemberType × Types) : Type 0 where
   grown : IsGrown types x.1
   there : HasTypes x.1 (types_of x.0)
+  are : AreMemberTypes x.1 (types_of x.0)
 
-member_finds : (m : Member) (scope : Scope) (types : Types) (x : TyId × Types) → IsOrdered types → Grows base_types types → HasStructs types scope.structs → member_type m scope types ≡ Ok x → IsFound types x
-member_finds m scope types x ordered base structs e = go (is_reference m.ty) e
+-- .. of one
+record IsMember (types : Types) (x : TyId × Types) : Type 0 where
+  grown : IsGrown types x.1
+  is : IsMemberType x.1 x.0
+
+member_later : (old new : Types) (id : TyId) → Grows old new → IsMemberType old id → IsMemberType new id
+member_later old new id grows is = record {
+  object = object_later old new id grows is.object;
+  value = ap is_reference_type (same_type_at old new id grows (object_there old id is.object)) ∙ is.value;
+}
+
+member_finds : (m : Member) (scope : Scope) (types : Types) (x : TyId × Types) → IsOrdered types → Grows base_types types → HasStructs types scope.structs → member_type m scope types ≡ Ok x → IsMember types x
+member_finds m scope types x ordered base structs e = go (is_reference m.ty) refl e
   where
-    go : (b : Bool) → (if b then reference_member m scope types else value_member m scope types) ≡ Ok x → IsFound types x
-    go true e =
+    go : (b : Bool) → is_reference m.ty ≡ b → (if b then reference_member m scope types else value_member m scope types) ≡ Ok x → IsMember types x
+    go true none e =
         let step = answered (written_base m.ty m.name.place scope types) (λ _. broken {A = TyId} kinds.WrongType m.name.place) x e in
         absurd (never step.behind)
       where
         never : broken {A = TyId} kinds.WrongType m.name.place ≡ Ok x → ⊥
         never h = cc
-    go false e =
+    go false none e =
         let step = answered (written m.ty m.name.place scope types) (λ y. unless (not (is_const_value m.ty)) kinds.WrongType m.name.place >> λ _. Ok y) x e in
         let last = answered (unless (not (is_const_value m.ty)) kinds.WrongType m.name.place) (λ _. Ok step.value) x step.behind in
-        subst (IsFound types) (same_answer step.value x last.behind) (written_finds m.ty m.name.place scope types step.value ordered base structs step.gave)
+        let found = written_finds m.ty m.name.place scope types step.value ordered base structs step.gave in
+        subst (IsMember types) (same_answer step.value x last.behind)
+        (record { grown = found.grown; is = record { object = found.object; value = value_finds m.ty none m.name.place scope types step.value ordered base structs step.gave } })
 
 abbrev with_member : Member → TyId → List MemberType × Types → Checked (List MemberType)
 with_member m id xs = Ok (record { name = m.name.id; ty = id } ∷ xs.0, xs.1)
@@ -68,7 +85,7 @@ with_member m id xs = Ok (record { name = m.name.id; ty = id } ∷ xs.0, xs.1)
 members_read : (before : List NameId) (ms : List Member) (scope : Scope) (types : Types) (x : List MemberType × Types) → IsOrdered types → Grows base_types types → HasStructs types scope.structs
     → members_behind before ms scope types ≡ Ok x → AreMembers types x
 members_read before [] scope types x ordered base structs e =
-    subst (AreMembers types) (same_answer {A = List MemberType × Types} ([], types) x e) (record { grown = grown_not types ordered; there = tt })
+    subst (AreMembers types) (same_answer {A = List MemberType × Types} ([], types) x e) (record { grown = grown_not types ordered; there = tt; are = tt })
 members_read before (m ∷ ms) scope types x ordered base structs e =
     let first = answered (member_type m scope types) (λ y. name_added before m.name >> λ seen. members_behind seen ms scope y.1 >> with_member m y.0) x e in
     let named = answered (name_added before m.name) (λ seen. members_behind seen ms scope first.value.1 >> with_member m first.value.0) x first.behind in
@@ -78,7 +95,8 @@ members_read before (m ∷ ms) scope types x ordered base structs e =
     (structs_stay types first.value.1 scope.structs found.grown.grows structs) rest.gave in
     subst (AreMembers types) (same_answer {A = List MemberType × Types} (record { name = m.name.id; ty = first.value.0 } ∷ rest.value.0, rest.value.1) x rest.behind) (record {
       grown = grown_on types first.value.1 rest.value.1 found.grown others.grown;
-      there = (stays_there first.value.1 rest.value.1 first.value.0 others.grown.grows found.there, others.there);
+      there = (stays_there first.value.1 rest.value.1 first.value.0 others.grown.grows (object_there first.value.1 first.value.0 found.is.object), others.there);
+      are = (member_later first.value.1 rest.value.1 first.value.0 others.grown.grows found.is, others.are);
     })
 
 -- ---- its type
@@ -91,7 +109,7 @@ unfolding number_added
 numbered place number types y ordered there e = go (nat_lt (length types.types) (2 ^ 32 - 1)) e
   where
     go : (b : Bool) → ◌≡◌ {A = Checked TyId} (if b then Ok (grown_by types (ty.Struct number)) else broken kinds.Unsupported place) (Ok y) → IsAdded (ty.Struct number) types y
-    go true e = subst (IsAdded (ty.Struct number) types) (same_answer (grown_by types (ty.Struct number)) y e) (with_added types (ty.Struct number) ordered there)
+    go true e = subst (IsAdded (ty.Struct number) types) (same_answer (grown_by types (ty.Struct number)) y e) (with_added types (ty.Struct number) ordered there (λ objects. tt))
     go false e = absurd (cc)
 
 -- it has a member
@@ -201,7 +219,12 @@ module _ (bodies : List Bool) (s : StructDefinition) (p : ProgressView) (under :
   -- the table with the new struct
   grows : Grows p.types d.y.1
   grows = grows_on p.types d.members.1 d.y.1 d.read.grown.grows
-      (grows_on d.members.1 (with_members d.members.1 (types_of d.members.0)) d.y.1 (record { types = λ n t e. e; once = λ h. h; structs = λ n ids e. stays_in d.members.1.structs (types_of d.members.0 ∷ []) n ids e })
+      (grows_on d.members.1 (with_members d.members.1 (types_of d.members.0)) d.y.1 (record {
+        types = λ n t e. e;
+        once = λ h. h;
+        objects = λ objects. objects_struct d.members.1 (types_of d.members.0) d.read.grown.ordered d.read.there d.read.are objects;
+        structs = λ n ids e. stays_in d.members.1.structs (types_of d.members.0 ∷ []) n ids e;
+      })
       d.type.added.grown.grows)
 
   same_number : length d.members.1.structs ≡ number
@@ -228,7 +251,7 @@ module _ (bodies : List Bool) (s : StructDefinition) (p : ProgressView) (under :
     based = grows_on base_types p.types d.y.1 under.sound.based grows;
     structs_there = λ n t e. ⊎_elim (λ old. struct_stays p.types d.y.1 n t grows (under.sound.structs_there n t old)) (λ last. new n t last.0 last.1) (in_more p.scope.structs view n t e);
     structs_count = ap length structs_are ∙ counted d.members.1.structs (types_of d.members.0) p.scope.structs view same_number;
-    locals_there = λ n l e. stays_there p.types d.y.1 l.ty grows (under.sound.locals_there n l e);
+    locals_there = λ n l e. object_later p.types d.y.1 l.ty grows (under.sound.locals_there n l e);
     results_there = λ n f e. stays_there p.types d.y.1 f.result grows (under.sound.results_there n f e);
     parameters_there = λ n f e. stay_there p.types d.y.1 f.parameters grows (under.sound.parameters_there n f e);
     declared = under.sound.declared;

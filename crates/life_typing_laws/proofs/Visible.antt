@@ -14,6 +14,7 @@ use Rattle.life_well_typed.specs.Expressions.{type_of}
 use Rattle.life_well_typed.specs.Results.{HaveMembers}
 use Rattle.life_well_typed.specs.Visible.{Visible, with_parameters}
 use Rattle.life_typing_laws.proofs.Domains.{Returned}
+use Rattle.life_typing_laws.proofs.Growing.{objects_there}
 use Rattle.life_typing_laws.proofs.HeaderTypes.{HeaderRead, header_read, by_seen}
 use Rattle.life_typing_laws.proofs.Headers.{HeaderIs}
 use Rattle.life_typing_laws.proofs.Known.{AreKnown}
@@ -97,7 +98,7 @@ header_visible bodies before f p x h under =
     let all : length h.hides ≡ 0 + length f.parameters.items = hides_count h.known.types f.parameters.items [] (function_seen f p.scope) (h.hides, h.scope) h.declares in
     let hidden : HideNothing h.hides = nothing_hidden h.scope h.known.reaches h.hides f.parameters.items h.kept read.reaches_count (omega (arith, all)) h.parameters in
     let them : AreParameters h.known.types 0 f.parameters.items (function_seen f p.scope) h.types (h.hides, h.scope) =
-    parameters_are h.known.types h.types read.there f.parameters.items [] (function_seen f p.scope) (h.hides, h.scope) seen.sound hidden h.declares in
+    parameters_are h.known.types h.types read.objects f.parameters.items [] (function_seen f p.scope) (h.hides, h.scope) seen.sound hidden (omega (arith, read.types_count)) h.declares in
     let none : 0 + length f.parameters.items ≡ length f.parameters.items = omega arith in
     let no_locals : (function_seen f p.scope).locals ≡ [] = no_items (function_seen f p.scope).locals seen.sound.declared in
     record {
@@ -105,7 +106,7 @@ header_visible bodies before f p x h under =
       structs = read.grown.structs;
       sound = subst (λ (n : ℕ). IsSound (with_parameters n) h.scope h.types) none them.sound;
       result = read.result;
-      there = read.there;
+      there = objects_there h.types h.known.types read.objects;
       count = read.types_count;
       ids = them.ids ∙ ap (λ (ls : List TypedLocal). map type_of ls ++ parameter_ids h.known.types 0 f.parameters.items) no_locals ∙ ids_known h.known.types f.parameters.items read.types_count;
       functions = them.moves.functions ∙ seen.functions;

@@ -221,7 +221,7 @@ module _ (bodies : List Bool) (f : Function) (p : ProgressView) (h : PartsView) 
           promise = at.is.promise;
           said = at.is.said;
           main = λ is. at.is.main (ap (λ (ns : List (List ℕ)). programs.is_main ns at.form.name) (sym part.moves.texts) ∙ is);
-          body = λ has. record { parameters = types_are; is = well_typed };
+          body = λ has. record { parameters = types_are; is = well_typed; variables = part.moves.locals_there };
         })
       where
         grown : AreKnown w.0.1.names w.1 w.0.1.functions y.1.functions y.1.declared

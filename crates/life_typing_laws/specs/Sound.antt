@@ -10,6 +10,7 @@ use Rattle.life_names.specs.Environment.{Scope, SignatureView, StructureView}
 use Rattle.life_names.specs.declared.environment.Entity.TheVariants as entity
 use Rattle.life_typing.specs.Structs.{types_of}
 use Rattle.life_well_typed.specs.Expressions.{parameter_types}
+use Rattle.life_well_typed.specs.Tables.{HasObjects, IsObject}
 use Rattle.life_well_typed.specs.Visible.{Visible}
 
 -- ---- lists in which what stood at a number stays there
@@ -17,11 +18,12 @@ use Rattle.life_well_typed.specs.Visible.{Visible}
 abbrev pub Keeps : {A : Type 0} → List A → List A → Type 0
 Keeps {A = A} xs ys = (n : ℕ) (x : A) → slice_get xs n ≡ Some x → slice_get ys n ≡ Some x
 
--- ---- tables in which older numbers stay, and to which no type is added that is there
+-- ---- tables in which older numbers stay, and to which no type is added that is there or is made of what is no object
 
 pub record Grows (old new : Types) : Type 0 where
   pub types : Keeps old.types new.types
   pub once : HasEachOnce old → HasEachOnce new
+  pub objects : HasObjects old → HasObjects new
   pub structs : Keeps old.structs new.structs
 
 -- the table has a struct under this number: its type, and its members
@@ -39,7 +41,7 @@ pub record IsSound (v : Visible) (scope : Scope) (types : Types) : Type 0 where
   pub based : Grows base_types types
   pub structs_there : HasStructs types scope.structs
   pub structs_count : length types.structs ≡ length scope.structs
-  pub locals_there : (n : ℕ) (l : TypedLocal) → slice_get scope.locals n ≡ Some l → HasType types l.ty
+  pub locals_there : (n : ℕ) (l : TypedLocal) → slice_get scope.locals n ≡ Some l → IsObject types l.ty
   pub results_there : (n : ℕ) (s : SignatureView) → slice_get scope.functions n ≡ Some s → HasType types s.result
   pub parameters_there : (n : ℕ) (s : SignatureView) → slice_get scope.functions n ≡ Some s → HasTypes types s.parameters
   pub declared : length scope.locals ≡ v.declared

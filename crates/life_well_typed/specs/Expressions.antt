@@ -18,6 +18,7 @@ use Rattle.life_type_expr.specs.Operands.{answer_of, combination, inverted, move
 use Rattle.life_well_typed.specs.Given.{is_given}
 use Rattle.life_well_typed.specs.Members.{IsCalled, IsMember, are_members, is_optional}
 pub use Rattle.life_well_typed.specs.Members.{typed_in}
+use Rattle.life_well_typed.specs.Tables.{IsPlainObject}
 
 -- ---- calls
 
@@ -60,6 +61,12 @@ IsAddress types category.Value e = ⊥
 IsAddress types (category.Place id constant) e =
     (is_raw (type_at types id) ≡ false) × (e ≡ value e.place (ty.Raw id constant) e.form) × (is_plain (tree_at types id) ≡ true)
 
+-- ---- structs
+
+-- the table has the type of the struct
+abbrev pub HasStructType : Types → ℕ → Type 0
+HasStructType types structure = (at : ℕ) × (slice_get types.types at ≡ Some (ty.Struct structure))
+
 -- ---- any expression
 
 -- in a function with these parameters and variables, where these of them are visible
@@ -92,10 +99,11 @@ module _ (p : ProgramForm) (locals : List TypedLocal) (visible : List ℕ) where
         (e ≡ value e.place (ty.Struct structure) e.form)
         × (are_members p.types (members_at p.types structure) elements ≡ true)
         × AreExpressions elements
+        × HasStructType p.types structure
     IsMadeOf e (move x) = Contains visible x × IsMoved p.types x (slice_get locals x) e
     IsMadeOf e (make_unique id argument closing) =
         (e ≡ value e.place (ty.Unique id) e.form)
-        × (is_plain (tree_at p.types id) ≡ true)
+        × IsPlainObject p.types id
         × (is_optional p.types id argument ≡ true)
         × IsExpressionIfAny argument
     IsMadeOf e (text_of inner closing) = (text_made e.place closing (typed_in inner) ≡ Ok e) × IsExpression inner

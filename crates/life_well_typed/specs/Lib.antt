@@ -7,4 +7,5 @@ pub mod Members
 pub mod Names
 pub mod Results
 pub mod Statements
+pub mod Tables
 pub mod Visible

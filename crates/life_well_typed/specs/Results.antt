@@ -7,6 +7,7 @@ use Rattle.life_types.specs.declared.ty.TyId.{TyId}
 use Rattle.life_typed.specs.BaseTypes.{type_at}
 use Rattle.life_typed.specs.Programs.{FunctionForm, ProgramForm, StructForm}
 use Rattle.life_typed.specs.declared.basic.TheConstants.{CHAR}
+use Rattle.life_well_typed.specs.Tables.{AreVariables, HasObjects}
 
 abbrev pub HaveResults : Types → List FunctionForm → Type 0
 HaveResults types [] = Unit {0}
@@ -14,6 +15,10 @@ HaveResults types (f ∷ fs) = HasType types f.result × HaveResults types fs
 
 abbrev pub HasResults : ProgramForm → Type 0
 HasResults p = HaveResults p.types p.functions
+
+abbrev pub HaveVariables : Types → List FunctionForm → Type 0
+HaveVariables types [] = Unit {0}
+HaveVariables types (f ∷ fs) = AreVariables types f.locals × HaveVariables types fs
 
 -- each struct has a member, and a name and a type for each
 abbrev pub HaveMembers : List StructForm → List (List TyId) → Type 0
@@ -30,3 +35,7 @@ pub record HasTable (p : ProgramForm) : Type 0 where
   pub chars : type_at p.types CHAR ≡ ty.Char
   -- it has each struct of the program, and no others
   pub structs : HaveMembers p.structs p.types.structs
+  -- types are made of objects
+  pub objects : HasObjects p.types
+  -- each parameter and variable has a type of it
+  pub variables : HaveVariables p.types p.functions
