@@ -1,6 +1,5 @@
 -- From what a part of the check finds to what the text comes to.
-use Rattle.std.proofs.Common.{◌≡◌, ℕ, Bool, true, false, List, Option, None, Some, Result, Ok, Err, refl, sym, subst}
-use Rattle.life_served.specs.Served.{is_served}
+use Rattle.std.proofs.Common.{◌≡◌, ℕ, List, Option, None, Some, Result, Ok, Err, refl, sym, subst}
 use Rattle.life_core.specs.Function.{Program}
 use Rattle.life_elab.specs.Elaborated.{Elaborates}
 use Rattle.life_elab.specs.Over.{over}
@@ -18,8 +17,8 @@ use Rattle.life_typed.specs.Programs.{ProgramForm}
 use Rattle.life_typing.specs.Answers.{Tells}
 use Rattle.life_typing.specs.Resolves.{resolved}
 use Rattle.life_check.proofs.OneFinding.{comes_only}
-use Rattle.life_check.specs.CheckedText.{ServedComesTo, ComesOnlyTo, Faulty, Finding, IsListed, LimitedComesTo, ResolvedComesTo, TypedComesTo}
-use Rattle.life_check.specs.Faults.{limit_fault, tree_fault, type_fault, unsupported}
+use Rattle.life_check.specs.CheckedText.{ComesOnlyTo, Faulty, Finding, IsListed, LimitedComesTo, ResolvedComesTo, TypedComesTo}
+use Rattle.life_check.specs.Faults.{limit_fault, tree_fault, type_fault}
 use Rattle.life_check.specs.Findings.{Finds, finding_of}
 use Rattle.life_check.specs.declared.checked.Checked.{Checked}
 use Rattle.life_check.specs.declared.fault.CheckFault.{CheckFault}
@@ -45,17 +44,9 @@ module _ (typed : ProgramForm) where
   limited_finds (elab.Limit passed) is = of_limits (Some passed) is (Faulty (fault.Limit passed)) refl
   limited_finds elab.NoMemory is = tt
 
-  -- .. and where none is, whether the program is served
-  module _ (none : over typed (translated typed) ≡ None) where
-    of_served : (served : Bool) → is_served typed ≡ served → (f : Finding) → ServedComesTo served (translated typed) f → TypedComesTo typed f
-    of_served served is f comes = of_limits None none f (subst (λ b. ServedComesTo b (translated typed) f) (sym is) comes)
-
-    pub unserved_finds : is_served typed ≡ false → Finds (TypedComesTo typed) (Err unsupported)
-    unserved_finds not = of_served false not (Faulty unsupported) refl
-
-    pub core_finds : is_served typed ≡ true → (core : Program) (result : Result Checked CheckFault) → core ≡ translated typed → Finds (IsListed core) result → Finds (TypedComesTo typed) result
-    core_finds served core result is found =
-        finds_as (IsListed core) (TypedComesTo typed) result (λ f listed. of_served true served f (subst (λ c. IsListed c f) is listed)) found
+  -- .. and where none is, what is diagnosed
+  pub core_finds : over typed (translated typed) ≡ None → (core : Program) (result : Result Checked CheckFault) → core ≡ translated typed → Finds (IsListed core) result → Finds (TypedComesTo typed) result
+  core_finds none core result is found = finds_as (IsListed core) (TypedComesTo typed) result (λ f listed. of_limits None none f (subst (λ c. IsListed c f) is listed)) found
 
 -- ---- trees
 

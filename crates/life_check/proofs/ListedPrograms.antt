@@ -1,6 +1,5 @@
 -- What a text comes to beside its diagnostics is the program of its bytes.
-use Rattle.std.proofs.Common.{◌≡◌, ℕ, Bool, true, false, List, Option, None, Some, Result, Ok, Err, refl}
-use Rattle.life_served.specs.Served.{is_served}
+use Rattle.std.proofs.Common.{◌≡◌, ℕ, List, Option, None, Some, Result, Ok, Err, refl}
 use Rattle.life_core.specs.Function.{Program}
 use Rattle.life_elab.specs.Over.{over}
 use Rattle.life_elab.specs.ProgramForms.{translated}
@@ -12,7 +11,7 @@ use Rattle.life_tree.specs.declared.limit.LimitFault.{LimitFault}
 use Rattle.life_tree.specs.declared.program.Program.{Program as Parsed}
 use Rattle.life_typed.specs.Programs.{ProgramForm}
 use Rattle.life_typing.specs.Resolves.{resolved}
-use Rattle.life_check.specs.CheckedText.{ServedComesTo, ComesTo, Faulty, IsProgramOf, LimitedComesTo, Listed, ParsingComesTo, ResolvedComesTo}
+use Rattle.life_check.specs.CheckedText.{ComesTo, Faulty, IsProgramOf, LimitedComesTo, Listed, ParsingComesTo, ResolvedComesTo}
 use Rattle.life_check.specs.declared.fault.CheckFault.{CheckFault}
 
 -- a program with its diagnostics is no fault
@@ -25,12 +24,8 @@ no_fault p ds fault e = absurd (clash e)
 the_program : (p q : Program) (ds es : List Diag) → Listed p ds ≡ Listed q es → p ≡ q
 the_program p q ds es same = cc
 
-of_served : (served : Bool) (core p : Program) (ds : List Diag) → ServedComesTo served core (Listed p ds) → p ≡ core
-of_served true core p ds is = the_program p core ds is.diagnostics is.is
-of_served false core p ds is = no_fault p ds _ is
-
 of_limits : (passed : Option LimitFault) (typed : ProgramForm) (p : Program) (ds : List Diag) → LimitedComesTo passed typed (Listed p ds) → p ≡ translated typed
-of_limits None typed p ds is = of_served (is_served typed) (translated typed) p ds is
+of_limits None typed p ds is = the_program p (translated typed) ds is.diagnostics is.is
 of_limits (Some fault) typed p ds is = no_fault p ds _ is
 
 of_resolved : (bytes : List ℕ) (tree : Parsed) → Parses bytes (Ok tree) → (r : Result ProgramForm Broken) → resolved tree ≡ r → (p : Program) (ds : List Diag) → ResolvedComesTo r (Listed p ds) → IsProgramOf bytes p

@@ -1,6 +1,5 @@
 -- A text comes to one thing.
-use Rattle.std.proofs.Common.{◌≡◌, ℕ, Bool, true, false, List, Option, None, Some, Result, Ok, Err, refl, sym, ◌∙◌, ap, subst}
-use Rattle.life_served.specs.Served.{is_served}
+use Rattle.std.proofs.Common.{◌≡◌, ℕ, List, Option, None, Some, Result, Ok, Err, refl, sym, ◌∙◌, ap, subst}
 use Rattle.life_core.specs.Function.{Program}
 use Rattle.life_elab.specs.Over.{over}
 use Rattle.life_elab.specs.ProgramForms.{translated}
@@ -18,7 +17,7 @@ use Rattle.life_tree.specs.declared.program.Program.{Program as Parsed}
 use Rattle.life_typed.specs.Programs.{ProgramForm}
 use Rattle.life_typing.proofs.BlindPrograms.{types_of_trees}
 use Rattle.life_typing.specs.Resolves.{resolved}
-use Rattle.life_check.specs.CheckedText.{ServedComesTo, ComesOnlyTo, ComesTo, Faulty, Finding, HasNoTreeFor, IsListed, LimitedComesTo, Listed, ParsingComesTo, ResolvedComesTo, TreeComesTo}
+use Rattle.life_check.specs.CheckedText.{ComesOnlyTo, ComesTo, Faulty, Finding, HasNoTreeFor, IsListed, LimitedComesTo, Listed, ParsingComesTo, ResolvedComesTo, TreeComesTo}
 use Rattle.life_check.specs.Faults.{tree_fault}
 
 one_program : (p : Program) (a b : Finding) → IsListed p a → IsListed p b → a ≡ b
@@ -26,12 +25,8 @@ one_program p a b x y =
     let same : x.diagnostics ≡ y.diagnostics = only_listing x.listed y.listed in
     x.is ∙ ap (λ (ds : List Diag). Listed p ds) same ∙ sym y.is
 
-one_served : (served : Bool) (core : Program) (a b : Finding) → ServedComesTo served core a → ServedComesTo served core b → a ≡ b
-one_served true core a b p q = one_program core a b p q
-one_served false core a b p q = p ∙ sym q
-
 one_of_limits : (passed : Option LimitFault) (typed : ProgramForm) (a b : Finding) → LimitedComesTo passed typed a → LimitedComesTo passed typed b → a ≡ b
-one_of_limits None typed a b p q = one_served (is_served typed) (translated typed) a b p q
+one_of_limits None typed a b p q = one_program (translated typed) a b p q
 one_of_limits (Some fault) typed a b p q = p ∙ sym q
 
 one_resolved : (r : Result ProgramForm Broken) (a b : Finding) → ResolvedComesTo r a → ResolvedComesTo r b → a ≡ b

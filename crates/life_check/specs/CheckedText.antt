@@ -1,6 +1,5 @@
 -- What the text of a file comes to.
-use Rattle.std.specs.Prelude.{◌≡◌, ◌≢◌, ℕ, Bool, true, false, List, Option, None, Some, Result, Ok, Err}
-use Rattle.life_served.specs.Served.{is_served}
+use Rattle.std.specs.Prelude.{◌≡◌, ◌≢◌, ℕ, List, Option, None, Some, Result, Ok, Err}
 use Rattle.life_core.specs.Function.{Program}
 use Rattle.life_elab.specs.Over.{over}
 use Rattle.life_elab.specs.ProgramForms.{translated}
@@ -14,7 +13,7 @@ use Rattle.life_tree.specs.declared.limit.LimitFault.{LimitFault}
 use Rattle.life_tree.specs.declared.program.Program.{Program as Parsed}
 use Rattle.life_typed.specs.Programs.{ProgramForm}
 use Rattle.life_typing.specs.Resolves.{resolved}
-use Rattle.life_check.specs.Faults.{tree_fault, unsupported}
+use Rattle.life_check.specs.Faults.{tree_fault}
 use Rattle.life_check.specs.declared.fault.CheckFault.{CheckFault}
 use Rattle.life_check.specs.declared.fault.CheckFault.TheVariants.{Ill, Limit}
 
@@ -29,14 +28,9 @@ pub record IsListed (p : Program) (finding : Finding) : Type 0 where
   pub listed : AreProgramDiagnostics p diagnostics
   pub is : finding ≡ Listed p diagnostics
 
--- a core program, with its diagnostics where it is served
-abbrev pub ServedComesTo : Bool → Program → Finding → Type 0
-ServedComesTo true core finding = IsListed core finding
-ServedComesTo false core finding = finding ≡ Faulty unsupported
-
--- that of a typed program, or the first limit that it passes, whatever its forms are
+-- the core program of a typed program with its diagnostics, or the first limit that it passes
 abbrev pub LimitedComesTo : Option LimitFault → ProgramForm → Finding → Type 0
-LimitedComesTo None typed finding = ServedComesTo (is_served typed) (translated typed) finding
+LimitedComesTo None typed finding = IsListed (translated typed) finding
 LimitedComesTo (Some fault) typed finding = finding ≡ Faulty (Limit fault)
 
 abbrev pub TypedComesTo : ProgramForm → Finding → Type 0

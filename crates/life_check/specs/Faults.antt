@@ -3,7 +3,6 @@ use Rattle.life_elab.specs.declared.fault.ElabFault.{ElabFault}
 use Rattle.life_elab.specs.declared.fault.ElabFault.TheVariants as elab
 use Rattle.life_names.specs.declared.fault.IllFault.{IllFault}
 use Rattle.life_names.specs.declared.fault.IllFault.TheVariants as typing
-use Rattle.life_names.specs.declared.fault.IllKind.TheVariants.{Unsupported}
 use Rattle.life_parse.specs.declared.fault.ParseFault.{ParseFault}
 use Rattle.life_parse.specs.declared.fault.ParseFault.TheVariants as parsing
 use Rattle.life_check.specs.declared.fault.CheckFault.{CheckFault}
@@ -25,7 +24,3 @@ type_fault typing.NoMemory = NoMemory
 abbrev pub limit_fault : ElabFault → CheckFault
 limit_fault (elab.Limit fault) = Limit fault
 limit_fault elab.NoMemory = NoMemory
-
--- what isn't served so far, at line 1, column 1
-abbrev pub unsupported : CheckFault
-unsupported = Ill Unsupported (record { line = 1; column = 1 })

@@ -1,7 +1,6 @@
 // The check of the text of a file.
 ghost use Rattle.std.specs.Prelude.{◌≡◌, ◌<◌, ◌^◌, IfOk, length, map};
 ghost use Rattle.life_core.specs.Function.{program_of};
-ghost use Rattle.life_served.specs.Served.{is_served};
 ghost use Rattle.life_elab.specs.Bounds.{HaveNumberedLocals};
 ghost use Rattle.life_elab.specs.Elaborated.{Elaborates};
 ghost use Rattle.life_core_served.specs.ProperPrograms.{IsProperProgram, IsServedProgram};
@@ -10,7 +9,6 @@ ghost use Rattle.life_typed.specs.Programs.{program_view};
 ghost use Rattle.life_typing.specs.Answers.{Answers};
 ghost use Rattle.life_typing.specs.Resolves.{resolved};
 ghost use Rattle.life_check.specs.CheckedText.{ComesOnlyTo, ComesTo, IsListed, Listed, ResolvedComesTo, TypedComesTo};
-ghost use Rattle.life_check.specs.Faults as spec;
 ghost use Rattle.life_check.specs.Findings.{Finds, IsSound, finding_of};
 ghost use Rattle.life_check.specs.Laws.{IsRead, IsTyped};
 ghost use Rattle.life_check.specs.Steps.{TakesFew};
@@ -25,12 +23,10 @@ use life_fix::program_diagnostics;
 use life_parse::parse;
 use life_parse_laws::trees_have_names;
 use life_rules::ListedDiag;
-use life_served::is_served;
 use life_sound::accept;
 use life_tree::Program;
 use life_typed::Typed;
-use life_types::Place;
-use life_typing::{IllFault, IllKind, resolve};
+use life_typing::{IllFault, resolve};
 use life_typing_laws::{resolved_programs_are_well_typed, resolved_programs_have_names};
 use std::alloc::Global;
 use std::sync::ledger::Ledger;
@@ -42,9 +38,8 @@ use std::sync::ledger::Ledger;
 /// # Errors
 ///
 /// `Lex`, `Syntax` or the limit of nesting where the text has no tree, `Ill` with the first rule of names
-/// and types that the tree breaks, `Limit` with the first limit that the program passes, and else
-/// `Unsupported` at line 1, column 1 where it has a form that is not checked yet. `NoMemory` for want of
-/// memory.
+/// and types that the tree breaks, and `Limit` with the first limit that the program passes. `NoMemory` for
+/// want of memory.
 pub fn check_text<L: Ledger>(
     alloc: Global,
     bytes: &[u8],
@@ -82,7 +77,8 @@ fn typed_of(alloc: Global, tree: Program) -> Result<Typed, IllFault>
     resolve(alloc, &tree)
 }
 
-// A text whose tree has types: it passes no limit and is served, or not.
+// A text whose tree has types: what is diagnosed in its core program decides, or the first limit that it
+// passes.
 fn check_typed<L: Ledger>(
     alloc: Global,
     typed: Typed,
@@ -92,11 +88,7 @@ fn check_typed<L: Ledger>(
     ensures finds { Finds (TypedComesTo (program_view typed)) result }
     ensures ticks { TakesFew (TypedComesTo (program_view typed)) steps.old steps.new }
 {
-    let served = is_served(&typed);
     let program = core_of(alloc, typed)?;
-    if !served {
-        return Err(unsupported());
-    }
     translations_are_proper();
     translations_have_short_places();
     check_program(alloc, program, steps)
@@ -110,7 +102,7 @@ fn core_of(alloc: Global, typed: Typed) -> Result<CoreProgram, ElabFault>
     elaborate(alloc, &typed)
 }
 
-// A proper core program that is served: what is diagnosed in it decides.
+// A proper core program whose verdict is proved: what is diagnosed in it decides.
 #[tactic(auto, using(crate::proofs::PassedLimits::proper_within))]
 fn check_program<L: Ledger>(
     alloc: Global,
@@ -141,15 +133,5 @@ fn decided(program: CoreProgram, diagnostics: Vec<ListedDiag>) -> Checked
             program: rejected.program,
             diagnostics: rejected.diagnostics,
         },
-    }
-}
-
-// A form that is not checked yet.
-fn unsupported() -> CheckFault
-    ensures { result ≡ spec.unsupported }
-{
-    CheckFault::Ill {
-        kind: IllKind::Unsupported,
-        place: Place { line: 1, column: 1 },
     }
 }

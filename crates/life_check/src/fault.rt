@@ -25,8 +25,7 @@ pub enum CheckFault {
         /// Where it stands.
         place: Place,
     },
-    /// The first rule of names and types that is broken. A form that is not checked yet is `Unsupported` at
-    /// line 1, column 1.
+    /// The first rule of names and types that is broken.
     #[error("{}:{}: ill-formed: {kind}", .place.line, .place.column)]
     Ill {
         /// The rule.

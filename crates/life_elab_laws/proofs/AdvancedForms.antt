@@ -1,7 +1,7 @@
 -- What is made of iterators: one that stands so many elements on, the element that one points to, and whether two are the same.
 use Rattle.std.proofs.Common.{◌≡◌, ◌⊎◌, inl, inr, ℕ, Bool, true, false, List, [], ◌∷◌, Option, Some, None, Ok, refl, sym, ap, ◌∙◌, subst}
 use Rattle.std.proofs.lemmas.Bool.{and_from, false≢true}
-use Rattle.life_served.specs.Served.{is_end, is_owner_of_values, is_walker, is_walker_of_values, is_walker_type}
+use Rattle.life_elab_laws.proofs.FormKinds.{is_end, is_owner_of_values, is_walker, is_walker_of_values, is_walker_type}
 use Rattle.life_types.specs.Pointees.{ty_of}
 use Rattle.life_types.specs.TypeTests.{is_iterator, is_value}
 use Rattle.life_types.specs.Types.{Types}

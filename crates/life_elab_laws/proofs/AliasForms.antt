@@ -1,7 +1,7 @@
 -- What a reference to an owner is given: a place that it refers to, or an owner that is built for it: a copy, one that is made, or a string of a literal.
 use Rattle.std.proofs.Common.{◌≡◌, ℕ, Bool, true, false, List, None, Option, refl, sym, ap, ◌∙◌, subst, length}
 use Rattle.std.proofs.lemmas.Bool.{false≢true}
-use Rattle.life_served.specs.Served.{is_owner_of_values, owns_elements, is_target, is_walker_of_values}
+use Rattle.life_elab_laws.proofs.FormKinds.{is_owner_of_values, owns_elements, is_target, is_walker_of_values}
 use Rattle.life_types.specs.Types.{Types}
 use Rattle.life_types.specs.declared.place.Place.{Place}
 use Rattle.life_types.specs.declared.ty.Ty.{Ty}

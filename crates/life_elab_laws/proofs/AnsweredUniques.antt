@@ -1,5 +1,5 @@
 -- unique_ptrs that a call gives, where one is asked: each lies in a temporary; and whether there is something, which is tested by a pointer to what they own.
-use Rattle.std.proofs.Common.{◌≡◌, inl, rules, ℕ, Bool, true, List, [], Option, None, refl, sym, ap, ◌∙◌, subst, inr, false, if◌then◌else◌, Err}
+use Rattle.std.proofs.Common.{◌≡◌, inl, rules, ℕ, Bool, true, List, [], Option, None, refl, sym, ap, ◌∙◌, subst, inr, false, if◌then◌else◌, Err, Contains, slice_get, Some}
 use Rattle.life_types.specs.Types.{Types}
 use Rattle.life_types.specs.contracts.ty.TyIdPartialEq.TheImpl.{ghosts as id}
 use Rattle.life_types.specs.declared.place.Place.{Place}
@@ -20,19 +20,19 @@ use Rattle.life_core.specs.Operands.{Get, Operand, whole, object_named, Location
 use Rattle.life_core.specs.Tree.{Tree}
 use Rattle.life_well_typed.specs.Expressions.{IsMadeOf, typed_in}
 use Rattle.life_well_typed.specs.Given.{is_given}
-use Rattle.life_served.specs.Served.{is_element, is_unique_type}
+use Rattle.life_elab_laws.proofs.FormKinds.{is_element, is_unique_type}
 use Rattle.life_writer.specs.Around.{Around, own_type}
 use Rattle.life_writer.specs.Conditions.{not_null}
 use Rattle.life_writer.specs.ExpressionForms.{form_uses, uses}
 use Rattle.life_writer.specs.Pointers.{aimed, located}
 use Rattle.life_writer.specs.Uses.{Remaining, own}
-use Rattle.life_writer.specs.Using.{condition, condition_by, nullable, operand_by, owned_by, pointing_by, read_or_made, temporary_of, tested_type}
+use Rattle.life_writer.specs.Using.{condition, condition_by, nullable, operand_by, owned_by, pointing_by, read_or_made, temporary_of, tested_type, operand}
 use Rattle.life_writer.specs.Writing.{Gives, State, ◌>>◌, mapped, with_code}
 use Rattle.life_writer.specs.declared.behind.Behind.{Behind}
 use Rattle.life_elab_laws.proofs.Conditions.{Tests, not_null_part}
 use Rattle.life_elab_laws.proofs.Elements.{element_target}
 use Rattle.life_elab_laws.proofs.ExpressionForms.{Standing, pointer_part}
-use Rattle.life_elab_laws.proofs.FreshUniques.{IsFreshAt, fresh_same, made_fresh}
+use Rattle.life_elab_laws.proofs.FreshUniques.{IsFreshAt, fresh_same, made_fresh, moved_fresh}
 use Rattle.life_elab_laws.proofs.Gifts.{a_pointer}
 use Rattle.life_elab_laws.proofs.MadeForms.{temporary_made}
 use Rattle.life_elab_laws.proofs.OwnLocals.{first_own}
@@ -42,10 +42,20 @@ use Rattle.life_elab_laws.proofs.PointedCalls.{gives_plainly}
 use Rattle.life_elab_laws.proofs.PointerForms.{held_typed, own_typed}
 use Rattle.life_elab_laws.proofs.Setting.{Setting}
 use Rattle.life_elab_laws.proofs.TemporaryEnds.{temporary_ends}
-use Rattle.life_elab_laws.proofs.UniqueForms.{IsLying, IsUniqueAt, lying_points, unique_lies, unique_same}
+use Rattle.life_elab_laws.proofs.UniqueForms.{IsLying, IsUniqueAt, lying_points, unique_lies, unique_same, owner_no_unique, walker_no_unique}
+use Rattle.std.proofs.lemmas.Bool.{false≢true}
+use Rattle.life_types.specs.TypeTests.{is_unique}
+use Rattle.life_writer.specs.OwnerForms.{move_uses}
+use Rattle.life_elab_laws.proofs.MovedOwners.{IsMovedFrom}
+use Rattle.life_elab_laws.proofs.TypedKinds.{some_same, value_simple}
+use Rattle.life_elab_laws.proofs.ExpressionKinds.{variable_built}
+use Rattle.life_elab_laws.proofs.VariablePlaces.{IsVariableType, a_raw, a_reference, a_struct, a_struct_alias, a_unique, a_value, a_view, a_walker, an_alias, an_owner, variable_type}
 
 itself : (a : TyId) → id.eq a a ≡ true
 itself a = search rules
+
+of_same : {t u : Ty} → Of t ≡ Of u → t ≡ u
+of_same e = cc
 
 -- a value is given to one of its type
 pub unique_itself : (types : Types) (e : Typed) (target : TyId) → e.ty ≡ Of (ty.Unique target) → e.category ≡ category.Value → is_given types (ty.Unique target) e ≡ true
@@ -57,6 +67,32 @@ unique_itself types e target is held =
 module _ (a : Around) (visible : List ℕ) (types : Types) (texts : ℕ) (fs : List Function) (f : Function) (setting : Setting a types fs f) where
   abbrev Stood : State → Type 0
   Stood s = Standing a visible types texts fs f setting s
+
+  -- what a variable owns that is moved from
+  moved_worth : (x : ℕ) (e : Typed) (from : IsMovedFrom a visible types texts fs f setting x e) (target : TyId) → from.ty ≡ ty.Unique target → is_element a.program.types (type_at a.program.types target) ≡ true
+  moved_worth x e from target unique = kind (variable_type a.program.types from.source.ty (variable_built a.program.types a.function.locals x from.source setting.variables from.found))
+    where
+      as_type : (t : Ty) → slice_get a.program.types.types from.source.ty.0 ≡ Some t → t ≡ ty.Unique target
+      as_type t at = some_same (sym at ∙ from.at) ∙ unique
+
+      other : (t : Ty) → slice_get a.program.types.types from.source.ty.0 ≡ Some t → is_unique t ≡ false → is_element a.program.types (type_at a.program.types target) ≡ true
+      other t at none = absurd (false≢true (sym none ∙ ap is_unique (as_type t at)))
+
+      owned_by : Ty → TyId
+      owned_by (ty.Unique id) = id
+      owned_by _ = target
+
+      kind : IsVariableType a.program.types from.source.ty → is_element a.program.types (type_at a.program.types target) ≡ true
+      kind (a_value t at v) = other t at (value_simple t v).unique
+      kind (a_raw held constant at v) = other (ty.Raw held constant) at refl
+      kind (a_view at) = other ty.View at refl
+      kind (a_reference held constant at v) = other (ty.Reference held constant) at refl
+      kind (an_alias held constant at o) = other (ty.Reference held constant) at refl
+      kind (a_walker t at w) = other t at (walker_no_unique a.program.types t w)
+      kind (a_struct number at) = other (ty.Struct number) at refl
+      kind (a_struct_alias held constant number at structure pointless) = other (ty.Reference held constant) at refl
+      kind (an_owner t at o) = other t at (owner_no_unique a.program.types t o)
+      kind (a_unique held at w) = subst (λ (id : TyId). is_element a.program.types (type_at a.program.types id) ≡ true) (ap owned_by (as_type (ty.Unique held) at)) w
 
   pub record IsAnsweredAt (e : Typed) (object : State → Gives Remaining) (decision : Behind → Option (State → Gives Tree)) (named : Option ℕ) : Type 0 where
     pub fresh : IsFreshAt a visible types texts fs f setting e object
@@ -71,6 +107,12 @@ module _ (a : Around) (visible : List ℕ) (types : Types) (texts : ℕ) (fs : L
   pub made_answer : (id : TyId) (argument : Form) (closing : Place) (e : Typed) (place : Place) → IsGivingIfAny a visible types texts fs f setting argument → is_element a.program.types (type_at a.program.types id) ≡ true
       → IsMadeOf a.program a.function.locals visible e (make_unique id argument closing) → let u = form_uses a (make_unique id argument closing) place e.ty e.category in IsAnsweredAt e u.object u.decision u.named
   made_answer id argument closing e place giving worth h = record { fresh = made_fresh a visible types texts fs f setting id argument closing e place giving h; worth = worth; undecided = λ b. refl; nameless = refl }
+
+  -- .. or moved out of a variable
+  pub moved_answer : (x : ℕ) (e : Typed) (place : Place) → is_unique_type e.ty ≡ true → Contains visible x → (from : IsMovedFrom a visible types texts fs f setting x e) → let u = move_uses x place e.ty e.category in IsAnsweredAt e u.object u.decision u.named
+  moved_answer x e place n c from =
+      let fresh = moved_fresh a visible types texts fs f setting x e place n c from in
+      record { fresh = fresh; worth = moved_worth x e from fresh.owned (of_same (sym from.is ∙ fresh.is)); undecided = λ b. refl; nameless = refl }
 
   -- .. in parentheses
   answered_same : (e e' : Typed) (object : State → Gives Remaining) (decision other : Behind → Option (State → Gives Tree)) (named : Option ℕ) → e.ty ≡ e'.ty → e.category ≡ e'.category
@@ -97,15 +139,18 @@ module _ (a : Around) (visible : List ℕ) (types : Types) (texts : ℕ) (fs : L
     abbrev there : State → Gives ℕ
     there s = temporary_of (uses a form) (ty.Unique target) s
 
+    pub answer_here : (s : State) → operand (uses a form) s ≡ mapped object_named (there s)
+    answer_here s =
+        ap (λ (c : Category). operand_by c (uses a form).at (temporary_of (uses a form) (own (uses a form))) s) value_answered
+        ∙ ap (λ (t : Ty). mapped object_named (temporary_of (uses a form) t s)) own_answered
+
     pub answer_lies : IsLying a visible types texts fs f setting form
     answer_lies = record {
       target = target;
       is = is.fresh.is;
       worth = is.worth;
       location = λ s. mapped whole (there s);
-      here = λ s stands.
-          ap (λ (c : Category). operand_by c (uses a form).at (temporary_of (uses a form) (own (uses a form))) s) value_answered
-          ∙ ap (λ (t : Ty). mapped object_named (temporary_of (uses a form) t s)) own_answered;
+      here = λ s stands. answer_here s;
       placed = λ s stands.
           temporary_made a visible types texts fs f setting (ty.Unique target) (uses a form).place s ((uses a form).object s) (inr (inl is.worth)) (is.fresh.builds target is.worth (unique_itself a.program.types (typed_in form) target is.fresh.is is.fresh.value) s stands) stands;
     }

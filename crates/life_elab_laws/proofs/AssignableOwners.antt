@@ -1,7 +1,7 @@
 -- Owners that are assigned to: one at a place, or one that is made, which is a temporary.
 use Rattle.std.proofs.Common.{◌≡◌, ◌<◌, ◌&&◌, ◌||◌, ℕ, true, false, arith, Contains, length, slice_get, Option, Some, None, refl, sym, ap, ◌∙◌, subst, unwrap_or, List, inl, inr, not}
 use Rattle.std.proofs.lemmas.Bool.{and_parts, false≢true, or_cases}
-use Rattle.life_served.specs.Served.{is_owner_of_values, is_owner_type, is_served_object, is_served_owner}
+use Rattle.life_elab_laws.proofs.FormKinds.{is_owner_of_values, is_owner_type, is_read_object, is_read_owner}
 use Rattle.life_types.specs.Types.{Types, class}
 use Rattle.life_types.specs.declared.place.Place.{Place}
 use Rattle.life_types.specs.declared.ty.Class.{Class}
@@ -99,16 +99,16 @@ module _ (a : Around) (visible : List ℕ) (types : Types) (texts : ℕ) (fs : L
 
   -- ---- whichever it is
 
-  pub assignable_owner : (target : Typed) → (is_owner_type target.ty && (is_served_object texts a.program.types (whole_form target) || (not (is_place target.category) && is_served_owner texts a.program.types (whole_form target)))) ≡ true
+  pub assignable_owner : (target : Typed) → (is_owner_type target.ty && (is_read_object texts a.program (whole_form target) || (not (is_place target.category) && is_read_owner texts a.program (whole_form target)))) ≡ true
       → is_constant target.category ≡ false → IsExpression a.program a.function.locals visible (whole_form target) → IsAssignable (whole_form target)
   assignable_owner target b free h =
-      let one = and_parts (is_owner_type target.ty) (is_served_object texts a.program.types (whole_form target) || (not (is_place target.category) && is_served_owner texts a.program.types (whole_form target))) b in
-      elim (or_cases (is_served_object texts a.program.types (whole_form target)) (not (is_place target.category) && is_served_owner texts a.program.types (whole_form target)) one.1) [
+      let one = and_parts (is_owner_type target.ty) (is_read_object texts a.program (whole_form target) || (not (is_place target.category) && is_read_owner texts a.program (whole_form target))) b in
+      elim (or_cases (is_read_object texts a.program (whole_form target)) (not (is_place target.category) && is_read_owner texts a.program (whole_form target)) one.1) [
         | inl object ↦
             let to = object_expression a visible types texts fs f setting (whole_form target) object one.0 h in
             object_assignable (whole_form target) to (sym (ap is_constant to.place) ∙ free) (named_target a visible types texts fs f setting (whole_form target) object one.0 h)
         | inr made ↦
-            let two = and_parts (not (is_place target.category)) (is_served_owner texts a.program.types (whole_form target)) made in
+            let two = and_parts (not (is_place target.category)) (is_read_owner texts a.program (whole_form target)) made in
             temporary two.0 (owner_expression a visible types texts fs f setting (whole_form target) two.1 one.0 h)
       ]
     where

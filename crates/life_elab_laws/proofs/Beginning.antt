@@ -6,7 +6,7 @@ use Rattle.life_types.specs.TypeTests.{is_void}
 use Rattle.life_types.specs.Types.{Types, class}
 use Rattle.life_types.specs.declared.ty.Ty.{Ty}
 use Rattle.life_types.specs.declared.ty.Ty.TheVariants as ty
-use Rattle.life_served.specs.Served.{are_served_variables, is_served_result}
+use Rattle.life_elab_laws.proofs.FormKinds.{are_admitted_variables, is_admitted_result}
 use Rattle.life_typed.specs.BaseTypes.{type_at}
 use Rattle.life_typed.specs.declared.typed_program.ParameterPromise.{ParameterPromise}
 use Rattle.life_typed.specs.declared.typed_program.TypedLocal.{TypedLocal}
@@ -34,7 +34,7 @@ use Rattle.life_elab_laws.proofs.WrittenLocals.{AddsRegisters, AreWrittenLocals,
 use Rattle.life_elab_laws.proofs.PendingTemporaries.{none_pending, pending_later}
 use Rattle.life_elab_laws.proofs.ResultTypes.{IsResultType, gives_alias, gives_walker, gives_nothing, gives_raw, gives_reference, gives_value, gives_view, result_is, gives_struct, gives_owner, gives_unique, gives_whole}
 use Rattle.life_elab_laws.proofs.Targets.{owner_target, value_target, struct_target}
-use Rattle.life_elab_laws.proofs.ServedTypes.{IsBuilt, struct_tabled}
+use Rattle.life_elab_laws.proofs.AdmittedTypes.{IsBuilt, struct_tabled}
 use Rattle.life_elab_laws.proofs.Values.{by_values}
 use Rattle.life_elab_laws.proofs.OwnLocals.{first_own}
 use Rattle.life_types.specs.declared.ty.NameId.{NameId}
@@ -180,7 +180,7 @@ module _ (a : Around) where
   by_result s P none one (ty.Vector item) (gives_owner o) = one (ty.Vector item) (inr (refl, λ own. inl o))
   by_result s P none one _ (gives_owner o) = absurd (false≢true o)
   by_result s P none one t (gives_unique target unique w) = subst (λ (u : Ty). P u (with_result a u s)) (sym unique) (one (ty.Unique target) (inr (refl, λ own. inr (inl w))))
-  by_result s P none one t (gives_whole number whole pointless) =
+  by_result s P none one t (gives_whole number whole) =
       subst (λ (u : Ty). P u (with_result a u s)) (sym whole)
       (one (ty.Struct number) (inr (refl, λ own. inr (inr (struct_tabled a.program.types a.function.result number (ap (λ (o : Option Ty). unwrap_or o ty.Void) own))))))
   by_result s P none one t (gives_view view) = subst (λ (u : Ty). P u (with_result a u s)) (sym view) (one ty.View (inl (refl, refl)))
@@ -232,11 +232,11 @@ module _ (a : Around) where
     pub first_types : (first_state a T).types ≡ T
     first_types = result_types (type_at a.program.types a.function.result) given ∙ types_same a.function.parameters a.function.locals (nothing_written T)
 
-    kind_of : is_served_result a.program.types a.function.result ≡ true → IsResultType a.program.types (type_at a.program.types a.function.result)
+    kind_of : is_admitted_result a.program.types a.function.result ≡ true → IsResultType a.program.types (type_at a.program.types a.function.result)
     kind_of b = result_is a.program.types (type_at a.program.types a.function.result) b
 
     -- the parameters, and the local of the result
-    pub first_locals : (t : Ty) → slice_get a.program.types.types a.function.result.0 ≡ Some t → is_served_result a.program.types a.function.result ≡ true → AreWrittenLocals a.program.types a (first_state a T)
+    pub first_locals : (t : Ty) → slice_get a.program.types.types a.function.result.0 ≡ Some t → is_admitted_result a.program.types a.function.result ≡ true → AreWrittenLocals a.program.types a (first_state a T)
     first_locals t at b =
         let found : type_at a.program.types a.function.result ≡ t = ap (λ (o : Option Ty). unwrap_or o ty.Void) at in
         let there : slice_get given.types.types a.function.result.0 ≡ Some t =
@@ -245,16 +245,16 @@ module _ (a : Around) where
         (result_registers (type_at a.program.types a.function.result) given (kind_of b) (at ∙ ap Some (sym found)) (there ∙ ap Some (sym found)))
         (own_parameters a.program.types a.function.parameters [] a.function.locals (nothing_written T) refl (λ y l none. absurd (none-some l none)))
 
-    pub result_first : is_served_result a.program.types a.function.result ≡ true → is_void (type_at a.program.types a.function.result) ≡ false
+    pub result_first : is_admitted_result a.program.types a.function.result ≡ true → is_void (type_at a.program.types a.function.result) ≡ false
         → slice_get (first_state a T).locals (length a.function.parameters) ≡ Some (result_here (result_kind (class (Some (type_at a.program.types a.function.result)))))
     result_first b some = ap (slice_get (first_state a T).locals) (sym given_count) ∙ result_there (type_at a.program.types a.function.result) given (kind_of b) some
 
-    pub parameters_front : is_served_result a.program.types a.function.result ≡ true → IsFront (parameter_locals a.function.parameters a.function.locals) (first_state a T).locals
+    pub parameters_front : is_admitted_result a.program.types a.function.result ≡ true → IsFront (parameter_locals a.function.parameters a.function.locals) (first_state a T).locals
     parameters_front result y l at =
         (result_grows (type_at a.program.types a.function.result) given (kind_of result)).locals y l
         (subst (λ (ls : List Local). slice_get ls y ≡ Some l) (sym (locals_written a.function.parameters a.function.locals (nothing_written T))) at)
 
-    pub register_there : (t : Ty) → slice_get a.program.types.types a.function.result.0 ≡ Some t → is_served_result a.program.types a.function.result ≡ true → HasRegister a (first_state a T)
+    pub register_there : (t : Ty) → slice_get a.program.types.types a.function.result.0 ≡ Some t → is_admitted_result a.program.types a.function.result ≡ true → HasRegister a (first_state a T)
     register_there t at b some = record {
       local = result_here (result_kind (class (Some (type_at a.program.types a.function.result))));
       there = result_first b some;
@@ -266,7 +266,7 @@ module _ (a : Around) where
     }
 
     -- .. of a function that gives nothing back, so its own locals may begin anywhere
-    module _ (none : first_own a ≡ 0) (types : Types) (f : Function) (front : IsFront a.program.types.types types.types) (variables : are_served_variables a.program.types a.function.locals ≡ true) where
+    module _ (none : first_own a ≡ 0) (types : Types) (f : Function) (front : IsFront a.program.types.types types.types) (variables : are_admitted_variables a.program.types a.function.locals ≡ true) where
       nothing_follows : Follows types f a (with_parameters 0) (nothing_written T)
       nothing_follows = record {
         count = refl;
@@ -314,7 +314,7 @@ module _ (a : Around) where
   parameters_named (p ∷ ps) (u ∷ us) (suc y) l at none = parameters_named ps us y l at none
 
   module _ (T : Types) (fits : length a.function.parameters ≤ length a.function.locals) (table : IsFront a.program.types.types T.types) (types : Types) (f : Function) (front : IsFront a.program.types.types types.types)
-      (variables : are_served_variables a.program.types a.function.locals ≡ true) where
+      (variables : are_admitted_variables a.program.types a.function.locals ≡ true) where
     abbrev start : State
     start = elab.with_parameters a a.function.parameters a.function.locals (nothing_written T)
 
@@ -342,14 +342,14 @@ module _ (a : Around) where
         (ap (λ (ls : List Local). slice_get ls y) (sym (locals_written a a.function.parameters a.function.locals (nothing_written T))) ∙ at) none
 
     -- .. and behind the result the function's own locals begin
-    past_result : is_served_result a.program.types a.function.result ≡ true → first_own a ≤ length (first_state a T).locals
+    past_result : is_admitted_result a.program.types a.function.result ≡ true → first_own a ≤ length (first_state a T).locals
     past_result result =
         by_result a start (λ t r. (if is_void t then 0 else suc (length a.function.parameters)) ≤ length r.locals) (omega arith)
         (λ t one. either_low (is_void t) (suc (length a.function.parameters)) (length (start.locals ++ result_here a (result_kind (class (Some t))) ∷ []))
         (omega (arith, given_count a T fits table, length-append start.locals (result_here a (result_kind (class (Some t))) ∷ []))))
         (type_at a.program.types a.function.result) (kind_of a T fits table result)
 
-    pub first_follows : is_served_result a.program.types a.function.result ≡ true → Follows types f a (with_parameters (length a.function.parameters)) (first_state a T)
+    pub first_follows : is_admitted_result a.program.types a.function.result ≡ true → Follows types f a (with_parameters (length a.function.parameters)) (first_state a T)
     first_follows result =
         let grows = result_grows a (type_at a.program.types a.function.result) start (kind_of a T fits table result) in
         let h =
@@ -380,7 +380,7 @@ module _ (a : Around) where
         }
 
     -- the parameters are known, and all else that has a name is blank
-    pub entry_knows : is_served_result a.program.types a.function.result ≡ true → f.parameters ≡ length a.function.parameters → IsFront (first_state a T).locals f.locals → Knows f (first_state a T).living (entry_known f)
+    pub entry_knows : is_admitted_result a.program.types a.function.result ≡ true → f.parameters ≡ length a.function.parameters → IsFront (first_state a T).locals f.locals → Knows f (first_state a T).living (entry_known f)
     entry_knows result count locals = record {
       sized = map_length (given_ready f.parameters f.locals) ∙ given_length f.parameters f.locals;
       alive = λ y m. alive y (subst (Among y) same m);

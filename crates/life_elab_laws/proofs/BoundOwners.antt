@@ -2,7 +2,7 @@
 use Rattle.std.proofs.Common.{◌≡◌, ◌<◌, ◌⊎◌, inl, inr, ℕ, Bool, true, false, List, [], ◌∷◌, ◌++◌, Contains, drop, length, reverse, slice_get, slice_set, take, Some, None, refl, sym, ap, ◌∙◌, subst, arith, append_assoc, length-append}
 use Rattle.std.proofs.lemmas.List.Elements.{Contains-push, Contains-push_cases}
 use Rattle.std.proofs.lemmas.Option.{slice_get_within}
-use Rattle.life_served.specs.Served.{is_served_variable, is_target}
+use Rattle.life_elab_laws.proofs.FormKinds.{is_admitted_variable, is_target}
 use Rattle.life_types.specs.Types.{Types}
 use Rattle.life_types.specs.declared.place.Place.{Place}
 use Rattle.life_types.specs.declared.ty.Ty.{Ty}
@@ -50,7 +50,7 @@ use Rattle.life_elab_laws.proofs.NewVariables.{bound_given, reference_declared, 
 use Rattle.life_elab_laws.proofs.OrderedTypes.{HasPartsIn, order_then, type_ordered}
 use Rattle.life_elab_laws.proofs.Parts.{Goes, Part, Runs}
 use Rattle.life_elab_laws.proofs.PendingTemporaries.{ArePending, temporary_later}
-use Rattle.life_elab_laws.proofs.ServedTypes.{IsBuilt}
+use Rattle.life_elab_laws.proofs.AdmittedTypes.{IsBuilt}
 use Rattle.life_elab_laws.proofs.Setting.{Setting}
 use Rattle.life_elab_laws.proofs.Shaped.{built_later, is_passing, named_lasts}
 use Rattle.life_elab_laws.proofs.Shaping.{IsFine, fine_acts, fine_append}
@@ -64,7 +64,7 @@ use Rattle.life_elab_laws.proofs.Handing.{GoesHanding, RunsHanding, handed_apart
 use Rattle.life_elab_laws.proofs.OwnLocals.{first_own}
 
 module _ (a : Around) (types : Types) (texts : ℕ) (fs : List Function) (f : Function) (setting : Setting a types fs f) (v : Visible) (in_loop : Bool) (last : Place)
-    (u : TypedLocal) (s : State) (h : Follows types f a v s) (at : slice_get a.function.locals v.declared ≡ Some u) (built : is_served_variable a.program.types u.ty ≡ true)
+    (u : TypedLocal) (s : State) (h : Follows types f a v s) (at : slice_get a.function.locals v.declared ≡ Some u) (built : is_admitted_variable a.program.types u.ty ≡ true)
     (target : TyId) (constant : Bool) (found : slice_get a.program.types.types u.ty.0 ≡ Some (ty.Reference target constant)) (wide : is_target a.program.types (type_at a.program.types target) ≡ true) (owner : IsBuilt a.program.types (type_at a.program.types target)) (place : Place)
     (w : Gives Remaining) {plain : Bool} (is : BuildsIn a v.visible types texts fs f setting plain (type_at a.program.types target) s w) where
   abbrev t : Ty

@@ -3,7 +3,7 @@ use Rattle.std.proofs.Common.{◌≡◌, ◌<◌, ◌⊎◌, inl, inr, ℕ, Bool
 use Rattle.std.proofs.lemmas.Bool.{or_left}
 use Rattle.std.proofs.lemmas.List.Elements.{Contains-append_left, Contains-push_cases}
 use Rattle.std.proofs.lemmas.Option.{slice_get_within, same_Some}
-use Rattle.life_served.specs.Served.{is_served_variable, is_target}
+use Rattle.life_elab_laws.proofs.FormKinds.{is_admitted_variable, is_target}
 use Rattle.life_types.specs.TypeTests.{is_value}
 use Rattle.life_types.specs.Types.{Types}
 use Rattle.life_types.specs.declared.place.Place.{Place}
@@ -48,7 +48,8 @@ use Rattle.life_elab_laws.proofs.FormedVariables.{keeps_all, object_place}
 use Rattle.life_elab_laws.proofs.Fronts.{front_append, front_then, last_there}
 use Rattle.life_elab_laws.proofs.Gifts.{Gift, IsPlaceOf, nothing}
 use Rattle.life_elab_laws.proofs.GivingBack.{fine_known}
-use Rattle.life_elab_laws.proofs.GivenApart.{Apart, AreApart, IsBelow, none_apart, one_more, then_opens, apart_then, given_of, looked_of, looked_spot, parts_of}
+use Rattle.life_elab_laws.proofs.GivenApart.{Apart, AreApart, IsBelow, none_apart, one_more, then_opens, apart_then, given_of, parts_of}
+use Rattle.life_elab_laws.proofs.LookedLocals.{looked_of, looked_spot}
 use Rattle.life_elab_laws.proofs.Growing.{Begins, begins_before}
 use Rattle.life_elab_laws.proofs.Knowledge.{at_set, beside_set, ready_set, set_length}
 use Rattle.life_elab_laws.proofs.Making.{Alive}
@@ -223,7 +224,7 @@ module _ (a : Around) (types : Types) (texts : ℕ) (fs : List Function) (f : Fu
 -- ---- the whole: what is written first, the temporary, and the reference that is aimed at it
 
 module _ (a : Around) (types : Types) (texts : ℕ) (fs : List Function) (f : Function) (setting : Setting a types fs f) (v : Visible) (in_loop : Bool) (last : Place)
-    (u : TypedLocal) (s : State) (h : Follows types f a v s) (at : slice_get a.function.locals v.declared ≡ Some u) (built : is_served_variable a.program.types u.ty ≡ true)
+    (u : TypedLocal) (s : State) (h : Follows types f a v s) (at : slice_get a.function.locals v.declared ≡ Some u) (built : is_admitted_variable a.program.types u.ty ≡ true)
     (target : TyId) (constant : Bool) (found : slice_get a.program.types.types u.ty.0 ≡ Some (ty.Reference target constant)) (worth : is_value (type_at a.program.types target) ≡ true) (place : Place) where
   abbrev t : Ty
   t = type_at a.program.types target

@@ -35,7 +35,7 @@ use Rattle.life_elab_laws.proofs.HandingCalls.{born_falls, born_fine, born_looks
 use Rattle.life_elab_laws.proofs.MadeForms.{Builds, of_call, handed_ready}
 use Rattle.life_elab_laws.proofs.MoveSteps.{moved_same, moved_there}
 use Rattle.life_elab_laws.proofs.Parts.{gives_part}
-use Rattle.life_elab_laws.proofs.ServedTypes.{IsBuilt}
+use Rattle.life_elab_laws.proofs.AdmittedTypes.{IsBuilt}
 use Rattle.life_elab_laws.proofs.Setting.{Setting}
 
 owner_no_pointer : (t : Ty) → is_composed t ≡ true → is_pointer t ≡ false

@@ -1,7 +1,7 @@
 -- A unique_ptr that a call gives.
 use Rattle.std.proofs.Common.{◌≡◌, inr, ℕ, true, List, Option, Some, None, slice_get, sym, ap, ◌∙◌, subst, refl, inl}
 use Rattle.std.proofs.lemmas.Bool.{false≢true}
-use Rattle.life_served.specs.Served.{is_element, is_unique_of_element, is_unique_type}
+use Rattle.life_elab_laws.proofs.FormKinds.{is_element, is_unique_of_element, is_unique_type}
 use Rattle.life_types.specs.Types.{Types}
 use Rattle.life_types.specs.declared.place.Place.{Place}
 use Rattle.life_types.specs.declared.ty.Ty.{Ty}
@@ -39,7 +39,7 @@ use Rattle.life_elab_laws.proofs.AnsweredUniques.{IsAnsweredAt}
 unique_answered : (types : Types) (result : Ty) (t : ExprType) (k : Category) → IsAnswered types result t k → is_unique_type t ≡ true → (target : TyId) × (result ≡ ty.Unique target) × (is_element types (type_at types target) ≡ true) × (t ≡ Of (ty.Unique target)) × (k ≡ category.Value)
 unique_answered types result t k (answers_nothing void own held) n = absurd (false≢true (sym (ap is_unique_type own) ∙ n))
 unique_answered types result t k (answers_value v own held) n = absurd (false≢true (sym (ap is_unique_type own ∙ (value_simple result v).unique) ∙ n))
-unique_answered types result t k (answers_whole number whole pointless own held) n = absurd (false≢true (sym (ap is_unique_type own) ∙ n))
+unique_answered types result t k (answers_whole number whole own held) n = absurd (false≢true (sym (ap is_unique_type own) ∙ n))
 unique_answered types result t k (answers_raw target constant raw w own held) n = absurd (false≢true (sym (ap is_unique_type own) ∙ n))
 unique_answered types result t k (answers_view view own held) n = absurd (false≢true (sym (ap is_unique_type own) ∙ n))
 unique_answered types result t k (answers_walker w own held) n = absurd (false≢true (sym (ap is_unique_type own ∙ walker_no_unique types result w) ∙ n))

@@ -1,4 +1,4 @@
--- What the core functions of a program that is served take and give.
+-- What the core functions of a program take and give.
 use Rattle.std.proofs.Common.{◌≡◌, ◌<◌, ◌≤◌, ℕ, zero, suc, true, false, List, [], ◌∷◌, ◌++◌, length, map, slice_get, take, Option, Some, None, refl, sym, ap, ◌∙◌, subst, unwrap_or, arith, Bool, if◌then◌else◌}
 use Rattle.std.proofs.lemmas.Bool.{and_parts, false≢true}
 use Rattle.std.proofs.lemmas.Option.{none-some, same_Some}
@@ -8,7 +8,7 @@ use Rattle.life_types.specs.Types.{Types, class, class_at}
 use Rattle.life_types.specs.declared.ty.Ty.{Ty}
 use Rattle.life_types.specs.declared.ty.Ty.TheVariants as ty
 use Rattle.life_types.specs.declared.ty.TyId.{TyId}
-use Rattle.life_served.specs.Served.{are_served_variables, is_served_function, is_served_result, is_served_statement, are_served_parameters, is_served_parameter, is_walker_of_values, is_owner_of_values}
+use Rattle.life_elab_laws.proofs.FormKinds.{are_admitted_variables, is_read_function, is_admitted_result, is_read_statement, are_admitted_parameters, is_admitted_parameter, is_walker_of_values, is_owner_of_values}
 use Rattle.life_typed.specs.BaseTypes.{type_at}
 use Rattle.life_typed.specs.Ends.{ends}
 use Rattle.life_typed.specs.Programs.{FunctionForm, ProgramForm, is_main}
@@ -37,26 +37,26 @@ use Rattle.life_elab_laws.proofs.Shaped.{PlainStays}
 pub type_found : (types : Types) (id : TyId) (t : Ty) → slice_get types.types id.0 ≡ Some t → type_at types id ≡ t
 type_found types id t at = ap (λ (o : Option Ty). unwrap_or o ty.Void) at
 
--- ---- what is served
+-- ---- the kinds of its parts
 
-pub record IsServedFunction (texts : ℕ) (types : Types) (f : FunctionForm) : Type 0 where
-  pub result : is_served_result types f.result ≡ true
-  pub parameters : are_served_parameters types (take (length f.parameters) f.locals) ≡ true
-  pub variables : are_served_variables types f.locals ≡ true
-  pub body : is_served_statement texts types f.locals f.body ≡ true
+pub record IsReadFunction (texts : ℕ) (program : ProgramForm) (f : FunctionForm) : Type 0 where
+  pub result : is_admitted_result program.types f.result ≡ true
+  pub parameters : are_admitted_parameters program.types (take (length f.parameters) f.locals) ≡ true
+  pub variables : are_admitted_variables program.types f.locals ≡ true
+  pub body : is_read_statement texts program f.locals f.body ≡ true
 
-pub served_parts : (texts : ℕ) (types : Types) (f : FunctionForm) → is_served_function texts types f ≡ true → IsServedFunction texts types f
-served_parts texts types f b =
-    let one = and_parts (is_served_result types f.result) _ b in
-    let two = and_parts (are_served_parameters types (take (length f.parameters) f.locals)) _ one.1 in
-    let three = and_parts (are_served_variables types f.locals) (is_served_statement texts types f.locals f.body) two.1 in
+pub read_parts : (texts : ℕ) (program : ProgramForm) (f : FunctionForm) → is_read_function texts program f ≡ true → IsReadFunction texts program f
+read_parts texts program f b =
+    let one = and_parts (is_admitted_result program.types f.result) _ b in
+    let two = and_parts (are_admitted_parameters program.types (take (length f.parameters) f.locals)) _ one.1 in
+    let three = and_parts (are_admitted_variables program.types f.locals) (is_read_statement texts program f.locals f.body) two.1 in
     record { result = one.0; parameters = two.0; variables = three.0; body = three.1 }
 
-pub parameter_at : (types : Types) (us : List TypedLocal) → are_served_parameters types us ≡ true → (n : ℕ) (id : TyId) → slice_get (map type_of us) n ≡ Some id → is_served_parameter types id ≡ true
+pub parameter_at : (types : Types) (us : List TypedLocal) → are_admitted_parameters types us ≡ true → (n : ℕ) (id : TyId) → slice_get (map type_of us) n ≡ Some id → is_admitted_parameter types id ≡ true
 parameter_at types [] b n id at = absurd (none-some id at)
 parameter_at types (u ∷ us) b zero id at =
-    subst (λ (i : TyId). is_served_parameter types i ≡ true) (same_Some u.ty id at) (and_parts (is_served_parameter types u.ty) (are_served_parameters types us) b).0
-parameter_at types (u ∷ us) b (suc n) id at = parameter_at types us (and_parts (is_served_parameter types u.ty) (are_served_parameters types us) b).1 n id at
+    subst (λ (i : TyId). is_admitted_parameter types i ≡ true) (same_Some u.ty id at) (and_parts (is_admitted_parameter types u.ty) (are_admitted_parameters types us) b).0
+parameter_at types (u ∷ us) b (suc n) id at = parameter_at types us (and_parts (is_admitted_parameter types u.ty) (are_admitted_parameters types us) b).1 n id at
 
 -- ---- what a function takes
 
@@ -67,23 +67,23 @@ types_cut a [] us rest few = refl
 types_cut a (p ∷ ps) [] rest few = absurd (omega (arith, few))
 types_cut a (p ∷ ps) (u ∷ us) rest few = ap (λ (ids : List TyId). u.ty ∷ ids) (types_cut a ps us rest (omega (arith, few)))
 
-parameter_taken : (a : Around) (ps : List ParameterPromise) (us : List TypedLocal) (y : ℕ) → length ps ≤ length us → are_served_parameters a.program.types (take (length ps) us) ≡ true → y < length ps
+parameter_taken : (a : Around) (ps : List ParameterPromise) (us : List TypedLocal) (y : ℕ) → length ps ≤ length us → are_admitted_parameters a.program.types (take (length ps) us) ≡ true → y < length ps
     → (l : Local) × (slice_get (parameter_locals a ps us) y ≡ Some l) × IsHandedType a.program.types l.ty
 parameter_taken a [] us y few b lt = absurd (omega (arith, lt))
 parameter_taken a (p ∷ ps) [] y few b lt = absurd (omega (arith, few))
 parameter_taken a (p ∷ ps) (u ∷ us) zero few b lt =
-    let parts = and_parts (is_served_parameter a.program.types u.ty) (are_served_parameters a.program.types (take (length ps) us)) b in
+    let parts = and_parts (is_admitted_parameter a.program.types u.ty) (are_admitted_parameters a.program.types (take (length ps) us)) b in
     (parameter_local a p u, refl, handed_type a.program.types u.ty parts.0)
 parameter_taken a (p ∷ ps) (u ∷ us) (suc y) few b lt =
-    let parts = and_parts (is_served_parameter a.program.types u.ty) (are_served_parameters a.program.types (take (length ps) us)) b in
+    let parts = and_parts (is_admitted_parameter a.program.types u.ty) (are_admitted_parameters a.program.types (take (length ps) us)) b in
     parameter_taken a ps us y (omega (arith, few)) parts.1 (omega (arith, lt))
 
 -- ---- what its core function takes and gives, where it begins as it is written
 
--- a function of a well typed program that is served
+-- a function of a well typed program
 pub record IsFunctionOf (p : ProgramForm) (f : FunctionForm) : Type 0 where
   pub typed : IsWellTypedFunction p f
-  pub built : IsServedFunction (length (texts_of p)) p.types f
+  pub built : IsReadFunction (length (texts_of p)) p f
   pub ty : Ty
   pub result : slice_get p.types.types f.result.0 ≡ Some ty
 
@@ -157,7 +157,7 @@ module _ (p : ProgramForm) (of : FunctionForm) (T types : Types) (core : Functio
         where
           clash : ty.Int ≡ ty.Unique target → ⊥
           clash e = cc
-      go (gives_whole number whole pointless) = pointing (ap is_void whole) (λ int. clash (sym int ∙ whole))
+      go (gives_whole number whole) = pointing (ap is_void whole) (λ int. clash (sym int ∙ whole))
         where
           clash : ty.Int ≡ ty.Struct number → ⊥
           clash e = cc

@@ -19,9 +19,11 @@ use Rattle.life_proper.specs.WellFormed.{types_taken}
 use Rattle.life_proper.proofs.ReadyTests.{all_ready, both_known, one_known}
 use Rattle.life_writer.specs.Calls.{called, called_alone}
 use Rattle.life_well_typed.specs.Expressions.{parameter_types}
+use Rattle.life_elab_laws.proofs.Among.{among_left}
 use Rattle.life_elab_laws.proofs.Falling.{Fills}
 use Rattle.life_elab_laws.proofs.Gifts.{AreNumbersFor}
 use Rattle.life_elab_laws.proofs.Held.{blank_there, ready_there}
+use Rattle.life_elab_laws.proofs.LookedLocals.{arguments_used}
 use Rattle.life_elab_laws.proofs.Making.{AreHeld, IsFilling}
 use Rattle.life_elab_laws.proofs.ViewSteps.{pointer_is_held}
 use Rattle.life_elab_laws.proofs.Filling.{only_uses}
@@ -101,6 +103,7 @@ module _ (f : Function) where
           ap (λ (gone : List ℕ). record nothing { uses = flat_map (argument_uses f) xs ++ []; leaves = gone; births = if_object f x; writes = unless_object f x }) stay
           ∙ ap (λ (object : Bool). record nothing { uses = flat_map (argument_uses f) xs ++ []; births = cond object (x ∷ []) []; writes = cond object [] (x ∷ []) }) (no_object (slice_get f.locals x) e);
       parts = λ x m ms. ap (λ (gone : List ℕ). record nothing { uses = flat_map (argument_uses f) xs ++ x ∷ []; leaves = gone }) stay ∙ only_uses (sym (append_assoc (flat_map (argument_uses f) xs) [] (x ∷ [])));
+      looks = λ l x m. among_left (flat_map (argument_uses f) xs) [] x (arguments_used f xs x m);
     }
 
     -- .. or brings to life what isn't there

@@ -24,7 +24,8 @@ use Rattle.life_elab_laws.proofs.BornLocals.{born_of, codes_bear}
 use Rattle.life_elab_laws.proofs.Emitting.{keeps_set}
 use Rattle.life_elab_laws.proofs.Falling.{Falls, falls_append, falls_filling}
 use Rattle.life_elab_laws.proofs.Gifts.{Gift, IsPlaceOf, a_place, both, nothing}
-use Rattle.life_elab_laws.proofs.GivenApart.{AreApart, given_of, looked_of, looked_spot, one_pending, parts_of, then_opens}
+use Rattle.life_elab_laws.proofs.GivenApart.{AreApart, given_of, one_pending, parts_of, then_opens}
+use Rattle.life_elab_laws.proofs.LookedLocals.{looked_of, looked_spot}
 use Rattle.life_elab_laws.proofs.Growing.{Begins, begins_before, grows_then}
 use Rattle.life_elab_laws.proofs.Handing.{GoesHanding, HandingAlone, RunsHanding, fewer_apart, handing_none}
 use Rattle.life_elab_laws.proofs.Knowledge.{at_set}

@@ -1,7 +1,7 @@
 -- Texts that are compared, where one of them is a string.
 use Rattle.std.proofs.Common.{◌≡◌, ◌⊎◌, inl, inr, ℕ, true, false, List, None, Option, refl, sym, ap, ◌∙◌, Some}
 use Rattle.std.proofs.lemmas.Bool.{false≢true}
-use Rattle.life_served.specs.Served.{is_owner_of_values}
+use Rattle.life_elab_laws.proofs.FormKinds.{is_owner_of_values}
 use Rattle.life_types.specs.TypeTests.{is_iterator, is_value}
 use Rattle.life_types.specs.Types.{Types}
 use Rattle.life_types.specs.declared.place.Place.{Place}

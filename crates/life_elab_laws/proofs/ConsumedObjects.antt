@@ -31,7 +31,8 @@ use Rattle.life_elab_laws.proofs.FilledObjects.{FillsObject, GoesFilling, RunsFi
 use Rattle.life_elab_laws.proofs.FormedVariables.{object_place}
 use Rattle.life_elab_laws.proofs.Fronts.{front_append, front_itself, last_there}
 use Rattle.life_elab_laws.proofs.Gifts.{IsPlaceOf, a_given, nothing as no_gift}
-use Rattle.life_elab_laws.proofs.GivenApart.{AreApart, IsBelow, Open, given_of, looked_of, parts_of}
+use Rattle.life_elab_laws.proofs.GivenApart.{AreApart, IsBelow, Open, given_of, parts_of}
+use Rattle.life_elab_laws.proofs.LookedLocals.{looked_of}
 use Rattle.life_elab_laws.proofs.GivenOwners.{temporary_given, temporary_nameless}
 use Rattle.life_elab_laws.proofs.Growing.{Begins, Grows, begins_before, grows_then}
 use Rattle.life_elab_laws.proofs.HandedTypes.{built_composed}
@@ -42,7 +43,7 @@ use Rattle.life_elab_laws.proofs.OrderedTypes.{type_ordered}
 use Rattle.life_elab_laws.proofs.OwnLocals.{first_own}
 use Rattle.life_elab_laws.proofs.PendingTemporaries.{IsTemporary, pending_later}
 use Rattle.life_elab_laws.proofs.Saving.{live_fills}
-use Rattle.life_elab_laws.proofs.ServedTypes.{IsBuilt}
+use Rattle.life_elab_laws.proofs.AdmittedTypes.{IsBuilt}
 use Rattle.life_elab_laws.proofs.Setting.{Setting}
 use Rattle.life_elab_laws.proofs.Shaped.{built_later}
 use Rattle.life_elab_laws.proofs.Shaping.{IsFine, fine_acts, fine_append, lasts_at}
@@ -74,7 +75,7 @@ module _ (a : Around) (visible : List ℕ) (types : Types) (texts : ℕ) (fs : L
   fits : FitsTemporary types t
   fits = inr (built_later a.program.types types setting.front setting.plain t built)
 
-  one_more : x < length begun.locals
+  pub one_more : x < length begun.locals
   one_more = omega (arith, length-append s.locals (l ∷ []))
 
   pub begun_grows : Grows s begun

@@ -19,7 +19,7 @@ use Rattle.life_type_expr.specs.Lists.{fits_at_all, struct_fault}
 use Rattle.life_type_stmt.specs.Simples.{whole_fault}
 use Rattle.life_well_typed.specs.Given.{is_given}
 use Rattle.life_well_typed.specs.Members.{can_be_listed}
-use Rattle.life_served.specs.Served.{are_plain, is_plain_struct}
+use Rattle.life_elab_laws.proofs.FormKinds.{are_plain, is_plain_struct}
 use Rattle.life_elab_laws.proofs.Fronts.{IsFront}
 use Rattle.life_elab_laws.proofs.OrderedTypes.{KeepsOrder, members_later}
 use Rattle.life_elab_laws.proofs.PlainStructs.{as_type, void_struct}

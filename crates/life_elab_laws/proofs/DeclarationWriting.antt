@@ -1,10 +1,10 @@
 -- What is written for a declaration is ready and well formed: the variable lives, and is given what typing lets it be given.
-use Rattle.std.proofs.Common.{◌≡◌, [], ℕ, ◌<◌, Bool, true, false, ◌&&◌, ◌||◌, cond, not, List, ◌∷◌, ◌++◌, length, slice_get, Option, Some, None, refl, sym, ap, ◌∙◌, subst, unwrap_or, arith, append_assoc, inl, inr, nat_lt, flat_map, length-append}
+use Rattle.std.proofs.Common.{◌≡◌, [], ℕ, ◌<◌, Bool, true, false, ◌&&◌, ◌||◌, cond, not, List, ◌∷◌, ◌++◌, length, slice_get, Option, Some, None, refl, sym, ap, ◌∙◌, subst, unwrap_or, arith, append_assoc, inl, inr, flat_map, length-append}
 use Rattle.std.proofs.lemmas.Bool.{and_parts, false≢true, or_cases, and_from}
 use Rattle.std.specs.List.{list_all}
-use Rattle.life_served.specs.Served.{is_owner_of_values, is_owner_type, is_plain_struct, is_served_declaration, is_served_declared, is_served_expression, is_served_initial, is_served_owned, is_served_owner, is_served_variable, is_served_walker, is_walker, is_walker_of_values, owns_elements, is_served_owning, are_served_elements, are_served_listed, is_element, is_target, takes_list, takes_owner, takes_value, fills_owner, is_served_struct, is_struct, takes_struct, is_served_fresh, is_nullptr, are_served_arguments, lists_members}
+use Rattle.life_elab_laws.proofs.FormKinds.{is_owner_of_values, is_owner_type, is_plain_struct, is_read_declaration, is_read_declared, is_read_expression, is_read_initial, is_read_owned, is_read_owner, is_admitted_variable, is_read_walker, is_walker, is_walker_of_values, is_read_owning, are_read_elements, are_read_listed, is_element, is_target, takes_list, takes_owner, takes_value, is_read_struct, is_struct, takes_struct, is_read_fresh, are_read_arguments, lists_members}
 use Rattle.life_types.specs.Pointees.{ty_of}
-use Rattle.life_types.specs.TypeTests.{is_value, is_view, is_unique, is_reference}
+use Rattle.life_types.specs.TypeTests.{is_value, is_unique, is_reference}
 use Rattle.life_types.specs.Types.{Types, class}
 use Rattle.life_types.specs.contracts.ty.TyPartialEq.TheImpl.{ghosts as compared}
 use Rattle.life_types.specs.declared.place.Place.{Place}
@@ -14,14 +14,13 @@ use Rattle.life_types.specs.declared.ty.TyId.{TyId}
 use Rattle.life_typed.specs.BaseTypes.{type_at}
 use Rattle.life_typed.specs.Conversions.{is_place, fits, is_place_of}
 use Rattle.life_typed.specs.Programs.{FunctionForm}
-use Rattle.life_typed.specs.TypedForm.{Typed, whole as whole_form, Form, forms, null, text, typed}
+use Rattle.life_typed.specs.TypedForm.{Typed, whole as whole_form, Form, forms}
 use Rattle.life_typed.specs.TypedStatement.{DeclarationForm, InitialForm, one, several, ListForm}
-use Rattle.life_typed.specs.declared.typed_expr.Category.TheVariants as category
 use Rattle.life_typed.specs.declared.typed_program.TypedLocal.{TypedLocal}
 use Rattle.life_type_stmt.specs.Declarations.{default_fault}
 use Rattle.life_core.specs.Function.{Function}
-use Rattle.life_core.specs.Operands.{Argument, Empty, Location, Place as Aimed, object_named, whole, Text, View}
-use Rattle.life_core.specs.Step.{Aim, Live, Save, Step, Copy, Changes, Set}
+use Rattle.life_core.specs.Operands.{Argument, Empty, Location, Place as Aimed, object_named, whole}
+use Rattle.life_core.specs.Step.{Aim, Live, Save, Step, Copy}
 use Rattle.life_core.specs.Tree.{Tree, Acts, trees}
 use Rattle.life_core.specs.declared.instr.Form.TheVariants.{Plain}
 use Rattle.life_proper.specs.declared.known.Known.{Known}
@@ -29,8 +28,8 @@ use Rattle.life_proper.specs.declared.known.Known.TheVariants as known
 use Rattle.life_proper.specs.GivenOver.{given_step, given_argument}
 use Rattle.life_proper.specs.Knowing.{known_at}
 use Rattle.life_proper.specs.OperandTypes.{is_range, keeps_const, same, takes, is_owner}
-use Rattle.life_proper.specs.WellFormed.{can_live, goes_to, is_source_of, is_change_of}
-use Rattle.life_well_typed.specs.Expressions.{IsExpression, parameter_types, IsMadeOf}
+use Rattle.life_proper.specs.WellFormed.{can_live, goes_to, is_source_of}
+use Rattle.life_well_typed.specs.Expressions.{IsExpression, parameter_types}
 use Rattle.life_well_typed.specs.Given.{is_given, is_number}
 use Rattle.life_well_typed.specs.Statements.{IsDeclaration, IsInitialised}
 use Rattle.life_well_typed.specs.Visible.{Visible, with_next}
@@ -41,16 +40,16 @@ use Rattle.life_writer.specs.ExpressionForms.{all_uses, uses}
 use Rattle.life_writer.specs.Giving.{aimed_at, call_to, initial, value_by, object_by}
 use Rattle.life_writer.specs.Giving as giving
 use Rattle.life_writer.specs.Building.{live}
-use Rattle.life_writer.specs.Pointers.{Pointing, aimed, pointed, located}
+use Rattle.life_writer.specs.Pointers.{Pointing, aimed, pointed}
 use Rattle.life_writer.specs.Temporaries.{scoped}
 use Rattle.life_writer.specs.Using.{pointing, value}
 use Rattle.life_writer.specs.Variables.{end_pending, variable_local, kind}
-use Rattle.life_writer.specs.Uses.{Remaining, Uses, lived}
+use Rattle.life_writer.specs.Uses.{Remaining, Uses}
 use Rattle.life_writer.specs.Writing.{State, Gives, ◌>>◌, emit, gives, mapped, with_code}
 use Rattle.life_elab.specs.DeclarationForms.{declared, declared_as, default_to, empty, given_initial}
 use Rattle.life_elab.specs.Declarations.{variable as home}
 use Rattle.life_writer.proofs.Called.{call_for_seen, calling}
-use Rattle.life_elab_laws.proofs.Aiming.{pointed_fills, pointed_fine, literal_given}
+use Rattle.life_elab_laws.proofs.Aiming.{pointed_fills, pointed_fine}
 use Rattle.life_elab_laws.proofs.Declaring.{declared_does, its_local, new_below, new_none, new_then, with_new, handed_declared}
 use Rattle.life_elab_laws.proofs.Doing.{Does}
 use Rattle.life_elab_laws.proofs.ExpressionKinds.{variable_built}
@@ -62,16 +61,17 @@ use Rattle.life_elab_laws.proofs.PointerForms.{points_whole, result_later}
 use Rattle.life_elab_laws.proofs.GivenKinds.{given_number, given_pointer, given_view}
 use Rattle.life_elab_laws.proofs.Falling.{Fills, falls_filling}
 use Rattle.life_elab_laws.proofs.Following.{Follows, follows_settled, same_variable, settled}
-use Rattle.life_elab_laws.proofs.Filling.{aimed_filling, filling_fills, text_filling}
+use Rattle.life_elab_laws.proofs.Filling.{aimed_filling, filling_fills}
 use Rattle.life_elab_laws.proofs.FormedFits.{IsBound, IsBoundTo, at_place, by_temporary, given_bound, given_raw, given_seen, given_owner, given_string, given_vector, given_walker}
-use Rattle.life_elab_laws.proofs.Gifts.{a_number, a_place, a_pointer, a_pointing, Gift, nothing, takes_from, all_handed}
-use Rattle.life_elab_laws.proofs.GivenApart.{given_of, looked_of, step_apart, AreApart}
+use Rattle.life_elab_laws.proofs.Gifts.{a_number, a_place, a_pointing, Gift, nothing, takes_from, all_handed}
+use Rattle.life_elab_laws.proofs.GivenApart.{given_of, step_apart, AreApart}
+use Rattle.life_elab_laws.proofs.LookedLocals.{looked_of}
 use Rattle.life_elab_laws.proofs.Fronts.{front_append}
 use Rattle.life_elab_laws.proofs.Growing.{Begins, Grows}
 use Rattle.life_elab_laws.proofs.KeptTemporaries.{temporary_does}
 use Rattle.life_elab_laws.proofs.Locations.{is_location, is_pointed, seen_pointed}
 use Rattle.life_elab_laws.proofs.NewVariables.{bound_given, location_declared, object_lives, object_placed, owner_lives, raw_lives, reference_declared, reference_kept, value_goes, value_lives, value_saved, owner_declared, location_lives}
-use Rattle.life_elab_laws.proofs.Parts.{Makes, leaf_part, then_part}
+use Rattle.life_elab_laws.proofs.Parts.{Makes, leaf_part}
 use Rattle.life_elab_laws.proofs.Saving.{live_fills, saved_falls}
 use Rattle.life_elab_laws.proofs.Setting.{Setting}
 use Rattle.life_elab_laws.proofs.Shaping.{fine_acts, fine_append, is_no_object, IsFineStep, step_keeps}
@@ -79,9 +79,9 @@ use Rattle.life_elab_laws.proofs.TypedKinds.{none_some, value_simple}
 use Rattle.life_elab_laws.proofs.Types.{same_types}
 use Rattle.life_elab_laws.proofs.Values.{by_values}
 use Rattle.life_elab_laws.proofs.MadeForms.{Builds, BuildsIn, gift_of, is_made, IsMade, IsOwning, owning_owner, stands_there, one_new}
-use Rattle.life_elab_laws.proofs.VariablePlaces.{a_raw, a_reference, a_struct, a_unique, a_value, a_view, a_walker, an_alias, an_owner, IsVariableType, owner_is, variable_type, walker_is, a_struct_alias}
+use Rattle.life_elab_laws.proofs.VariablePlaces.{a_raw, a_reference, a_struct, a_unique, a_value, a_view, a_walker, an_alias, an_owner, IsVariableType, variable_type, walker_is, a_struct_alias}
 use Rattle.life_elab_laws.proofs.ObjectForms.{IsObject, IsOwner}
-use Rattle.life_elab_laws.proofs.FreshUniques.{IsFresh, nothing_builds}
+use Rattle.life_elab_laws.proofs.FreshUniques.{IsFresh, null_builds}
 use Rattle.life_elab_laws.proofs.MoveSteps.{owner_moves}
 use Rattle.life_elab_laws.proofs.MovedOwners.{moved_kind, moved_plain}
 use Rattle.life_elab_laws.proofs.OwnerBirths.{lives_then}
@@ -89,13 +89,9 @@ use Rattle.life_elab_laws.proofs.OwnerSteps.{copy_fine, place_held}
 use Rattle.life_elab_laws.proofs.SeenForms.{string_points}
 use Rattle.life_core.specs.Touched.{place_uses}
 use Rattle.life_typed.specs.declared.typed_expr.Category.{Category}
-use Rattle.life_typed.specs.declared.typed_expr.ExprType.TheVariants.{Of, TextLiteral}
+use Rattle.life_typed.specs.declared.typed_expr.ExprType.TheVariants.{Of}
 use Rattle.life_elab_laws.proofs.BuiltVariables.{built_does}
-use Rattle.life_elab_laws.proofs.Instructions.{literal_located_part}
-use Rattle.life_elab_laws.proofs.ViewSteps.{pointer_is_held}
-use Rattle.life_proper.specs.Placed.{is_const_place, type_of as type_of_place}
 use Rattle.life_typed.specs.declared.typed_expr.ExprType.{ExprType}
-use Rattle.life_type_expr.specs.Lists.{fits_at_all}
 use Rattle.life_elab_laws.proofs.WalkerForms.{IsWalker, vector_points, walker_points}
 use Rattle.life_elab_laws.proofs.WalkerSteps.{keeps_itself}
 use Rattle.life_elab_laws.proofs.ListForms.{list_builds}
@@ -105,7 +101,7 @@ use Rattle.life_writer.specs.Lists.{built_type, list_object, listed}
 use Rattle.life_elab_laws.proofs.TemporaryEnds.{TemporariesEnd, temporary_ends}
 use Rattle.life_elab_laws.proofs.Elements.{one_element}
 use Rattle.life_elab_laws.proofs.PushedElements.{AreGiving}
-use Rattle.life_elab_laws.proofs.AliasForms.{IsAliased, owning_aliased, value_reference_refused, whole_aliased, to_built, to_place, struct_reference_refused}
+use Rattle.life_elab_laws.proofs.AliasForms.{IsAliased, owning_aliased, value_reference_refused, whole_aliased, to_built, to_place, struct_reference_refused, value_builds}
 use Rattle.life_elab_laws.proofs.BoundOwners.{bound_owner_does}
 use Rattle.life_elab_laws.proofs.Targets.{owner_target, value_target, struct_target}
 use Rattle.life_elab_laws.proofs.UniqueForms.{owner_no_unique, walker_no_unique}
@@ -115,14 +111,13 @@ use Rattle.life_elab_laws.proofs.HandedArguments.{Hands}
 use Rattle.life_elab_laws.proofs.HandingCalls.{born_falls, born_fine, born_looks, born_named}
 use Rattle.life_elab_laws.proofs.StructReferences.{kind_no_struct, struct_alone, struct_aliased, IsStructAlias}
 use Rattle.life_elab_laws.proofs.OwnLocals.{first_own}
-use Rattle.life_writer.specs.OwnerForms.{made_null}
 use Rattle.life_elab_laws.proofs.MadeStructs.{IsAnyStruct, as_struct}
 use Rattle.life_elab_laws.proofs.StructMembers.{AreListed}
-use Rattle.life_elab_laws.proofs.ServedTypes.{IsBuilt, struct_built}
+use Rattle.life_elab_laws.proofs.AdmittedTypes.{IsBuilt, struct_built}
 use Rattle.life_core.specs.declared.program.LocalKind.TheVariants.{Object}
 
 module _ (a : Around) (types : Types) (texts : ℕ) (fs : List Function) (f : Function) (setting : Setting a types fs f) (v : Visible) (in_loop : Bool) where
-  module _ (u : TypedLocal) (s : State) (h : Follows types f a v s) (at : slice_get a.function.locals v.declared ≡ Some u) (built : is_served_variable a.program.types u.ty ≡ true) (last : Place) where
+  module _ (u : TypedLocal) (s : State) (h : Follows types f a v s) (at : slice_get a.function.locals v.declared ≡ Some u) (built : is_admitted_variable a.program.types u.ty ≡ true) (last : Place) where
     -- its temporaries end behind it
     abbrev Born : State → Type 0
     Born s' = Does types texts fs f a (with_next v) in_loop s (end_pending (length s.pending) last s')
@@ -289,7 +284,7 @@ module _ (a : Around) (types : Types) (texts : ℕ) (fs : List Function) (f : Fu
 
     -- ---- built variable that is given one expression
 
-    module _ (e : Typed) (b : is_served_expression texts a.program.types e ≡ true) (he : Whole e) (behind : Place) where
+    module _ (e : Typed) (b : is_read_expression texts a.program e ≡ true) (he : Whole e) (behind : Place) where
       whole_is : IsWhole a v.visible types texts fs f setting (whole_form e)
       whole_is = whole_expression a v.visible types texts fs f setting (whole_form e) b he
 
@@ -349,6 +344,17 @@ module _ (a : Around) (types : Types) (texts : ℕ) (fs : List Function) (f : Fu
       reference_does target constant is worth bound =
           aimed_does e behind target constant bound.held is (value_target a.program.types (type_at a.program.types target) worth) bound.here bound.kept (whole_is.names target bound.held bound.place worth s h.stands)
 
+      text_does : (t : Ty) → slice_get a.program.types.types u.ty.0 ≡ Some t → is_owner_of_values a.program.types t ≡ true → is_given a.program.types t e ≡ true → Born (GivenOne t)
+      text_does t is o given =
+          subst Born (sym (by_string t o))
+          (builds_does t is (moved_kind a v.visible types texts fs f setting t (owner_moves a.program.types t o)) (moved_plain a v.visible types texts fs f setting t (owner_moves a.program.types t o)) (giving.given (uses a (whole_form e)) t behind s)
+          (value_builds a v.visible types texts fs f setting (whole_form e) whole_is t o given behind s h.stands))
+        where
+          by_string : (t : Ty) → is_owner_of_values a.program.types t ≡ true → GivenOne t ≡ (giving.given (uses a (whole_form e)) t behind s >> λ rest s. rest (home a u) s).state
+          by_string ty.Text o = refl
+          by_string (ty.Vector item) o = refl
+          by_string _ o = absurd (false≢true o)
+
       one_does : takes_value (type_of a u.ty) ≡ true → is_given a.program.types (type_of a u.ty) e ≡ true → Born (GivenOne (type_of a u.ty))
       one_does plain given = go (variable_type a.program.types u.ty built)
         where
@@ -364,9 +370,13 @@ module _ (a : Around) (types : Types) (texts : ℕ) (fs : List Function) (f : Fu
           go (a_view is) = as_type ty.View is (view_does is (as_given ty.View is))
           go (a_walker t is w) =
               let seen = walker_is a.program.types t w in
-              absurd (false≢true (sym (ap takes_value (type_is t is) ∙ ap (λ (b : Bool). not (b || (is_walker t || (is_unique t || is_struct t)))) seen.owner ∙ ap (λ (b : Bool). not (b || (is_unique t || is_struct t))) seen.walker) ∙ plain))
-          go (an_owner t is o) = absurd (false≢true (sym (ap takes_value (type_is t is) ∙ ap (λ (b : Bool). not (b || (is_walker t || (is_unique t || is_struct t)))) (owner_is a.program.types t o)) ∙ plain))
-          go (a_unique target is w) = absurd (false≢true (sym (ap takes_value (type_is (ty.Unique target) is)) ∙ plain))
+              absurd (false≢true (sym (ap takes_value (type_is t is) ∙ ap (λ (b : Bool). not (b || is_struct t)) seen.walker) ∙ plain))
+          -- a literal, of which a string is built
+          go (an_owner t is o) = as_type t is (text_does t is o (as_given t is))
+          -- nullptr
+          go (a_unique target is w) =
+              as_type (ty.Unique target) is
+              (builds_does (ty.Unique target) is refl refl (giving.given (uses a (whole_form e)) (ty.Unique target) behind s) (null_builds a v.visible types texts fs f setting (whole_form e) whole_is target (as_given (ty.Unique target) is) behind s h.stands))
           go (a_struct number is) = absurd (false≢true (sym (ap takes_value (type_is (ty.Struct number) is)) ∙ plain))
           go (a_struct_alias target constant number is structure pointless) =
               absurd (kind_no_struct a.program.types e whole_is.kind.kind (struct_alone a.program.types target constant number e structure (struct_target a.program.types (type_at a.program.types target) pointless) (as_given (ty.Reference target constant) is) (λ held. whole_is.kind.place target held)))
@@ -447,27 +457,6 @@ module _ (a : Around) (types : Types) (texts : ℕ) (fs : List Function) (f : Fu
           go (ty.Span item constant) is w taken = aimed_pointer_does (ty.Span item constant) refl is (Of from.ty) e.place (pointing (uses a (whole_form e)) s) made taken
           go _ is w taken = absurd (false≢true w)
 
-      -- a literal
-      literal_does : (n : ℕ) → e.form ≡ text n → nat_lt n texts ≡ true → slice_get a.program.types.types u.ty.0 ≡ Some ty.Text → e.category ≡ category.Value → Born (GivenThis ty.Text)
-      literal_does n same few is held =
-          let w = located e.place ty.View (aimed (Text n)) s in
-          let made =
-          then_part types texts fs f (nothing types texts fs f) tt None s (gives (aimed (Text n)) s) w (a_pointing types texts fs f TextLiteral) (a_pointer types texts fs f ty.View) h.stands.opened
-          (leaf_part types texts fs f (aimed (Text n)) s (a_pointing types texts fs f TextLiteral) (λ b. literal_given types texts fs f n few) (λ b k alive. text_filling f n (length s.locals) k))
-          (literal_located_part types texts fs f (aimed (Text n)) e.place s) in
-          subst Born (sym (by_owner ty.Text refl
-          ∙ ap (λ (c : Category). (object_by c (uses a (whole_form e)).at (uses a (whole_form e)).object s >> λ rest s. rest (home a u) s).state) held
-          ∙ ap (λ (g : Form). ((uses a (typed e.place e.ty e.category g)).object s >> λ rest s. rest (home a u) s).state) same))
-          (lives_then a types texts fs f setting v in_loop last u s h at built u.place w (a_pointer types texts fs f ty.View) made (λ x. Changes (object_named x) (Set (View w.given))) (w.given.local ∷ []) (λ x. refl)
-          (λ n k q. (pointer_is_held w.given n k q, tt)) (λ x. refl)
-          (λ b. owner_lives a types texts fs f setting.front u w.state b ty.Text is refl)
-          (λ b q. let at = owner_declared a types texts fs f setting.front u w.state b ty.Text is refl in record {
-            given = refl;
-            formed =
-                and_from (is_change_of types texts fs f (type_of_place types f (object_named (length w.state.locals))) (Set (View w.given))) (not (is_const_place types f (object_named (length w.state.locals))))
-                (ap (λ (t : Ty). is_change_of types texts fs f t (Set (View w.given))) at.typed ∙ ap is_view q.typed) at.held;
-          }))
-
       -- ---- a unique_ptr
 
       -- one that is made anew, moved or given, where the variable has come to life
@@ -477,38 +466,24 @@ module _ (a : Around) (types : Types) (texts : ℕ) (fs : List Function) (f : Fu
           subst Born (sym (by_moved (ty.Unique target) refl ∙ ap (λ (c : Category). (object_by c (uses a (whole_form e)).at (uses a (whole_form e)).object s >> λ rest s. rest (home a u) s).state) from.value))
           (builds_does (ty.Unique target) is refl refl ((uses a (whole_form e)).object s) (from.builds target worth given s h.stands))
 
-      null_does : (target : TyId) → slice_get a.program.types.types u.ty.0 ≡ Some (ty.Unique target) → e.form ≡ null → e.category ≡ category.Value → Born (GivenThis (ty.Unique target))
-      null_does target is same held =
-          subst Born (sym (ap (λ (c : Category). (object_by c (uses a (whole_form e)).at (uses a (whole_form e)).object s >> λ rest s. rest (home a u) s).state) held
-          ∙ ap (λ (g : Form). ((uses a (typed e.place e.ty e.category g)).object s >> λ rest s. rest (home a u) s).state) same))
-          (builds_does (ty.Unique target) is refl refl (gives (lived Plain made_null) s) (nothing_builds a v.visible types texts fs f setting target s))
-
-    owned_does : (e : Typed) → (he : Whole e) → (behind : Place) → is_served_owned texts a.program.types (type_of a u.ty) e ≡ true → is_given a.program.types (type_of a u.ty) e ≡ true → Born (GivenThis e he behind (type_of a u.ty))
-    owned_does e he behind b given = elim (or_cases (takes_owner (type_of a u.ty) && is_served_owning texts a.program.types e) _ b) [
+    owned_does : (e : Typed) → (he : Whole e) → (behind : Place) → is_read_owned texts a.program (type_of a u.ty) e ≡ true → is_given a.program.types (type_of a u.ty) e ≡ true → Born (GivenThis e he behind (type_of a u.ty))
+    owned_does e he behind b given = elim (or_cases (takes_owner (type_of a u.ty) && is_read_owning texts a.program e) _ b) [
       | inl owner ↦
-          let one = and_parts (takes_owner (type_of a u.ty)) (is_owner_type e.ty && is_served_owner texts a.program.types (whole_form e)) owner in
-          let two = and_parts (is_owner_type e.ty) (is_served_owner texts a.program.types (whole_form e)) one.1 in
+          let one = and_parts (takes_owner (type_of a u.ty)) (is_owner_type e.ty && is_read_owner texts a.program (whole_form e)) owner in
+          let two = and_parts (is_owner_type e.ty) (is_read_owner texts a.program (whole_form e)) one.1 in
           given_owner_does one.0 (owner_expression a v.visible types texts fs f setting (whole_form e) two.1 two.0 he) (variable_type a.program.types u.ty built)
-      | inr other ↦ elim (or_cases (owns_elements (type_of a u.ty) && fills_owner texts e.form) _ other) [
-        | inl fills ↦
-            let one = and_parts (owns_elements (type_of a u.ty)) (fills_owner texts e.form) fills in
-            owner_filled_does one.0 e.form refl one.1 he (variable_type a.program.types u.ty built)
-        | inr others ↦ elim (or_cases (is_walker (type_of a u.ty) && is_served_walker texts a.program.types (whole_form e)) _ others) [
-          | inl walks ↦
-              let one = and_parts (is_walker (type_of a u.ty)) (is_served_walker texts a.program.types (whole_form e)) walks in
-              given_walker_does one.0 (walker_expression a v.visible types texts fs f setting (whole_form e) one.1 he) (variable_type a.program.types u.ty built)
-          | inr others ↦ elim (or_cases (is_unique (type_of a u.ty) && (is_nullptr e.form || is_served_fresh texts a.program.types (whole_form e))) (takes_struct (type_of a u.ty) && is_served_struct texts a.program.types (whole_form e)) others) [
-            | inl fills ↦
-                let one = and_parts (is_unique (type_of a u.ty)) (is_nullptr e.form || is_served_fresh texts a.program.types (whole_form e)) fills in
-                given_unique_does one.0 (variable_type a.program.types u.ty built)
-                (λ target is w. elim (or_cases (is_nullptr e.form) (is_served_fresh texts a.program.types (whole_form e)) one.1) [
-                  | inl filled ↦ null_unique_does e.form refl filled he target is
-                  | inr fresh ↦ fresh_does e he behind target is w (as_given (ty.Unique target) is) (fresh_expression a v.visible types texts fs f setting (whole_form e) fresh he)
-                ])
-            | inr structure ↦
-                let one = and_parts (takes_struct (type_of a u.ty)) (is_served_struct texts a.program.types (whole_form e)) structure in
-                given_struct_does one.0 (struct_expression a v.visible types texts fs f setting (whole_form e) one.1 he) (variable_type a.program.types u.ty built)
-          ]
+      | inr others ↦ elim (or_cases (is_walker (type_of a u.ty) && is_read_walker texts a.program (whole_form e)) _ others) [
+        | inl walks ↦
+            let one = and_parts (is_walker (type_of a u.ty)) (is_read_walker texts a.program (whole_form e)) walks in
+            given_walker_does one.0 (walker_expression a v.visible types texts fs f setting (whole_form e) one.1 he) (variable_type a.program.types u.ty built)
+        | inr others ↦ elim (or_cases (is_unique (type_of a u.ty) && is_read_fresh texts a.program (whole_form e)) (takes_struct (type_of a u.ty) && is_read_struct texts a.program (whole_form e)) others) [
+          | inl fills ↦
+              let one = and_parts (is_unique (type_of a u.ty)) (is_read_fresh texts a.program (whole_form e)) fills in
+              given_unique_does one.0 (variable_type a.program.types u.ty built)
+              (λ target is w. fresh_does e he behind target is w (as_given (ty.Unique target) is) (fresh_expression a v.visible types texts fs f setting (whole_form e) one.1 he))
+          | inr structure ↦
+              let one = and_parts (takes_struct (type_of a u.ty)) (is_read_struct texts a.program (whole_form e)) structure in
+              given_struct_does one.0 (struct_expression a v.visible types texts fs f setting (whole_form e) one.1 he) (variable_type a.program.types u.ty built)
         ]
       ]
     ]
@@ -558,29 +533,6 @@ module _ (a : Around) (types : Types) (texts : ℕ) (fs : List Function) (f : Fu
         given_walker_does p from (an_owner _ is o) = absurd (false≢true o)
         given_walker_does p from (a_walker t is w) = as_type t is (walker_does e he behind from t is w (as_given t is))
 
-        no_literal : (t : Ty) → slice_get a.program.types.types u.ty.0 ≡ Some t → owns_elements t ≡ false → owns_elements (type_of a u.ty) ≡ true → Born (GivenThis e he behind (type_of a u.ty))
-        no_literal t is none p = absurd (false≢true (sym (ap owns_elements (type_is t is) ∙ none) ∙ p))
-
-        owner_filled_does : owns_elements (type_of a u.ty) ≡ true → (form : Form) → e.form ≡ form → fills_owner texts form ≡ true → Whole e → IsVariableType a.program.types u.ty → Born (GivenThis e he behind (type_of a u.ty))
-        owner_filled_does p (text n) same few made (a_value t is w) = no_literal t is (by_values (λ t. owns_elements t ≡ false) refl refl refl refl refl t w) p
-        owner_filled_does p (text n) same few made (a_raw target constant is w) = no_literal (ty.Raw target constant) is refl p
-        owner_filled_does p (text n) same few made (a_reference target constant is w) = no_literal (ty.Reference target constant) is refl p
-        owner_filled_does p (text n) same few made (an_alias target constant is o) = no_literal (ty.Reference target constant) is refl p
-        owner_filled_does p (text n) same few made (a_unique target is w) = no_literal (ty.Unique target) is refl p
-        owner_filled_does p (text n) same few made (a_struct number is) = no_literal (ty.Struct number) is refl p
-        owner_filled_does p (text n) same few made (a_struct_alias target constant number is structure pointless) = no_literal (ty.Reference target constant) is refl p
-        owner_filled_does p (text n) same few made (a_view is) = no_literal ty.View is refl p
-        owner_filled_does p (text n) same few made (a_walker t is w) = no_literal t is (walker_is a.program.types t w).owner p
-        owner_filled_does p (text n) same few made (an_owner t is o) =
-            let told : IsMadeOf a.program a.function.locals v.visible e (text n) = subst (IsMadeOf a.program a.function.locals v.visible e) same made in
-            string_only t is o (subst (λ (x : ExprType). fits_at_all (fits a.program.types t x e.category) ≡ true) told.0 (as_given t is)) told.1
-          where
-            string_only : (t : Ty) → slice_get a.program.types.types u.ty.0 ≡ Some t → is_owner_of_values a.program.types t ≡ true → fits_at_all (fits a.program.types t TextLiteral e.category) ≡ true → e.category ≡ category.Value → Born (GivenThis e he behind (type_of a u.ty))
-            string_only ty.Text is o fits held = as_type ty.Text is (literal_does e he behind n same few is held)
-            string_only (ty.Vector item) is o fits held = absurd (false≢true fits)
-            string_only _ is o fits held = absurd (false≢true o)
-        owner_filled_does p _ same few made kind = absurd (false≢true few)
-
         no_unique : (t : Ty) → slice_get a.program.types.types u.ty.0 ≡ Some t → is_unique t ≡ false → is_unique (type_of a u.ty) ≡ true → Born (GivenThis e he behind (type_of a u.ty))
         no_unique t is none p = absurd (false≢true (sym (ap is_unique (type_is t is) ∙ none) ∙ p))
 
@@ -596,10 +548,6 @@ module _ (a : Around) (types : Types) (texts : ℕ) (fs : List Function) (f : Fu
         given_unique_does p (a_struct number is) does = no_unique (ty.Struct number) is refl p
         given_unique_does p (a_struct_alias target constant number is structure pointless) does = no_unique (ty.Reference target constant) is refl p
         given_unique_does p (a_unique target is w) does = as_type (ty.Unique target) is (does target is w)
-
-        null_unique_does : (form : Form) → e.form ≡ form → is_nullptr form ≡ true → Whole e → (target : TyId) → slice_get a.program.types.types u.ty.0 ≡ Some (ty.Unique target) → Born (GivenThis e he behind (ty.Unique target))
-        null_unique_does null same b made target is = null_does e he behind target is same (subst (IsMadeOf a.program a.function.locals v.visible e) same made).1
-        null_unique_does _ same b made target is = absurd (false≢true b)
 
         no_struct : (t : Ty) → slice_get a.program.types.types u.ty.0 ≡ Some t → takes_struct t ≡ false → takes_struct (type_of a u.ty) ≡ true → Born (GivenThis e he behind (type_of a u.ty))
         no_struct t is none p = absurd (false≢true (sym (ap takes_struct (type_is t is) ∙ none) ∙ p))
@@ -718,11 +666,11 @@ module _ (a : Around) (types : Types) (texts : ℕ) (fs : List Function) (f : Fu
           (subst (λ (g : Gives ℕ). Born (g >> λ x s. gives (aimed_at list.opening (object_named x)) s >> λ rest s. rest (home a u) s).state) (sym (kept.lives (scoped list.opening (type_of a target)) s))
           (bound_owner_does a types texts fs f setting v in_loop last u s h at built target true is (struct_target a.program.types (type_at a.program.types target) pointless) (struct_built a.program.types target number here) list.opening w kept))
 
-    listed_does : (list : ListForm) (behind : Place) → (takes_list a.program.types (type_of a u.ty) && are_served_listed texts a.program.types (lists_members a.program.types (type_of a u.ty)) (forms list.elements)) ≡ true → IsInitialised a.program a.function.locals a.function.result v.visible (Some u) (Some (several list)) → Born (given_initial a u (Some (several list)) behind s)
+    listed_does : (list : ListForm) (behind : Place) → (takes_list a.program.types (type_of a u.ty) && are_read_listed texts a.program (lists_members a.program.types (type_of a u.ty)) (forms list.elements)) ≡ true → IsInitialised a.program a.function.locals a.function.result v.visible (Some u) (Some (several list)) → Born (given_initial a u (Some (several list)) behind s)
     listed_does list behind b i = go one.0 (variable_type a.program.types u.ty built)
       where
-        one : (takes_list a.program.types (type_of a u.ty) ≡ true) × (are_served_listed texts a.program.types (lists_members a.program.types (type_of a u.ty)) (forms list.elements) ≡ true)
-        one = and_parts (takes_list a.program.types (type_of a u.ty)) (are_served_listed texts a.program.types (lists_members a.program.types (type_of a u.ty)) (forms list.elements)) b
+        one : (takes_list a.program.types (type_of a u.ty) ≡ true) × (are_read_listed texts a.program (lists_members a.program.types (type_of a u.ty)) (forms list.elements) ≡ true)
+        one = and_parts (takes_list a.program.types (type_of a u.ty)) (are_read_listed texts a.program (lists_members a.program.types (type_of a u.ty)) (forms list.elements)) b
 
         as_type : (t : Ty) → slice_get a.program.types.types u.ty.0 ≡ Some t → Born (ListGiven list behind (forms list.elements) t) → Born (ListGiven list behind (forms list.elements) (type_of a u.ty))
         as_type t is born = subst (λ (x : Ty). Born (ListGiven list behind (forms list.elements) x)) (sym (type_is t is)) born
@@ -731,17 +679,17 @@ module _ (a : Around) (types : Types) (texts : ℕ) (fs : List Function) (f : Fu
         as_listed t is = subst (λ (x : Ty). is_listed a.program.types x (forms list.elements) ≡ true) (type_is t is) i.0
 
         -- elements, or the members of a struct
-        served : (t : Ty) → slice_get a.program.types.types u.ty.0 ≡ Some t → are_served_listed texts a.program.types (lists_members a.program.types t) (forms list.elements) ≡ true
-        served t is = subst (λ (x : Ty). are_served_listed texts a.program.types (lists_members a.program.types x) (forms list.elements) ≡ true) (type_is t is) one.1
+        served : (t : Ty) → slice_get a.program.types.types u.ty.0 ≡ Some t → are_read_listed texts a.program (lists_members a.program.types t) (forms list.elements) ≡ true
+        served t is = subst (λ (x : Ty). are_read_listed texts a.program (lists_members a.program.types x) (forms list.elements) ≡ true) (type_is t is) one.1
 
         -- .. of a reference by what it is to
-        served_there : (target : TyId) (constant : Bool) → slice_get a.program.types.types u.ty.0 ≡ Some (ty.Reference target constant) → (b : Bool) → is_struct (type_at a.program.types target) ≡ b → are_served_listed texts a.program.types b (forms list.elements) ≡ true
-        served_there target constant is b same = subst (λ (b : Bool). are_served_listed texts a.program.types b (forms list.elements) ≡ true) same (served (ty.Reference target constant) is)
+        read_there : (target : TyId) (constant : Bool) → slice_get a.program.types.types u.ty.0 ≡ Some (ty.Reference target constant) → (b : Bool) → is_struct (type_at a.program.types target) ≡ b → are_read_listed texts a.program b (forms list.elements) ≡ true
+        read_there target constant is b same = subst (λ (b : Bool). are_read_listed texts a.program b (forms list.elements) ≡ true) same (served (ty.Reference target constant) is)
 
-        parts : are_served_arguments texts a.program.types (forms list.elements) ≡ true → AreListed a v.visible types texts fs f setting (forms list.elements)
+        parts : are_read_arguments texts a.program (forms list.elements) ≡ true → AreListed a v.visible types texts fs f setting (forms list.elements)
         parts b = listings a v.visible types texts fs f setting (forms list.elements) b i.1
 
-        given : are_served_elements texts a.program.types (forms list.elements) ≡ true → AreGiving a v.visible types texts fs f setting (forms list.elements)
+        given : are_read_elements texts a.program (forms list.elements) ≡ true → AreGiving a v.visible types texts fs f setting (forms list.elements)
         given b = givings a v.visible types texts fs f setting (forms list.elements) b i.1
 
         no_list : (t : Ty) → slice_get a.program.types.types u.ty.0 ≡ Some t → takes_list a.program.types t ≡ false → takes_list a.program.types (type_of a u.ty) ≡ true → Born (ListGiven list behind (forms list.elements) (type_of a u.ty))
@@ -757,9 +705,9 @@ module _ (a : Around) (types : Types) (texts : ℕ) (fs : List Function) (f : Fu
         go p (a_value t is w) = no_list t is (by_values (λ t. takes_list a.program.types t ≡ false) refl refl refl refl refl t w) p
         go p (a_raw target constant is w) = no_list (ty.Raw target constant) is refl p
         go p (a_reference target constant is w) = absurd (value_listed target constant w (as_listed (ty.Reference target constant) is))
-        go p (an_alias target constant is o) = as_type (ty.Reference target constant) is (alias_listed list behind target constant is o (given (served_there target constant is false (owner_no_struct a.program.types (type_at a.program.types target) o))) (as_listed (ty.Reference target constant) is))
+        go p (an_alias target constant is o) = as_type (ty.Reference target constant) is (alias_listed list behind target constant is o (given (read_there target constant is false (owner_no_struct a.program.types (type_at a.program.types target) o))) (as_listed (ty.Reference target constant) is))
         go p (a_struct_alias target constant number is structure pointless) =
-            as_type (ty.Reference target constant) is (alias_of_members list behind target constant number is structure pointless (parts (served_there target constant is true (ap is_struct structure))) (as_listed (ty.Reference target constant) is))
+            as_type (ty.Reference target constant) is (alias_of_members list behind target constant number is structure pointless (parts (read_there target constant is true (ap is_struct structure))) (as_listed (ty.Reference target constant) is))
         go p (a_unique target is w) = no_list (ty.Unique target) is refl p
         go p (a_struct number is) =
             as_type (ty.Struct number) is
@@ -776,20 +724,20 @@ module _ (a : Around) (types : Types) (texts : ℕ) (fs : List Function) (f : Fu
             (list_builds a v.visible types texts fs f setting item o list.opening (forms list.elements) list.delimiters s (given (served (ty.Vector item) is)) (as_listed (ty.Vector item) is)))
         go p (an_owner _ is o) = absurd (false≢true o)
 
-    initial_does : (initial : Option InitialForm) (behind : Place) → is_served_initial texts a.program.types (type_of a u.ty) initial ≡ true → IsInitialised a.program a.function.locals a.function.result v.visible (Some u) initial → Born (given_initial a u initial behind s)
+    initial_does : (initial : Option InitialForm) (behind : Place) → is_read_initial texts a.program (type_of a u.ty) initial ≡ true → IsInitialised a.program a.function.locals a.function.result v.visible (Some u) initial → Born (given_initial a u initial behind s)
     initial_does None behind b i = default_does i
     initial_does (Some (one e)) behind b i =
-        elim (or_cases (takes_value (type_of a u.ty) && is_served_expression texts a.program.types e) (is_served_owned texts a.program.types (type_of a u.ty) e) b) [
-          | inl value ↦ let parts = and_parts (takes_value (type_of a u.ty)) (is_served_expression texts a.program.types e) value in one_does e parts.1 i.1 behind parts.0 i.0
+        elim (or_cases (takes_value (type_of a u.ty) && is_read_expression texts a.program e) (is_read_owned texts a.program (type_of a u.ty) e) b) [
+          | inl value ↦ let parts = and_parts (takes_value (type_of a u.ty)) (is_read_expression texts a.program e) value in one_does e parts.1 i.1 behind parts.0 i.0
           | inr owned ↦ owned_does e i.1 behind owned i.0
         ]
     initial_does (Some (several list)) behind b i = listed_does list behind b i
 
-  pub declaration_does : (d : DeclarationForm) (behind : Place) (s : State) → Follows types f a v s → is_served_declaration texts a.program.types a.function.locals d ≡ true → IsDeclaration a.program a.function.locals a.function.result d v
+  pub declaration_does : (d : DeclarationForm) (behind : Place) (s : State) → Follows types f a v s → is_read_declaration texts a.program a.function.locals d ≡ true → IsDeclaration a.program a.function.locals a.function.result d v
       → Does types texts fs f a (with_next v) in_loop s (declared a d behind s)
   declaration_does d behind s h b here = go (slice_get a.function.locals d.local) refl b here.1
     where
-      go : (o : Option TypedLocal) → slice_get a.function.locals d.local ≡ o → is_served_declared texts a.program.types o d.value ≡ true → IsInitialised a.program a.function.locals a.function.result v.visible o d.value
+      go : (o : Option TypedLocal) → slice_get a.function.locals d.local ≡ o → is_read_declared texts a.program o d.value ≡ true → IsInitialised a.program a.function.locals a.function.result v.visible o d.value
           → Does types texts fs f a (with_next v) in_loop s (end_pending (length s.pending) behind (declared_as a o d.value behind s))
       go None at b i = absurd i
       go (Some u) at b i =

@@ -3,7 +3,7 @@ use Rattle.std.proofs.Common.{◌≡◌, ◌<◌, ◌⊎◌, inl, inr, ℕ, Bool
 use Rattle.std.proofs.lemmas.Bool.{or_left, or_right}
 use Rattle.std.proofs.lemmas.List.Elements.{Contains-append_left, Contains-push, Contains-push_cases}
 use Rattle.std.proofs.lemmas.Option.{same_Some, slice_get_within, none-some}
-use Rattle.life_served.specs.Served.{is_served_variable, is_target}
+use Rattle.life_elab_laws.proofs.FormKinds.{is_admitted_variable, is_target}
 use Rattle.life_types.specs.TypeTests.{is_pointer}
 use Rattle.life_types.specs.Types.{Types, class, class_at}
 use Rattle.life_types.specs.declared.ty.Ty.{Ty}
@@ -32,7 +32,8 @@ use Rattle.life_elab_laws.proofs.Following.{Adds, Follows, IsLiving, may_end, ad
 use Rattle.life_elab_laws.proofs.FormedVariables.{reference_there}
 use Rattle.life_elab_laws.proofs.Fronts.{IsFront, front_append, front_itself, front_then, last_there}
 use Rattle.life_elab_laws.proofs.GivingBack.{fine_known}
-use Rattle.life_elab_laws.proofs.GivenApart.{Apart, AreApart, IsBelow, none_apart, one_more, then_opens, given_of, looked_of}
+use Rattle.life_elab_laws.proofs.GivenApart.{Apart, AreApart, IsBelow, none_apart, one_more, then_opens, given_of}
+use Rattle.life_elab_laws.proofs.LookedLocals.{looked_of}
 use Rattle.life_elab_laws.proofs.Growing.{Begins, begins_before}
 use Rattle.life_elab_laws.proofs.Making.{Alive}
 use Rattle.life_elab_laws.proofs.SomeKnown.{some_known, some_knows}
@@ -70,7 +71,7 @@ abbrev pub with_new : Local → State → State
 with_new l s = (with_variable l s).state
 
 module _ (types : Types) (f : Function) (a : Around) (front : IsFront a.program.types.types types.types) where
-  module _ (v : Visible) (u : TypedLocal) (l : Local) (of : IsLocalOf a u l) (s : State) (h : Follows types f a v s) (at : slice_get a.function.locals v.declared ≡ Some u) (built : is_served_variable a.program.types u.ty ≡ true) where
+  module _ (v : Visible) (u : TypedLocal) (l : Local) (of : IsLocalOf a u l) (s : State) (h : Follows types f a v s) (at : slice_get a.function.locals v.declared ≡ Some u) (built : is_admitted_variable a.program.types u.ty ≡ true) where
     pub new_at : slice_get (with_new l s).locals (length s.locals) ≡ Some l
     new_at = last_there s.locals l
 
@@ -264,7 +265,7 @@ module _ (f : Function) (l : Local) (s : State) where
 module _ (types : Types) (texts : ℕ) (fs : List Function) (f : Function) (a : Around) (front : IsFront a.program.types.types types.types) where
   -- .. behind what gave y
   module _ {A B : Type 0} (v : Visible) (in_loop : Bool) (can : TemporariesEnd types texts fs f (first_own a)) (last : Place) (u : TypedLocal) (P : Gift types texts fs f B) (y : B) (s : State) (w : Gives A) (Q : Gift types texts fs f A) (code : List Tree)
-      (h : Follows types f a v s) (at : slice_get a.function.locals v.declared ≡ Some u) (built : is_served_variable a.program.types u.ty ≡ true)
+      (h : Follows types f a v s) (at : slice_get a.function.locals v.declared ≡ Some u) (built : is_admitted_variable a.program.types u.ty ≡ true)
       (over : List ℕ) (made : Handing types texts fs f P y over s w Q) (told : Begins types f (with_new (variable_local a u) w.state) → P.typed y)
       (fine : Begins types f (with_new (variable_local a u) w.state) → Q.typed w.given → IsFine types texts fs f code)
       (falls : Begins types f (with_new (variable_local a u) w.state) → RunsHanding types texts fs f P y over s w Q made.code → (k : List Known) → length k ≡ length f.locals → Q.ready w.given (length w.state.locals) k
@@ -383,7 +384,7 @@ module _ (types : Types) (texts : ℕ) (fs : List Function) (f : Function) (a : 
 
   -- .. where nothing is given over before
   pub declared_under : {A B : Type 0} (v : Visible) (in_loop : Bool) (can : TemporariesEnd types texts fs f (first_own a)) (last : Place) (u : TypedLocal) (P : Gift types texts fs f B) (y : B) (s : State) (w : Gives A) (Q : Gift types texts fs f A) (code : List Tree)
-      (h : Follows types f a v s) (at : slice_get a.function.locals v.declared ≡ Some u) (built : is_served_variable a.program.types u.ty ≡ true)
+      (h : Follows types f a v s) (at : slice_get a.function.locals v.declared ≡ Some u) (built : is_admitted_variable a.program.types u.ty ≡ true)
       → Part types texts fs f P y None s w Q → (Begins types f (with_new (variable_local a u) w.state) → P.typed y)
       → (Begins types f (with_new (variable_local a u) w.state) → Q.typed w.given → IsFine types texts fs f code)
       → (Begins types f (with_new (variable_local a u) w.state) → (k : List Known) → length k ≡ length f.locals → Q.ready w.given (length w.state.locals) k → known_at k (length w.state.locals) ≡ known.Blank
@@ -397,7 +398,7 @@ module _ (types : Types) (texts : ℕ) (fs : List Function) (f : Function) (a : 
 
   -- .. behind nothing
   pub handed_declared : {A : Type 0} (v : Visible) (in_loop : Bool) (can : TemporariesEnd types texts fs f (first_own a)) (last : Place) (u : TypedLocal) (s : State) (w : Gives A) (Q : Gift types texts fs f A) (code : List Tree)
-      (h : Follows types f a v s) (at : slice_get a.function.locals v.declared ≡ Some u) (built : is_served_variable a.program.types u.ty ≡ true)
+      (h : Follows types f a v s) (at : slice_get a.function.locals v.declared ≡ Some u) (built : is_admitted_variable a.program.types u.ty ≡ true)
       (over : List ℕ) (made : Handing types texts fs f (nothing types texts fs f) tt over s w Q)
       → (Begins types f (with_new (variable_local a u) w.state) → Q.typed w.given → IsFine types texts fs f code)
       → (Begins types f (with_new (variable_local a u) w.state) → RunsHanding types texts fs f (nothing types texts fs f) tt over s w Q made.code → (k : List Known) → length k ≡ length f.locals → Q.ready w.given (length w.state.locals) k
@@ -412,7 +413,7 @@ module _ (types : Types) (texts : ℕ) (fs : List Function) (f : Function) (a : 
       (handed_under v in_loop can last u (nothing types texts fs f) tt s w Q code h at built over made (λ b. tt) fine falls given named apart (λ b living k knows. (k, knows, tt)))
 
   pub declared_does : {A : Type 0} (v : Visible) (in_loop : Bool) (can : TemporariesEnd types texts fs f (first_own a)) (last : Place) (u : TypedLocal) (s : State) (w : Gives A) (Q : Gift types texts fs f A) (code : List Tree)
-      (h : Follows types f a v s) (at : slice_get a.function.locals v.declared ≡ Some u) (built : is_served_variable a.program.types u.ty ≡ true)
+      (h : Follows types f a v s) (at : slice_get a.function.locals v.declared ≡ Some u) (built : is_admitted_variable a.program.types u.ty ≡ true)
       → Makes types texts fs f None s w Q
       → (Begins types f (with_new (variable_local a u) w.state) → Q.typed w.given → IsFine types texts fs f code)
       → (Begins types f (with_new (variable_local a u) w.state) → (k : List Known) → length k ≡ length f.locals → Q.ready w.given (length w.state.locals) k → known_at k (length w.state.locals) ≡ known.Blank

@@ -1,7 +1,7 @@
 -- Elements by an index, and members of owners that only ask.
 use Rattle.std.proofs.Common.{◌≡◌, ◌⊎◌, inl, inr, ℕ, Bool, true, false, cond, if◌then◌else◌, length, List, Option, Some, None, Ok, refl, sym, ap, ◌∙◌, subst}
 use Rattle.std.proofs.lemmas.Bool.{false≢true}
-use Rattle.life_served.specs.Served.{is_asking, is_owner_of_values, is_owner_type, is_served_either, form_type, is_edge, is_plain_type}
+use Rattle.life_elab_laws.proofs.FormKinds.{is_asking, is_owner_of_values, is_owner_type, is_read_either, form_type, is_edge, is_plain_type}
 use Rattle.life_types.specs.Types.{Types}
 use Rattle.life_types.specs.declared.place.Place.{Place}
 use Rattle.life_types.specs.declared.ty.Ty.{Ty}
@@ -52,8 +52,8 @@ operand_typed (typed place t c form) = refl
 operand_typed _ = refl
 
 -- what is asked has a value, or is an owner
-pub either_served : (base : Form) (owner value : Bool) → is_served_either base owner value ≡ true → (value ≡ true) ⊎ ((is_owner_type (typed_in base).ty ≡ true) × (owner ≡ true))
-either_served base owner value h = go (is_owner_type (form_type base)) refl h
+pub either_read : (base : Form) (owner value : Bool) → is_read_either base owner value ≡ true → (value ≡ true) ⊎ ((is_owner_type (typed_in base).ty ≡ true) × (owner ≡ true))
+either_read base owner value h = go (is_owner_type (form_type base)) refl h
   where
     go : (b : Bool) → is_owner_type (form_type base) ≡ b → (if b then owner else value) ≡ true → (value ≡ true) ⊎ ((is_owner_type (typed_in base).ty ≡ true) × (owner ≡ true))
     go true is h = inr (ap is_owner_type (operand_typed base) ∙ is, h)

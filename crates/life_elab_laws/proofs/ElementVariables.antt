@@ -1,7 +1,7 @@
 -- The variable of a loop over a range, which is given the element that the hidden iterator stands at: its value, or a reference to it.
 use Rattle.std.proofs.Common.{◌≡◌, ◌<◌, inl, inr, ℕ, zero, suc, Bool, true, false, ◌&&◌, cond, List, [], ◌∷◌, ◌++◌, drop, length, reverse, slice_get, slice_set, take, if◌then◌else◌, Option, Some, None, refl, sym, ap, ◌∙◌, subst, arith, append_assoc, unwrap_or}
 use Rattle.std.proofs.lemmas.Bool.{and_parts, false≢true, or_cases}
-use Rattle.life_served.specs.Served.{is_element, is_owner_of_values, is_served_variable, is_struct, is_target, takes_as, takes_element}
+use Rattle.life_elab_laws.proofs.FormKinds.{is_element, is_owner_of_values, is_admitted_variable, is_struct, is_target, takes_as, takes_element}
 use Rattle.life_types.specs.TypeTests.{is_value}
 use Rattle.life_types.specs.Types.{Types, class}
 use Rattle.life_types.specs.contracts.ty.TyPartialEq.TheImpl.{ghosts as compared}
@@ -91,7 +91,7 @@ none_ends n place r none =
     go (suc n) = refl
 
 module _ (a : Around) (types : Types) (texts : ℕ) (fs : List Function) (f : Function) (setting : Setting a types fs f) (v : Visible) (in_loop : Bool) (u : TypedLocal) (s : State) (h : Follows types f a v s)
-    (at : slice_get a.function.locals v.declared ≡ Some u) (built : is_served_variable a.program.types u.ty ≡ true) (colon : Place) (id : TyId) (constant : Bool) (worth : is_element a.program.types (type_at a.program.types id) ≡ true)
+    (at : slice_get a.function.locals v.declared ≡ Some u) (built : is_admitted_variable a.program.types u.ty ≡ true) (colon : Place) (id : TyId) (constant : Bool) (worth : is_element a.program.types (type_at a.program.types id) ≡ true)
     (it : ℕ) (there : it < length s.locals) (hidden : Begins types f s → IsHiddenOf types texts fs f (ty.Iterator id constant) it) where
   abbrev t : Ty
   t = type_at a.program.types id
@@ -384,7 +384,7 @@ module _ (a : Around) (types : Types) (texts : ℕ) (fs : List Function) (f : Fu
     pub kept_bound : Born (given_element a (class (Some (type_of a u.ty))) u colon it element s)
     kept_bound = subst Born (sym kept_written) kept_born
 
-  -- ---- the variable of any type that is served
+  -- ---- the variable of any type that it may have
 
   -- an element, as what is given
   abbrev as_given : Typed

@@ -1,13 +1,14 @@
 -- What a vector has: values, structs, and owners of these.
-use Rattle.std.proofs.Common.{◌≡◌, ◌⊎◌, ◌||◌, ℕ, zero, suc, inl, inr, true, false, refl, sym, ap, ◌∙◌}
-use Rattle.std.proofs.lemmas.Bool.{false≢true, or_cases, or_left, or_right}
+use Rattle.std.proofs.Common.{◌≡◌, ◌≤◌, ◌⊎◌, ◌||◌, ℕ, zero, suc, inl, inr, Bool, true, false, arith, length, refl, sym, ap, subst, ◌∙◌}
+use Rattle.std.specs.Prelude.{nat_lt}
+use Rattle.std.proofs.lemmas.Bool.{false≢true, ltb-false, ltb-true, or_cases, or_left, or_right}
 use Rattle.life_types.specs.Pointees.{ty_of}
 use Rattle.life_types.specs.TypeTests.{is_value}
 use Rattle.life_types.specs.Types.{Types}
 use Rattle.life_types.specs.declared.ty.Ty.{Ty}
 use Rattle.life_types.specs.declared.ty.Ty.TheVariants as ty
 use Rattle.life_types.specs.declared.ty.TyId.{TyId}
-use Rattle.life_served.specs.Served.{is_element, is_inner_owner, is_owner_of_values, is_owner_within, is_plain_type, is_plain_struct, is_target, owns_elements}
+use Rattle.life_elab_laws.proofs.FormKinds.{is_element, is_inner_owner, is_owner_of_values, is_owner_within, is_plain_type, is_plain_struct, is_target, owns_elements}
 use Rattle.life_typed.specs.BaseTypes.{type_at}
 use Rattle.life_typed.specs.Members.{element_type}
 use Rattle.life_typed.specs.declared.typed_expr.ExprType.TheVariants.{Of}
@@ -40,7 +41,7 @@ struct_within types number h = or_false (is_plain_struct types (ty.Struct number
 pub inner_element : (types : Types) (t : Ty) → is_inner_owner types t ≡ true → is_element types t ≡ true
 inner_element types t o = or_right (is_value t) (is_plain_struct types t || is_inner_owner types t) (or_right (is_plain_struct types t) (is_inner_owner types t) o)
 
--- a path may have a step more than it has
+-- as deep as it may be, and deeper
 pub within_more : (types : Types) (n : ℕ) (t : Ty) → is_owner_within n types t ≡ true → is_owner_within (suc n) types t ≡ true
 within_more types zero t o = absurd (false≢true o)
 within_more types (suc n) ty.Text o = refl
@@ -58,9 +59,17 @@ within_more types (suc n) (ty.Vector element) o = go (within_more types n item) 
     ])
 within_more types (suc n) _ o = absurd (false≢true o)
 
+pub within_upto : (types : Types) (m n : ℕ) (t : Ty) → m ≤ n → is_owner_within m types t ≡ true → is_owner_within n types t ≡ true
+within_upto types m zero t few o = let none : m ≡ zero = omega (arith, few) in subst (λ (k : ℕ). is_owner_within k types t ≡ true) none o
+within_upto types m (suc n) t few o = go (nat_lt n m) refl (λ less. within_upto types m n t less o)
+  where
+    go : (b : Bool) → nat_lt n m ≡ b → (m ≤ n → is_owner_within n types t ≡ true) → is_owner_within (suc n) types t ≡ true
+    go true is before = let same : m ≡ suc n = omega (arith, few, ltb-true n m is) in subst (λ (k : ℕ). is_owner_within k types t ≡ true) same o
+    go false is before = within_more types n t (before (ltb-false n m is))
+
 -- an owner is one
 pub inner_owner : (types : Types) (t : Ty) → is_inner_owner types t ≡ true → is_owner_of_values types t ≡ true
-inner_owner types t o = within_more types 7 t o
+inner_owner types t o = within_more types (suc (length types.types)) t o
 
 -- pointers are to each
 pub element_target : (types : Types) (t : Ty) → is_element types t ≡ true → is_target types t ≡ true

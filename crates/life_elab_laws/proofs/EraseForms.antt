@@ -1,7 +1,7 @@
 -- An element that is erased: it gives an iterator to what stood behind it.
 use Rattle.std.proofs.Common.{◌≡◌, ◌++◌, ℕ, Bool, true, false, not, List, [], ◌∷◌, None, refl, sym, ap, ◌∙◌, subst, append_assoc}
 use Rattle.std.proofs.lemmas.Bool.{and_from, and_parts, false≢true}
-use Rattle.life_served.specs.Served.{is_owner_of_values, is_walker_of_values}
+use Rattle.life_elab_laws.proofs.FormKinds.{is_owner_of_values, is_walker_of_values}
 use Rattle.life_types.specs.Pointees.{ty_of}
 use Rattle.life_types.specs.Types.{Types}
 use Rattle.life_types.specs.declared.place.Place.{Place}
@@ -32,11 +32,12 @@ use Rattle.life_writer.specs.Pointers.{By}
 use Rattle.life_writer.specs.Uses.{own}
 use Rattle.life_writer.specs.Using.{operand, pointer}
 use Rattle.life_writer.specs.Writing.{gives}
+use Rattle.life_elab_laws.proofs.Among.{among_left}
 use Rattle.life_elab_laws.proofs.ChangeForms.{changes_free, no_const}
 use Rattle.life_elab_laws.proofs.FormedFits.{given_walker}
 use Rattle.life_elab_laws.proofs.Gifts.{IsAt, IsGivenAs, IsPlaceOf, a_place, a_pointer, a_pointing, both, nothing as no_gift}
+use Rattle.life_elab_laws.proofs.LookedLocals.{place_used}
 use Rattle.life_elab_laws.proofs.Making.{AreHeld, IsFilling, IsPlace, IsPointer}
-use Rattle.life_elab_laws.proofs.ObjectForms.{IsObject}
 use Rattle.life_elab_laws.proofs.OperandsThere.{same_is}
 use Rattle.life_elab_laws.proofs.Parts.{Makes, and_part, seen_part}
 use Rattle.life_elab_laws.proofs.Setting.{Setting}
@@ -47,9 +48,10 @@ use Rattle.life_elab_laws.proofs.ViewSteps.{pointer_is_held}
 use Rattle.life_elab_laws.proofs.WalkerForms.{IsWalker, IsWalkerAt, walker_pointer, no_place}
 use Rattle.life_elab_laws.proofs.WalkerSteps.{iterator_taker}
 use Rattle.life_elab_laws.proofs.Elements.{one_element}
-use Rattle.life_elab_laws.proofs.FreeObjects.{object_part}
 use Rattle.life_elab_laws.proofs.Filling.{only_uses}
 use Rattle.life_elab_laws.proofs.PointedCalls.{gives_plainly}
+use Rattle.life_elab_laws.proofs.ObjectForms.{IsOwner}
+use Rattle.life_elab_laws.proofs.FreeObjects.{owner_part}
 
 module _ (types : Types) (texts : ℕ) (fs : List Function) (f : Function) where
   erase_given : (item found : TyId) (held : Bool) (o : Operand) (q : Location) → same (ty_of types item) (ty_of types item) ≡ true → ty_of types found ≡ ty_of types item → IsPlaceOf types texts fs f (ty.Vector item) false o
@@ -73,10 +75,11 @@ module _ (types : Types) (texts : ℕ) (fs : List Function) (f : Function) where
     held = subst (λ (xs : List ℕ). AreHeld (xs ++ (q.local ∷ [])) n k) (sym place.uses) ((place.below, place.held), (pointer_is_held q n k lies, tt));
     touches = λ x e. refl;
     parts = λ x m ms. only_uses (sym (append_assoc (place_uses o) (q.local ∷ []) (x ∷ [])));
+    looks = λ l x m. among_left (place_uses o) (q.local ∷ []) x (place_used f o x m);
   }
 
 module _ (a : Around) (visible : List ℕ) (types : Types) (texts : ℕ) (fs : List Function) (f : Function) (setting : Setting a types fs f) where
-  pub erased_walker : (base position others : Form) (d : DelimitersForm) (e : Typed) (place : Place) → IsObject a visible types texts fs f setting base → IsWalker a visible types texts fs f setting position
+  pub erased_walker : (base position others : Form) (d : DelimitersForm) (e : Typed) (place : Place) → IsOwner a visible types texts fs f setting base → IsWalker a visible types texts fs f setting position
       → IsCalled a.program.types (typed_in base).ty (typed_in base).category methods.Erase (position ⨟ others) e → IsWalkerAt a visible types texts fs f setting e ((form_uses a (method base methods.Erase (position ⨟ others) d) place e.ty e.category).pointing)
   erased_walker base position others d e place is at h = go is.ty refl is.owner (subst (λ (x : ExprType). IsCalled a.program.types x (typed_in base).category methods.Erase (position ⨟ others) e) is.is h)
     where
@@ -86,7 +89,7 @@ module _ (a : Around) (visible : List ℕ) (types : Types) (texts : ℕ) (fs : L
       go (ty.Vector item) alike o c = by_position at.ty refl at.walker
         where
           free : is.constant ≡ false
-          free = sym (ap is_constant is.place) ∙ no_const (is_constant (typed_in base).category) (changes_free methods.Erase (typed_in base).category refl c.0)
+          free = sym is.told ∙ no_const (is_constant (typed_in base).category) (changes_free methods.Erase (typed_in base).category refl c.0)
 
           worth : same (ty_of types item) (ty_of types item) ≡ true
           worth = one_element a.program.types types setting.front item o
@@ -112,7 +115,7 @@ module _ (a : Around) (visible : List ℕ) (types : Types) (texts : ℕ) (fs : L
                 let q = pointer (uses a position) (own (uses a position)) x.state in
                 let P = a_place types texts fs f (ty.Vector item) false in
                 let Q = a_pointer types texts fs f (ty.Iterator found held) in
-                let first = subst (λ (t : Ty). Makes types texts fs f None s x (a_place types texts fs f t false)) alike (object_part a visible types texts fs f setting base is free s stands) in
+                let first = subst (λ (t : Ty). Makes types texts fs f None s x (a_place types texts fs f t false)) alike (owner_part a visible types texts fs f setting base is free s stands) in
                 let second = subst (λ (t : Ty). Makes types texts fs f None x.state q (a_pointer types texts fs f t)) named (walker_pointer a visible types texts fs f setting position at (own (uses a position)) x.state (stands_later a visible s x.state first.grown stands)) in
                 gives_plainly
                 (seen_part types texts fs f (no_gift types texts fs f) tt None s (gives (x.given, q.given) q.state) (both types texts fs f P Q) (λ y. By (λ p. Changes y.0 (Erase y.1 p))) (a_pointing types texts fs f (Of (ty.Iterator item false)))

@@ -42,7 +42,7 @@ use Rattle.life_elab_laws.proofs.Gifts.{a_number, a_place, a_pointer, a_pointing
 use Rattle.life_elab_laws.proofs.Gifts as gifts
 use Rattle.life_elab_laws.proofs.Instructions.{IsIntoOf, as_type_part, located_part, read_part}
 use Rattle.life_elab_laws.proofs.Locations.{IsPointed, at_location, by_literal, by_null, is_location, is_pointed, location_is, number_no_pointer, pointed_type, raw_location}
-use Rattle.life_elab_laws.proofs.Parts.{Makes, then_part}
+use Rattle.life_elab_laws.proofs.Parts.{Makes, seen_part, then_part}
 use Rattle.life_elab_laws.proofs.PointedCalls.{GivesPointer, call_located, gives_called, gives_plainly}
 use Rattle.life_elab_laws.proofs.Setting.{Setting}
 use Rattle.life_elab_laws.proofs.TypedKinds.{IsKind, a_number as is_number_kind, kind_same, none_some, null_value, text_value, value_place}
@@ -63,6 +63,13 @@ module _ (a : Around) (visible : List ℕ) (types : Types) (texts : ℕ) (fs : L
 
   abbrev pub Placed : Ty → Bool → State → Gives Operand → Type 0
   Placed t constant s w = Makes types texts fs f None s w (a_place types texts fs f t constant)
+
+  -- a place is found, whatever stands there
+  abbrev pub Finds : State → Gives Operand → Type 0
+  Finds s w = Makes types texts fs f None s (gives tt w.state) (gifts.nothing types texts fs f)
+
+  pub placed_finds : (t : Ty) (constant : Bool) (s : State) (w : Gives Operand) → Placed t constant s w → Finds s w
+  placed_finds t constant s w placed = seen_part types texts fs f (gifts.nothing types texts fs f) tt None s w (a_place types texts fs f t constant) (λ (o : Operand). tt) (gifts.nothing types texts fs f) placed (λ b h. tt) (λ n k h. tt)
 
   abbrev pub Pointed : Ty → State → Gives Location → Type 0
   Pointed t s w = Makes types texts fs f None s w (a_pointer types texts fs f t)
@@ -116,6 +123,8 @@ module _ (a : Around) (visible : List ℕ) (types : Types) (texts : ℕ) (fs : L
     -- a place with a value is named
     pub names : (id : TyId) (constant : Bool) → e.category ≡ category.Place id constant → is_value (type_at a.program.types id) ≡ true → (place : Place) (s : State) → Standing s
         → Placed (type_at a.program.types id) constant s ((form_uses a form place e.ty e.category).at s)
+    -- .. and one with anything is found
+    pub found : (id : TyId) (constant : Bool) → e.category ≡ category.Place id constant → (place : Place) (s : State) → Standing s → Finds s ((form_uses a form place e.ty e.category).at s)
     -- a pointer points
     pub points : is_pointed e.ty ≡ true → (place : Place) (s : State) → Standing s → PointsAt e.ty s ((form_uses a form place e.ty e.category).pointing s)
     -- what is made of conditions decides
@@ -134,6 +143,7 @@ module _ (a : Around) (visible : List ℕ) (types : Types) (texts : ℕ) (fs : L
     pub lands : is_number (typed_in form).ty ≡ true → (behind : Place) (to : Ty) (r : ℕ) (s : State) → (value (uses a form) behind to (Some r) s).given ≡ r
     pub names : (id : TyId) (constant : Bool) → (typed_in form).category ≡ category.Place id constant → is_value (type_at a.program.types id) ≡ true → (s : State) → Standing s
         → Placed (type_at a.program.types id) constant s ((uses a form).at s)
+    pub found : (id : TyId) (constant : Bool) → (typed_in form).category ≡ category.Place id constant → (s : State) → Standing s → Finds s ((uses a form).at s)
     pub points : is_pointed (typed_in form).ty ≡ true → (s : State) → Standing s → PointsAt (typed_in form).ty s ((uses a form).pointing s)
     pub pointers : (u : Ty) → (typed_in form).ty ≡ Of u → is_location u ≡ true → (s : State) → Standing s → Pointed u s (located (uses a form).place (own (uses a form)) ((uses a form).pointing s).given ((uses a form).pointing s).state)
     pub conditions : is_condition (typed_in form).ty ≡ true → (b : Behind) (s : State) → Standing s → Decided b.ends s (condition (uses a form) b s)
@@ -233,6 +243,7 @@ module _ (a : Around) (visible : List ℕ) (types : Types) (texts : ℕ) (fs : L
         lands_as (own_type t) to place (value_itself u behind) r s
         (lands_from (own_type t) place (u.decision (lasting behind)) c u.at (u.made behind) r s (λ none at. is.lands at n place (lasting behind) none r s));
     names = λ id constant at v s stands. is.names id constant at v place s stands;
+    found = λ id constant at s stands. is.found id constant at place s stands;
     points = λ p s stands. is.points p place s stands;
     pointers = λ x at loc s stands. pointer_part u.pointing t x place s at loc (fits x at loc) stands (is.points (ap is_pointed at ∙ loc) place s stands);
     conditions = λ h b s stands.
@@ -282,6 +293,9 @@ module _ (a : Around) (visible : List ℕ) (types : Types) (texts : ℕ) (fs : L
       → Placed (type_at a.program.types id) constant s ((form_uses a form place e.ty e.category).at s)
   no_place form e is id constant at v place s stands = absurd (value_place (sym is ∙ at))
 
+  nowhere_found : (form : Form) (e : Typed) → e.category ≡ category.Value → (id : TyId) (constant : Bool) → e.category ≡ category.Place id constant → (place : Place) (s : State) → Standing s → Finds s ((form_uses a form place e.ty e.category).at s)
+  nowhere_found form e is id constant at place s stands = absurd (value_place (sym is ∙ at))
+
   pub of_number : (t : ExprType) (u : Ty) → t ≡ Of u → is_value u ≡ true → is_number t ≡ true
   of_number t u is v = ap is_number is ∙ v
 
@@ -312,6 +326,7 @@ module _ (a : Around) (visible : List ℕ) (types : Types) (texts : ℕ) (fs : L
         (λ un. subst (λ (x : Ty). IsIntoOf x s into → Valued x into s ((ValueUses form t place).made b.token into s)) (sym (ap own_type is)) (λ w. makes place b un into s w stands) wanted) un;
     lands = λ at n place b un r s. subst (λ (u : Uses). u.decision b ≡ None → (u.made b.token (Some r) s).given ≡ r) (as_told e t form place is c) (λ un. lands place b un r s) un;
     names = no_place form e c;
+    found = nowhere_found form e c;
     points = λ p. absurd (number_no_pointer e.ty (of_number e.ty t is v) p);
     decides = λ place b w at s stands. subst (λ (u : Uses). u.decision b ≡ Some w → Decided b.ends s (w s)) (as_told e t form place is c) (λ at. decides place b w at s stands) at;
     calls = λ d at. absurd (none_some (sym none ∙ at));
@@ -340,6 +355,7 @@ module _ (a : Around) (visible : List ℕ) (types : Types) (texts : ℕ) (fs : L
     computes = λ at n. absurd (never n);
     lands = λ at n. absurd (never n);
     names = no_place form e c;
+    found = nowhere_found form e c;
     points = λ p place s stands. gives_plainly (points p place s stands);
     decides = λ place b w at. absurd (none_some (sym (plain place b) ∙ at));
     calls = λ d at. absurd (none_some (sym none ∙ at));
@@ -350,12 +366,14 @@ module _ (a : Around) (visible : List ℕ) (types : Types) (texts : ℕ) (fs : L
   -- a place
   pub place_form : (form : Form) (e : Typed) → IsKind a.program.types e → (e.category ≡ category.Value → ⊥) → form_call form ≡ None → ((place : Place) (b : Behind) → (form_uses a form place e.ty e.category).decision b ≡ None)
       → ((id : TyId) (constant : Bool) → e.category ≡ category.Place id constant → is_value (type_at a.program.types id) ≡ true → (place : Place) (s : State) → Standing s → Placed (type_at a.program.types id) constant s ((form_uses a form place e.ty e.category).at s))
+      → ((id : TyId) (constant : Bool) → e.category ≡ category.Place id constant → (place : Place) (s : State) → Standing s → Finds s ((form_uses a form place e.ty e.category).at s))
       → (is_pointed e.ty ≡ true → (place : Place) (s : State) → Standing s → Points e.ty s ((form_uses a form place e.ty e.category).pointing s)) → IsForm form e
-  place_form form e kind c none plain names points = record {
+  place_form form e kind c none plain names found points = record {
     kind = kind;
     computes = λ at. absurd (c at);
     lands = λ at. absurd (c at);
     names = names;
+    found = found;
     points = λ p place s stands. gives_plainly (points p place s stands);
     decides = λ place b w at. absurd (none_some (sym (plain place b) ∙ at));
     calls = λ d at. absurd (none_some (sym none ∙ at));
@@ -370,6 +388,7 @@ module _ (a : Around) (visible : List ℕ) (types : Types) (texts : ℕ) (fs : L
     computes = λ at n place b none into s wanted stands. is.valued (ap is_number t ∙ n) closing (own_type e.ty) (own_value e.ty n) into s wanted stands;
     lands = λ at n place b none r s. is.lands (ap is_number t ∙ n) closing (own_type e.ty) r s;
     names = λ id constant at v place s stands. is.names id constant (c ∙ at) v s stands;
+    found = λ id constant at place s stands. is.found id constant (c ∙ at) s stands;
     points = λ p place s stands. subst (λ (x : ExprType). PointsAt x s ((uses a inner).pointing s)) t (is.points (ap is_pointed t ∙ p) s stands);
     decides = λ place b. is.decides (closed_by closing b);
     calls = λ d at. subst (λ (x : ExprType). IsCall d x e.category) t (subst (IsCall d (typed_in inner).ty) c (is.calls d at));

@@ -1,7 +1,7 @@
 -- Each well typed expression that is built is of one of these kinds.
 use Rattle.std.proofs.Common.{◌≡◌, ℕ, Bool, true, false, cond, List, Option, Some, None, Ok, slice_get, unwrap_or, refl, sym, ap, ◌∙◌, subst, true≢false}
 use Rattle.std.proofs.lemmas.Bool.{false≢true}
-use Rattle.life_served.specs.Served.{are_served_functions, are_served_variables, is_plain_type, is_served_function, is_served_variable}
+use Rattle.life_elab_laws.proofs.FormKinds.{are_read_functions, are_admitted_variables, is_plain_type, is_read_function, is_admitted_variable}
 use Rattle.life_types.specs.Trees.{is_plain, tree_at, tree_of, tree_within}
 use Rattle.life_types.specs.TypeTests.{is_raw, is_value, is_view}
 use Rattle.life_types.specs.Types.{Types}
@@ -12,7 +12,7 @@ use Rattle.life_names.specs.Found.{not_found}
 use Rattle.life_names.specs.declared.fault.IllKind.TheVariants as kinds
 use Rattle.life_typed.specs.BaseTypes.{type_at}
 use Rattle.life_typed.specs.Operators.{dereferenced, is_condition, negated, negated_type, promoted}
-use Rattle.life_typed.specs.Programs.{FunctionForm}
+use Rattle.life_typed.specs.Programs.{FunctionForm, ProgramForm}
 use Rattle.life_typed.specs.TypedForm.{Form, Typed, local, dereference, not, typed}
 use Rattle.life_typed.specs.declared.typed_expr.Category.{Category}
 use Rattle.life_typed.specs.declared.typed_expr.Category.TheVariants as category
@@ -23,18 +23,18 @@ use Rattle.life_type_expr.specs.Operands.{dereferenced_to, inverted, negated_to,
 use Rattle.life_well_typed.specs.Expressions.{IsAddress, IsVariable}
 use Rattle.life_well_typed.specs.Given.{is_number}
 use Rattle.life_elab_laws.proofs.Fronts.{passed_at}
-use Rattle.life_elab_laws.proofs.ServedTypes.{served_type_is}
+use Rattle.life_elab_laws.proofs.AdmittedTypes.{admitted_type_is}
 use Rattle.life_elab_laws.proofs.TypedKinds.{HasKind, IsKind, a_null, a_number, a_pointer, a_text, a_view, err_ok, kind_of_variable, no_value, ok_same, owner_refused, promoted_value, struct_refused, value_place}
 use Rattle.life_elab_laws.proofs.Targets.{IsTarget, target_is, to_owner, to_struct, to_value}
 use Rattle.life_elab_laws.proofs.Values.{by_values}
 
 -- ---- what is built
 
-pub variable_built : (types : Types) (vs : List TypedLocal) (x : ℕ) (v : TypedLocal) → are_served_variables types vs ≡ true → slice_get vs x ≡ Some v → is_served_variable types v.ty ≡ true
-variable_built types vs x v = passed_at (λ (u : TypedLocal). is_served_variable types u.ty) (are_served_variables types) (λ u us. refl) vs x v
+pub variable_built : (types : Types) (vs : List TypedLocal) (x : ℕ) (v : TypedLocal) → are_admitted_variables types vs ≡ true → slice_get vs x ≡ Some v → is_admitted_variable types v.ty ≡ true
+variable_built types vs x v = passed_at (λ (u : TypedLocal). is_admitted_variable types u.ty) (are_admitted_variables types) (λ u us. refl) vs x v
 
-pub function_built : (texts : ℕ) (types : Types) (fs : List FunctionForm) (g : ℕ) (f : FunctionForm) → are_served_functions texts types fs ≡ true → slice_get fs g ≡ Some f → is_served_function texts types f ≡ true
-function_built texts types fs g f = passed_at (is_served_function texts types) (are_served_functions texts types) (λ h hs. refl) fs g f
+pub function_built : (texts : ℕ) (program : ProgramForm) (fs : List FunctionForm) (g : ℕ) (f : FunctionForm) → are_read_functions texts program fs ≡ true → slice_get fs g ≡ Some f → is_read_function texts program f ≡ true
+function_built texts program fs g f = passed_at (is_read_function texts program) (are_read_functions texts program) (λ h hs. refl) fs g f
 
 -- ---- single expressions
 
@@ -45,12 +45,12 @@ number_value n = go _
     go true = refl
     go false = refl
 
-pub kind_local : (types : Types) (locals : List TypedLocal) (x : ℕ) (e : Typed) → are_served_variables types locals ≡ true → is_plain_type e.ty ≡ true → IsVariable types x (slice_get locals x) e → IsKind types e
+pub kind_local : (types : Types) (locals : List TypedLocal) (x : ℕ) (e : Typed) → are_admitted_variables types locals ≡ true → is_plain_type e.ty ≡ true → IsVariable types x (slice_get locals x) e → IsKind types e
 kind_local types locals x e b n h = go (slice_get locals x) refl h
   where
     go : (o : Option TypedLocal) → slice_get locals x ≡ o → IsVariable types x o e → IsKind types e
     go None at h = absurd h
-    go (Some v) at h = kind_of_variable types e v.ty v.constant (local x) (type_at types v.ty) refl (served_type_is types (type_at types v.ty) (variable_built types locals x v b at)) n h
+    go (Some v) at h = kind_of_variable types e v.ty v.constant (local x) (type_at types v.ty) refl (admitted_type_is types (type_at types v.ty) (variable_built types locals x v b at)) n h
 
 -- what a dereferenced operand is
 pub record IsDereferenced (types : Types) (inner e : Typed) : Type 0 where

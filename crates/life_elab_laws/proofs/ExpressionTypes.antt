@@ -24,7 +24,7 @@ use Rattle.life_elab_laws.proofs.TypedKinds.{HasKind, IsKind, a_null, a_number, 
 use Rattle.life_elab_laws.proofs.ResultTypes.{IsResultType, gives_walker, gives_nothing, gives_raw, gives_reference, gives_value, gives_view, gives_alias, gives_struct, gives_owner, gives_unique, gives_whole}
 use Rattle.life_elab_laws.proofs.Values.{by_values}
 use Rattle.life_elab_laws.proofs.WrittenLocals.{fits_register, value_fits}
-use Rattle.life_served.specs.Served.{is_owner_of_values, is_target, is_walker_of_values, is_element, is_plain_struct}
+use Rattle.life_elab_laws.proofs.FormKinds.{is_owner_of_values, is_target, is_walker_of_values, is_element, is_plain_struct}
 
 -- ---- types of expressions
 
@@ -86,7 +86,7 @@ pub data IsAnswered (types : Types) (result : Ty) (t : ExprType) (k : Category) 
   answers_walker : is_walker_of_values types result ≡ true → t ≡ Of result → k ≡ category.Value → IsAnswered types result t k
   answers_made : is_owner_of_values types result ≡ true → t ≡ Of result → k ≡ category.Value → IsAnswered types result t k
   answers_unique : (target : TyId) → result ≡ ty.Unique target → is_element types (type_at types target) ≡ true → t ≡ Of (ty.Unique target) → k ≡ category.Value → IsAnswered types result t k
-  answers_whole : (number : ℕ) → result ≡ ty.Struct number → is_plain_struct types (ty.Struct number) ≡ true → t ≡ Of (ty.Struct number) → k ≡ category.Value → IsAnswered types result t k
+  answers_whole : (number : ℕ) → result ≡ ty.Struct number → t ≡ Of (ty.Struct number) → k ≡ category.Value → IsAnswered types result t k
   answers_place : (target : TyId) (constant : Bool) → result ≡ ty.Reference target constant → is_value (type_at types target) ≡ true → t ≡ Of (type_at types target) → k ≡ category.Place target constant → IsAnswered types result t k
   answers_owner : (target : TyId) (constant : Bool) → result ≡ ty.Reference target constant → is_owner_of_values types (type_at types target) ≡ true → t ≡ Of (type_at types target) → k ≡ category.Place target constant → IsAnswered types result t k
   answers_struct : (target : TyId) (constant : Bool) (number : ℕ) → result ≡ ty.Reference target constant → type_at types target ≡ ty.Struct number → is_plain_struct types (type_at types target) ≡ true → t ≡ Of (ty.Struct number) → k ≡ category.Place target constant → IsAnswered types result t k
@@ -120,9 +120,9 @@ answered_as types e t kind is = go kind
     go (gives_unique target unique w) =
         let here = as_type (ty.Unique target) unique in
         answers_unique target unique w (ap (λ (x : Typed). x.ty) here) (ap (λ (x : Typed). x.category) here)
-    go (gives_whole number whole pointless) =
+    go (gives_whole number whole) =
         let here = as_type (ty.Struct number) whole in
-        answers_whole number whole pointless (ap (λ (x : Typed). x.ty) here) (ap (λ (x : Typed). x.category) here)
+        answers_whole number whole (ap (λ (x : Typed). x.ty) here) (ap (λ (x : Typed). x.category) here)
     go (gives_view view) = let here = as_type ty.View view in answers_view view (ap (λ (x : Typed). x.ty) here) (ap (λ (x : Typed). x.category) here)
     go (gives_reference target constant refers w) =
         let here = as_type (ty.Reference target constant) refers in
@@ -142,7 +142,7 @@ answer_own types result t k (answers_raw target constant raw w own held) plain =
 answer_own types result t k (answers_walker w own held) plain = sym (ap own_type own)
 answer_own types result t k (answers_made o own held) plain = sym (ap own_type own)
 answer_own types result t k (answers_unique target unique w own held) plain = unique ∙ sym (ap own_type own)
-answer_own types result t k (answers_whole number whole pointless own held) plain = whole ∙ sym (ap own_type own)
+answer_own types result t k (answers_whole number whole own held) plain = whole ∙ sym (ap own_type own)
 answer_own types result t k (answers_view view own held) plain = view ∙ sym (ap own_type own)
 answer_own types result t k (answers_place target constant refers w own held) plain = absurd (false≢true (sym (ap (λ (c : Category). not (is_place c)) held) ∙ plain))
 answer_own types result t k (answers_owner target constant refers o own held) plain = absurd (false≢true (sym (ap (λ (c : Category). not (is_place c)) held) ∙ plain))

@@ -1,6 +1,6 @@
 -- An object is filled that nothing else sees, such as one that is given over or the result: it isn't among what is known to stand, and the code that fills it finds it there all the same.
 use Rattle.std.proofs.Common.{◌≡◌, ◌<◌, ◌≤◌, ◌⊎◌, inl, inr, ℕ, true, false, List, [], ◌∷◌, ◌++◌, Contains, length, slice_set, None, refl, sym, ap, ◌∙◌, subst, arith, append-nil, append_assoc}
-use Rattle.std.proofs.lemmas.Bool.{cases_eq, cases_lt, false≢true}
+use Rattle.std.proofs.lemmas.Bool.{cases_eq, cases_lt}
 use Rattle.std.proofs.lemmas.List.{append_cancel_left}
 use Rattle.std.proofs.lemmas.List.Elements.{Contains-append_left, Contains-push, Contains-push_cases}
 use Rattle.life_types.specs.Types.{Types}
@@ -12,16 +12,19 @@ use Rattle.life_core.specs.Operands.{object_named}
 use Rattle.life_core.specs.Step.{Step}
 use Rattle.life_core.specs.Tree.{Acts, Tree, trees}
 use Rattle.life_proper.specs.Knowing.{known_at}
+use Rattle.life_proper.specs.ReadyKnown.{set_known}
 use Rattle.life_proper.specs.declared.known.Known.{Known}
 use Rattle.life_proper.specs.declared.known.Known.TheVariants as known
 use Rattle.life_writer.specs.Writing.{Gives, State, emit, gives}
-use Rattle.life_elab_laws.proofs.Among.{Among, among_contains, among_either, among_left, among_right, ascend_apart, contains_among}
-use Rattle.life_elab_laws.proofs.BornLocals.{born_of, born_spot}
+use Rattle.life_elab_laws.proofs.Among.{Among, among_contains, among_either, among_left, among_right, ascend_apart, ascend_low, contains_among}
+use Rattle.life_elab_laws.proofs.BornLocals.{born_of, born_spot, born_step}
 use Rattle.life_elab_laws.proofs.Falling.{Falls, falls_append}
 use Rattle.life_elab_laws.proofs.Fronts.{front_length}
 use Rattle.life_elab_laws.proofs.Gifts.{Gift, IsPlaceOf, a_place, both, nothing as no_gift}
-use Rattle.life_elab_laws.proofs.GivenApart.{Apart, IsBelow, Open, codes_apart, looked_of, looked_spot, looked_step, nil_right, parts_of, same_apart}
+use Rattle.life_elab_laws.proofs.GivenApart.{Apart, IsBelow, Open, codes_apart, nil_right, parts_of, same_apart}
+use Rattle.life_elab_laws.proofs.LookedLocals.{looked_of, looked_spot, looked_step}
 use Rattle.life_elab_laws.proofs.Growing.{Begins, Grows, begins_before, grows_none, grows_then}
+use Rattle.life_elab_laws.proofs.Handing.{GoesHanding, HandingAlone, RunsHanding, set_both}
 use Rattle.life_elab_laws.proofs.Knowledge.{at_set, beside_set, set_length}
 use Rattle.life_elab_laws.proofs.Making.{Alive, Keeps, keeps_all, keeps_then}
 use Rattle.life_elab_laws.proofs.Parts.{Goes, Makes, Part, Runs}
@@ -29,7 +32,7 @@ use Rattle.life_elab_laws.proofs.Shaping.{IsFine, fine_append, fine_none}
 use Rattle.life_elab_laws.proofs.UnseenLocals.{set_itself, set_twice}
 use Rattle.life_elab_laws.proofs.UnseenWays.{falls_there}
 use Rattle.life_elab_laws.proofs.WrittenLocals.{AddsRegisters, registers_none, registers_then}
-use Rattle.life_elab_laws.proofs.WrittenMembers.{IsWriting, Stores}
+use Rattle.life_elab_laws.proofs.WrittenMembers.{IsWriting, Stores, StoresOver, over_apart, over_looks}
 
 clash : ◌≡◌ {A = Known} known.Blank known.Ready → ⊥
 clash e = cc
@@ -314,13 +317,84 @@ module _ (types : Types) (texts : ℕ) (fs : List Function) (f : Function) (x : 
       };
     }
 
+  -- .. that takes what is given over to it
+  module _ {B : Type 0} (over : List ℕ) (s : State) (w : Gives B) (Q : Gift types texts fs f B) (place : Place) (step : Step) (hands : HandingAlone types texts fs f over s w Q) (stores : StoresOver types texts fs f t (object_named x) Q w.given over place step) where
+    abbrev takes : List Tree
+    takes = Acts place step ∷ []
+
+    abbrev taken : State
+    taken = emit place step w.state
+
+    module _ (lt : x < length s.locals) (object : is_object_at f x ≡ true) (b : Begins types f taken) (k : List Known) (alive : Alive f s k) (blank : known_at k x ≡ known.Blank)
+        (r : RunsHanding types texts fs f (no_gift types texts fs f) tt over s w Q hands.code) (g : GoesHanding types texts fs f over s w Q hands.code k) where
+      still : known_at g.after x ≡ known.Blank
+      still = g.keeps.below x lt tt ∙ blank
+
+      below_all : x < length g.after
+      below_all = omega (arith, lt, hands.grown.count, front_length w.state.locals f.locals b.locals, g.alive.sized)
+
+      -- it is older than what is given over
+      aside : Among x over → ⊥
+      aside m = let le = ascend_low (length s.locals) over x hands.ascend m in omega (arith, lt, le)
+
+      unborn_there : Among x (born_of f (trees hands.code)) → ⊥
+      unborn_there m = elim (g.bears x object m) [ inl o ↦ not_open s k alive blank o | inr new ↦ omega (arith, lt, new) ]
+
+      found : Falls types f hands.code (with_it k) (with_it (set_known known.Ready over g.after))
+      found =
+          falls_there types texts fs f hands.code r.fine (x ∷ []) (ascend_apart 0 (x ∷ []) (omega arith, tt)) k (set_known known.Ready over g.after)
+          (λ y m. elim m [ inl e ↦ subst (λ (v : ℕ). known_at k v ≡ known.Blank) e blank | inr none ↦ absurd none ])
+          (λ y m born. elim m [ inl e ↦ unborn_there (subst (λ (v : ℕ). Among v (born_of f (trees hands.code))) (sym e) born) | inr none ↦ none ]) g.falls
+
+      -- where both are there
+      both_there : with_it (set_known known.Ready over g.after) ≡ set_known known.Ready over (with_it g.after)
+      both_there = set_both known.Ready (x ∷ []) over g.after
+
+      acted : Falls types f takes (set_known known.Ready over (with_it g.after)) (with_it g.after)
+      acted =
+          stores.falls (length w.state.locals) (with_it g.after) (record { local = x; uses = refl; below = omega (arith, lt, hands.grown.count); held = at_set g.after x known.Ready below_all })
+          (stores.kept x (length w.state.locals) g.after still aside g.gives) r.objects
+          (λ y m. beside_set g.after x y known.Ready (λ e. aside (subst (λ (v : ℕ). Among v over) (sym e) m)) ∙ g.blank y m)
+
+      goes_over : GoesFilling s taken (hands.code ++ takes) k
+      goes_over = record {
+        after = g.after;
+        falls =
+            falls_append types f hands.code takes (with_it k) (with_it (set_known known.Ready over g.after)) (with_it g.after) found
+            (subst (λ (j : List Known). Falls types f takes j (with_it g.after)) (sym both_there) acted);
+        keeps = g.keeps;
+        alive = g.alive;
+        apart = λ under. over_apart types texts fs f t (object_named x) over s w Q place step stores hands.code (length w.state.locals) g.after g.gives (g.apart under);
+        unseen = λ under m.
+            elim ((g.apart under).looks x object (over_looks types texts fs f t (object_named x) over s w Q place step stores hands.code (length w.state.locals) g.after g.gives x m)) [
+              | inl o ↦ not_open s k alive blank o
+              | inr new ↦ omega (arith, lt, new.0)
+            ];
+        bears = λ z is_object m. elim (among_either (born_of f (trees hands.code)) (born_of f (trees takes)) z (subst (Among z) (parts_of (born_spot f) hands.code takes) m)) [
+          | inl before ↦ inr (g.bears z is_object before)
+          | inr now ↦ absurd (stores.bears r.objects z (nil_right f (born_step f step) z now))
+        ];
+      }
+
+    fills_over : FillsObject s taken
+    fills_over = record {
+      grown = hands.grown;
+      registers = hands.registers;
+      code = hands.code ++ takes;
+      written = ap (λ (c : List Tree). c ++ takes) hands.written ∙ append_assoc s.code hands.code takes;
+      runs = λ lt object b at_it p. let r = hands.runs b tt in record {
+        fine = fine_append types texts fs f hands.code takes r.fine (stores.fine at_it r.typed r.objects);
+        goes = λ k alive blank q. goes_over lt object b k alive blank r (r.goes k alive tt);
+      };
+    }
+
   -- ---- as a way to write its members
 
-  pub filling_writing : IsWriting types texts fs f t true (object_named x) FillsObject
+  pub filling_writing : IsWriting types texts fs f t (object_named x) FillsObject
   filling_writing = record {
     none = fills_none;
     chained = λ s r z opened first second. fills_then s r z first second;
     behind = λ s w Q place step opened made stores. fills_behind s w Q place step made stores;
     grows = λ s r fills. fills.grown;
-    points = λ pointing s r part. absurd (false≢true (sym pointing));
+    over = λ given s w Q place step hands stores. fills_over given s w Q place step hands stores;
   }

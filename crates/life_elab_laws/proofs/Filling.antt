@@ -11,8 +11,10 @@ use Rattle.life_proper.specs.ReadyKnown.{are_known, are_ready, is_known, known_a
 use Rattle.life_proper.specs.declared.known.Known.{Known}
 use Rattle.life_proper.specs.declared.known.Known.TheVariants as known
 use Rattle.life_proper.proofs.ReadyTests.{uses_ready, both_known}
+use Rattle.life_elab_laws.proofs.Among.{among_left}
 use Rattle.life_elab_laws.proofs.Falling.{Fills}
 use Rattle.life_elab_laws.proofs.Held.{one_there, ready_there}
+use Rattle.life_elab_laws.proofs.LookedLocals.{place_used}
 use Rattle.life_elab_laws.proofs.Making.{AreHeld, IsFilling, IsPlace}
 
 pub all_there : (xs : List ℕ) (n : ℕ) (k : List Known) → AreHeld xs n k → are_known known.Ready k xs ≡ true
@@ -45,10 +47,11 @@ module _ (f : Function) where
     held = subst (λ (xs : List ℕ). AreHeld (xs ++ []) n k) (sym h.uses) ((h.below, h.held), tt);
     touches = λ x e. refl;
     parts = λ x m ms. only_uses (sym (append_assoc (place_uses o) [] (x ∷ [])));
+    looks = λ l x m. among_left (place_uses o) [] x (place_used f o x m);
   }
 
   pub null_filling : (n : ℕ) (k : List Known) → IsFilling f (λ p. Aim p Null) n k
-  null_filling n k = record { uses = []; held = tt; touches = λ x e. refl; parts = λ x m ms. refl }
+  null_filling n k = record { uses = []; held = tt; touches = λ x e. refl; parts = λ x m ms. refl; looks = λ l x m. m }
 
   pub text_filling : (m n : ℕ) (k : List Known) → IsFilling f (λ p. Aim p (Text m)) n k
-  text_filling m n k = record { uses = []; held = tt; touches = λ x e. refl; parts = λ x m ms. refl }
+  text_filling m n k = record { uses = []; held = tt; touches = λ x e. refl; parts = λ x m ms. refl; looks = λ l x m. m }

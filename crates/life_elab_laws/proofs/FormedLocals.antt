@@ -12,7 +12,7 @@ use Rattle.life_types.specs.declared.ty.NameId.{NameId}
 use Rattle.life_types.specs.declared.ty.Ty.{Ty}
 use Rattle.life_types.specs.declared.ty.Ty.TheVariants as ty
 use Rattle.life_types.specs.declared.ty.TyId.{TyId}
-use Rattle.life_served.specs.Served.{have_each, is_element, is_owner_of_values, is_pointing, is_struct, is_struct_member, is_target, is_unique_of_element, is_walker_of_values, is_plain_struct, is_pointer_member}
+use Rattle.life_elab_laws.proofs.FormKinds.{have_each, is_element, is_owner_of_values, is_pointing, is_struct, is_struct_member, is_target, is_unique_of_element, is_walker_of_values, is_plain_struct, is_pointer_member}
 use Rattle.life_typed.specs.BaseTypes.{type_at}
 use Rattle.life_typed.specs.Programs.{FunctionForm, ProgramForm, PromiseForm, default, listed}
 use Rattle.life_typed.specs.declared.typed_program.ParameterPromise.{ParameterPromise}
@@ -37,7 +37,7 @@ use Rattle.life_elab_laws.proofs.Beginning.{given, given_count, parameter_locals
 use Rattle.life_elab_laws.proofs.Callees.{IsFunctionOf, type_found}
 use Rattle.life_elab_laws.proofs.ExpressionKinds.{variable_built}
 use Rattle.life_elab_laws.proofs.Fronts.{IsFront, front_length, passed_at}
-use Rattle.life_elab_laws.proofs.ServedTypes.{IsServedType, variable_found}
+use Rattle.life_elab_laws.proofs.AdmittedTypes.{IsAdmittedType, variable_found}
 use Rattle.life_elab_laws.proofs.ResultTypes.{result_is}
 use Rattle.life_elab_laws.proofs.Values.{by_values}
 use Rattle.life_elab_laws.proofs.WrittenLocals.{AreWrittenLocals, fits_later, fits_local, fits_register, FitsNameless, FitsTemporary, hidden_later, hidden_local, hidden_pointer, IsIntermediate, IsOwn, local_later, owner_local, register_local, struct_local, unique_local}
@@ -182,7 +182,7 @@ module _ (types : Types) where
   fits_kept (ty.Struct number) h = absurd (false≢true h)
   fits_kept _ h = refl
 
-  pub variable_fits : (t : Ty) → IsServedType types t → fits_local types t ≡ true
+  pub variable_fits : (t : Ty) → IsAdmittedType types t → fits_local types t ≡ true
   variable_fits t (inr (inl o)) = owner_local types t o
   variable_fits t (inr (inr (inr (inl u)))) = unique_local types t u
   variable_fits t (inr (inr (inr (inr structure)))) = struct_local types t structure
@@ -204,7 +204,7 @@ module _ (types : Types) where
       go (ty.Span target constant) b = absurd (false≢true b)
       go _ b = b
 
-  variable_kept : (t : Ty) → IsServedType types t → fits_kind (kind (class (Some t))) t ≡ true
+  variable_kept : (t : Ty) → IsAdmittedType types t → fits_kind (kind (class (Some t))) t ≡ true
   variable_kept t (inr (inr (inr (inr structure)))) = go t structure
     where
       go : (t : Ty) → is_struct t ≡ true → fits_kind (kind (class (Some t))) t ≡ true
@@ -240,7 +240,7 @@ module _ (types : Types) where
       go (ty.Reference target constant) b = refl
       go _ b = absurd (false≢true b)
 
-  variable_named : (t : Ty) (name : NameId) → IsServedType types t → is_named_as (kind (class (Some t))) t (Some name) ≡ true
+  variable_named : (t : Ty) (name : NameId) → IsAdmittedType types t → is_named_as (kind (class (Some t))) t (Some name) ≡ true
   variable_named t name (inr (inr (inr (inr structure)))) = go t structure
     where
       go : (t : Ty) → is_struct t ≡ true → is_named_as (kind (class (Some t))) t (Some name) ≡ true

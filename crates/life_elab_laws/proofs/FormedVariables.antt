@@ -1,7 +1,7 @@
 -- Variables as places and as pointers: their types in the finished function, and const where the text has it.
 use Rattle.std.proofs.Common.{◌≡◌, ℕ, Bool, true, false, not, if◌then◌else◌, List, [], nat_lt, slice_get, Option, Some, None, refl, sym, ap, ◌∙◌, subst, unwrap_or}
 use Rattle.std.proofs.lemmas.Bool.{false≢true}
-use Rattle.life_served.specs.Served.{is_owner_of_values, is_served_variable, is_target}
+use Rattle.life_elab_laws.proofs.FormKinds.{is_owner_of_values, is_admitted_variable, is_target}
 use Rattle.life_types.specs.Pointees.{or_void, pointee, ty_of}
 use Rattle.life_types.specs.TypeTests.{is_constant, is_reference, is_value, is_void}
 use Rattle.life_types.specs.Types.{Types, class, is_slot_target}
@@ -154,7 +154,7 @@ module _ (types : Types) (texts : ℕ) (fs : List Function) (f : Function) where
         refl refl refl later (target_no_void a.program.types (type_at a.program.types target) h'))
 
     -- a variable that is named where a value is, is a place of that type
-    pub variable_formed : (e : Typed) (form : Form) → is_served_variable a.program.types v.ty ≡ true → e ≡ variable_of (type_at a.program.types v.ty) a.program.types v.ty v.constant e.place form
+    pub variable_formed : (e : Typed) (form : Form) → is_admitted_variable a.program.types v.ty ≡ true → e ≡ variable_of (type_at a.program.types v.ty) a.program.types v.ty v.constant e.place form
         → (id : TyId) (constant : Bool) → e.category ≡ category.Place id constant → is_value (type_at a.program.types id) ≡ true
         → IsPlaceOf types texts fs f (type_at a.program.types id) constant (variable_place s x)
     variable_formed e form built is id constant at value = go (variable_type a.program.types v.ty built)

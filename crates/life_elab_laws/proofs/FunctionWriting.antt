@@ -2,7 +2,7 @@
 use Rattle.std.proofs.Common.{◌≡◌, ◌<◌, inl, inr, ℕ, Bool, true, false, List, [], ◌∷◌, ◌++◌, length, nat_lt, take, Some, None, is_none, refl, sym, ap, ◌∙◌, subst, arith, length-append}
 use Rattle.std.proofs.lemmas.Bool.{and_from, false≢true}
 use Rattle.std.proofs.lemmas.Bool.Decides.{nat_tests}
-use Rattle.life_served.specs.Served.{is_served_statement}
+use Rattle.life_elab_laws.proofs.FormKinds.{is_read_statement}
 use Rattle.life_types.specs.Types.{Types}
 use Rattle.life_typed.specs.Programs.{FunctionForm, ProgramForm}
 use Rattle.life_typed.specs.TypedStatement.{StmtForm, block}
@@ -15,7 +15,7 @@ use Rattle.life_proper.specs.Knowing.{State as Knowing, entry_known}
 use Rattle.life_proper.specs.ResultsKnown.{ReturnsKnown}
 use Rattle.life_well_typed.specs.Functions.{IsBody}
 use Rattle.life_well_typed.specs.Visible.{Visible, after, with_parameters}
-use Rattle.life_writer.specs.Around.{Around}
+use Rattle.life_writer.specs.Around.{Around, end_line}
 use Rattle.life_writer.specs.Variables.{end_past}
 use Rattle.life_writer.specs.Writing.{State}
 use Rattle.life_typed.specs.Ends.{ends}
@@ -23,7 +23,7 @@ use Rattle.life_elab.specs.Functions.{returned_at_end}
 use Rattle.life_elab.specs.ProgramForms.{body, first_state, written}
 use Rattle.life_elab.specs.Programs.{around, texts_of}
 use Rattle.life_elab.specs.StatementForms.{statement}
-use Rattle.life_elab.specs.Statements.{end_line, left}
+use Rattle.life_elab.specs.Statements.{left}
 use Rattle.life_elab_laws.proofs.Among.{Among}
 use Rattle.life_elab_laws.proofs.Beginning.{entry_knows, first_code, first_follows, register_there}
 use Rattle.life_elab_laws.proofs.Callees.{IsBegun, IsFunctionOf}
@@ -31,7 +31,8 @@ use Rattle.life_elab_laws.proofs.Doing.{Acting, Does, does_then}
 use Rattle.life_elab_laws.proofs.Exits.{Leaves}
 use Rattle.life_elab_laws.proofs.Following.{Follows, HasRegister, follows_below}
 use Rattle.life_elab_laws.proofs.Fronts.{IsFront}
-use Rattle.life_elab_laws.proofs.GivenApart.{AreApart, IsBelow, given_of, looked_of}
+use Rattle.life_elab_laws.proofs.GivenApart.{AreApart, IsBelow, given_of}
+use Rattle.life_elab_laws.proofs.LookedLocals.{looked_of}
 use Rattle.life_elab_laws.proofs.GivingBack.{GivesResult}
 use Rattle.life_elab_laws.proofs.Growing.{Begins}
 use Rattle.life_elab_laws.proofs.Returning.{return_does}
@@ -66,7 +67,7 @@ module _ (p : ProgramForm) (form : FunctionForm) (T types : Types) (fs : List Fu
     pub does : Does types texts fs f (around p form) behind false s s'
     pub stopped : stops (trees s'.code) ≡ true
 
-  finished : (it : StmtForm) (s : State) → ends form.body ≡ ends it → IsBody p form it → is_served_statement texts p.types form.locals it ≡ true → Follows types f (around p form) (with_parameters (length form.parameters)) s → HasRegister (around p form) s
+  finished : (it : StmtForm) (s : State) → ends form.body ≡ ends it → IsBody p form it → is_read_statement texts p form.locals it ≡ true → Follows types f (around p form) (with_parameters (length form.parameters)) s → HasRegister (around p form) s
       → IsFinished s (body (around p form) it s)
   finished (block items closing) s same h b follows register = go (ends (block items closing)) refl
     where

@@ -116,7 +116,7 @@ module _ (types : Types) (texts : ℕ) (fs : List Function) (f : Function) where
   all_stay (x ∷ xs) n m k j h p keeps = (held_stays x n m k j h p.0 keeps, all_stay xs n m k j h p.1 keeps)
 
   pub filling_stays : (step : Location → Step) (n m : ℕ) (k j : List Known) → n ≤ m → IsFilling f step n k → Keeps f n None k j → IsFilling f step m j
-  filling_stays step n m k j h p keeps = record { uses = p.uses; held = all_stay p.uses n m k j h p.held keeps; touches = p.touches; parts = p.parts }
+  filling_stays step n m k j h p keeps = record { uses = p.uses; held = all_stay p.uses n m k j h p.held keeps; touches = p.touches; parts = p.parts; looks = p.looks }
 
   pub pointing_stays : (p : Pointing) (n m : ℕ) (k j : List Known) → n ≤ m → IsPointing f p n k → Keeps f n None k j → IsPointing f p m j
   pointing_stays (By step) n m k j h p keeps = filling_stays step n m k j h p keeps

@@ -23,14 +23,15 @@ use Rattle.life_writer.specs.Characters.{Seen, InRegister, InString, InView}
 use Rattle.life_writer.specs.Temporaries.{consumed}
 use Rattle.life_writer.specs.Uses.{Remaining}
 use Rattle.life_writer.specs.Writing.{Gives, State, gives}
-use Rattle.life_elab_laws.proofs.ServedTypes.{IsBuilt}
+use Rattle.life_elab_laws.proofs.AdmittedTypes.{IsBuilt}
 use Rattle.life_elab_laws.proofs.Among.{Among, Ascend, among_contains, among_either, among_left, among_right}
 use Rattle.life_elab_laws.proofs.AppendForms.{IsFoundAt}
 use Rattle.life_elab_laws.proofs.Emitting.{keeps_set}
 use Rattle.life_elab_laws.proofs.ExpressionForms.{Standing}
 use Rattle.life_elab_laws.proofs.Falling.{Falls}
 use Rattle.life_elab_laws.proofs.Gifts.{Gift, a_given, a_place, both, nothing as no_gift}
-use Rattle.life_elab_laws.proofs.GivenApart.{AreApart, IsBelow, Open, given_of, looked_of, looked_place, looked_spot, parts_of}
+use Rattle.life_elab_laws.proofs.GivenApart.{AreApart, IsBelow, Open, given_of, parts_of}
+use Rattle.life_elab_laws.proofs.LookedLocals.{looked_of, looked_place, looked_spot}
 use Rattle.life_elab_laws.proofs.Growing.{Begins, Grows, begins_before, grows_then}
 use Rattle.life_elab_laws.proofs.Handing.{GoesHanding, HandingAlone}
 use Rattle.life_elab_laws.proofs.UnseenLocals.{set_itself, set_twice}

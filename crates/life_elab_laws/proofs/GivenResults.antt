@@ -1,7 +1,7 @@
 -- What a return gives back: a value, a pointer or a view that is given something, or a reference that is aimed at a place, which may be a temporary's.
 use Rattle.std.proofs.Common.{◌≡◌, ℕ, Bool, true, false, cond, List, slice_get, Option, Some, None, inl, inr, refl, sym, ap, ◌∙◌, subst, ◌||◌, ◌⊎◌}
 use Rattle.std.proofs.lemmas.Bool.{false≢true, or_cases, and_parts}
-use Rattle.life_served.specs.Served.{is_served_expression, is_owner_of_values, is_served_owner, is_served_returned, is_target, is_served_any, is_served_walker, is_walker_of_values, is_served_struct, is_owner_type, owns_elements, is_element, is_served_fresh, is_served_unique, is_unique_of_element, is_unique_type}
+use Rattle.life_elab_laws.proofs.FormKinds.{is_read_expression, is_owner_of_values, is_read_owner, is_read_returned, is_target, is_read_any, is_read_walker, is_walker_of_values, is_read_struct, is_owner_type, owns_elements, is_element, is_read_fresh, is_read_unique, is_unique_of_element, is_unique_type}
 use Rattle.life_types.specs.TypeTests.{is_unique, is_value, is_void}
 use Rattle.life_types.specs.Types.{Types, class}
 use Rattle.life_types.specs.declared.place.Place.{Place}
@@ -57,7 +57,7 @@ use Rattle.life_elab_laws.proofs.Parts.{Makes, Part, then_part}
 use Rattle.life_elab_laws.proofs.HandingCalls.{call_received, register_receives}
 use Rattle.life_elab_laws.proofs.PointedCalls.{GivesPointer, gives_called, gives_plainly}
 use Rattle.life_elab_laws.proofs.PointerForms.{points_whole}
-use Rattle.life_elab_laws.proofs.ResultTypes.{IsResultType, gives_alias, gives_walker, gives_nothing, gives_raw, gives_reference, gives_value, gives_view, result_is, gives_struct, gives_owner, gives_unique, gives_whole, gives_back}
+use Rattle.life_elab_laws.proofs.ResultTypes.{IsResultType, gives_alias, gives_walker, gives_nothing, gives_raw, gives_reference, gives_value, gives_view, result_is, gives_struct, gives_owner, gives_unique, gives_whole}
 use Rattle.life_elab_laws.proofs.Returning.{back_given, result_returned, return_does}
 use Rattle.life_elab_laws.proofs.Setting.{Setting}
 use Rattle.life_elab_laws.proofs.TypedKinds.{place_same, value_place, value_simple, HasKind, a_null, a_number as is_number_kind, a_pointer as is_pointer_kind, a_text, a_view as is_view_kind, no_value}
@@ -67,7 +67,7 @@ use Rattle.life_elab_laws.proofs.AliasForms.{IsAliased, owning_aliased, value_re
 use Rattle.life_elab_laws.proofs.ObjectForms.{IsOwner}
 use Rattle.life_elab_laws.proofs.MadeForms.{IsOwning, owning_owner, temporary_made, Builds}
 use Rattle.life_typed.specs.declared.typed_expr.ExprType.TheVariants.{Of, NullPointer}
-use Rattle.life_elab_laws.proofs.ElementForms.{either_served}
+use Rattle.life_elab_laws.proofs.ElementForms.{either_read}
 use Rattle.life_elab_laws.proofs.Targets.{owner_target, value_target, struct_target, target_unslotted}
 use Rattle.life_elab_laws.proofs.SeenForms.{string_points}
 use Rattle.life_elab_laws.proofs.WalkerForms.{IsWalker, vector_points, walker_points}
@@ -82,7 +82,7 @@ use Rattle.life_elab_laws.proofs.HandedStructs.{struct_no_walker}
 use Rattle.life_elab_laws.proofs.ReturnedOwners.{owner_given_back}
 use Rattle.life_elab_laws.proofs.ReturnedUniques.{fresh_back, no_named_given, null_back, unique_back, fresh_nameless}
 use Rattle.life_elab_laws.proofs.FreshUniques.{IsFresh}
-use Rattle.life_elab_laws.proofs.ServedTypes.{IsBuilt, struct_built, IsTabled}
+use Rattle.life_elab_laws.proofs.AdmittedTypes.{IsBuilt, struct_built, IsTabled}
 use Rattle.life_typed.specs.declared.typed_expr.Category.TheVariants as category
 use Rattle.life_elab_laws.proofs.NamedResults.{is_object, named_builds, named_owner}
 use Rattle.life_elab.specs.ProgramForms.{result_kind}
@@ -323,7 +323,7 @@ module _ (a : Around) (types : Types) (texts : ℕ) (fs : List Function) (f : Fu
       whole_returned whole_is (gives_raw target constant raw w) = raw_returned whole_is target constant raw w
       whole_returned whole_is (gives_owner o) = absurd (unowned (inl o))
       whole_returned whole_is (gives_unique target unique w) = absurd (no_unique_result target unique w)
-      whole_returned whole_is (gives_whole number whole pointless) = absurd (no_whole_result number whole)
+      whole_returned whole_is (gives_whole number whole) = absurd (no_whole_result number whole)
       whole_returned whole_is (gives_view view) = view_returned whole_is view
       whole_returned whole_is (gives_walker w) = absurd (no_walker_given a.program.types e whole_is.kind.kind t w (given_as t refl (walker_no_unique t w)))
       whole_returned whole_is (gives_reference target constant refers_to w) = reference_returned target constant refers_to (value_target a.program.types (type_at a.program.types target) w) whole_is w
@@ -347,7 +347,7 @@ module _ (a : Around) (types : Types) (texts : ℕ) (fs : List Function) (f : Fu
               absurd (owner_no_location a.program.types o.ty o.owner (subst (λ (x : ExprType). is_pointed x ≡ true) o.is (given_pointer a.program.types (ty.Raw target constant) e refl (given_as (ty.Raw target constant) raw refl))))
           go (gives_owner owned) = absurd (unowned (inl owned))
           go (gives_unique target unique w) = absurd (no_unique_result target unique w)
-          go (gives_whole number whole pointless) = absurd (no_whole_result number whole)
+          go (gives_whole number whole) = absurd (no_whole_result number whole)
           go (gives_view view) = string_returned o view
           go (gives_walker w) = span_returned o t refl w
           go (gives_struct target constant number refers_to structure pointless) =
@@ -373,7 +373,7 @@ module _ (a : Around) (types : Types) (texts : ℕ) (fs : List Function) (f : Fu
               (given_raw a.program.types types setting.front target constant w e (given_as (ty.Raw target constant) raw refl))))
           go (gives_owner owned) = absurd (unowned (inl owned))
           go (gives_unique target unique w) = absurd (no_unique_result target unique w)
-          go (gives_whole number whole pointless) = absurd (no_whole_result number whole)
+          go (gives_whole number whole) = absurd (no_whole_result number whole)
           go (gives_view view) = absurd (walker_no_text a.program.types from.ty from.walker (subst (λ (x : ExprType). sees x ≡ true) from.is (given_view a.program.types e (given_as ty.View view refl))))
           go (gives_walker w) =
               let loc = (walker_is a.program.types t w).location in
@@ -406,7 +406,7 @@ module _ (a : Around) (types : Types) (texts : ℕ) (fs : List Function) (f : Fu
           go (gives_walker w) = absurd (struct_no_walker a.program.types t w its.0 e.category (told_as t refl (walker_no_unique t w)))
           go (gives_owner owned) = absurd (unowned (inl owned))
           go (gives_unique target unique w) = absurd (no_unique_result target unique w)
-          go (gives_whole number whole pointless) = absurd (no_whole_result number whole)
+          go (gives_whole number whole) = absurd (no_whole_result number whole)
           go (gives_reference target constant refers_to w) =
               absurd (false≢true (sym (ap is_value (aliased target constant refers_to (value_target a.program.types (type_at a.program.types target) w)).structure) ∙ w))
           go (gives_alias target constant refers_to o) =
@@ -432,7 +432,7 @@ module _ (a : Around) (types : Types) (texts : ℕ) (fs : List Function) (f : Fu
           go (gives_raw target constant raw w) = false≢true (subst (λ (x : ExprType). is_pointed x ≡ true) is (given_pointer a.program.types (ty.Raw target constant) e refl (given_as (ty.Raw target constant) raw refl)))
           go (gives_owner o) = unowned (inl o)
           go (gives_unique target unique w) = no_unique_result target unique w
-          go (gives_whole number whole pointless) = no_whole_result number whole
+          go (gives_whole number whole) = no_whole_result number whole
           go (gives_view view) = false≢true (subst (λ (x : ExprType). sees x ≡ true) is (given_view a.program.types e (given_as ty.View view refl)))
           go (gives_walker w) = walker_no_unique_given a.program.types t w owned e.category (told t (given_as t refl (walker_no_unique t w)))
           go (gives_reference target constant refers_to w) =
@@ -477,7 +477,7 @@ module _ (a : Around) (types : Types) (texts : ℕ) (fs : List Function) (f : Fu
       whole_back : IsWhole a v.visible types texts fs f setting (whole_form e) → statements.object_named u.named s ≡ None → Back Given
       whole_back is none = plain_back (value_builds a v.visible types texts fs f setting (whole_form e) is t owner its_given token s h.stands) none
 
-      owner_back : (b : is_served_owner texts a.program.types (whole_form e) ≡ true) (n : is_owner_type e.ty ≡ true) → Back Given
+      owner_back : (b : is_read_owner texts a.program (whole_form e) ≡ true) (n : is_owner_type e.ty ≡ true) → Back Given
       owner_back b n = go (statements.object_named u.named s) refl
         where
           from : IsOwning a v.visible types texts fs f setting (whole_form e)
@@ -512,7 +512,7 @@ module _ (a : Around) (types : Types) (texts : ℕ) (fs : List Function) (f : Fu
     result_sort (ty.Vector item) tabled (gives_owner o) some = inl (inl o, refl)
     result_sort _ tabled (gives_owner o) some = absurd (false≢true o)
     result_sort t tabled (gives_unique target unique w) some = inl (inr (inl (subst (λ (q : Ty). is_unique_of_element a.program.types q ≡ true) (sym unique) w)), ap (λ (q : Ty). result_kind (class (Some q))) unique)
-    result_sort t tabled (gives_whole number whole pointless) some = inl (tabled number whole, ap (λ (q : Ty). result_kind (class (Some q))) whole)
+    result_sort t tabled (gives_whole number whole) some = inl (tabled number whole, ap (λ (q : Ty). result_kind (class (Some q))) whole)
     result_sort t tabled (gives_reference target constant refers w) some = inr (ap (λ (q : Ty). result_kind (class (Some q))) refers)
     result_sort t tabled (gives_alias target constant refers o) some = inr (ap (λ (q : Ty). result_kind (class (Some q))) refers)
     result_sort t tabled (gives_struct target constant number refers structure pointless) some = inr (ap (λ (q : Ty). result_kind (class (Some q))) refers)
@@ -541,7 +541,7 @@ module _ (a : Around) (types : Types) (texts : ℕ) (fs : List Function) (f : Fu
         go (no_value at w) = absurd (no_owner_given a.program.types t o ty.Void refl e.category (as_told (Of ty.Void) at))
         go (a_null at w) = absurd (null_refused a.program.types t o e.category (as_told NullPointer at))
 
-    pub returned_does : HasRegister a s → (keyword : Place) (given : Option Typed) (token : Place) → is_served_returned texts a.program.types given ≡ true → IsReturned a.program a.function.locals a.function.result v.visible given
+    pub returned_does : HasRegister a s → (keyword : Place) (given : Option Typed) (token : Place) → is_read_returned texts a.program given ≡ true → IsReturned a.program a.function.locals a.function.result v.visible given
         → Back (left 0 keyword (Returns keyword) (result_given a given keyword token s))
     returned_does register keyword None token b r = return_does a types texts fs f setting v in_loop s h (λ gives. false≢true (sym gives.0 ∙ r)) keyword
     returned_does register keyword (Some e) token b r = sorted (result_sort t (λ number whole. struct_built a.program.types a.function.result number whole) kind r.0)
@@ -551,12 +551,12 @@ module _ (a : Around) (types : Types) (texts : ℕ) (fs : List Function) (f : Fu
 
         -- a unique_ptr, which is made, moved or given, or is named
         uniques : Bool
-        uniques = is_served_fresh texts a.program.types (whole_form e) || is_served_unique texts a.program.types (whole_form e)
+        uniques = is_read_fresh texts a.program (whole_form e) || is_read_unique texts a.program (whole_form e)
 
-        fresh : is_served_fresh texts a.program.types (whole_form e) ≡ true → IsFresh a v.visible types texts fs f setting (whole_form e)
+        fresh : is_read_fresh texts a.program (whole_form e) ≡ true → IsFresh a v.visible types texts fs f setting (whole_form e)
         fresh b = fresh_expression a v.visible types texts fs f setting (whole_form e) b r.2
 
-        held : is_served_unique texts a.program.types (whole_form e) ≡ true → IsHolding a v.visible types texts fs f setting (whole_form e)
+        held : is_read_unique texts a.program (whole_form e) ≡ true → IsHolding a v.visible types texts fs f setting (whole_form e)
         held b = holding_expression a v.visible types texts fs f setting (whole_form e) b r.2
 
         -- neither is given to a register
@@ -568,16 +568,16 @@ module _ (a : Around) (types : Types) (texts : ℕ) (fs : List Function) (f : Fu
 
         in_register : (IsBuilt a.program.types t → ⊥) → IsResultRegister a s → Back (left 0 keyword (Returns keyword) (result_given a (Some e) keyword token s))
         in_register plain there =
-            elim (or_cases (is_served_any texts a.program.types e) (is_served_walker texts a.program.types (whole_form e) || (is_served_struct texts a.program.types (whole_form e) || uniques)) b) [
-              | inl any ↦ elim (either_served (whole_form e) (is_served_owner texts a.program.types (whole_form e)) (is_served_expression texts a.program.types e) any) [
+            elim (or_cases (is_read_any texts a.program e) (is_read_walker texts a.program (whole_form e) || (is_read_struct texts a.program (whole_form e) || uniques)) b) [
+              | inl any ↦ elim (either_read (whole_form e) (is_read_owner texts a.program (whole_form e)) (is_read_expression texts a.program e) any) [
                 | inl value ↦ whole_returned there plain e keyword token r (whole_expression a v.visible types texts fs f setting (whole_form e) value r.2) kind
                 | inr owner ↦ owner_returned there plain e keyword token r (owner_expression a v.visible types texts fs f setting (whole_form e) owner.1 owner.0 r.2) kind
               ]
-              | inr others ↦ elim (or_cases (is_served_walker texts a.program.types (whole_form e)) (is_served_struct texts a.program.types (whole_form e) || uniques) others) [
+              | inr others ↦ elim (or_cases (is_read_walker texts a.program (whole_form e)) (is_read_struct texts a.program (whole_form e) || uniques) others) [
                 | inl walker ↦ walker_returned there plain e keyword token r (walker_expression a v.visible types texts fs f setting (whole_form e) walker r.2) kind
-                | inr others ↦ elim (or_cases (is_served_struct texts a.program.types (whole_form e)) uniques others) [
+                | inr others ↦ elim (or_cases (is_read_struct texts a.program (whole_form e)) uniques others) [
                   | inl structure ↦ struct_returned there plain e keyword token r (struct_expression a v.visible types texts fs f setting (whole_form e) structure r.2) kind
-                  | inr unique ↦ elim (or_cases (is_served_fresh texts a.program.types (whole_form e)) (is_served_unique texts a.program.types (whole_form e)) unique) [
+                  | inr unique ↦ elim (or_cases (is_read_fresh texts a.program (whole_form e)) (is_read_unique texts a.program (whole_form e)) unique) [
                     | inl made ↦ let is = fresh made in absurd (unique_refused there plain e keyword token r is.owned is.is (λ target held at w. value_place (sym is.value ∙ at)) kind)
                     | inr holds ↦ absurd (holding_refused plain there (held holds))
                   ]
@@ -588,20 +588,20 @@ module _ (a : Around) (types : Types) (texts : ℕ) (fs : List Function) (f : Fu
         -- .. to an owner nothing but one is given, or a literal
         as_owner_object : is_owner_of_values a.program.types t ≡ true → IsResultObject a s → Back (left 0 keyword (Returns keyword) (result_given a (Some e) keyword token s))
         as_owner_object o there =
-            elim (or_cases (is_served_any texts a.program.types e) (is_served_walker texts a.program.types (whole_form e) || (is_served_struct texts a.program.types (whole_form e) || uniques)) b) [
-              | inl any ↦ elim (either_served (whole_form e) (is_served_owner texts a.program.types (whole_form e)) (is_served_expression texts a.program.types e) any) [
+            elim (or_cases (is_read_any texts a.program e) (is_read_walker texts a.program (whole_form e) || (is_read_struct texts a.program (whole_form e) || uniques)) b) [
+              | inl any ↦ elim (either_read (whole_form e) (is_read_owner texts a.program (whole_form e)) (is_read_expression texts a.program e) any) [
                 | inl value ↦
                     let is = whole_expression a v.visible types texts fs f setting (whole_form e) value r.2 in
                     whole_back there o e keyword token r is (no_name e o (its_given there o e keyword token r) is)
                 | inr owner ↦ owner_back there o e keyword token r owner.1 owner.0
               ]
-              | inr others ↦ elim (or_cases (is_served_walker texts a.program.types (whole_form e)) (is_served_struct texts a.program.types (whole_form e) || uniques) others) [
+              | inr others ↦ elim (or_cases (is_read_walker texts a.program (whole_form e)) (is_read_struct texts a.program (whole_form e) || uniques) others) [
                 | inl walker ↦
                     let is = walker_expression a v.visible types texts fs f setting (whole_form e) walker r.2 in
                     refused o there is.ty is.is (walker_is a.program.types is.ty is.walker).owner
-                | inr others ↦ elim (or_cases (is_served_struct texts a.program.types (whole_form e)) uniques others) [
+                | inr others ↦ elim (or_cases (is_read_struct texts a.program (whole_form e)) uniques others) [
                   | inl structure ↦ let is = struct_typed a v.visible types texts fs f setting (whole_form e) (struct_expression a v.visible types texts fs f setting (whole_form e) structure r.2) in refused o there (ty.Struct is.0) is.1 refl
-                  | inr unique ↦ elim (or_cases (is_served_fresh texts a.program.types (whole_form e)) (is_served_unique texts a.program.types (whole_form e)) unique) [
+                  | inr unique ↦ elim (or_cases (is_read_fresh texts a.program (whole_form e)) (is_read_unique texts a.program (whole_form e)) unique) [
                     | inl made ↦ let is = fresh made in refused o there (ty.Unique is.owned) is.is refl
                     | inr holds ↦ let is = holding_lies a v.visible types texts fs f setting (whole_form e) (held holds) in refused o there (ty.Unique is.target) is.is refl
                   ]
@@ -626,22 +626,22 @@ module _ (a : Around) (types : Types) (texts : ℕ) (fs : List Function) (f : Fu
 
             by_form : is_given a.program.types (ty.Unique x.0) e ≡ true → Back (left 0 keyword (Returns keyword) (result_given a (Some e) keyword token s))
             by_form given =
-                elim (or_cases (is_served_any texts a.program.types e) (is_served_walker texts a.program.types (whole_form e) || (is_served_struct texts a.program.types (whole_form e) || uniques)) b) [
-                  | inl any ↦ elim (either_served (whole_form e) (is_served_owner texts a.program.types (whole_form e)) (is_served_expression texts a.program.types e) any) [
+                elim (or_cases (is_read_any texts a.program e) (is_read_walker texts a.program (whole_form e) || (is_read_struct texts a.program (whole_form e) || uniques)) b) [
+                  | inl any ↦ elim (either_read (whole_form e) (is_read_owner texts a.program (whole_form e)) (is_read_expression texts a.program e) any) [
                     | inl value ↦ null_back a types texts fs f setting v in_loop s h there x.0 x.1 x.2 e keyword token r (whole_expression a v.visible types texts fs f setting (whole_form e) value r.2) given
                     | inr owner ↦
                         let is = owning_owner a v.visible types texts fs f setting (whole_form e) (owner_expression a v.visible types texts fs f setting (whole_form e) owner.1 owner.0 r.2) in
                         absurd (owner_no_unique_given a.program.types is.ty is.owner x.0 e.category (subst (λ (k : ExprType). fits_at_all (fits a.program.types (ty.Unique x.0) k e.category) ≡ true) is.is given))
                   ]
-                  | inr others ↦ elim (or_cases (is_served_walker texts a.program.types (whole_form e)) (is_served_struct texts a.program.types (whole_form e) || uniques) others) [
+                  | inr others ↦ elim (or_cases (is_read_walker texts a.program (whole_form e)) (is_read_struct texts a.program (whole_form e) || uniques) others) [
                     | inl walker ↦
                         let is = walker_expression a v.visible types texts fs f setting (whole_form e) walker r.2 in
                         absurd (unique_no_walker_given a.program.types is.ty is.walker x.0 e.category (subst (λ (k : ExprType). fits_at_all (fits a.program.types (ty.Unique x.0) k e.category) ≡ true) is.is given))
-                    | inr others ↦ elim (or_cases (is_served_struct texts a.program.types (whole_form e)) uniques others) [
+                    | inr others ↦ elim (or_cases (is_read_struct texts a.program (whole_form e)) uniques others) [
                       | inl structure ↦ let is = struct_typed a v.visible types texts fs f setting (whole_form e) (struct_expression a v.visible types texts fs f setting (whole_form e) structure r.2) in
                           absurd (false≢true (subst (λ (k : ExprType). fits_at_all (fits a.program.types (ty.Unique x.0) k e.category) ≡ true) is.1 given))
-                      | inr unique ↦ elim (or_cases (is_served_fresh texts a.program.types (whole_form e)) (is_served_unique texts a.program.types (whole_form e)) unique) [
-                        | inl made ↦ fresh_back a types texts fs f setting v in_loop s h there x.0 x.1 x.2 e keyword token r (fresh made) (fresh_nameless a v.visible texts e.form e (and_parts (is_unique_type e.ty) (is_served_fresh texts a.program.types e.form) made).1 r.2 e.place) given
+                      | inr unique ↦ elim (or_cases (is_read_fresh texts a.program (whole_form e)) (is_read_unique texts a.program (whole_form e)) unique) [
+                        | inl made ↦ fresh_back a types texts fs f setting v in_loop s h there x.0 x.1 x.2 e keyword token r (fresh made) (fresh_nameless a v.visible texts e.form e (and_parts (is_unique_type e.ty) (is_read_fresh texts a.program e.form) made).1 r.2 e.place) given
                         | inr holds ↦ holding_back given (held holds)
                       ]
                     ]
@@ -651,23 +651,23 @@ module _ (a : Around) (types : Types) (texts : ℕ) (fs : List Function) (f : Fu
         -- .. and to a struct another one
         as_struct_object : (number : ℕ) → t ≡ ty.Struct number → IsTabled a.program.types (ty.Struct number) → IsResultObject a s → Back (left 0 keyword (Returns keyword) (result_given a (Some e) keyword token s))
         as_struct_object number whole tabled there =
-            elim (or_cases (is_served_any texts a.program.types e) (is_served_walker texts a.program.types (whole_form e) || (is_served_struct texts a.program.types (whole_form e) || uniques)) b) [
-              | inl any ↦ elim (either_served (whole_form e) (is_served_owner texts a.program.types (whole_form e)) (is_served_expression texts a.program.types e) any) [
+            elim (or_cases (is_read_any texts a.program e) (is_read_walker texts a.program (whole_form e) || (is_read_struct texts a.program (whole_form e) || uniques)) b) [
+              | inl any ↦ elim (either_read (whole_form e) (is_read_owner texts a.program (whole_form e)) (is_read_expression texts a.program e) any) [
                 | inl value ↦
                     absurd (kind_no_struct a.program.types e (whole_expression a v.visible types texts fs f setting (whole_form e) value r.2).kind.kind (struct_fits a.program.types number e.ty e.category taken))
                 | inr owner ↦
                     let is = owning_owner a v.visible types texts fs f setting (whole_form e) (owner_expression a v.visible types texts fs f setting (whole_form e) owner.1 owner.0 r.2) in
                     absurd (owner_no_struct_given a.program.types is.ty is.owner number e.category (as_told (Of is.ty) is.is))
               ]
-              | inr others ↦ elim (or_cases (is_served_walker texts a.program.types (whole_form e)) (is_served_struct texts a.program.types (whole_form e) || uniques) others) [
+              | inr others ↦ elim (or_cases (is_read_walker texts a.program (whole_form e)) (is_read_struct texts a.program (whole_form e) || uniques) others) [
                 | inl walker ↦
                     let is = walker_expression a v.visible types texts fs f setting (whole_form e) walker r.2 in
                     absurd (walker_no_struct_given a.program.types is.ty is.walker number e.category (as_told (Of is.ty) is.is))
-                | inr others ↦ elim (or_cases (is_served_struct texts a.program.types (whole_form e)) uniques others) [
+                | inr others ↦ elim (or_cases (is_read_struct texts a.program (whole_form e)) uniques others) [
                   | inl structure ↦
-                      struct_back a types texts fs f setting v in_loop s h there number whole tabled (subst (λ (x : Ty). gives_back a.program.types x ≡ true) whole setting.result) r.0 keyword token e
+                      struct_back a types texts fs f setting v in_loop s h there number whole tabled r.0 keyword token e
                       ((as_struct a v.visible types texts fs f setting (whole_form e) number (struct_expression a v.visible types texts fs f setting (whole_form e) structure r.2) taken).unseen token)
-                  | inr unique ↦ elim (or_cases (is_served_fresh texts a.program.types (whole_form e)) (is_served_unique texts a.program.types (whole_form e)) unique) [
+                  | inr unique ↦ elim (or_cases (is_read_fresh texts a.program (whole_form e)) (is_read_unique texts a.program (whole_form e)) unique) [
                     | inl made ↦ absurd (false≢true (as_told (Of (ty.Unique (fresh made).owned)) (fresh made).is))
                     | inr holds ↦ let is = holding_lies a v.visible types texts fs f setting (whole_form e) (held holds) in absurd (false≢true (as_told (Of (ty.Unique is.target)) is.is))
                   ]

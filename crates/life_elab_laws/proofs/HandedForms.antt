@@ -33,7 +33,7 @@ use Rattle.life_writer.specs.Uses.{Uses}
 use Rattle.life_writer.specs.Using.{pointer, pointing, register_type, value}
 use Rattle.life_writer.specs.Writing.{Gives, State, ◌>>◌, emit, gives, mapped}
 use Rattle.life_elab_laws.proofs.FreshUniques.{null_builds}
-use Rattle.life_elab_laws.proofs.ServedTypes.{IsBuilt}
+use Rattle.life_elab_laws.proofs.AdmittedTypes.{IsBuilt}
 use Rattle.life_elab_laws.proofs.Emitting.{new_targeted}
 use Rattle.life_elab_laws.proofs.ExpressionForms.{IsWhole, Standing}
 use Rattle.life_elab_laws.proofs.ExpressionTypes.{seen_kind}
@@ -63,7 +63,7 @@ use Rattle.life_elab_laws.proofs.Values.{by_values}
 use Rattle.life_elab_laws.proofs.VariablePlaces.{stands_later}
 use Rattle.life_elab_laws.proofs.WalkerSteps.{keeps_itself}
 use Rattle.life_elab_laws.proofs.WrittenLocals.{fits_below}
-use Rattle.life_served.specs.Served.{is_walker_of_values, is_owner_of_values, is_target, is_unique_of_element}
+use Rattle.life_elab_laws.proofs.FormKinds.{is_walker_of_values, is_owner_of_values, is_target, is_unique_of_element}
 use Rattle.life_type_expr.specs.Lists.{fits_at_all}
 use Rattle.life_elab_laws.proofs.TypedKinds.{HasKind, a_null, a_number as is_number_kind, a_pointer as is_pointer_kind, a_text, a_view as is_view_kind, no_value}
 use Rattle.life_elab_laws.proofs.AliasForms.{IsAliased, whole_aliased, to_built, to_place, value_builds}
@@ -299,7 +299,7 @@ module _ (a : Around) (visible : List ℕ) (types : Types) (texts : ℕ) (fs : L
           absurd (kind_no_struct a.program.types (typed_in e) is.kind.kind (struct_alone a.program.types target constant number (typed_in e) structure (struct_target a.program.types (type_at a.program.types target) pointless) (given_as (ty.Reference target constant) at) (λ held. is.kind.place target held)))
       go (a_walker t at w) = absurd (no_walker_given a.program.types (typed_in e) is.kind.kind t w (given_as t at))
       go (an_owner t at o) = owner_before e es d id ids t at (inl o) (λ s stands. value_builds a visible types texts fs f setting e is t o (given_as t at) (behind_first d) s stands) rest s stands
-      go (a_struct number at pointless) = absurd (kind_no_struct a.program.types (typed_in e) is.kind.kind (struct_fits a.program.types number (typed_in e).ty (typed_in e).category (given_as (ty.Struct number) at)))
+      go (a_struct number at) = absurd (kind_no_struct a.program.types (typed_in e) is.kind.kind (struct_fits a.program.types number (typed_in e).ty (typed_in e).category (given_as (ty.Struct number) at)))
       go (a_unique target at w) =
           owner_before e es d id ids (ty.Unique target) at (inr (inl w)) (λ s stands. null_builds a visible types texts fs f setting e is target (given_as (ty.Unique target) at) (behind_first d) s stands) rest s stands
       go (a_view at) =

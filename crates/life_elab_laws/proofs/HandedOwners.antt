@@ -6,7 +6,7 @@ use Rattle.life_types.specs.Types.{Types, is_slot_type}
 use Rattle.life_types.specs.declared.ty.Ty.{Ty}
 use Rattle.life_types.specs.declared.ty.Ty.TheVariants as ty
 use Rattle.life_types.specs.declared.ty.TyId.{TyId}
-use Rattle.life_served.specs.Served.{is_owner_of_values, is_walker_of_values}
+use Rattle.life_elab_laws.proofs.FormKinds.{is_owner_of_values, is_walker_of_values}
 use Rattle.life_typed.specs.BaseTypes.{type_at}
 use Rattle.life_typed.specs.Conversions.{fits}
 use Rattle.life_typed.specs.Delimiters.{DelimitersForm, behind_first, behind_others}
@@ -155,7 +155,7 @@ module _ (a : Around) (visible : List ℕ) (types : Types) (texts : ℕ) (fs : L
       go (an_owner t at owned) = owner_before a visible types texts fs f setting e es d id ids t at (inl owned) (λ s stands. owning_builds a visible types texts fs f setting e from t owned (given_as t at) (behind_first d) s stands) rest s stands
       go (an_alias target constant at owned) = alias_first a visible types texts fs f setting e es d id ids target constant (owning_aliased a visible types texts fs f setting e target constant owned (given_as (ty.Reference target constant) at) from) rest at (owner_target a.program.types (type_at a.program.types target) owned) (inl owned) s stands
       go (a_reference target constant at worth) = absurd (value_reference_refused a visible types texts fs f setting e target constant worth (given_as (ty.Reference target constant) at) from)
-      go (a_struct number at pointless) =
+      go (a_struct number at) =
           absurd (owner_no_struct_given a.program.types o.ty o.owner number (typed_in e).category (subst (λ (x : ExprType). fits_at_all (fits a.program.types (ty.Struct number) x (typed_in e).category) ≡ true) o.is (given_as (ty.Struct number) at)))
       go (a_struct_alias target constant number at structure pointless) = absurd (struct_reference_refused a visible types texts fs f setting e target constant number structure (struct_target a.program.types (type_at a.program.types target) pointless) (given_as (ty.Reference target constant) at) from)
 
@@ -193,7 +193,7 @@ module _ (a : Around) (visible : List ℕ) (types : Types) (texts : ℕ) (fs : L
           (subst (λ (x : ExprType). fits_at_all (fits a.program.types t x (typed_in e).category) ≡ true) from.is (given_as t at)))
       go (an_alias target constant at owned) = absurd (walker_reference_refused a visible types texts fs f setting e target constant (owner_target a.program.types (type_at a.program.types target) owned) (given_as (ty.Reference target constant) at) from)
       go (a_reference target constant at worth) = absurd (walker_reference_refused a visible types texts fs f setting e target constant (value_target a.program.types (type_at a.program.types target) worth) (given_as (ty.Reference target constant) at) from)
-      go (a_struct number at pointless) =
+      go (a_struct number at) =
           absurd (walker_no_struct_given a.program.types from.ty from.walker number (typed_in e).category (subst (λ (x : ExprType). fits_at_all (fits a.program.types (ty.Struct number) x (typed_in e).category) ≡ true) from.is (given_as (ty.Struct number) at)))
       go (a_struct_alias target constant number at structure pointless) =
           absurd (walker_reference_refused a visible types texts fs f setting e target constant (struct_target a.program.types (type_at a.program.types target) pointless) (given_as (ty.Reference target constant) at) from)

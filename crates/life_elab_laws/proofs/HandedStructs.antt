@@ -1,7 +1,7 @@
 -- What a parameter is handed by a struct: a reference to it, or the whole of it, which is given over.
 use Rattle.std.proofs.Common.{◌≡◌, ℕ, true, List, ◌∷◌, Some, Option, slice_get, refl, sym, ap, ◌∙◌, subst, unwrap_or, inr}
 use Rattle.std.proofs.lemmas.Bool.{false≢true}
-use Rattle.life_served.specs.Served.{is_owner_of_values, is_walker_of_values}
+use Rattle.life_elab_laws.proofs.FormKinds.{is_owner_of_values, is_walker_of_values}
 use Rattle.life_types.specs.TypeTests.{is_value}
 use Rattle.life_types.specs.Types.{Types}
 use Rattle.life_types.specs.declared.ty.Ty.{Ty}
@@ -32,7 +32,7 @@ use Rattle.life_elab_laws.proofs.HandedTypes.{IsHandedType, a_raw, a_reference, 
 use Rattle.life_elab_laws.proofs.Locations.{is_pointed}
 use Rattle.life_elab_laws.proofs.RowTypes.{sees}
 use Rattle.life_elab_laws.proofs.MadeStructs.{IsAnyStruct, struct_typed, as_struct, unseen_over}
-use Rattle.life_elab_laws.proofs.ServedTypes.{struct_built, struct_tabled}
+use Rattle.life_elab_laws.proofs.AdmittedTypes.{struct_built, struct_tabled}
 use Rattle.life_elab_laws.proofs.Setting.{Setting}
 use Rattle.life_elab_laws.proofs.StructReferences.{struct_aliased}
 use Rattle.life_elab_laws.proofs.Targets.{owner_target, struct_target, value_target}
@@ -79,12 +79,12 @@ module _ (a : Around) (visible : List ℕ) (types : Types) (texts : ℕ) (fs : L
       go (a_walker t at w) = absurd (struct_no_walker a.program.types t w its.0 (typed_in e).category (told t at))
       go (a_unique target at w) = absurd (false≢true (told (ty.Unique target) at))
       go (an_owner t at o) = absurd (no_owner_given a.program.types t o (ty.Struct its.0) refl (typed_in e).category (told t at))
-      go (a_struct number at pointless) =
+      go (a_struct number at) =
           let built = inr (inr (struct_tabled a.program.types id number (type_there (ty.Struct number) at))) in
           given_before a visible types texts fs f setting e es d id ids (ty.Struct number) at built
           (λ s stands.
           unseen_over a visible types texts fs f setting number (λ (s : State). giving.given (uses a e) (ty.Struct number) (behind_first d) s)
-          ((as_struct a visible types texts fs f setting e number from (given_as (ty.Struct number) at)).unseen (behind_first d)) (struct_tabled a.program.types id number (type_there (ty.Struct number) at)) pointless (uses a e).place s stands) rest s stands
+          ((as_struct a visible types texts fs f setting e number from (given_as (ty.Struct number) at)).unseen (behind_first d)) (struct_tabled a.program.types id number (type_there (ty.Struct number) at)) (uses a e).place s stands) rest s stands
       go (an_alias target constant at o) =
           let to = struct_aliased a visible types texts fs f setting e target constant from (owner_target a.program.types (type_at a.program.types target) o) (given_as (ty.Reference target constant) at) in
           absurd (false≢true (sym (ap (is_owner_of_values a.program.types) to.structure) ∙ o))

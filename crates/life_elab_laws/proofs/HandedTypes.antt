@@ -1,4 +1,4 @@
--- The types of parameters that are served: values, pointers and references, views, iterators and spans that an argument is or makes, and owners, unique_ptrs and structs that are given over.
+-- The types that parameters may have: values, pointers and references, views, iterators and spans that an argument is or makes, and owners, unique_ptrs and structs that are given over.
 use Rattle.std.proofs.Common.{◌≡◌, inl, inr, ℕ, Bool, true, Option, Some, None, slice_get, unwrap_or, refl, ◌||◌, ap, sym, ◌∙◌}
 use Rattle.std.proofs.lemmas.Bool.{false≢true, or_cases}
 use Rattle.life_types.specs.TypeTests.{is_value}
@@ -6,10 +6,10 @@ use Rattle.life_types.specs.Types.{Types}
 use Rattle.life_types.specs.declared.ty.Ty.{Ty}
 use Rattle.life_types.specs.declared.ty.Ty.TheVariants as ty
 use Rattle.life_types.specs.declared.ty.TyId.{TyId}
-use Rattle.life_served.specs.Served.{is_element, is_owner_of_values, is_owning, is_pointing, is_served_parameter, is_target, is_unique_of_element, is_walker_of_values, is_plain_struct}
+use Rattle.life_elab_laws.proofs.FormKinds.{is_element, is_owner_of_values, is_owning, is_pointing, is_admitted_parameter, is_target, is_unique_of_element, is_walker_of_values, is_plain_struct, is_struct}
 use Rattle.life_typed.specs.BaseTypes.{type_at}
 use Rattle.life_proper.specs.OperandTypes.{is_composed}
-use Rattle.life_elab_laws.proofs.ServedTypes.{IsBuilt}
+use Rattle.life_elab_laws.proofs.AdmittedTypes.{IsBuilt}
 use Rattle.life_elab_laws.proofs.Fronts.{IsFront}
 use Rattle.life_elab_laws.proofs.Shaped.{value_later, walker_later, owner_later, target_later, element_later, PlainStays, plain_further}
 use Rattle.life_elab_laws.proofs.Targets.{IsTarget, owner_target, struct_target, target_is, target_type, to_owner, to_struct, to_value}
@@ -25,18 +25,18 @@ pub data IsHandedType (types : Types) (id : TyId) : Type 0 where
   a_walker : (t : Ty) → slice_get types.types id.0 ≡ Some t → is_walker_of_values types t ≡ true → IsHandedType types id
   an_owner : (t : Ty) → slice_get types.types id.0 ≡ Some t → is_owner_of_values types t ≡ true → IsHandedType types id
   a_unique : (target : TyId) → slice_get types.types id.0 ≡ Some (ty.Unique target) → is_element types (type_at types target) ≡ true → IsHandedType types id
-  a_struct : (number : ℕ) → slice_get types.types id.0 ≡ Some (ty.Struct number) → is_plain_struct types (ty.Struct number) ≡ true → IsHandedType types id
+  a_struct : (number : ℕ) → slice_get types.types id.0 ≡ Some (ty.Struct number) → IsHandedType types id
 
-pub handed_type : (types : Types) (id : TyId) → is_served_parameter types id ≡ true → IsHandedType types id
+pub handed_type : (types : Types) (id : TyId) → is_admitted_parameter types id ≡ true → IsHandedType types id
 handed_type types id h = elim (or_cases (is_value (type_at types id)) (is_pointing types (type_at types id) || (is_walker_of_values types (type_at types id) || is_owning types (type_at types id))) h) [
   | inl v ↦ a_value v
   | inr q ↦ elim (or_cases (is_pointing types (type_at types id)) (is_walker_of_values types (type_at types id) || is_owning types (type_at types id)) q) [
     | inl p ↦ pointer (slice_get types.types id.0) refl p
     | inr r ↦ elim (or_cases (is_walker_of_values types (type_at types id)) (is_owning types (type_at types id)) r) [
       | inl w ↦ walker (slice_get types.types id.0) refl w
-      | inr owned ↦ elim (or_cases (is_owner_of_values types (type_at types id)) (is_unique_of_element types (type_at types id) || is_plain_struct types (type_at types id)) owned) [
+      | inr owned ↦ elim (or_cases (is_owner_of_values types (type_at types id)) (is_unique_of_element types (type_at types id) || is_struct (type_at types id)) owned) [
         | inl o ↦ owner (slice_get types.types id.0) refl o
-        | inr others ↦ elim (or_cases (is_unique_of_element types (type_at types id)) (is_plain_struct types (type_at types id)) others) [
+        | inr others ↦ elim (or_cases (is_unique_of_element types (type_at types id)) (is_struct (type_at types id)) others) [
           | inl u ↦ unique (slice_get types.types id.0) refl u
           | inr s ↦ structure (slice_get types.types id.0) refl s
         ]
@@ -70,9 +70,9 @@ handed_type types id h = elim (or_cases (is_value (type_at types id)) (is_pointi
     unique None at w = absurd (false≢true w)
     unique (Some _) at w = absurd (false≢true w)
 
-    structure : (o : Option Ty) → slice_get types.types id.0 ≡ o → is_plain_struct types (unwrap_or o ty.Void) ≡ true → IsHandedType types id
+    structure : (o : Option Ty) → slice_get types.types id.0 ≡ o → is_struct (unwrap_or o ty.Void) ≡ true → IsHandedType types id
     structure None at s = absurd (false≢true s)
-    structure (Some (ty.Struct number)) at s = a_struct number at s
+    structure (Some (ty.Struct number)) at s = a_struct number at
     structure (Some _) at s = absurd (false≢true s)
 
 -- what is built is given over as a whole
@@ -106,5 +106,4 @@ handed_later few more front stays id (a_view at) = a_view (front id.0 ty.View at
 handed_later few more front stays id (a_walker t at w) = a_walker t (front id.0 t at) (walker_later few more front stays t w)
 handed_later few more front stays id (an_owner t at o) = an_owner t (front id.0 t at) (owner_later few more front stays t o)
 handed_later few more front stays id (a_unique target at w) = a_unique target (front id.0 (ty.Unique target) at) (element_later few more front stays target w)
-handed_later few more front stays id (a_struct number at pointless) =
-    a_struct number (front id.0 (ty.Struct number) at) (stays number pointless)
+handed_later few more front stays id (a_struct number at) = a_struct number (front id.0 (ty.Struct number) at)

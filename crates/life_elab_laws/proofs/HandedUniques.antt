@@ -6,7 +6,7 @@ use Rattle.life_types.specs.TypeTests.{is_value}
 use Rattle.life_types.specs.declared.ty.Ty.{Ty}
 use Rattle.life_types.specs.declared.ty.Ty.TheVariants as ty
 use Rattle.life_types.specs.declared.ty.TyId.{TyId}
-use Rattle.life_served.specs.Served.{is_owner_of_values, is_struct_type}
+use Rattle.life_elab_laws.proofs.FormKinds.{is_owner_of_values, is_struct_type}
 use Rattle.life_typed.specs.BaseTypes.{type_at}
 use Rattle.life_typed.specs.Conversions.{fits}
 use Rattle.life_typed.specs.Delimiters.{DelimitersForm, behind_first, behind_others}
@@ -86,7 +86,7 @@ module _ (a : Around) (visible : List ℕ) (types : Types) (texts : ℕ) (fs : L
       go (a_struct_alias target constant number at structure pointless) =
           absurd (false≢true (subst (λ (x : ExprType). is_struct_type x ≡ true) from.is
           (struct_alone a.program.types target constant number (typed_in e) structure (struct_target a.program.types (type_at a.program.types target) pointless) (given_as (ty.Reference target constant) at) (λ held place. absurd (value_place (sym from.value ∙ place))))))
-      go (a_struct number at pointless) = absurd (false≢true (told (ty.Struct number) (given_as (ty.Struct number) at)))
+      go (a_struct number at) = absurd (false≢true (told (ty.Struct number) (given_as (ty.Struct number) at)))
       go (a_unique target at w) =
           owner_before a visible types texts fs f setting e es d id ids (ty.Unique target) at (inr (inl w))
           (λ s stands. fresh_builds a visible types texts fs f setting e from target w (given_as (ty.Unique target) at) (behind_first d) s stands) rest s stands

@@ -16,7 +16,8 @@ use Rattle.life_elab_laws.proofs.Among.{Among, Ascend, among_contains, among_eit
 use Rattle.life_elab_laws.proofs.BornLocals.{Bears, born_of, codes_bear}
 use Rattle.life_elab_laws.proofs.Falling.{Falls, falls_append}
 use Rattle.life_elab_laws.proofs.Gifts.{Gift, both, nothing}
-use Rattle.life_elab_laws.proofs.GivenApart.{Apart as Only, AreApart, IsBelow, apart_then, given_of, looked_of, looked_spot, parts_of}
+use Rattle.life_elab_laws.proofs.GivenApart.{Apart as Only, AreApart, IsBelow, apart_then, given_of, parts_of}
+use Rattle.life_elab_laws.proofs.LookedLocals.{looked_of, looked_spot}
 use Rattle.life_elab_laws.proofs.Growing.{Begins, Grows, begins_before, grows_then}
 use Rattle.life_elab_laws.proofs.UnseenLocals.{set_swap}
 use Rattle.life_elab_laws.proofs.UnseenWays.{falls_there}
@@ -33,7 +34,7 @@ one_swap k x y a = elim (cases_eq x y) [
   | inr ne ↦ set_swap k x y a a ne
 ]
 
-set_both : (a : Known) (xs ys : List ℕ) (k : List Known) → set_known a xs (set_known a ys k) ≡ set_known a (xs ++ ys) k
+pub set_both : (a : Known) (xs ys : List ℕ) (k : List Known) → set_known a xs (set_known a ys k) ≡ set_known a (xs ++ ys) k
 set_both a xs [] k = ap (λ (zs : List ℕ). set_known a zs k) (sym (append-nil xs))
 set_both a xs (y ∷ ys) k =
     set_both a xs ys (slice_set k y a) ∙ moved xs ys k y

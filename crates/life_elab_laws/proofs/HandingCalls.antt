@@ -33,7 +33,8 @@ use Rattle.life_elab_laws.proofs.Calls.{IsCallee, one_local}
 use Rattle.life_elab_laws.proofs.Emitting.{Targets, keeps_set, nameless_no_object, targeted}
 use Rattle.life_elab_laws.proofs.Falling.{Falls, falls_acts, falls_append}
 use Rattle.life_elab_laws.proofs.Gifts.{AreFit, AreHandedFor, Gift, a_number, all_handed, nothing as no_gift}
-use Rattle.life_elab_laws.proofs.GivenApart.{AreApart, Open, given_of, looked_argument, looked_of, looked_spot, nil_right, parts_of, then_opens}
+use Rattle.life_elab_laws.proofs.GivenApart.{AreApart, Open, given_of, nil_right, parts_of, then_opens}
+use Rattle.life_elab_laws.proofs.LookedLocals.{looked_argument, looked_of, looked_spot}
 use Rattle.life_elab_laws.proofs.Growing.{Begins, Grows, begins_before, grows_then}
 use Rattle.life_elab_laws.proofs.HandedArguments.{Hands}
 use Rattle.life_elab_laws.proofs.Handing.{GoesHanding, RunsHanding}

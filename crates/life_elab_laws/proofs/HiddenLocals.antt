@@ -32,7 +32,8 @@ use Rattle.life_elab_laws.proofs.Filling.{all_there}
 use Rattle.life_elab_laws.proofs.FormedVariables.{reference_there}
 use Rattle.life_elab_laws.proofs.Fronts.{front_append, front_itself, last_there}
 use Rattle.life_elab_laws.proofs.Gifts.{Gift, held_stays}
-use Rattle.life_elab_laws.proofs.GivenApart.{given_of, looked_of, step_apart, then_opens}
+use Rattle.life_elab_laws.proofs.GivenApart.{given_of, step_apart, then_opens}
+use Rattle.life_elab_laws.proofs.LookedLocals.{looked_of}
 use Rattle.life_elab_laws.proofs.Growing.{Begins, Grows}
 use Rattle.life_elab_laws.proofs.HiddenStay.{IsHidden, hidden_passes}
 use Rattle.life_elab_laws.proofs.Knowledge.{at_set}

@@ -44,7 +44,8 @@ use Rattle.life_elab_laws.proofs.Filling.{filling_fills}
 use Rattle.life_elab_laws.proofs.FormedVariables.{location_no_reference}
 use Rattle.life_elab_laws.proofs.Gifts.{Gift, IsAt, IsGivenAs, IsTakenBy, a_number, a_place, a_pointer, a_pointing, both, nothing}
 use Rattle.life_elab_laws.proofs.Among.{Among}
-use Rattle.life_elab_laws.proofs.GivenApart.{given_of, looked_of, step_apart, then_opens}
+use Rattle.life_elab_laws.proofs.GivenApart.{given_of, step_apart, then_opens}
+use Rattle.life_elab_laws.proofs.LookedLocals.{looked_of}
 use Rattle.life_elab_laws.proofs.Growing.{Begins, Grows, added, grows_none}
 use Rattle.life_elab_laws.proofs.Held.{one_there, place_there, two_there}
 use Rattle.life_elab_laws.proofs.Knowledge.{at_set}

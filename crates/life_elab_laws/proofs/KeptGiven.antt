@@ -12,7 +12,8 @@ use Rattle.life_core.specs.Step.{Step, Move, Aim, Element, Cursor, Changes, Call
 use Rattle.life_core.specs.Tree.{Node, Action, Spot, spots}
 use Rattle.life_proper.specs.GivenOver.{all_keep_given, given_in, is_kept, is_kept_argument, is_kept_base, is_kept_change, is_kept_place, is_kept_source, keeps_given, keeps_target, node_keeps_given, spot_keeps_given}
 use Rattle.life_elab_laws.proofs.Among.{Among, among_left, among_right}
-use Rattle.life_elab_laws.proofs.GivenApart.{given_of, looked_argument, looked_base, looked_change, looked_node, looked_of, looked_place, looked_source, looked_spot, looked_step}
+use Rattle.life_elab_laws.proofs.GivenApart.{given_of}
+use Rattle.life_elab_laws.proofs.LookedLocals.{looked_argument, looked_base, looked_change, looked_node, looked_of, looked_place, looked_source, looked_spot, looked_step}
 use Rattle.life_elab_laws.proofs.Shaping.{ends_lasting, keeps_its_target, node_keeps, spot_keeps, tree_keeps}
 
 pub any_among : (x : ℕ) (xs : List ℕ) → list_any (nat_eq x) xs ≡ true → Among x xs

@@ -1,6 +1,6 @@
 -- A reference that is declared with what isn't a place of its type: what is computed is saved in a temporary that lives as long as it, or a call gives its result there.
 use Rattle.std.proofs.Common.{◌≡◌, ℕ, Bool, true, false, ◌&&◌, cond, not, List, [], ◌∷◌, ◌++◌, length, slice_get, Option, Some, None, refl, sym, ap, ◌∙◌, subst, arith, append_assoc, inl, flat_map}
-use Rattle.life_served.specs.Served.{is_served_variable}
+use Rattle.life_elab_laws.proofs.FormKinds.{is_admitted_variable}
 use Rattle.life_types.specs.TypeTests.{is_value}
 use Rattle.life_types.specs.Types.{Types}
 use Rattle.life_types.specs.contracts.ty.TyPartialEq.TheImpl.{ghosts as compared}
@@ -55,7 +55,7 @@ use Rattle.life_elab_laws.proofs.Handing.{handing_none}
 use Rattle.life_types.specs.Pointees.{ty_of}
 
 module _ (a : Around) (types : Types) (texts : ℕ) (fs : List Function) (f : Function) (setting : Setting a types fs f) (v : Visible) (in_loop : Bool) (last : Place)
-    (u : TypedLocal) (s : State) (h : Follows types f a v s) (at : slice_get a.function.locals v.declared ≡ Some u) (built : is_served_variable a.program.types u.ty ≡ true)
+    (u : TypedLocal) (s : State) (h : Follows types f a v s) (at : slice_get a.function.locals v.declared ≡ Some u) (built : is_admitted_variable a.program.types u.ty ≡ true)
     (target : TyId) (constant : Bool) (is : slice_get a.program.types.types u.ty.0 ≡ Some (ty.Reference target constant)) (worth : is_value (type_at a.program.types target) ≡ true)
     (e : Typed) (whole_is : IsWhole a v.visible types texts fs f setting (whole_form e)) (n : is_number e.ty ≡ true) (behind : Place) where
   abbrev Born : State → Type 0

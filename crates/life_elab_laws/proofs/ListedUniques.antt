@@ -1,8 +1,7 @@
 -- What a unique_ptr that is a member is given by what is listed for it: nothing, what is made, what is moved out of a variable, or what a call gives.
-use Rattle.std.proofs.Common.{◌≡◌, inl, inr, ℕ, Bool, true, false, List, [], ◌∷◌, Option, None, Some, slice_get, refl, sym, ap, ◌∙◌, subst, length, ◌<◌}
-use Rattle.life_served.specs.Served.{is_element, is_plain_struct}
+use Rattle.std.proofs.Common.{◌≡◌, inl, inr, ℕ, true, false, List, [], ◌∷◌, Option, None, Some, slice_get, refl, sym, ap, ◌∙◌, subst, length, ◌<◌}
+use Rattle.life_elab_laws.proofs.FormKinds.{is_element}
 use Rattle.life_types.specs.Trees.{members_at}
-use Rattle.life_types.specs.TypeTests.{is_unique}
 use Rattle.life_types.specs.Types.{Types}
 use Rattle.life_types.specs.declared.place.Place.{Place}
 use Rattle.life_types.specs.declared.ty.Ty.{Ty}
@@ -33,13 +32,11 @@ use Rattle.life_writer.specs.Variables.{variable}
 use Rattle.life_writer.specs.Writing.{Gives, State, emit, gives, mapped}
 use Rattle.life_elab_laws.proofs.ExpressionForms.{IsWhole, Standing}
 use Rattle.life_elab_laws.proofs.FreshUniques.{IsFresh, given_null}
-use Rattle.life_elab_laws.proofs.Gifts.{Gift, IsPlaceOf, a_place, nothing as no_gift}
+use Rattle.life_elab_laws.proofs.Gifts.{IsPlaceOf}
 use Rattle.life_elab_laws.proofs.MadeForms.{temporary_source}
 use Rattle.life_elab_laws.proofs.Making.{IsPlace}
 use Rattle.life_elab_laws.proofs.MovedOwners.{given_moved}
 use Rattle.life_elab_laws.proofs.OwnedContents.{IsContentOf}
-use Rattle.life_elab_laws.proofs.Parts.{Part}
-use Rattle.life_elab_laws.proofs.PlainStructs.{no_unique_in}
 use Rattle.life_elab_laws.proofs.ReplacedOwners.{IsMovingAt}
 use Rattle.life_elab_laws.proofs.Setting.{Setting}
 use Rattle.life_elab_laws.proofs.StructSteps.{member_placed, member_there}
@@ -72,34 +69,22 @@ module _ (a : Around) (visible : List ℕ) (types : Types) (texts : ℕ) (fs : L
 -- ---- a member is given it, however the members are written
 
 module _ (a : Around) (visible : List ℕ) (types : Types) (texts : ℕ) (fs : List Function) (f : Function) (setting : Setting a types fs f) (number : ℕ) (to : Operand) {Writes : State → State → Type 0}
-    (ways : IsWriting types texts fs f (ty.Struct number) (is_plain_struct a.program.types (ty.Struct number)) to Writes) (m : ℕ) (id : TyId) (there : slice_get (members_at a.program.types number) m ≡ Some id)
+    (ways : IsWriting types texts fs f (ty.Struct number) to Writes) (m : ℕ) (id : TyId) (there : slice_get (members_at a.program.types number) m ≡ Some id)
     (target : TyId) (same : type_at a.program.types id ≡ ty.Unique target) (worth : is_element a.program.types (type_at a.program.types target) ≡ true)
     (e : Form) (at : Place) (s : State) (given : is_given a.program.types (ty.Unique target) (typed_in e) ≡ true) (stands : Standing a visible types texts fs f setting s)
-    (lies : is_plain_struct a.program.types (ty.Struct number) ≡ false → (n : ℕ) × ((to ≡ Name (whole n)) × (n < length s.locals))) where
+    (lies : (n : ℕ) × ((to ≡ Name (whole n)) × (n < length s.locals))) where
   abbrev t : Ty
   t = ty.Unique target
 
   abbrev u : Uses
   u = uses a e
 
-  -- the struct that it is of
-  abbrev P : Gift types texts fs f Operand
-  P = a_place types texts fs f (ty.Struct number) false
-
-  -- it holds one
-  holds : is_plain_struct a.program.types (ty.Struct number) ≡ false
-  holds = go (is_plain_struct a.program.types (ty.Struct number)) refl
-    where
-      go : (b : Bool) → is_plain_struct a.program.types (ty.Struct number) ≡ b → b ≡ false
-      go false plain = refl
-      go true plain = absurd (no_unique_in a.program.types setting.values.ordered number m id there plain (ap is_unique same))
-
-  -- .. and is a local
+  -- the struct is a local
   abbrev l : Location
-  l = record { local = (lies holds).0; members = m ∷ [] }
+  l = record { local = lies.0; members = m ∷ [] }
 
   here_is : with_member m to ≡ Name l
-  here_is = ap (with_member m) (lies holds).1.0
+  here_is = ap (with_member m) lies.1.0
 
   typed : IsPlaceOf types texts fs f (ty.Struct number) false to → IsPlaceOf types texts fs f t false (Name l)
   typed h =
@@ -111,11 +96,8 @@ module _ (a : Around) (visible : List ℕ) (types : Types) (texts : ℕ) (fs : L
   ready n k h = subst (λ (o : Operand). IsPlace o n k) here_is (member_there m to n k h)
 
   -- what is done to it where it lies
-  abbrev Does : State → Type 0
-  Does r = Part types texts fs f P to None s (gives tt r) (no_gift types texts fs f)
-
-  done : (act : Operand → State) → Does (act (Name l)) → Writes s (act (with_member m to))
-  done act part = ways.points holds s (act (with_member m to)) (subst (λ (o : Operand). Does (act o)) (sym here_is) part)
+  done : (act : Operand → State) → Writes s (act (Name l)) → Writes s (act (with_member m to))
+  done act writes = subst (λ (o : Operand). Writes s (act o)) (sym here_is) writes
 
   abbrev Given : Type 0
   Given = Writes s (acted (replaced_by u.replacing (temporary_of u t) s) (member_target m to) at)
@@ -127,20 +109,20 @@ module _ (a : Around) (visible : List ℕ) (types : Types) (texts : ℕ) (fs : L
   pub null_given : IsWhole a visible types texts fs f setting e → Given
   null_given is =
       by (Some (λ s. gives made_null s)) (is.as_null (given_null a visible types texts fs f setting (typed_in e) is.kind.kind target given).0).1.0
-      (done (λ o. emit at (Make (location_in o) made.Null) s) (nulled_there a visible types texts fs f setting P to target l typed ready at s))
+      (done (λ o. emit at (Make (location_in o) made.Null) s) (nulled_there a visible types texts fs f setting (ty.Struct number) to ways target l typed ready at s stands.opened))
 
   -- something
   pub fresh_given : IsFresh a visible types texts fs f setting e → IsRenewing a visible types texts fs f setting e → Given
   fresh_given from (by_temporary none) =
       let w = temporary_of u t s in
       let first = temporary_source a visible types texts fs f setting t u.place s (u.object s) (inr (inl worth)) (from.builds target worth given s stands) stands in
-      by None none (done (λ o. emit at (Move o w.given) w.state) (source_there a visible types texts fs f setting P to target l typed ready w at s stands.opened first refl))
+      by None none (done (λ o. emit at (Move o w.given) w.state) (source_there a visible types texts fs f setting (ty.Struct number) to ways target l typed ready w at s stands.opened first refl))
   fresh_given from (by_moving moves) =
       by (Some (moved_from moves.place moves.number)) moves.replaces
       (done (λ o. emit moves.place (Move o (variable s moves.number)) s)
-      (moved_there a visible types texts fs f setting P to target l typed ready moves.number moves.moved moves.from
+      (moved_there a visible types texts fs f setting (ty.Struct number) to ways target l typed ready moves.number moves.moved moves.from
       (given_moved a visible types texts fs f setting t moves.from.ty (typed_in e) refl moves.from.owner moves.typed given) moves.seen moves.place s stands refl))
   fresh_given from (by_making place made_id argument closing replaces content) =
       let w = owned_operand (type_of a made_id) (uses_if a argument) closing s in
       by (Some (λ s. mapped (made_at place) (owned_operand (type_of a made_id) (uses_if a argument) closing s))) replaces
-      (done (λ o. emit place (Make (location_in o) w.given) w.state) (content_there a visible types texts fs f setting P to target l typed ready made_id argument closing (content target worth given) place s stands))
+      (done (λ o. emit place (Make (location_in o) w.given) w.state) (content_there a visible types texts fs f setting (ty.Struct number) to ways target l typed ready made_id argument closing (content target worth given) place s stands))

@@ -1,7 +1,7 @@
 -- Owners that are made: what is found first, and the act that makes one of it, where a variable or a temporary has come to life.
 use Rattle.std.proofs.Common.{◌≡◌, ◌<◌, ◌≤◌, inr, ℕ, Bool, true, false, List, [], ◌∷◌, ◌++◌, Contains, length, length-append, slice_get, None, refl, sym, ap, ◌∙◌, subst, arith, unwrap_or, not, inl, flat_map, slice_set}
 use Rattle.std.proofs.lemmas.Bool.{false≢true}
-use Rattle.life_served.specs.Served.{is_owner_of_values}
+use Rattle.life_elab_laws.proofs.FormKinds.{is_owner_of_values}
 use Rattle.life_types.specs.Types.{Types}
 use Rattle.life_types.specs.declared.place.Place.{Place}
 use Rattle.life_types.specs.declared.ty.Ty.{Ty}
@@ -30,7 +30,7 @@ use Rattle.life_writer.specs.Using.{operand, operand_by, temporary_of}
 use Rattle.life_writer.specs.Writing.{Gives, State, ◌>>◌, gives, mapped, with_code}
 use Rattle.life_core.specs.declared.instr.Made.{Made}
 use Rattle.life_elab_laws.proofs.UniqueSteps.{a_made, made_uses_of}
-use Rattle.life_elab_laws.proofs.ServedTypes.{IsBuilt}
+use Rattle.life_elab_laws.proofs.AdmittedTypes.{IsBuilt}
 use Rattle.life_elab_laws.proofs.AppendForms.{a_found, IsFoundAt}
 use Rattle.life_elab_laws.proofs.Coming.{Comes, came, came_part, lived_comes}
 use Rattle.life_elab_laws.proofs.ExpressionForms.{Placed, Standing}
@@ -133,14 +133,14 @@ module _ (a : Around) (visible : List ℕ) (types : Types) (texts : ℕ) (fs : L
   pub held_stays : (x r n : ℕ) (k : List Known) → known_at k x ≡ known.Blank → IsHeld r n k → IsHeld r n (slice_set k x known.Ready)
   held_stays x r n k blank h = (h.0, ready_stays x r k blank h.1)
 
-  all_held_stay : (x : ℕ) (rs : List ℕ) (n : ℕ) (k : List Known) → known_at k x ≡ known.Blank → AreHeld rs n k → AreHeld rs n (slice_set k x known.Ready)
+  pub all_held_stay : (x : ℕ) (rs : List ℕ) (n : ℕ) (k : List Known) → known_at k x ≡ known.Blank → AreHeld rs n k → AreHeld rs n (slice_set k x known.Ready)
   all_held_stay x [] n k blank h = tt
   all_held_stay x (r ∷ rs) n k blank h = (held_stays x r n k blank h.0, all_held_stay x rs n k blank h.1)
 
   pub place_ready : (x : ℕ) (o : Operand) (n : ℕ) (k : List Known) → known_at k x ≡ known.Blank → IsPlace o n k → IsPlace o n (slice_set k x known.Ready)
   place_ready x o n k blank h = record { local = h.local; uses = h.uses; below = h.below; held = ready_stays x h.local k blank h.held }
 
-  pointer_ready : (x : ℕ) (l : Location) (n : ℕ) (k : List Known) → known_at k x ≡ known.Blank → IsPointer l n k → IsPointer l n (slice_set k x known.Ready)
+  pub pointer_ready : (x : ℕ) (l : Location) (n : ℕ) (k : List Known) → known_at k x ≡ known.Blank → IsPointer l n k → IsPointer l n (slice_set k x known.Ready)
   pointer_ready x l n k blank h = record { local = h.local; is = h.is; below = h.below; held = ready_stays x h.local k blank h.held }
 
   seen_ready : (x : ℕ) (y : Seen) (n : ℕ) (k : List Known) → known_at k x ≡ known.Blank → IsFoundAt types texts fs f y n k → IsFoundAt types texts fs f y n (slice_set k x known.Ready)

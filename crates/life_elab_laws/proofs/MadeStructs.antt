@@ -1,5 +1,5 @@
 -- Structs that are made, and structs of either kind: what each builds where one has come to life, and where each is found, which is its place or a temporary.
-use Rattle.std.proofs.Common.{◌≡◌, inr, ℕ, true, false, Bool, List, refl, sym, ◌∙◌, subst, [], ◌∷◌, length}
+use Rattle.std.proofs.Common.{◌≡◌, ◌<◌, inr, ℕ, true, false, Bool, List, refl, sym, ◌∙◌, subst, [], ◌∷◌, length}
 use Rattle.life_types.specs.Types.{Types}
 use Rattle.life_types.specs.declared.place.Place.{Place}
 use Rattle.life_types.specs.declared.ty.Ty.{Ty}
@@ -30,7 +30,7 @@ use Rattle.life_elab_laws.proofs.Gifts.{a_place, both, a_given}
 use Rattle.life_elab_laws.proofs.MadeForms.{BuildsIn, less_plain, lived_builds, of_copy, temporary_made}
 use Rattle.life_elab_laws.proofs.PlainActs.{copied_plain}
 use Rattle.life_elab_laws.proofs.PointerForms.{held_typed}
-use Rattle.life_elab_laws.proofs.ServedTypes.{IsTabled}
+use Rattle.life_elab_laws.proofs.AdmittedTypes.{IsTabled}
 use Rattle.life_elab_laws.proofs.Setting.{Setting}
 use Rattle.life_elab_laws.proofs.StructForms.{IsStruct, IsStructAt, struct_same}
 use Rattle.life_elab_laws.proofs.StructSteps.{struct_copies_part}
@@ -41,8 +41,7 @@ use Rattle.life_elab_laws.proofs.TypedKinds.{value_place}
 use Rattle.life_elab_laws.proofs.GivenOwners.{given_handing}
 use Rattle.life_elab_laws.proofs.Handing.{HandingAlone}
 use Rattle.life_writer.specs.Temporaries.{consumed}
-use Rattle.life_served.specs.Served.{is_plain_struct}
-use Rattle.life_elab_laws.proofs.ConsumedObjects.{begun, begun_grows, consumed_over}
+use Rattle.life_elab_laws.proofs.ConsumedObjects.{begun, begun_grows, consumed_over, one_more}
 use Rattle.life_elab_laws.proofs.CopiedStructs.{given_copied, is_copied_struct}
 use Rattle.life_elab_laws.proofs.FilledObjects.{FillsObject}
 use Rattle.life_elab_laws.proofs.VariablePlaces.{stands_later}
@@ -78,19 +77,20 @@ module _ (a : Around) (visible : List ℕ) (types : Types) (texts : ℕ) (fs : L
   -- member by member, or at once, by what makes no temporaries
   pub data IsBuiltUnseen (number : ℕ) (object : State → Gives Remaining) : Type 0 where
     by_members : (form : LiveForm) (act : Act) → ((s : State) → object s ≡ gives (lived form act) s)
-        → (is_plain_struct a.program.types (ty.Struct number) ≡ true → (place : Place) (x : ℕ) (s : State) → Stood s → FillsObject types texts fs f x (ty.Struct number) s (act place (object_named x) s)) → IsBuiltUnseen number object
+        → ((place : Place) (x : ℕ) (s : State) → Stood s → x < length s.locals → FillsObject types texts fs f x (ty.Struct number) s (act place (object_named x) s)) → IsBuiltUnseen number object
     at_once : ((s : State) → Stood s → BuildsIn a visible types texts fs f setting true (ty.Struct number) s (object s)) → IsBuiltUnseen number object
 
   -- so it may be given over
-  pub unseen_over : (number : ℕ) (object : State → Gives Remaining) → IsBuiltUnseen number object → IsTabled a.program.types (ty.Struct number) → is_plain_struct a.program.types (ty.Struct number) ≡ true → (place : Place) (s : State) → Stood s
+  pub unseen_over : (number : ℕ) (object : State → Gives Remaining) → IsBuiltUnseen number object → IsTabled a.program.types (ty.Struct number) → (place : Place) (s : State) → Stood s
       → IsOver (ty.Struct number) s ((object s).given (consumed place (ty.Struct number)) (object s).state)
-  unseen_over number object (at_once builds) tabled pointless place s stands = given_handing a visible types texts fs f setting (ty.Struct number) place s (object s) (inr (inr tabled)) (builds s stands) stands
-  unseen_over number object (by_members form act same fills) tabled pointless place s stands =
+  unseen_over number object (at_once builds) tabled place s stands = given_handing a visible types texts fs f setting (ty.Struct number) place s (object s) (inr (inr tabled)) (builds s stands) stands
+  unseen_over number object (by_members form act same fills) tabled place s stands =
       let t = ty.Struct number in
       subst (λ (w : Gives Remaining). IsOver t s (w.given (consumed place t) w.state)) (sym (same s))
       (consumed_over a visible types texts fs f setting t (inr (inr tabled)) place s stands form act
-      (fills pointless place (length s.locals) (begun a visible types texts fs f setting t (inr (inr tabled)) place s stands form act)
-      (stands_later a visible s (begun a visible types texts fs f setting t (inr (inr tabled)) place s stands form act) (begun_grows a visible types texts fs f setting t (inr (inr tabled)) place s stands form act) stands)))
+      (fills place (length s.locals) (begun a visible types texts fs f setting t (inr (inr tabled)) place s stands form act)
+      (stands_later a visible s (begun a visible types texts fs f setting t (inr (inr tabled)) place s stands form act) (begun_grows a visible types texts fs f setting t (inr (inr tabled)) place s stands form act) stands)
+      (one_more a visible types texts fs f setting t (inr (inr tabled)) place s stands form act)))
 
   -- ---- one that is made
 
@@ -98,6 +98,8 @@ module _ (a : Around) (visible : List ℕ) (types : Types) (texts : ℕ) (fs : L
     pub number : ℕ
     pub is : e.ty ≡ Of (ty.Struct number)
     pub value : e.category ≡ category.Value
+    -- the table has its type
+    pub tabled : IsTabled a.program.types (ty.Struct number)
     pub builds : (s : State) → Stood s → BuildsAs (ty.Struct number) s (object s)
     pub unseen : IsBuiltUnseen number object
 
@@ -113,7 +115,7 @@ module _ (a : Around) (visible : List ℕ) (types : Types) (texts : ℕ) (fs : L
   -- the same with another type and category that are equal
   pub any_same : (e e' : Typed) (at : State → Gives Operand) (object : State → Gives Remaining) → e.ty ≡ e'.ty → e.category ≡ e'.category → IsAnyStructAt e at object → IsAnyStructAt e' at object
   any_same e e' at object t c (struct_there is) = struct_there (struct_same a visible types texts fs f setting e e' at t c is)
-  any_same e e' at object t c (struct_made is) = struct_made (record { number = is.number; is = sym t ∙ is.is; value = sym c ∙ is.value; builds = is.builds; unseen = is.unseen })
+  any_same e e' at object t c (struct_made is) = struct_made (record { number = is.number; is = sym t ∙ is.is; value = sym c ∙ is.value; tabled = is.tabled; builds = is.builds; unseen = is.unseen })
 
   pub struct_typed : (form : Form) → IsAnyStruct form → (number : ℕ) × ((typed_in form).ty ≡ Of (ty.Struct number))
   struct_typed form (struct_there is) = (is.number, is.is)

@@ -13,6 +13,7 @@ use Rattle.life_writer.specs.Pointers.{Pointing, By, As}
 use Rattle.life_writer.specs.Writing.{State}
 use Rattle.life_elab_laws.proofs.Among.{Among}
 use Rattle.life_elab_laws.proofs.Growing.{Grows, bare}
+use Rattle.life_elab_laws.proofs.LookedLocals.{looked_step}
 use Rattle.life_elab_laws.proofs.Shaped.{is_passing}
 
 -- ---- what a part gives
@@ -69,6 +70,8 @@ pub record IsFilling (f : Function) (step : Location → Step) (n : ℕ) (k : Li
   pub held : AreHeld uses n k
   pub touches : (x : ℕ) → is_register_at f x ≡ true → touched_by f (step (whole x)) ≡ record nothing { uses = uses; writes = x ∷ [] }
   pub parts : (x m : ℕ) (ms : List ℕ) → touched_by f (step (record { local = x; members = m ∷ ms })) ≡ record nothing { uses = uses ++ x ∷ [] }
+  -- it looks at nothing but these
+  pub looks : (l : Location) (x : ℕ) → Among x (looked_step (step l)) → Among x uses
 
 -- what a pointer may be given
 abbrev pub IsPointing : Function → Pointing → ℕ → List Known → Type 0

@@ -3,7 +3,7 @@ use Rattle.std.specs.Prelude.{◌==◌}
 use Rattle.std.proofs.Common.{◌≡◌, ℕ, Bool, true, false, if◌then◌else◌, arith, List, Contains, length, slice_get, Option, Some, None, Ok, refl, sym, ap, ◌∙◌, subst, unwrap_or, Err}
 use Rattle.std.proofs.lemmas.Bool.{false≢true}
 use Rattle.std.proofs.lemmas.Bool.Decides.{nat_tests}
-use Rattle.life_served.specs.Served.{is_owner_of_values, is_walker_of_values, owns_elements}
+use Rattle.life_elab_laws.proofs.FormKinds.{is_owner_of_values, is_walker_of_values, owns_elements}
 use Rattle.life_types.specs.Types.{Types, class}
 use Rattle.life_types.specs.declared.place.Place.{Place}
 use Rattle.life_types.specs.declared.ty.Ty.{Ty}

@@ -2,7 +2,7 @@
 use Rattle.std.proofs.Common.{◌≡◌, ℕ, true, false, List, [], ◌∷◌, Contains, slice_get, Option, None, Some, refl, sym, ap, ◌∙◌, subst}
 use Rattle.std.proofs.lemmas.Bool.{and_parts, false≢true}
 use Rattle.std.proofs.lemmas.Option.{none-some, same_Some}
-use Rattle.life_served.specs.Served.{is_edge, is_owner_type, is_served_owner}
+use Rattle.life_elab_laws.proofs.FormKinds.{is_edge, is_owner_type, is_read_owner}
 use Rattle.life_types.specs.Types.{Types}
 use Rattle.life_types.specs.declared.place.Place.{Place}
 use Rattle.life_types.specs.declared.ty.Ty.{Ty}
@@ -92,11 +92,11 @@ module _ (a : Around) (visible : List ℕ) (types : Types) (texts : ℕ) (fs : L
       go (Some l) at h = (l, at)
 
   mutual
-    pub named_owner : (form : Form) → is_served_owner texts a.program.types form ≡ true → is_owner_type (typed_in form).ty ≡ true → IsExpression a.program a.function.locals visible form → (x : ℕ) → (uses a form).named ≡ Some x → IsNamedAs x (typed_in form) ((uses a form).at)
+    pub named_owner : (form : Form) → is_read_owner texts a.program form ≡ true → is_owner_type (typed_in form).ty ≡ true → IsExpression a.program a.function.locals visible form → (x : ℕ) → (uses a form).named ≡ Some x → IsNamedAs x (typed_in form) ((uses a form).at)
     named_owner (typed place t c form) b n h x at = named_made form (record { place = place; ty = t; category = c; form = form }) b n h place x at
     named_owner _ b n h x at = absurd h
 
-    named_made : (form : Form) (e : Typed) → is_served_owner texts a.program.types form ≡ true → is_owner_type e.ty ≡ true → IsMadeOf a.program a.function.locals visible e form → (place : Place) (x : ℕ) → (form_uses a form place e.ty e.category).named ≡ Some x
+    named_made : (form : Form) (e : Typed) → is_read_owner texts a.program form ≡ true → is_owner_type e.ty ≡ true → IsMadeOf a.program a.function.locals visible e form → (place : Place) (x : ℕ) → (form_uses a form place e.ty e.category).named ≡ Some x
         → IsNamedAs x e ((form_uses a form place e.ty e.category).at)
     named_made (local y) e b n h place x at =
         let l = variable_found y e h.1 in

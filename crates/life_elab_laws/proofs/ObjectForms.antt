@@ -2,7 +2,7 @@
 use Rattle.std.proofs.Common.{◌≡◌, ℕ, Bool, true, false, nat_eq, arith, List, Contains, slice_get, Option, Some, None, refl, sym, ap, ◌∙◌, subst, unwrap_or, [], ◌∷◌}
 use Rattle.std.proofs.lemmas.Bool.{false≢true}
 use Rattle.std.proofs.lemmas.Bool.Decides.{nat_tests}
-use Rattle.life_served.specs.Served.{is_owner_of_values, is_owner_type, owns_elements, is_element, is_plain_type}
+use Rattle.life_elab_laws.proofs.FormKinds.{is_owner_of_values, is_owner_type, owns_elements, is_element, is_plain_type}
 use Rattle.life_types.specs.TypeTests.{is_value}
 use Rattle.life_types.specs.Types.{Types}
 use Rattle.life_types.specs.declared.place.Place.{Place}
@@ -36,7 +36,7 @@ use Rattle.life_writer.specs.Variables.{variable, variable_place}
 use Rattle.life_writer.specs.Writing.{Gives, State, ◌>>◌, gives, mapped}
 use Rattle.life_writer.specs.declared.behind.Behind.{Behind}
 use Rattle.life_elab_laws.proofs.BaseSteps.{a_base, a_which, element_part, size_part, zero_part}
-use Rattle.life_elab_laws.proofs.ExpressionForms.{IsForm, IsWhole, Placed, Standing, Valued, place_form}
+use Rattle.life_elab_laws.proofs.ExpressionForms.{IsForm, IsWhole, Placed, Standing, Valued, place_form, placed_finds}
 use Rattle.life_elab_laws.proofs.ExpressionKinds.{variable_built}
 use Rattle.life_elab_laws.proofs.FormedVariables.{const_same, owner_formed, reference_formed}
 use Rattle.life_elab_laws.proofs.Gifts.{a_number, a_place, a_pointer, both, nothing as no_gift}
@@ -300,6 +300,9 @@ module _ (a : Around) (visible : List ℕ) (types : Types) (texts : ℕ) (fs : L
       place_form a visible types texts fs f setting form e
       (record { kind = is_number_kind t is v; place = λ other c at. is ∙ ap Of (sym here ∙ ap (type_at a.program.types) (place_same id other constant c (sym category_is ∙ at))) })
       (λ at. value_place (sym at ∙ category_is)) none plain names
+      (λ other c at place s stands.
+      placed_finds a visible types texts fs f setting (type_at a.program.types other) c s ((form_uses a form place e.ty e.category).at s)
+      (names other c at (sym (ap (λ (i : TyId). is_value (type_at a.program.types i)) (place_same id other constant c (sym category_is ∙ at))) ∙ ap is_value here ∙ v) place s stands))
       (λ p. absurd (number_no_pointer e.ty (ap is_number is ∙ v) p))
     where
       names : (other : TyId) (c : Bool) → e.category ≡ category.Place other c → is_value (type_at a.program.types other) ≡ true → (place : Place) (s : State) → Stood s

@@ -1,7 +1,7 @@
 -- Output: a number, what a view sees, or the end of a line, which is the last text.
 use Rattle.std.proofs.Common.{◌≡◌, inl, inr, ℕ, Bool, true, false, cond, List, [], ◌∷◌, length, nat_lt, None, refl, sym, ap, ◌∙◌, subst}
 use Rattle.std.proofs.lemmas.Bool.{and_from, false≢true}
-use Rattle.life_served.specs.Served.{is_owner_of_values, is_served_expression, is_served_item, is_served_owner}
+use Rattle.life_elab_laws.proofs.FormKinds.{is_owner_of_values, is_read_expression, is_read_item, is_read_owner}
 use Rattle.life_types.specs.TypeTests.{is_value, is_view}
 use Rattle.life_types.specs.Types.{Types}
 use Rattle.life_types.specs.declared.place.Place.{Place}
@@ -20,14 +20,13 @@ use Rattle.life_proper.specs.WellFormed.{is_source_of}
 use Rattle.life_well_typed.specs.Given.{is_number}
 use Rattle.life_well_typed.specs.Statements.{IsItem}
 use Rattle.life_proper.proofs.ReadyTests.{uses_ready}
-use Rattle.life_writer.specs.Around.{Around, own_type}
+use Rattle.life_writer.specs.Around.{Around, end_line, own_type}
 use Rattle.life_writer.specs.Characters.{seen, viewed}
 use Rattle.life_writer.specs.ExpressionForms.{uses}
 use Rattle.life_writer.specs.Registers.{new_register}
 use Rattle.life_writer.specs.Using.{value}
 use Rattle.life_writer.specs.Writing.{State, ◌>>◌, emit, gives}
 use Rattle.life_elab.specs.StatementForms.{item}
-use Rattle.life_elab.specs.Statements.{end_line}
 use Rattle.life_elab_laws.proofs.Emitting.{new_targeted}
 use Rattle.life_elab_laws.proofs.ExpressionTypes.{own_value}
 use Rattle.life_elab_laws.proofs.ExpressionForms.{IsWhole}
@@ -48,7 +47,7 @@ use Rattle.life_elab_laws.proofs.Types.{type_added}
 use Rattle.life_elab_laws.proofs.VariablePlaces.{Stands}
 use Rattle.life_elab_laws.proofs.SeenForms.{Shows, a_shown, string_shows, viewed_part, whole_shows}
 use Rattle.life_elab_laws.proofs.ObjectForms.{IsOwner}
-use Rattle.life_elab_laws.proofs.ElementForms.{either_served}
+use Rattle.life_elab_laws.proofs.ElementForms.{either_read}
 use Rattle.life_typed.specs.Statements.{is_printed}
 
 module _ (a : Around) (visible : List ℕ) (types : Types) (texts : ℕ) (fs : List Function) (f : Function) (setting : Setting a types fs f) where
@@ -129,9 +128,9 @@ module _ (a : Around) (visible : List ℕ) (types : Types) (texts : ℕ) (fs : L
       go (ty.Vector element) o p = absurd (false≢true p)
       go _ o p = absurd (false≢true o)
 
-  pub item_part : nat_lt (end_line a) texts ≡ true → (i : ItemForm) (behind : Place) (s : State) → is_served_item texts a.program.types i ≡ true → IsItem a.program a.function.locals a.function.result visible i → Stands a visible s → Acts a visible types texts fs f setting s (item a i behind s)
+  pub item_part : nat_lt (end_line a) texts ≡ true → (i : ItemForm) (behind : Place) (s : State) → is_read_item texts a.program i ≡ true → IsItem a.program a.function.locals a.function.result visible i → Stands a visible s → Acts a visible types texts fs f setting s (item a i behind s)
   item_part lines (printed e) behind s b h stands =
-      elim (either_served (whole_form e) (is_served_owner texts a.program.types (whole_form e)) (is_served_expression texts a.program.types e) b) [
+      elim (either_read (whole_form e) (is_read_owner texts a.program (whole_form e)) (is_read_expression texts a.program e) b) [
         | inl value ↦
             let is = whole_expression a visible types texts fs f setting (whole_form e) value h.2 in
             elim (printed_type a.program.types e is.kind.kind h.0) [

@@ -1,6 +1,6 @@
 -- What `std::make_unique` makes a unique_ptr own, whatever that is: what stands there at first or a number, which a part finds, or an owner or a struct, which is given over.
 use Rattle.std.proofs.Common.{◌≡◌, ℕ, true, false, List, [], ◌∷◌, refl, sym, ap, ◌∙◌, subst}
-use Rattle.life_served.specs.Served.{is_element, is_plain_struct}
+use Rattle.life_elab_laws.proofs.FormKinds.{is_element}
 use Rattle.life_types.specs.Pointees.{ty_of}
 use Rattle.life_types.specs.TypeTests.{is_value}
 use Rattle.life_types.specs.Types.{Types}
@@ -29,7 +29,7 @@ use Rattle.life_elab_laws.proofs.GivenKinds.{taken_number}
 use Rattle.life_elab_laws.proofs.Handing.{HandingAlone}
 use Rattle.life_elab_laws.proofs.MovedOwners.{given_moved}
 use Rattle.life_elab_laws.proofs.PushedElements.{IsPushing, owner_over, pushing_number, pushing_owner, struct_over}
-use Rattle.life_elab_laws.proofs.ServedTypes.{struct_tabled}
+use Rattle.life_elab_laws.proofs.AdmittedTypes.{struct_tabled}
 use Rattle.life_elab_laws.proofs.TakenOwners.{owner_plain}
 use Rattle.life_elab_laws.proofs.Setting.{Setting}
 use Rattle.life_elab_laws.proofs.UniqueMaking.{IsOwnedBy, number_owned, zero_owned}
@@ -79,7 +79,7 @@ module _ (a : Around) (visible : List ℕ) (types : Types) (texts : ℕ) (fs : L
             is = refl;
             over =
                 subst (λ (u : Ty). (let v = given_over (uses a argument) u closing s in HandingAlone types texts fs f (v.given ∷ []) s v (a_given types texts fs f u))) (sym structure)
-                (struct_over a visible types texts fs f setting argument giving number (struct_tabled a.program.types id number structure) (ap (is_plain_struct a.program.types) (sym structure) ∙ pointless) (subst (λ (u : Ty). is_given a.program.types u (typed_in argument) ≡ true) structure fits) closing s stands);
+                (struct_over a visible types texts fs f setting argument giving number (struct_tabled a.program.types id number structure) (subst (λ (u : Ty). is_given a.program.types u (typed_in argument) ≡ true) structure fits) closing s stands);
           })
       by_kind (has_owner inner) =
           let o = inner_owner a.program.types t inner in

@@ -2,7 +2,7 @@
 use Rattle.std.proofs.Common.{◌≡◌, ◌<◌, ◌++◌, ℕ, Bool, true, List, [], ◌∷◌, None, length, slice_get, slice_set, Some, refl, sym, ap, ◌∙◌, subst, arith, append_assoc}
 use Rattle.std.proofs.lemmas.Bool.{and_parts}
 use Rattle.std.specs.List.{list_all}
-use Rattle.life_served.specs.Served.{is_served_variable}
+use Rattle.life_elab_laws.proofs.FormKinds.{is_admitted_variable}
 use Rattle.life_types.specs.Types.{Types}
 use Rattle.life_types.specs.declared.place.Place.{Place}
 use Rattle.life_typed.specs.declared.typed_program.TypedLocal.{TypedLocal}
@@ -30,7 +30,8 @@ use Rattle.life_elab_laws.proofs.Following.{Follows, follows_settled, settled}
 use Rattle.life_elab_laws.proofs.Gifts.{Gift}
 use Rattle.life_elab_laws.proofs.Growing.{Begins}
 use Rattle.life_elab_laws.proofs.Held.{blank_there, one_there}
-use Rattle.life_elab_laws.proofs.GivenApart.{looked_step, one_more, quiet_apart}
+use Rattle.life_elab_laws.proofs.GivenApart.{one_more, quiet_apart}
+use Rattle.life_elab_laws.proofs.LookedLocals.{looked_step}
 use Rattle.life_elab_laws.proofs.Knowledge.{at_set, beside_set}
 use Rattle.life_elab_laws.proofs.Making.{AreHeld}
 use Rattle.life_elab_laws.proofs.Parts.{Makes}
@@ -55,7 +56,7 @@ lives_falls types f start place step used x touches k lt held blank =
     (subst (Falls types f (Acts place (step x) ∷ []) j) (ap (λ (t : Touched). known_after t j) touches) (falls_acts types f place (step x) j (ap (are_ready j) touches ∙ uses_ready j (x ∷ used) [] all)))
 
 module _ (a : Around) (types : Types) (texts : ℕ) (fs : List Function) (f : Function) (setting : Setting a types fs f) (v : Visible) (in_loop : Bool) (last : Place)
-    (u : TypedLocal) (s : State) (h : Follows types f a v s) (at : slice_get a.function.locals v.declared ≡ Some u) (built : is_served_variable a.program.types u.ty ≡ true) where
+    (u : TypedLocal) (s : State) (h : Follows types f a v s) (at : slice_get a.function.locals v.declared ≡ Some u) (built : is_admitted_variable a.program.types u.ty ≡ true) where
   module _ {A : Type 0} (place : Place) (w : Gives A) (Q : Gift types texts fs f A) (made : Makes types texts fs f None s w Q) (step : ℕ → Step) (used : List ℕ)
       (touches : (x : ℕ) → touched_by f (step x) ≡ record no_locals { uses = x ∷ used }) (ready : (n : ℕ) (k : List Known) → Q.ready w.given n k → AreHeld used n k) (quiet : (x : ℕ) → looked_step (step x) ≡ []) where
     abbrev x : ℕ

@@ -1,7 +1,7 @@
 -- Copies of owners at a place, and views of the whole of a string.
 use Rattle.std.proofs.Common.{◌≡◌, ◌++◌, ℕ, Bool, true, false, not, if◌then◌else◌, List, [], None, Some, Option, refl, sym, ap, ◌∙◌, subst, slice_get, append_assoc, ◌∷◌}
 use Rattle.std.proofs.lemmas.Bool.{and_from, false≢true}
-use Rattle.life_served.specs.Served.{is_owner_of_values}
+use Rattle.life_elab_laws.proofs.FormKinds.{is_owner_of_values}
 use Rattle.life_types.specs.Pointees.{or_void}
 use Rattle.life_types.specs.Trees.{holds_unique, tree_at, tree_of, tree_within}
 use Rattle.life_types.specs.TypeTests.{is_pointer}
@@ -24,9 +24,11 @@ use Rattle.life_proper.specs.declared.known.Known.TheVariants as known
 use Rattle.life_proper.proofs.ReadyTests.{both_known, uses_ready}
 use Rattle.life_writer.specs.Pointers.{aimed}
 use Rattle.life_writer.specs.Writing.{State, emit, gives}
+use Rattle.life_elab_laws.proofs.Among.{among_left}
 use Rattle.life_elab_laws.proofs.Gifts.{Gift, IsGivenAs, IsPlaceOf, nothing}
 use Rattle.life_elab_laws.proofs.Held.{place_there}
 use Rattle.life_elab_laws.proofs.Instructions.{acted_part}
+use Rattle.life_elab_laws.proofs.LookedLocals.{place_used}
 use Rattle.life_elab_laws.proofs.Making.{AreHeld, IsFilling, IsPlace, keeps_all}
 use Rattle.life_elab_laws.proofs.Parts.{Part}
 use Rattle.life_elab_laws.proofs.Shaping.{IsFineStep}
@@ -103,4 +105,5 @@ module _ (types : Types) (texts : ℕ) (fs : List Function) (f : Function) where
     held = subst (λ (xs : List ℕ). AreHeld (xs ++ []) n k) (sym h.uses) ((h.below, h.held), tt);
     touches = λ x e. refl;
     parts = λ x m ms. only_uses (sym (append_assoc (place_uses o) [] (x ∷ [])));
+    looks = λ l x m. among_left (place_uses o) [] x (place_used f o x m);
   }

@@ -10,7 +10,8 @@ use Rattle.life_writer.specs.OwnerForms.{copied_at, set_to, standing}
 use Rattle.life_writer.specs.Uses.{Act}
 use Rattle.life_writer.specs.Writing.{State}
 use Rattle.life_elab_laws.proofs.Among.{Among, among_either, among_left, among_right}
-use Rattle.life_elab_laws.proofs.GivenApart.{looked_change, looked_of, looked_place, looked_spot, parts_of}
+use Rattle.life_elab_laws.proofs.GivenApart.{parts_of}
+use Rattle.life_elab_laws.proofs.LookedLocals.{looked_change, looked_of, looked_place, looked_spot}
 
 -- of what may be looked at by it, where the variables are what they were
 pub record IsPlainAct (act : Act) (names : List ℕ) (steady : State → Type 0) : Type 0 where

@@ -17,7 +17,8 @@ use Rattle.life_elab_laws.proofs.ExpressionForms.{Standing}
 use Rattle.life_elab_laws.proofs.FilledObjects.{FillsBehind, shown, shown_alive, shown_goes, with_it}
 use Rattle.life_elab_laws.proofs.Fronts.{front_length}
 use Rattle.life_elab_laws.proofs.Gifts.{Gift, a_place, both, nothing as no_gift}
-use Rattle.life_elab_laws.proofs.GivenApart.{Open, looked_of}
+use Rattle.life_elab_laws.proofs.GivenApart.{Open}
+use Rattle.life_elab_laws.proofs.LookedLocals.{looked_of}
 use Rattle.life_elab_laws.proofs.GivenOwners.{found_named}
 use Rattle.life_elab_laws.proofs.Growing.{Grows}
 use Rattle.life_elab_laws.proofs.Knowledge.{at_set}

@@ -1,5 +1,5 @@
 -- What an expression gives a pointer: what stands there already, or an instruction with a hole; or a call, to which owners may be given over, so they are gone only where the hole is filled.
-use Rattle.std.proofs.Common.{◌≡◌, inl, inr, ℕ, Bool, true, false, ◌||◌, not, nat_eq, if◌then◌else◌, List, [], ◌∷◌, ◌++◌, flat_map, length, slice_get, Option, Some, is_some, None, refl, sym, ap, ◌∙◌, subst, append_assoc, append-nil, ◌<◌, arith}
+use Rattle.std.proofs.Common.{◌≡◌, inl, inr, ℕ, Bool, true, false, ◌||◌, not, nat_eq, if◌then◌else◌, List, [], ◌∷◌, ◌++◌, flat_map, length, slice_get, Option, Some, is_some, None, refl, sym, ap, ◌∙◌, subst, append_assoc, append-nil}
 use Rattle.std.proofs.lemmas.Bool.{false≢true}
 use Rattle.std.specs.List.{list_any}
 use Rattle.life_types.specs.Pointees.{ty_of}
@@ -29,14 +29,15 @@ use Rattle.life_writer.specs.Calls.{called}
 use Rattle.life_writer.specs.Pointers.{By, Pointing, located}
 use Rattle.life_writer.specs.Registers.{new_register}
 use Rattle.life_writer.specs.Writing.{Gives, State, emit, gives, mapped}
-use Rattle.life_elab_laws.proofs.Among.{Among, Apart, among_either, among_left, among_right, ascend_apart, ascend_low}
+use Rattle.life_elab_laws.proofs.Among.{Among, Apart, among_either, among_left, among_right, ascend_apart}
 use Rattle.life_elab_laws.proofs.BornLocals.{born_of, codes_bear}
 use Rattle.life_elab_laws.proofs.CallParts.{call_formed}
 use Rattle.life_elab_laws.proofs.Calls.{IsCallee, no_object as no_register_object, one_local}
 use Rattle.life_elab_laws.proofs.Emitting.{Targets, new_targeted}
 use Rattle.life_elab_laws.proofs.Falling.{Falls, falls_acts, falls_append}
-use Rattle.life_elab_laws.proofs.Gifts.{IsAt, IsTakenBy, a_pointer, a_pointing, all_handed, both, nothing as no_gift, Gift}
-use Rattle.life_elab_laws.proofs.GivenApart.{given_of, looked_argument, looked_of, looked_spot, nil_right, parts_of}
+use Rattle.life_elab_laws.proofs.Gifts.{IsAt, IsTakenBy, a_pointer, a_pointing, all_handed, both, nothing as no_gift}
+use Rattle.life_elab_laws.proofs.GivenApart.{given_of, nil_right, parts_of}
+use Rattle.life_elab_laws.proofs.LookedLocals.{looked_argument, looked_of, looked_spot}
 use Rattle.life_elab_laws.proofs.Growing.{Grows}
 use Rattle.life_elab_laws.proofs.HandedArguments.{Hands}
 use Rattle.life_elab_laws.proofs.Handing.{GoesHanding, HandingAlone, RunsHanding, fewer_apart, handing_none, handing_then}
@@ -45,7 +46,7 @@ use Rattle.life_elab_laws.proofs.Instructions.{location_at}
 use Rattle.life_elab_laws.proofs.KeptGiven.{any_among}
 use Rattle.life_elab_laws.proofs.Locations.{is_location}
 use Rattle.life_elab_laws.proofs.Making.{is_named, lies_by}
-use Rattle.life_elab_laws.proofs.Parts.{Goes, Makes, Part}
+use Rattle.life_elab_laws.proofs.Parts.{Goes, Makes}
 use Rattle.life_elab_laws.proofs.Shaping.{IsFine, fine_append, fine_gives}
 use Rattle.life_elab_laws.proofs.UnseenLocals.{set_itself}
 use Rattle.life_elab_laws.proofs.WrittenLocals.{fits_register}
@@ -203,79 +204,5 @@ module _ (types : Types) (texts : ℕ) (fs : List Function) (f : Function) where
           fine = fine_append types texts fs f hands.code calls r.fine (calls_fine r);
           typed = tt;
           goes = λ k alive q. goes_on r k (r.goes k alive tt);
-        };
-      }
-
-    -- .. or to a member of an object that stands before
-    module _ {A : Type 0} (P : Gift types texts fs f A) (y : A) (u : Ty) (base m : ℕ) (ms : List ℕ) (place : Place) (lower : base < length s.locals)
-        (typed : P.typed y → type_in types f (record { local = base; members = m ∷ ms }) ≡ u) (ready : (n : ℕ) (k : List Known) → P.ready y n k → known_at k base ≡ known.Ready) (taken : IsTakenBy types u t) where
-      abbrev member : Location
-      member = record { local = base; members = m ∷ ms }
-
-      abbrev given_ids : List TyId
-      given_ids = parameter_types (Some c.of)
-
-      abbrev gives_it : List Tree
-      gives_it = Acts place (called c.function c.given.given member) ∷ []
-
-      -- what is given over is newer
-      older : Among base over → ⊥
-      older among = let le = ascend_low (length s.locals) over base c.hands.ascend among in omega (arith, lower, le)
-
-      stays_there : not (list_any (is_handed_in c.given.given) (by_members (m ∷ ms) [] (base ∷ []))) ≡ true
-      stays_there = none_there (list_any (nat_eq base) over) refl
-        where
-          none_there : (b : Bool) → list_any (nat_eq base) over ≡ b → not (b || false) ≡ true
-          none_there true e = absurd (older (any_among base over e))
-          none_there false e = refl
-
-      module _ (r : RunsHanding types texts fs f (no_gift types texts fs f) tt over s c.given (all_handed types texts fs f given_ids) c.hands.code) (k : List Known) (known_ready : known_at k base ≡ known.Ready)
-          (q : GoesHanding types texts fs f over s c.given (all_handed types texts fs f given_ids) c.hands.code k) where
-        kept_ready : known_at q.after base ≡ known.Ready
-        kept_ready = q.keeps.below base lower tt ∙ known_ready
-
-        apart_each : Apart over
-        apart_each = ascend_apart (length s.locals) over c.hands.ascend
-
-        falls_given : Falls types f gives_it (set_known known.Ready over q.after) q.after
-        falls_given =
-            subst (Falls types f gives_it (set_known known.Ready over q.after))
-            (handed_part_after f c.function given_ids c.given.given (length v.locals) q.after q.gives r.objects apart_each q.blank base m ms)
-            (falls_acts types f place (called c.function c.given.given member) (set_known known.Ready over q.after)
-            (handed_part_ready f c.function given_ids c.given.given (length v.locals) q.after q.gives r.objects apart_each q.blank base m ms kept_ready older))
-
-        given_goes : Goes types texts fs f None s (gives tt (emit place (called c.function c.given.given member) v)) (no_gift types texts fs f) (c.hands.code ++ gives_it) k
-        given_goes = record {
-          after = q.after;
-          falls = falls_append types f c.hands.code gives_it k (set_known known.Ready over q.after) q.after q.falls falls_given;
-          keeps = q.keeps;
-          gives = tt;
-          alive = q.alive;
-          apart = λ under.
-              fewer_apart types texts fs f s v (looked_of (trees c.hands.code)) (given_of (trees c.hands.code) ++ over) (looked_of (trees (c.hands.code ++ gives_it))) (given_of (trees (c.hands.code ++ gives_it)))
-              (λ y m. elim (among_either (looked_of (trees c.hands.code)) (looked_of (trees gives_it)) y (subst (Among y) (parts_of looked_spot c.hands.code gives_it) m)) [
-                | inl seen ↦ seen
-                | inr seen ↦ absurd (subst (Among y) (append-nil (flat_map looked_argument c.given.given) ∙ handed_looks f given_ids c.given.given (length v.locals) q.after q.gives) seen)
-              ])
-              (λ y m. elim (among_either (given_of (trees c.hands.code)) (given_of (trees gives_it)) y (subst (Among y) (parts_of given_spot c.hands.code gives_it) m)) [
-                | inl gone ↦ among_left (given_of (trees c.hands.code)) over y gone
-                | inr gone ↦ among_right (given_of (trees c.hands.code)) over y (subst (Among y) (append-nil over) gone)
-              ])
-              (q.apart under);
-          bears = codes_bear f s v c.hands.code gives_it c.hands.grown q.bears (λ z object m. absurd m);
-        }
-
-      pub call_given : Part types texts fs f P y None s (gives tt (emit place (called c.function c.given.given member) v)) (no_gift types texts fs f)
-      call_given = record {
-        grown = c.hands.grown;
-        registers = c.hands.registers;
-        code = c.hands.code ++ gives_it;
-        written = ap (λ (code : List Tree). code ++ gives_it) c.hands.written ∙ append_assoc s.code c.hands.code gives_it;
-        runs = λ b p. let r = c.hands.runs b tt in record {
-          fine =
-              fine_append types texts fs f c.hands.code gives_it r.fine
-              (fine_gives types texts fs f place (called c.function c.given.given member) stays_there (call_formed types texts fs f c.function c.given.given c.of (Some member) c.callee r.typed (c.goes u member (typed p) taken)));
-          typed = tt;
-          goes = λ k alive q. given_goes r k (ready (length s.locals) k q) (r.goes k alive tt);
         };
       }

@@ -1,7 +1,7 @@
 -- Variables, calls, pointers, places behind them, literals, and what is seen: how each is written.
 use Rattle.std.proofs.Common.{◌≡◌, ◌⊎◌, inl, inr, ℕ, Bool, true, List, [], ◌∷◌, Contains, length, nat_lt, slice_get, Option, Some, None, refl, sym, ap, ◌∙◌, subst, unwrap_or}
 use Rattle.std.proofs.lemmas.Bool.{and_from, false≢true}
-use Rattle.life_served.specs.Served.{is_plain_type}
+use Rattle.life_elab_laws.proofs.FormKinds.{is_plain_type}
 use Rattle.life_types.specs.Pointees.{or_void, ty_of}
 use Rattle.life_types.specs.TypeTests.{is_raw, is_value}
 use Rattle.life_types.specs.Types.{Types}
@@ -26,7 +26,7 @@ use Rattle.life_proper.specs.Placed.{is_const_place}
 use Rattle.life_proper.specs.Placed as placed
 use Rattle.life_well_typed.specs.Expressions.{HasResult, IsVariable, parameter_types, typed_in}
 use Rattle.life_well_typed.specs.Given.{is_number}
-use Rattle.life_writer.specs.Around.{Around, own_type, parameters_of}
+use Rattle.life_writer.specs.Around.{Around, own_type, parameters_of, text_in}
 use Rattle.life_writer.specs.Around as around
 use Rattle.life_writer.specs.Bases.{reference_to}
 use Rattle.life_writer.specs.Building.{Fill, built}
@@ -45,7 +45,7 @@ use Rattle.life_elab_laws.proofs.HandedArguments.{Hands as AllHanded}
 use Rattle.life_elab_laws.proofs.HandingCalls.{call_part}
 use Rattle.life_elab_laws.proofs.PointedCalls.{GivesPointer, gives_called, gives_plainly}
 use Rattle.life_elab_laws.proofs.CalledPointers.{pointed_call, referred_call, viewed_call, walked_call}
-use Rattle.life_elab_laws.proofs.ExpressionForms.{IsCall, IsForm, IsWhole, nullable_raw, of_number, place_form, pointer_form, pointer_own, pointing_itself, no_literal, no_null}
+use Rattle.life_elab_laws.proofs.ExpressionForms.{IsCall, IsForm, IsWhole, nullable_raw, of_number, place_form, pointer_form, pointer_own, pointing_itself, no_literal, no_null, placed_finds}
 use Rattle.life_elab_laws.proofs.ExpressionKinds.{IsAddressed, IsDereferenced, kind_local, variable_built}
 use Rattle.life_elab_laws.proofs.ExpressionTypes.{IsAnswered, answered_as, answers_nothing, answers_place, answers_raw, answers_struct, answers_value, answers_view, own_value, answers_owner, answers_walker, answers_made, answers_unique, answers_whole}
 use Rattle.life_elab_laws.proofs.Filling.{aimed_filling, null_filling, text_filling}
@@ -59,7 +59,7 @@ use Rattle.life_elab_laws.proofs.Parts.{Makes, leaf_part, seen_part, then_part}
 use Rattle.life_elab_laws.proofs.ResultTypes.{result_is}
 use Rattle.life_elab_laws.proofs.RowTypes.{sees}
 use Rattle.life_elab_laws.proofs.Setting.{Setting}
-use Rattle.life_elab_laws.proofs.TypedKinds.{HasKind, IsKind, a_null, a_number as is_number_kind, a_pointer as is_pointer_kind, a_text, a_view, kind_of_place, kind_of_result, no_value, none_some, place_same, some_same, value_place}
+use Rattle.life_elab_laws.proofs.TypedKinds.{HasKind, IsKind, a_null, a_number as is_number_kind, a_pointer as is_pointer_kind, a_text, a_view, kind_of_place, kind_of_result, no_value, none_some, place_same, some_same, value_place, kind_no_owner}
 use Rattle.life_elab_laws.proofs.VariablePlaces.{Stands, named_pointer, pointer_there, stands_later, variable_there, walker_is}
 use Rattle.life_elab_laws.proofs.Targets.{value_target}
 use Rattle.life_elab_laws.proofs.FormedFits.{walker_itself}
@@ -134,7 +134,8 @@ module _ (a : Around) (visible : List ℕ) (types : Types) (texts : ℕ) (fs : L
       go (a_null at v) = v
 
   pub variable_form : (x : ℕ) (e : Typed) → is_plain_type e.ty ≡ true → Contains visible x → IsVariable a.program.types x (slice_get a.function.locals x) e → IsForm a visible types texts fs f setting (local x) e
-  variable_form x e n c h = place_form a visible types texts fs f setting (local x) e kind (variable_no_value x e h) refl (λ place b. refl) (λ id constant at v place s stands. variable_names x e s stands c h id constant at v) (λ p place s stands. go (pointed_type e.ty p) s stands)
+  variable_form x e n c h = place_form a visible types texts fs f setting (local x) e kind (variable_no_value x e h) refl (λ place b. refl) (λ id constant at v place s stands. variable_names x e s stands c h id constant at v)
+      (λ id constant at place s stands. leaf_part types texts fs f tt s (gifts.nothing types texts fs f) (λ b. tt) (λ b k alive. tt)) (λ p place s stands. go (pointed_type e.ty p) s stands)
     where
       kind : IsKind a.program.types e
       kind = kind_local a.program.types a.function.locals x e setting.variables n h
@@ -176,7 +177,7 @@ module _ (a : Around) (visible : List ℕ) (types : Types) (texts : ℕ) (fs : L
     computed (answers_raw target constant raw w own held) c n place into s wanted stands = absurd (false≢true (sym (ap is_number own) ∙ n))
     computed (answers_walker w own held) c n place into s wanted stands = absurd (false≢true (sym (walker_is a.program.types (type_at a.program.types is.of.result) w).value ∙ sym (ap is_number own) ∙ n))
     computed (answers_unique target unique w own held) c n place into s wanted stands = absurd (false≢true (sym (ap is_number own) ∙ n))
-    computed (answers_whole number whole pointless own held) c n place into s wanted stands = absurd (false≢true (sym (ap is_number own) ∙ n))
+    computed (answers_whole number whole own held) c n place into s wanted stands = absurd (false≢true (sym (ap is_number own) ∙ n))
     computed (answers_made o own held) c n place into s wanted stands = absurd (owner_no_value a.program.types (type_at a.program.types is.of.result) o (sym (ap is_number own) ∙ n))
     computed (answers_view view own held) c n place into s wanted stands = absurd (false≢true (sym (ap is_number own) ∙ n))
     computed (answers_place target constant refers w own held) c n place into s wanted stands = absurd (value_place (sym c ∙ held))
@@ -190,7 +191,7 @@ module _ (a : Around) (visible : List ℕ) (types : Types) (texts : ℕ) (fs : L
     named (answers_raw target d raw w own held) id constant at v place s stands = absurd (value_place (sym held ∙ at))
     named (answers_walker w own held) id constant at v place s stands = absurd (value_place (sym held ∙ at))
     named (answers_unique target unique w own held) id constant at v place s stands = absurd (value_place (sym held ∙ at))
-    named (answers_whole number whole pointless own held) id constant at v place s stands = absurd (value_place (sym held ∙ at))
+    named (answers_whole number whole own held) id constant at v place s stands = absurd (value_place (sym held ∙ at))
     named (answers_made o own held) id constant at v place s stands = absurd (value_place (sym held ∙ at))
     named (answers_view view own held) id constant at v place s stands = absurd (value_place (sym held ∙ at))
     named (answers_struct target d number refers structure pointless own held) id constant at v place s stands =
@@ -209,7 +210,7 @@ module _ (a : Around) (visible : List ℕ) (types : Types) (texts : ℕ) (fs : L
     pointed (answers_owner target constant refers o own held) p place s stands = absurd (owner_no_location a.program.types (type_at a.program.types target) o (sym (ap is_pointed own) ∙ p))
     pointed (answers_unique target unique w own held) p place s stands = absurd (false≢true (sym (ap is_pointed own) ∙ p))
     pointed (answers_struct target constant number refers structure pointless own held) p place s stands = absurd (false≢true (sym (ap is_pointed own) ∙ p))
-    pointed (answers_whole number whole pointless own held) p place s stands = absurd (false≢true (sym (ap is_pointed own) ∙ p))
+    pointed (answers_whole number whole own held) p place s stands = absurd (false≢true (sym (ap is_pointed own) ∙ p))
     pointed (answers_made o own held) p place s stands = absurd (owner_no_location a.program.types (type_at a.program.types is.of.result) o (sym (ap is_pointed own) ∙ p))
     pointed (answers_raw target constant raw w own held) p place s stands =
         subst (λ (t : ExprType). PointsAt t s (mapped (λ (xs : List Argument). By (called g xs)) (handed s))) (sym own)
@@ -227,7 +228,7 @@ module _ (a : Around) (visible : List ℕ) (types : Types) (texts : ℕ) (fs : L
     answers_no_literal (answers_raw target constant raw w own held) at = no_literal a visible types texts fs f setting (ty.Raw target constant) (sym own ∙ at)
     answers_no_literal (answers_walker w own held) at = no_literal a visible types texts fs f setting (type_at a.program.types is.of.result) (sym own ∙ at)
     answers_no_literal (answers_unique target unique w own held) at = no_literal a visible types texts fs f setting (ty.Unique target) (sym own ∙ at)
-    answers_no_literal (answers_whole number whole pointless own held) at = no_literal a visible types texts fs f setting (ty.Struct number) (sym own ∙ at)
+    answers_no_literal (answers_whole number whole own held) at = no_literal a visible types texts fs f setting (ty.Struct number) (sym own ∙ at)
     answers_no_literal (answers_made o own held) at = no_literal a visible types texts fs f setting (type_at a.program.types is.of.result) (sym own ∙ at)
     answers_no_literal (answers_view view own held) at = no_literal a visible types texts fs f setting ty.View (sym own ∙ at)
     answers_no_literal (answers_place target constant refers w own held) at = no_literal a visible types texts fs f setting (type_at a.program.types target) (sym own ∙ at)
@@ -240,19 +241,36 @@ module _ (a : Around) (visible : List ℕ) (types : Types) (texts : ℕ) (fs : L
     answers_no_null (answers_raw target constant raw w own held) at = no_null a visible types texts fs f setting (ty.Raw target constant) (sym own ∙ at)
     answers_no_null (answers_walker w own held) at = no_null a visible types texts fs f setting (type_at a.program.types is.of.result) (sym own ∙ at)
     answers_no_null (answers_unique target unique w own held) at = no_null a visible types texts fs f setting (ty.Unique target) (sym own ∙ at)
-    answers_no_null (answers_whole number whole pointless own held) at = no_null a visible types texts fs f setting (ty.Struct number) (sym own ∙ at)
+    answers_no_null (answers_whole number whole own held) at = no_null a visible types texts fs f setting (ty.Struct number) (sym own ∙ at)
     answers_no_null (answers_made o own held) at = no_null a visible types texts fs f setting (type_at a.program.types is.of.result) (sym own ∙ at)
     answers_no_null (answers_view view own held) at = no_null a visible types texts fs f setting ty.View (sym own ∙ at)
     answers_no_null (answers_place target constant refers w own held) at = no_null a visible types texts fs f setting (type_at a.program.types target) (sym own ∙ at)
     answers_no_null (answers_owner target constant refers o own held) at = no_null a visible types texts fs f setting (type_at a.program.types target) (sym own ∙ at)
     answers_no_null (answers_struct target constant number refers structure pointless own held) at = no_null a visible types texts fs f setting (ty.Struct number) (sym own ∙ at)
 
-    call_of : IsKind a.program.types e → IsForm a visible types texts fs f setting (call g given delimiters) e
-    call_of kind = record {
+    -- what a plain one refers to has a value
+    refers_value : Answers → HasKind a.program.types e → is_plain_type e.ty ≡ true → (id : TyId) (constant : Bool) → e.category ≡ category.Place id constant → is_value (type_at a.program.types id) ≡ true
+    refers_value (answers_nothing void own held) kind plain id constant at = absurd (value_place (sym held ∙ at))
+    refers_value (answers_value w own held) kind plain id constant at = absurd (value_place (sym held ∙ at))
+    refers_value (answers_raw target d raw w own held) kind plain id constant at = absurd (value_place (sym held ∙ at))
+    refers_value (answers_walker w own held) kind plain id constant at = absurd (value_place (sym held ∙ at))
+    refers_value (answers_unique target unique w own held) kind plain id constant at = absurd (value_place (sym held ∙ at))
+    refers_value (answers_whole number whole own held) kind plain id constant at = absurd (value_place (sym held ∙ at))
+    refers_value (answers_made o own held) kind plain id constant at = absurd (value_place (sym held ∙ at))
+    refers_value (answers_view view own held) kind plain id constant at = absurd (value_place (sym held ∙ at))
+    refers_value (answers_struct target d number refers structure pointless own held) kind plain id constant at = absurd (false≢true (sym (ap is_plain_type own) ∙ plain))
+    refers_value (answers_owner target d refers o own held) kind plain id constant at = absurd (kind_no_owner a.program.types e kind (type_at a.program.types target) o own)
+    refers_value (answers_place target d refers w own held) kind plain id constant at = sym (ap (λ (i : TyId). is_value (type_at a.program.types i)) (place_same target id d constant (sym held ∙ at))) ∙ w
+
+    call_of : IsKind a.program.types e → is_plain_type e.ty ≡ true → IsForm a visible types texts fs f setting (call g given delimiters) e
+    call_of kind plain = record {
       kind = kind;
       computes = λ c n place b none into s wanted stands. computed is.answers c n place into s wanted stands;
       lands = λ c n place b none r s. refl;
       names = λ id constant at v place s stands. named is.answers id constant at v place s stands;
+      found = λ id constant at place s stands.
+          placed_finds a visible types texts fs f setting (type_at a.program.types id) constant s ((form_uses a (call g given delimiters) place e.ty e.category).at s)
+          (named is.answers id constant at (refers_value is.answers kind.kind plain id constant at) place s stands);
       points = λ p place s stands. pointed is.answers p place s stands;
       decides = λ place b w at. absurd (none_some at);
       calls = λ c at. subst (λ (d : Called). IsCall a visible types texts fs f setting d e.ty e.category) (some_same at) is;
@@ -275,7 +293,7 @@ module _ (a : Around) (visible : List ℕ) (types : Types) (texts : ℕ) (fs : L
             answers = answered_as a.program.types e (type_at a.program.types of.result) kind h;
             hands = λ s stands. subst (λ (ids : List TyId). Hands of s (giving.arguments a (all_uses a given) delimiters ids s)) (sym (ap parameters_of at)) (hands of at s stands);
           })
-          (kind_of_result a.program.types e (type_at a.program.types of.result) kind plain h)
+          (kind_of_result a.program.types e (type_at a.program.types of.result) kind plain h) plain
 
   -- ---- pointers
 
@@ -330,7 +348,11 @@ module _ (a : Around) (visible : List ℕ) (types : Types) (texts : ℕ) (fs : L
   pub dereference_form : (inner : Form) (e : Typed) → (d : IsDereferenced a.program.types (typed_in inner) e) → IsWhole a visible types texts fs f setting inner → IsForm a visible types texts fs f setting (dereference inner) e
   dereference_form inner e d is =
       place_form a visible types texts fs f setting (dereference inner) e (kind_of_place a.program.types e d.target d.constant d.form d.is (is_number_kind (type_at a.program.types d.target) (ap (λ (y : Typed). y.ty) d.is) d.value))
-      (λ at. value_place (sym at ∙ ap (λ (y : Typed). y.category) d.is)) refl (λ place b. refl) names (λ p. absurd (number_no_pointer e.ty (of_number a visible types texts fs f setting e.ty (type_at a.program.types d.target) (ap (λ (y : Typed). y.ty) d.is) d.value) p))
+      (λ at. value_place (sym at ∙ ap (λ (y : Typed). y.category) d.is)) refl (λ place b. refl) names
+      (λ id constant at place s stands.
+      placed_finds a visible types texts fs f setting (type_at a.program.types id) constant s ((form_uses a (dereference inner) place e.ty e.category).at s)
+      (names id constant at (sym (ap (λ (i : TyId). is_value (type_at a.program.types i)) (place_same d.target id d.constant constant (sym (ap (λ (y : Typed). y.category) d.is) ∙ at))) ∙ d.value) place s stands))
+      (λ p. absurd (number_no_pointer e.ty (of_number a visible types texts fs f setting e.ty (type_at a.program.types d.target) (ap (λ (y : Typed). y.ty) d.is) d.value) p))
     where
       -- what it goes through is a raw pointer
       pointer_own : own (uses a inner) ≡ ty.Raw d.target d.constant
@@ -383,12 +405,12 @@ module _ (a : Around) (visible : List ℕ) (types : Types) (texts : ℕ) (fs : L
       null_text e = cc
 
   -- a literal is seen where it stands
-  pub text_form : (n : ℕ) (e : Typed) → e.ty ≡ TextLiteral → e.category ≡ category.Value → nat_lt n texts ≡ true → IsForm a visible types texts fs f setting (text n) e
+  pub text_form : (n : ℕ) (e : Typed) → e.ty ≡ TextLiteral → e.category ≡ category.Value → nat_lt (text_in a.program n) texts ≡ true → IsForm a visible types texts fs f setting (text n) e
   text_form n e t c few =
-      pointer_form a visible types texts fs f setting (text n) e (record { kind = a_text t c; place = λ id d at. absurd (value_place (sym c ∙ at)) }) c (λ m. false≢true (sym (ap is_number t) ∙ m)) refl (λ place b. refl) (λ at place. record { nameless = refl; place = place; number = n; few = few; is = refl }) (λ at. absurd (text_null (sym t ∙ at)))
-      (λ p place s stands. leaf_part types texts fs f (aimed (Text n)) s (a_pointing types texts fs f e.ty)
-      (λ b. subst (λ (t : ExprType). IsGivenAs types texts fs f t (aimed (Text n))) (sym t) (literal_given types texts fs f n few))
-      (λ b k alive. text_filling f n (length s.locals) k))
+      pointer_form a visible types texts fs f setting (text n) e (record { kind = a_text t c; place = λ id d at. absurd (value_place (sym c ∙ at)) }) c (λ m. false≢true (sym (ap is_number t) ∙ m)) refl (λ place b. refl) (λ at place. record { nameless = refl; place = place; number = text_in a.program n; few = few; is = refl }) (λ at. absurd (text_null (sym t ∙ at)))
+      (λ p place s stands. leaf_part types texts fs f (aimed (Text (text_in a.program n))) s (a_pointing types texts fs f e.ty)
+      (λ b. subst (λ (t : ExprType). IsGivenAs types texts fs f t (aimed (Text (text_in a.program n)))) (sym t) (literal_given types texts fs f (text_in a.program n) few))
+      (λ b k alive. text_filling f (text_in a.program n) (length s.locals) k))
     where
       text_null : TextLiteral ≡ NullPointer → ⊥
       text_null e = cc

@@ -1,4 +1,4 @@
--- The core program of a well typed program that is served: each of its functions is checked, among all of them, and has short places.
+-- The core program of a well typed program: each of its functions is checked, among all of them, and has short places.
 use Rattle.std.proofs.Common.{◌≡◌, ◌<◌, ℕ, zero, suc, Bool, true, false, ◌&&◌, List, [], ◌∷◌, ◌++◌, length, map, slice_get, take, Option, Some, None, option_map, refl, sym, ap, ◌∙◌, subst, arith, append_assoc, append-nil}
 use Rattle.std.proofs.lemmas.Bool.{and_from, false≢true}
 use Rattle.std.proofs.lemmas.Option.{none-some, same_Some, slice_get-map}
@@ -8,7 +8,7 @@ use Rattle.life_types.specs.TypeTests.{is_void}
 use Rattle.life_types.specs.Types.{Types, class}
 use Rattle.life_types.specs.declared.ty.Ty.{Ty}
 use Rattle.life_types.specs.declared.ty.TyId.{TyId}
-use Rattle.life_served.specs.Served.{are_served_functions}
+use Rattle.life_elab_laws.proofs.FormKinds.{are_read_functions}
 use Rattle.life_typed.specs.BaseTypes.{type_at}
 use Rattle.life_typed.specs.Programs.{FunctionForm, ProgramForm, is_main}
 use Rattle.life_core.specs.Function.{Function}
@@ -27,7 +27,7 @@ use Rattle.life_well_typed.specs.Mains.{HasIntMain, HaveIntMains}
 use Rattle.life_well_typed.specs.Names.{HasNames, is_function_named}
 use Rattle.life_well_typed.specs.Results.{HasResults, HaveResults}
 use Rattle.life_elab_laws.proofs.Beginning.{first_locals, first_types, nothing_past}
-use Rattle.life_elab_laws.proofs.Callees.{IsBegun, IsFunctionOf, callee_from, gives_from, parameter_at, served_parts, result_before, result_nameless, takes_handed, type_found}
+use Rattle.life_elab_laws.proofs.Callees.{IsBegun, IsFunctionOf, callee_from, gives_from, parameter_at, read_parts, result_before, result_nameless, takes_handed, type_found}
 use Rattle.life_elab_laws.proofs.Calls.{IsCallee}
 use Rattle.life_elab_laws.proofs.ExpressionKinds.{function_built}
 use Rattle.life_elab_laws.proofs.FormedLocals.{HasFormedHead, head_formed}
@@ -40,7 +40,7 @@ use Rattle.life_elab_laws.proofs.Setting.{GivesBack, Setting, unasked}
 use Rattle.life_elab_laws.proofs.Shaped.{AreShaped}
 use Rattle.life_elab_laws.proofs.ShapedLocals.{written_shaped}
 use Rattle.life_elab_laws.proofs.ShortPlaces.{short_function}
-use Rattle.life_elab_laws.proofs.StructTypes.{HasStructs, IsServedTable, structs_later, plain_later}
+use Rattle.life_elab_laws.proofs.StructTypes.{HasStructs, IsAdmittedTable, structs_later, plain_later}
 use Rattle.life_elab_laws.proofs.WrittenLocals.{AreWrittenLocals}
 use Rattle.life_types.specs.declared.ty.Ty.TheVariants as ty
 use Rattle.life_elab_laws.proofs.HandedTypes.{handed_type}
@@ -107,11 +107,11 @@ all_written p (f ∷ fs) w grows table =
       each = λ types later. (record { before = w.types; table = table; is = refl; later = front_then s.types.types _ types.types rest.table later }, rest.each types later);
     }
 
-module _ (p : ProgramForm) (typed : IsWellTyped p) (built : are_served_functions (length (texts_of p)) p.types p.functions ≡ true) (results : HasResults p) (told : IsServedTable p.types) where
+module _ (p : ProgramForm) (typed : IsWellTyped p) (built : are_read_functions (length (texts_of p)) p p.functions ≡ true) (results : HasResults p) (told : IsAdmittedTable p.types) where
   pub of_program : (n : ℕ) (f : FunctionForm) → slice_get p.functions n ≡ Some f → IsFunctionOf p f
   of_program n f at =
       let t = result_at p.types p.functions n f results at in
-      record { typed = each_at (IsWellTypedFunction p) (AreWellTyped p) (λ g gs h. h) p.functions n f typed at; built = served_parts (length (texts_of p)) p.types f (function_built (length (texts_of p)) p.types p.functions n f built at); ty = t.0; result = t.1 }
+      record { typed = each_at (IsWellTypedFunction p) (AreWellTyped p) (λ g gs h. h) p.functions n f typed at; built = read_parts (length (texts_of p)) p f (function_built (length (texts_of p)) p p.functions n f built at); ty = t.0; result = t.1 }
 
   setting_of : (types : Types) (fs : List Function) (f : FunctionForm) (core : Function) (n : ℕ) → slice_get p.functions n ≡ Some f → IsFront p.types.types types.types → KeepsOrder p.types types → GivesBack (around p f) types core
       → ((l : Local) → slice_get core.locals core.parameters ≡ Some l → is_void (ty_of types core.result) ≡ false → l.name ≡ None) → (is_void (ty_of types core.result) ≡ false → core.parameters < first_own (around p f))
@@ -210,7 +210,7 @@ module _ (p : ProgramForm) (typed : IsWellTyped p) (built : are_served_functions
     pub front : IsFront p.types.types whole.types.types
     front = front_then p.types.types w.before.types whole.types.types w.table as_begun.later
 
-    -- structs are served there too
+    -- structs hold there what they may, too
     held : HasStructs whole.types
     held = structs_later p.types whole.types whole_front whole_order told.structs
 

@@ -1,7 +1,7 @@
 -- What a vector is given: a number is pushed as it is, and an owner or a struct is built and given over.
 use Rattle.std.proofs.Common.{◌≡◌, ◌⊎◌, inl, inr, ℕ, Bool, true, false, cond, List, [], ◌∷◌, None, Some, refl, sym, ap, ◌∙◌, subst}
 use Rattle.std.proofs.lemmas.Bool.{false≢true}
-use Rattle.life_served.specs.Served.{is_element, is_owner_of_values, is_plain_struct}
+use Rattle.life_elab_laws.proofs.FormKinds.{is_element, is_owner_of_values}
 use Rattle.life_types.specs.Pointees.{ty_of}
 use Rattle.life_types.specs.TypeTests.{is_value}
 use Rattle.life_types.specs.Types.{Types}
@@ -46,7 +46,7 @@ use Rattle.life_elab_laws.proofs.MadeStructs.{IsAnyStruct, as_struct, struct_typ
 use Rattle.life_elab_laws.proofs.Making.{IsOpen, IsPlace}
 use Rattle.life_elab_laws.proofs.Parts.{Makes, Part, gives_part, keep_part, then_part, under_part}
 use Rattle.life_elab_laws.proofs.PushedOwners.{pushed_part}
-use Rattle.life_elab_laws.proofs.ServedTypes.{IsTabled, struct_tabled}
+use Rattle.life_elab_laws.proofs.AdmittedTypes.{IsTabled, struct_tabled}
 use Rattle.life_elab_laws.proofs.Setting.{Setting}
 use Rattle.life_elab_laws.proofs.TakenOwners.{owner_plain}
 use Rattle.life_elab_laws.proofs.TypedKinds.{HasKind, a_null, a_number as is_number_kind, a_pointer as is_pointer_kind, a_text, a_view, no_value}
@@ -116,11 +116,11 @@ module _ (a : Around) (visible : List ℕ) (types : Types) (texts : ℕ) (fs : L
       absurd (no_owner_given a.program.types t o (ty.Struct its.0) refl (typed_in form).category (subst (λ (x : ExprType). fits_at_all (fits a.program.types t x (typed_in form).category) ≡ true) its.1 taken))
 
   -- a struct is built, and given over
-  pub struct_over : (e : Form) → IsPushing e → (number : ℕ) → IsTabled a.program.types (ty.Struct number) → is_plain_struct a.program.types (ty.Struct number) ≡ true → is_taken a.program.types (Some (ty.Struct number)) (typed_in e) ≡ true → (behind : Place) (s : State) → Standing a visible types texts fs f setting s
+  pub struct_over : (e : Form) → IsPushing e → (number : ℕ) → IsTabled a.program.types (ty.Struct number) → is_taken a.program.types (Some (ty.Struct number)) (typed_in e) ≡ true → (behind : Place) (s : State) → Standing a visible types texts fs f setting s
       → (let v = given_over (uses a e) (ty.Struct number) behind s in HandingAlone types texts fs f (v.given ∷ []) s v (a_given types texts fs f (ty.Struct number)))
-  struct_over e (inl giving) number tabled pointless taken behind s stands = absurd (giving_no_struct e giving number taken)
-  struct_over e (inr from) number tabled pointless taken behind s stands =
-      unseen_over a visible types texts fs f setting number (λ (s : State). giving.given (uses a e) (ty.Struct number) behind s) ((as_struct a visible types texts fs f setting e number from taken).unseen behind) tabled pointless (uses a e).place s stands
+  struct_over e (inl giving) number tabled taken behind s stands = absurd (giving_no_struct e giving number taken)
+  struct_over e (inr from) number tabled taken behind s stands =
+      unseen_over a visible types texts fs f setting number (λ (s : State). giving.given (uses a e) (ty.Struct number) behind s) ((as_struct a visible types texts fs f setting e number from taken).unseen behind) tabled (uses a e).place s stands
 
   -- an owner is built, and given over
   over_owner : (t : Ty) → is_owner_of_values a.program.types t ≡ true → (u : Uses) (behind : Place) (s : State) → given_over u t behind s ≡ (giving.given u t behind s >> λ rest r. rest (consumed u.place t) r)
@@ -187,7 +187,7 @@ module _ (a : Around) (visible : List ℕ) (types : Types) (texts : ℕ) (fs : L
               (taking_part (ty.Vector item) typed at t (λ r. value (uses a e) behind t None r) PushBack s stands.opened ((pushing_number e is number).valued number behind t v None s tt stands)
               (λ r n. (pushes v r n, push_takes types f t r n)))
           go (has_struct number structure pointless) =
-              let over = struct_over e is number (struct_tabled a.program.types item number structure) (ap (is_plain_struct a.program.types) (sym structure) ∙ pointless) (subst (λ (u : Ty). is_taken a.program.types (Some u) (typed_in e) ≡ true) structure taken) behind s stands in
+              let over = struct_over e is number (struct_tabled a.program.types item number structure) (subst (λ (u : Ty). is_taken a.program.types (Some u) (typed_in e) ≡ true) structure taken) behind s stands in
               pushed_part types texts fs f t (ap is_value structure) s (given_over (uses a e) t behind s)
               (subst (λ (u : Ty). (let v = given_over (uses a e) u behind s in HandingAlone types texts fs f (v.given ∷ []) s v (a_given types texts fs f u))) (sym structure) over) P x to item at typed ready holds
           go (has_owner inner) =

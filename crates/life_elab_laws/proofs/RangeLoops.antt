@@ -1,6 +1,6 @@
 -- A loop over a range (ISO/IEC 14882:2017 [stmt.ranged]): what is hidden is there at each turn, in which the variable is given an element.
 use Rattle.std.proofs.Common.{◌≡◌, ◌<◌, ℕ, Bool, true, false, List, length, slice_get, Option, Some, sym, subst, arith}
-use Rattle.life_served.specs.Served.{is_element, is_served_variable, takes_element}
+use Rattle.life_elab_laws.proofs.FormKinds.{is_element, is_admitted_variable, takes_element}
 use Rattle.life_types.specs.Pointees.{ty_of}
 use Rattle.life_types.specs.Types.{Types}
 use Rattle.life_types.specs.declared.place.Place.{Place}
@@ -36,7 +36,7 @@ use Rattle.life_elab_laws.proofs.Setting.{Setting}
 use Rattle.life_elab_laws.proofs.Under.{DoesUnder, DoesLevelUnder, StaysKnown, both_there, does_more, does_under, hidden_stay, under_then}
 
 module _ (a : Around) (types : Types) (texts : ℕ) (fs : List Function) (f : Function) (setting : Setting a types fs f) (v w : Visible) (in_loop : Bool) (u : TypedLocal) (form : Form) (id : TyId) (constant : Bool) (colon closing last : Place) (body : State → State)
-    (elements : element_of (uses a form) ≡ Some (id, constant)) (worth : is_element a.program.types (type_at a.program.types id) ≡ true) (at : slice_get a.function.locals v.declared ≡ Some u) (built : is_served_variable a.program.types u.ty ≡ true)
+    (elements : element_of (uses a form) ≡ Some (id, constant)) (worth : is_element a.program.types (type_at a.program.types id) ≡ true) (at : slice_get a.function.locals v.declared ≡ Some u) (built : is_admitted_variable a.program.types u.ty ≡ true)
     (takes : takes_element a.program.types (type_of a u.ty) (id, constant) ≡ true)
     (fits : is_given a.program.types (type_of a u.ty) (record { place = colon; ty = element_type a.program.types (id, constant); category = element_place (id, constant); form = null }) ≡ true)
     (inner : (t : State) → Follows types f a (with_next v) t → HasRegister a t → DoesLevel types texts fs f a w true t (body t))

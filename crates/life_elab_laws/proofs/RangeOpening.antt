@@ -1,7 +1,7 @@
 -- The hidden range of a loop, by what that goes over: an owner that is named, a view or a span.
 use Rattle.std.proofs.Common.{◌≡◌, ℕ, Bool, true, List, [], ◌++◌, Option, Some, None, refl, sym, ap, ◌∙◌, subst}
 use Rattle.std.proofs.lemmas.Bool.{and_from, false≢true}
-use Rattle.life_served.specs.Served.{is_element, is_owner_of_values, is_target, is_walker_of_values}
+use Rattle.life_elab_laws.proofs.FormKinds.{is_element, is_owner_of_values, is_target, is_walker_of_values}
 use Rattle.life_types.specs.Pointees.{ty_of}
 use Rattle.life_types.specs.TypeTests.{is_constant as is_constant_type}
 use Rattle.life_types.specs.Types.{Types}

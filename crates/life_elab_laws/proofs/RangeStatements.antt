@@ -1,7 +1,7 @@
 -- Loops over ranges as statements: over an owner that is named, a view or a span.
 use Rattle.std.proofs.Common.{◌≡◌, ◌&&◌, ◌||◌, inl, inr, ℕ, Bool, true, List, slice_get, Option, Some, None, refl, sym, ap, ◌∙◌, subst}
 use Rattle.std.proofs.lemmas.Bool.{and_parts, false≢true, or_cases}
-use Rattle.life_served.specs.Served.{is_element, is_owner_type, is_served_expression, is_served_owner, is_served_owning, is_served_range, is_served_walker, is_view_type, is_walker_of_values, takes_elements, takes_elements_if}
+use Rattle.life_elab_laws.proofs.FormKinds.{is_element, is_owner_type, is_read_expression, is_read_owner, is_read_owning, is_read_range, is_read_walker, is_view_type, is_walker_of_values, takes_elements, takes_elements_if}
 use Rattle.life_types.specs.Types.{Types}
 use Rattle.life_types.specs.declared.place.Place.{Place}
 use Rattle.life_types.specs.declared.ty.Ty.{Ty}
@@ -47,7 +47,7 @@ same_constant category.Value = refl
 same_constant (category.Place id constant) = refl
 
 module _ (a : Around) (types : Types) (texts : ℕ) (fs : List Function) (f : Function) (setting : Setting a types fs f) (v w : Visible) (in_loop : Bool) (x : ℕ) (range : Typed) (colon closing last : Place) (body : State → State) (s : State)
-    (b : is_served_range texts a.program.types range ≡ true) (takes : takes_elements a.program.types (slice_get a.function.locals x) (range_element range.ty (is_const_place range.category)) ≡ true)
+    (b : is_read_range texts a.program range ≡ true) (takes : takes_elements a.program.types (slice_get a.function.locals x) (range_element range.ty (is_const_place range.category)) ≡ true)
     (typed : IsRangeOf a.program a.function.locals a.function.result x range v) (h : Follows types f a v s) (register : HasRegister a s)
     (inner : (t : State) → Follows types f a (with_next v) t → HasRegister a t → DoesLevel types texts fs f a w true t (body t)) where
   abbrev Done : Option TypedLocal → Type 0
@@ -89,13 +89,13 @@ module _ (a : Around) (types : Types) (texts : ℕ) (fs : List Function) (f : Fu
         go _ same walks = absurd (false≢true walks)
 
     over_any : Done (Some u)
-    over_any = elim (or_cases (is_served_owning texts a.program.types range) ((is_view_type range.ty && is_served_expression texts a.program.types range) || is_served_walker texts a.program.types (whole_form range)) b) [
+    over_any = elim (or_cases (is_read_owning texts a.program range) ((is_view_type range.ty && is_read_expression texts a.program range) || is_read_walker texts a.program (whole_form range)) b) [
       | inl owning ↦
-          let parts = and_parts (is_owner_type range.ty) (is_served_owner texts a.program.types (whole_form range)) owning in
+          let parts = and_parts (is_owner_type range.ty) (is_read_owner texts a.program (whole_form range)) owning in
           over_owning (owner_expression a v.visible types texts fs f setting (whole_form range) parts.1 parts.0 typed.2)
-      | inr other ↦ elim (or_cases (is_view_type range.ty && is_served_expression texts a.program.types range) (is_served_walker texts a.program.types (whole_form range)) other) [
+      | inr other ↦ elim (or_cases (is_view_type range.ty && is_read_expression texts a.program range) (is_read_walker texts a.program (whole_form range)) other) [
         | inl view ↦
-            let parts = and_parts (is_view_type range.ty) (is_served_expression texts a.program.types range) view in
+            let parts = and_parts (is_view_type range.ty) (is_read_expression texts a.program range) view in
             over_placed _ _ (view_range a v.visible types texts fs f setting (whole_form range) (whole_expression a v.visible types texts fs f setting (whole_form range) parts.1 typed.2) (view_type range.ty parts.0))
         | inr walks ↦ over_walker (walker_expression a v.visible types texts fs f setting (whole_form range) walks typed.2)
       ]

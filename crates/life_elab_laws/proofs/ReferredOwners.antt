@@ -1,7 +1,7 @@
 -- Owners behind pointers and references: what a raw pointer points to, what a call that gives a reference answers, and their addresses.
 use Rattle.std.proofs.Common.{◌≡◌, ℕ, Bool, true, false, List, Ok, Option, Some, None, refl, sym, ap, ◌∙◌, subst, slice_get, inl}
 use Rattle.std.proofs.lemmas.Bool.{false≢true}
-use Rattle.life_served.specs.Served.{is_owner_of_values, is_owner_type, owns_elements, is_walker, is_walker_of_values, is_walker_type}
+use Rattle.life_elab_laws.proofs.FormKinds.{is_owner_of_values, is_owner_type, owns_elements, is_walker, is_walker_of_values, is_walker_type}
 use Rattle.life_types.specs.TypeTests.{is_value}
 use Rattle.life_types.specs.Types.{Types}
 use Rattle.life_types.specs.declared.place.Place.{Place}
@@ -95,7 +95,7 @@ module _ (a : Around) (visible : List ℕ) (types : Types) (texts : ℕ) (fs : L
   owner_answered result t k (answers_value v own held) n p = absurd (false≢true (sym (by_values (λ t. owns_elements t ≡ false) refl refl refl refl refl result v) ∙ sym (ap is_owner_type own) ∙ n))
   owner_answered result t k (answers_raw target constant raw w own held) n p = absurd (false≢true (sym (ap is_owner_type own) ∙ n))
   owner_answered result t k (answers_walker w own held) n p = absurd (false≢true (sym (walker_is a.program.types result w).owner ∙ sym (ap is_owner_type own) ∙ n))
-  owner_answered result t k (answers_whole number whole pointless own held) n p = absurd (false≢true (sym (ap is_owner_type own) ∙ n))
+  owner_answered result t k (answers_whole number whole own held) n p = absurd (false≢true (sym (ap is_owner_type own) ∙ n))
   owner_answered result t k (answers_unique target unique w own held) n p = absurd (false≢true (sym (ap is_owner_type own) ∙ n))
   owner_answered result t k (answers_made o own held) n p = absurd (false≢true (sym (ap is_place held) ∙ p))
   owner_answered result t k (answers_view view own held) n p = absurd (false≢true (sym (ap is_owner_type own) ∙ n))
@@ -145,7 +145,7 @@ module _ (a : Around) (visible : List ℕ) (types : Types) (texts : ℕ) (fs : L
   made_answered result t k (answers_raw target constant raw w own held) n p = absurd (false≢true (sym (ap is_owner_type own) ∙ n))
   made_answered result t k (answers_walker w own held) n p = absurd (false≢true (sym (walker_is a.program.types result w).owner ∙ sym (ap is_owner_type own) ∙ n))
   made_answered result t k (answers_view view own held) n p = absurd (false≢true (sym (ap is_owner_type own) ∙ n))
-  made_answered result t k (answers_whole number whole pointless own held) n p = absurd (false≢true (sym (ap is_owner_type own) ∙ n))
+  made_answered result t k (answers_whole number whole own held) n p = absurd (false≢true (sym (ap is_owner_type own) ∙ n))
   made_answered result t k (answers_unique target unique w own held) n p = absurd (false≢true (sym (ap is_owner_type own) ∙ n))
   made_answered result t k (answers_made o own held) n p = (o, own, held)
   made_answered result t k (answers_place target constant refers w own held) n p = absurd (false≢true (sym p ∙ ap is_place held))
@@ -181,7 +181,7 @@ module _ (a : Around) (visible : List ℕ) (types : Types) (texts : ℕ) (fs : L
   walker_answered result t k (answers_raw target constant raw w own held) n = absurd (false≢true (sym (ap is_walker_type own) ∙ n))
   walker_answered result t k (answers_view view own held) n = absurd (false≢true (sym (ap is_walker_type own) ∙ n))
   walker_answered result t k (answers_walker w own held) n = (w, own, held)
-  walker_answered result t k (answers_whole number whole pointless own held) n = absurd (false≢true (sym (ap is_walker_type own) ∙ n))
+  walker_answered result t k (answers_whole number whole own held) n = absurd (false≢true (sym (ap is_walker_type own) ∙ n))
   walker_answered result t k (answers_unique target unique w own held) n = absurd (false≢true (sym (ap is_walker_type own) ∙ n))
   walker_answered result t k (answers_struct target constant number refers structure pointless own held) n = absurd (false≢true (sym (ap is_walker_type own) ∙ n))
   walker_answered result t k (answers_made o own held) n = absurd (false≢true (sym (made_alone result o) ∙ sym (ap is_walker_type own) ∙ n))

@@ -1,7 +1,7 @@
 -- Structs behind pointers and references: what a raw pointer points to, what a call that gives a reference answers, and their addresses.
 use Rattle.std.proofs.Common.{◌≡◌, ◌⊎◌, inl, inr, ℕ, Bool, true, List, Ok, Option, Some, None, refl, sym, ap, ◌∙◌, subst, slice_get}
 use Rattle.std.proofs.lemmas.Bool.{false≢true}
-use Rattle.life_served.specs.Served.{is_struct, is_struct_type, is_plain_struct}
+use Rattle.life_elab_laws.proofs.FormKinds.{is_struct, is_struct_type, is_plain_struct}
 use Rattle.life_types.specs.Types.{Types}
 use Rattle.life_types.specs.declared.place.Place.{Place}
 use Rattle.life_types.specs.declared.ty.Ty.{Ty}
@@ -37,7 +37,7 @@ use Rattle.life_elab_laws.proofs.PlainStructs.{struct_plain}
 use Rattle.life_elab_laws.proofs.MadeStructs.{IsAnyStructAt, at_once, struct_made, struct_there}
 use Rattle.life_elab_laws.proofs.MadeForms.{BuildsIn, less_plain}
 use Rattle.life_elab_laws.proofs.CalledOwners.{call_builds}
-use Rattle.life_elab_laws.proofs.ServedTypes.{IsTabled, struct_tabled}
+use Rattle.life_elab_laws.proofs.AdmittedTypes.{IsTabled, struct_tabled}
 
 -- ---- what is behind a raw pointer
 
@@ -81,7 +81,7 @@ struct_answered types result t k (answers_made o own held) n = absurd (false≢t
 struct_answered types result t k (answers_unique target unique w own held) n = absurd (false≢true (sym (ap is_struct_type own) ∙ n))
 struct_answered types result t k (answers_struct target constant number refers structure pointless own held) n =
     inl (record { target = target; constant = constant; number = number; refers = refers; structure = structure; pointless = pointless; is = own; place = held })
-struct_answered types result t k (answers_whole number whole pointless own held) n = inr (number, whole, own, held)
+struct_answered types result t k (answers_whole number whole own held) n = inr (number, whole, own, held)
 
 module _ (a : Around) (visible : List ℕ) (types : Types) (texts : ℕ) (fs : List Function) (f : Function) (setting : Setting a types fs f) where
   abbrev Stood : State → Type 0
@@ -140,7 +140,7 @@ module _ (a : Around) (visible : List ℕ) (types : Types) (texts : ℕ) (fs : L
                 (call_named a visible types texts fs f setting g given delimiters e place of at x.target x.constant x.refers (struct_target a.program.types (type_at a.program.types x.target) x.pointless) x.place s stands (hands of at s stands));
             lies = λ none. absurd (false≢true (sym none ∙ ap (is_plain_struct a.program.types) (sym x.structure) ∙ x.pointless));
           })
-          by (inr x) = struct_made (record { number = x.0; is = x.2; value = x.3; builds = λ s stands. less_plain a visible types texts fs f setting (ty.Struct x.0) s (made s) (builds s stands); unseen = at_once builds })
+          by (inr x) = struct_made (record { number = x.0; is = x.2; value = x.3; tabled = struct_tabled a.program.types of.result x.0 x.1; builds = λ s stands. less_plain a visible types texts fs f setting (ty.Struct x.0) s (made s) (builds s stands); unseen = at_once builds })
             where
               made : State → Gives Remaining
               made = (form_uses a (call g given delimiters) place e.ty e.category).object

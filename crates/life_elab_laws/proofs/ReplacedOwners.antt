@@ -1,7 +1,7 @@
 -- What an owner that is a value is assigned by: it is moved from a temporary, but for one that is moved out of a variable, which needs none.
 use Rattle.std.proofs.Common.{◌≡◌, ◌⊎◌, inl, inr, ℕ, true, List, Contains, Option, Some, None, refl, sym, ap, ◌∙◌, subst, false}
 use Rattle.std.proofs.lemmas.Bool.{and_parts, false≢true}
-use Rattle.life_served.specs.Served.{is_edge, is_owner_type, is_served_form, is_served_owner, is_plain_type}
+use Rattle.life_elab_laws.proofs.FormKinds.{is_edge, is_owner_type, is_read_form, is_read_owner, is_plain_type}
 use Rattle.life_types.specs.TypeTests.{is_text}
 use Rattle.life_types.specs.Types.{Types}
 use Rattle.life_types.specs.declared.place.Place.{Place}
@@ -26,7 +26,7 @@ use Rattle.life_writer.specs.Uses.{Act, Uses, own}
 use Rattle.life_writer.specs.Writing.{Gives, State}
 use Rattle.life_writer.specs.declared.rows.Row.{Row}
 use Rattle.life_writer.specs.declared.rows.Row.TheVariants.{Advanced, Compared, Computed, Concatenated, IsNull, Joined, NotNull}
-use Rattle.life_elab_laws.proofs.ElementForms.{either_served}
+use Rattle.life_elab_laws.proofs.ElementForms.{either_read}
 use Rattle.life_elab_laws.proofs.MovedOwners.{IsMovedFrom, moved_from_variable}
 use Rattle.life_elab_laws.proofs.PointerForms.{own_typed}
 use Rattle.life_elab_laws.proofs.Setting.{Setting}
@@ -101,9 +101,9 @@ module _ (a : Around) (visible : List ℕ) (types : Types) (texts : ℕ) (fs : L
   edge_plain methods.Back base given d place t c edge = refl
   edge_plain _ base given d place t c edge = absurd (false≢true edge)
 
-  -- what is served as a value is no string
-  value_no_text : (form : Form) → is_served_form texts a.program.types form ≡ true → IsExpression a.program a.function.locals visible form → is_text (own_type (typed_in form).ty) ≡ false
-  value_no_text (typed place t c form) b h = plain_no_text t (and_parts (is_plain_type t) (is_served_form texts a.program.types form) b).0
+  -- what is read as a value is no string
+  value_no_text : (form : Form) → is_read_form texts a.program form ≡ true → IsExpression a.program a.function.locals visible form → is_text (own_type (typed_in form).ty) ≡ false
+  value_no_text (typed place t c form) b h = plain_no_text t (and_parts (is_plain_type t) (is_read_form texts a.program form) b).0
   value_no_text _ b h = absurd h
 
   -- ---- a literal replaces nothing: it is assigned by way of a temporary
@@ -113,11 +113,11 @@ module _ (a : Around) (visible : List ℕ) (types : Types) (texts : ℕ) (fs : L
   method_plain _ e es d place t c = refl
 
   mutual
-    pub literal_plain : (form : Form) → is_served_form texts a.program.types form ≡ true → IsExpression a.program a.function.locals visible form → (typed_in form).ty ≡ TextLiteral → (uses a form).replacing ≡ None
-    literal_plain (typed place t c form) b h l = made_plain form (record { place = place; ty = t; category = c; form = form }) (and_parts (is_plain_type t) (is_served_form texts a.program.types form) b).1 h l place
+    pub literal_plain : (form : Form) → is_read_form texts a.program form ≡ true → IsExpression a.program a.function.locals visible form → (typed_in form).ty ≡ TextLiteral → (uses a form).replacing ≡ None
+    literal_plain (typed place t c form) b h l = made_plain form (record { place = place; ty = t; category = c; form = form }) (and_parts (is_plain_type t) (is_read_form texts a.program form) b).1 h l place
     literal_plain _ b h l = absurd h
 
-    made_plain : (form : Form) (e : Typed) → is_served_form texts a.program.types form ≡ true → IsMadeOf a.program a.function.locals visible e form → e.ty ≡ TextLiteral → (place : Place) → (form_uses a form place e.ty e.category).replacing ≡ None
+    made_plain : (form : Form) (e : Typed) → is_read_form texts a.program form ≡ true → IsMadeOf a.program a.function.locals visible e form → e.ty ≡ TextLiteral → (place : Place) → (form_uses a form place e.ty e.category).replacing ≡ None
     made_plain null e b h l place = absurd (null_no_literal (sym h.0 ∙ l))
     made_plain (paren inner closing) e b h l place = literal_plain inner b h.1 (ap (λ (y : Typed). y.ty) (ok_same h.0) ∙ l)
     made_plain (binary o left right) e b h l place = row_plain (row_between o left right) (uses a left) (uses a right) place e.ty e.category
@@ -130,11 +130,11 @@ module _ (a : Around) (visible : List ℕ) (types : Types) (texts : ℕ) (fs : L
   -- ---- owners
 
   mutual
-    pub replaced : (form : Form) → is_served_owner texts a.program.types form ≡ true → is_owner_type (typed_in form).ty ≡ true → IsExpression a.program a.function.locals visible form → IsReplaced form
+    pub replaced : (form : Form) → is_read_owner texts a.program form ≡ true → is_owner_type (typed_in form).ty ≡ true → IsExpression a.program a.function.locals visible form → IsReplaced form
     replaced (typed place t c form) b n h = replaced_made form (record { place = place; ty = t; category = c; form = form }) b n h place
     replaced _ b n h = absurd h
 
-    replaced_made : (form : Form) (e : Typed) → is_served_owner texts a.program.types form ≡ true → is_owner_type e.ty ≡ true → IsMadeOf a.program a.function.locals visible e form → (place : Place) → IsReplacedAt (moved_in form) e.ty ((form_uses a form place e.ty e.category).replacing)
+    replaced_made : (form : Form) (e : Typed) → is_read_owner texts a.program form ≡ true → is_owner_type e.ty ≡ true → IsMadeOf a.program a.function.locals visible e form → (place : Place) → IsReplacedAt (moved_in form) e.ty ((form_uses a form place e.ty e.category).replacing)
     replaced_made (local x) e b n h place = inl refl
     replaced_made (move x) e b n h place =
         let is = moved_from_variable a visible types texts fs f setting x e h.1 in
@@ -150,7 +150,7 @@ module _ (a : Around) (visible : List ℕ) (types : Types) (texts : ℕ) (fs : L
     replaced_made (binary o left right) e b n h place = inl (row_plain (row_between o left right) (uses a left) (uses a right) place e.ty e.category)
     replaced_made (text_of inner closing) e b n h place =
         text_replaced inner closing e place (makes_a_text closing (typed_in inner) e h.0).is
-        (λ text. elim (either_served inner (is_served_owner texts a.program.types inner) (is_served_form texts a.program.types inner) b) [
+        (λ text. elim (either_read inner (is_read_owner texts a.program inner) (is_read_form texts a.program inner) b) [
           | inl value ↦ absurd (false≢true (sym (value_no_text inner value h.1) ∙ ap (λ (x : ExprType). is_text (own_type x)) (own_typed a visible types texts fs f setting inner) ∙ ap is_text text))
           | inr owner ↦ replaced inner owner.1 owner.0 h.1
         ])

@@ -6,7 +6,7 @@ use Rattle.life_types.specs.Types.{Types}
 use Rattle.life_types.specs.declared.ty.Ty.{Ty}
 use Rattle.life_types.specs.declared.ty.Ty.TheVariants as ty
 use Rattle.life_types.specs.declared.ty.TyId.{TyId}
-use Rattle.life_served.specs.Served.{is_element, is_owner_of_values, is_owning, is_pointing, is_target, is_walker_of_values, is_plain_struct}
+use Rattle.life_elab_laws.proofs.FormKinds.{is_element, is_owner_of_values, is_owning, is_pointing, is_target, is_walker_of_values, is_plain_struct}
 use Rattle.life_typed.specs.BaseTypes.{type_at}
 use Rattle.life_type_stmt.specs.Bodies.{return_fault}
 use Rattle.life_elab_laws.proofs.Targets.{IsTarget, target_is, to_owner, to_struct, to_value, or_false}
@@ -22,7 +22,7 @@ pub data IsResultType (types : Types) (t : Ty) : Type 0 where
   gives_walker : is_walker_of_values types t ≡ true → IsResultType types t
   gives_owner : is_owner_of_values types t ≡ true → IsResultType types t
   gives_unique : (target : TyId) → t ≡ ty.Unique target → is_element types (type_at types target) ≡ true → IsResultType types t
-  gives_whole : (number : ℕ) → t ≡ ty.Struct number → is_plain_struct types (ty.Struct number) ≡ true → IsResultType types t
+  gives_whole : (number : ℕ) → t ≡ ty.Struct number → IsResultType types t
   gives_reference : (target : TyId) (constant : Bool) → t ≡ ty.Reference target constant → is_value (type_at types target) ≡ true → IsResultType types t
   gives_alias : (target : TyId) (constant : Bool) → t ≡ ty.Reference target constant → is_owner_of_values types (type_at types target) ≡ true → IsResultType types t
   gives_struct : (target : TyId) (constant : Bool) (number : ℕ) → t ≡ ty.Reference target constant → type_at types target ≡ ty.Struct number → is_plain_struct types (type_at types target) ≡ true → IsResultType types t
@@ -41,7 +41,7 @@ result_is types (ty.Span target constant) b = gives_walker (or_false (is_element
 result_is types ty.Text b = gives_owner b
 result_is types (ty.Vector item) b = gives_owner (or_false (is_owner_of_values types (ty.Vector item)) b)
 result_is types (ty.Unique target) b = gives_unique target refl (or_false (is_element types (type_at types target)) b)
-result_is types (ty.Struct number) b = gives_whole number refl b
+result_is types (ty.Struct number) b = gives_whole number refl
 result_is types (ty.Reference target constant) b = refers (target_is types (type_at types target) (or_false (is_target types (type_at types target)) b))
   where
     refers : IsTarget types (type_at types target) → IsResultType types (ty.Reference target constant)

@@ -20,7 +20,7 @@ use Rattle.life_elab_laws.proofs.Following.{Follows, IsResultObject}
 use Rattle.life_elab_laws.proofs.Gifts.{Gift}
 use Rattle.life_elab_laws.proofs.MadeForms.{Builds, Found, gift_of}
 use Rattle.life_elab_laws.proofs.PlainFills.{plain_fills}
-use Rattle.life_elab_laws.proofs.ServedTypes.{IsBuilt}
+use Rattle.life_elab_laws.proofs.AdmittedTypes.{IsBuilt}
 use Rattle.life_elab_laws.proofs.Setting.{Setting}
 use Rattle.life_elab_laws.proofs.VariablePlaces.{stands_later}
 

@@ -10,7 +10,7 @@ use Rattle.life_types.specs.declared.ty.Class.TheVariants as classes
 use Rattle.life_types.specs.declared.ty.Ty.{Ty}
 use Rattle.life_types.specs.declared.ty.Ty.TheVariants as ty
 use Rattle.life_types.specs.declared.ty.TyId.{TyId}
-use Rattle.life_served.specs.Served.{is_element, is_served_fresh, is_unique_of_element, is_unique_type}
+use Rattle.life_elab_laws.proofs.FormKinds.{is_element, is_read_fresh, is_unique_of_element, is_unique_type}
 use Rattle.life_typed.specs.BaseTypes.{type_at}
 use Rattle.life_typed.specs.Conversions.{fits}
 use Rattle.life_typed.specs.TypedForm.{Form, Typed, call, local, make_unique, move, paren, typed, whole as whole_form}
@@ -75,10 +75,10 @@ module _ (a : Around) (visible : List ℕ) where
     named_form _ e h x at place = absurd (none-some x at)
 
   -- .. and one that is made anew, moved or given has none
-  pub fresh_nameless : (texts : ℕ) (form : Form) (e : Typed) → is_served_fresh texts a.program.types form ≡ true → IsMadeOf a.program a.function.locals visible e form → (place : Place) → (form_uses a form place e.ty e.category).named ≡ None
+  pub fresh_nameless : (texts : ℕ) (form : Form) (e : Typed) → is_read_fresh texts a.program form ≡ true → IsMadeOf a.program a.function.locals visible e form → (place : Place) → (form_uses a form place e.ty e.category).named ≡ None
   fresh_nameless texts (make_unique target argument closing) e b h place = refl
   fresh_nameless texts (paren (typed at t c form) closing) e b h place =
-      fresh_nameless texts form (record { place = at; ty = t; category = c; form = form }) (and_parts (is_unique_type t) (is_served_fresh texts a.program.types form) b).1 h.1 at
+      fresh_nameless texts form (record { place = at; ty = t; category = c; form = form }) (and_parts (is_unique_type t) (is_read_fresh texts a.program form) b).1 h.1 at
   fresh_nameless texts (paren _ closing) e b h place = absurd h.1
   fresh_nameless texts (move x) e b h place = refl
   fresh_nameless texts (call g given delimiters) e b h place = refl

@@ -1,4 +1,4 @@
--- The locals of a function that is translated are served: none is a slot.
+-- None of the locals of a function that is translated is a slot, as the theorem on runs asks.
 use Rattle.std.proofs.Common.{◌≡◌, ℕ, zero, suc, Bool, true, false, not, List, [], ◌∷◌, slice_get, Option, Some, refl, ap, ◌∙◌}
 use Rattle.std.proofs.lemmas.Bool.{and_from}
 use Rattle.std.specs.List.{list_all}

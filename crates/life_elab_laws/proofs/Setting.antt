@@ -1,4 +1,4 @@
--- Where a function is written: in a program that is served, whose core functions take and give what they should.
+-- Where a function is written: in a program whose core functions take and give what they should.
 use Rattle.std.proofs.Common.{◌≡◌, ℕ, true, false, List, None, Some, slice_get, ◌<◌}
 use Rattle.life_types.specs.Pointees.{ty_of}
 use Rattle.life_types.specs.Trees.{members_at}
@@ -8,7 +8,7 @@ use Rattle.life_types.specs.declared.ty.Class.TheVariants.{Value}
 use Rattle.life_types.specs.declared.ty.Ty.{Ty}
 use Rattle.life_types.specs.declared.ty.Ty.TheVariants as ty
 use Rattle.life_types.specs.declared.ty.TyId.{TyId}
-use Rattle.life_served.specs.Served.{are_served_variables, is_served_result}
+use Rattle.life_elab_laws.proofs.FormKinds.{are_admitted_variables, is_admitted_result}
 use Rattle.life_typed.specs.BaseTypes.{type_at}
 use Rattle.life_typed.specs.Ends.{ends}
 use Rattle.life_typed.specs.Programs.{FunctionForm}
@@ -32,8 +32,8 @@ pub data GivesBack (a : Around) (types : Types) (f : Function) : Type 0 where
 
 pub record Setting (a : Around) (types : Types) (fs : List Function) (f : Function) : Type 0 where
   pub front : IsFront a.program.types.types types.types
-  pub variables : are_served_variables a.program.types a.function.locals ≡ true
-  -- structs are served, and have the same members in both tables
+  pub variables : are_admitted_variables a.program.types a.function.locals ≡ true
+  -- structs hold what they may, and have the same members in both tables
   pub values : HasStructs a.program.types
   pub structs : HasStructs types
   pub members : (number : ℕ) → members_at types number ≡ members_at a.program.types number
@@ -41,8 +41,8 @@ pub record Setting (a : Around) (types : Types) (fs : List Function) (f : Functi
   pub copies : CopiesStay a.program.types types
   -- the table has chars, where views have elements
   pub chars : type_at a.program.types CHAR ≡ ty.Char
-  pub returned : (g : ℕ) (of : FunctionForm) → slice_get a.program.functions g ≡ Some of → is_served_result a.program.types of.result ≡ true
-  pub result : is_served_result a.program.types a.function.result ≡ true
+  pub returned : (g : ℕ) (of : FunctionForm) → slice_get a.program.functions g ≡ Some of → is_admitted_result a.program.types of.result ≡ true
+  pub result : is_admitted_result a.program.types a.function.result ≡ true
   pub taken : (g : ℕ) (of : FunctionForm) → slice_get a.program.functions g ≡ Some of → (n : ℕ) (id : TyId) → slice_get (parameter_types (Some of)) n ≡ Some id → IsHandedType a.program.types id
   pub callees : (g : ℕ) (of : FunctionForm) → slice_get a.program.functions g ≡ Some of → IsCallee types fs g of
   -- .. and the table has the types of what they give back

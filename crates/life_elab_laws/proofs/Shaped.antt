@@ -1,5 +1,5 @@
 -- The locals of a function: what isn't passing is a variable or a temporary, and has the type of a variable that is reached.
-use Rattle.std.proofs.Common.{◌≡◌, ◌⊎◌, inl, inr, ℕ, zero, suc, Bool, true, false, ◌||◌, List, [], ◌∷◌, slice_get, Option, Some, None, refl, ap, ◌∙◌, unwrap_or, ◌&&◌, not, is_none}
+use Rattle.std.proofs.Common.{◌≡◌, ◌⊎◌, inl, inr, ℕ, zero, suc, Bool, true, false, ◌||◌, List, [], ◌∷◌, arith, length, slice_get, Option, Some, None, refl, ap, ◌∙◌, unwrap_or, ◌&&◌, not, is_none}
 use Rattle.std.proofs.lemmas.Bool.{false≢true, or_cases, or_left, or_right}
 use Rattle.life_types.specs.TypeTests.{is_value}
 use Rattle.life_types.specs.Types.{Types}
@@ -7,14 +7,14 @@ use Rattle.life_types.specs.declared.ty.NameId.{NameId}
 use Rattle.life_types.specs.declared.ty.Ty.{Ty}
 use Rattle.life_types.specs.declared.ty.Ty.TheVariants as ty
 use Rattle.life_types.specs.declared.ty.TyId.{TyId}
-use Rattle.life_served.specs.Served.{is_element, is_owner_of_values, is_owner_within, is_pointing, is_served_variable, is_target, is_unique_of_element, is_walker_of_values, is_plain_struct}
+use Rattle.life_elab_laws.proofs.FormKinds.{is_element, is_owner_of_values, is_owner_within, is_pointing, is_admitted_variable, is_target, is_unique_of_element, is_walker_of_values, is_plain_struct}
 use Rattle.life_typed.specs.BaseTypes.{type_at}
 use Rattle.life_core.specs.declared.program.Local.{Local}
-use Rattle.life_elab_laws.proofs.Fronts.{IsFront, each_at}
-use Rattle.life_elab_laws.proofs.ServedTypes.{IsServedType, serves, type_serves, variable_found, IsBuilt}
+use Rattle.life_elab_laws.proofs.Fronts.{IsFront, each_at, front_length}
+use Rattle.life_elab_laws.proofs.AdmittedTypes.{IsAdmittedType, admits, type_admits, variable_found, IsBuilt}
 use Rattle.life_elab_laws.proofs.Targets.{IsTarget, owner_target, struct_target, target_is, to_owner, to_struct, to_value, value_target}
 use Rattle.life_core.specs.Kinds.{is_object}
-use Rattle.life_elab_laws.proofs.Elements.{IsElement, has_owner, has_struct, has_value, element_is, inner_element, struct_element, value_element}
+use Rattle.life_elab_laws.proofs.Elements.{IsElement, has_owner, has_struct, has_value, element_is, inner_element, struct_element, value_element, within_upto}
 
 -- structs without pointers in a table are so in one with more types
 abbrev pub PlainStays : (few more : Types) → Type 0
@@ -79,7 +79,7 @@ module _ (few more : Types) (front : IsFront few.types more.types) where
         go : IsElement few t → is_element more t ≡ true
         go (has_value v) = value_element more t v
         go (has_struct number is pointless) = struct_element more t (plain_further t pointless)
-        go (has_owner o) = inner_element more t (within_later 7 t o)
+        go (has_owner o) = inner_element more t (within_upto more (suc (length few.types)) (suc (length more.types)) t (omega (arith, front_length few.types more.types front)) (within_later (suc (length few.types)) t o))
 
     pub element_later : (id : TyId) → is_element few (type_at few id) ≡ true → is_element more (type_at more id) ≡ true
     element_later id h = go (slice_get few.types id.0) refl h
@@ -89,7 +89,7 @@ module _ (few more : Types) (front : IsFront few.types more.types) where
         go (Some t) at h = ap (λ (o : Option Ty). is_element more (unwrap_or o ty.Void)) (front id.0 t at) ∙ element_further t h
 
     pub owner_later : (t : Ty) → is_owner_of_values few t ≡ true → is_owner_of_values more t ≡ true
-    owner_later t o = within_later 8 t o
+    owner_later t o = within_upto more (suc (suc (length few.types))) (suc (suc (length more.types))) t (omega (arith, front_length few.types more.types front)) (within_later (suc (suc (length few.types))) t o)
 
     pub walker_later : (t : Ty) → is_walker_of_values few t ≡ true → is_walker_of_values more t ≡ true
     walker_later (ty.Iterator target constant) w = element_later target w
@@ -125,17 +125,17 @@ module _ (few more : Types) (front : IsFront few.types more.types) where
     type_later (ty.Reference target constant) b = target_later target b
     type_later _ b = b
 
-    served_later : (t : Ty) → IsServedType few t → IsServedType more t
-    served_later t (inl b) = inl (type_later t b)
-    served_later t (inr (inl o)) = inr (inl (owner_later t o))
-    served_later t (inr (inr (inl w))) = inr (inr (inl (walker_later t w)))
-    served_later t (inr (inr (inr (inl u)))) = inr (inr (inr (inl (unique_later t u))))
-    served_later t (inr (inr (inr (inr structure)))) = inr (inr (inr (inr structure)))
+    admitted_later : (t : Ty) → IsAdmittedType few t → IsAdmittedType more t
+    admitted_later t (inl b) = inl (type_later t b)
+    admitted_later t (inr (inl o)) = inr (inl (owner_later t o))
+    admitted_later t (inr (inr (inl w))) = inr (inr (inl (walker_later t w)))
+    admitted_later t (inr (inr (inr (inl u)))) = inr (inr (inr (inl (unique_later t u))))
+    admitted_later t (inr (inr (inr (inr structure)))) = inr (inr (inr (inr structure)))
 
-    pub variable_later : (id : TyId) → is_served_variable few id ≡ true → is_served_variable more id ≡ true
+    pub variable_later : (id : TyId) → is_admitted_variable few id ≡ true → is_admitted_variable more id ≡ true
     variable_later id b =
         let found = variable_found few id b in
-        ap (λ (o : Option Ty). serves more (unwrap_or o ty.Void)) (front id.0 found.0 found.1) ∙ type_serves more found.0 (served_later found.0 found.2)
+        ap (λ (o : Option Ty). admits more (unwrap_or o ty.Void)) (front id.0 found.0 found.1) ∙ type_admits more found.0 (admitted_later found.0 found.2)
 
 -- ---- locals
 
@@ -148,7 +148,7 @@ named_lasts l name e = ap (λ (o : Option NameId). is_none o && not (is_object l
 
 -- a variable, a parameter or a temporary has such a type
 abbrev pub IsShaped : Types → Local → Type 0
-IsShaped types l = is_passing l ≡ false → is_served_variable types l.ty ≡ true
+IsShaped types l = is_passing l ≡ false → is_admitted_variable types l.ty ≡ true
 
 abbrev pub AreShaped : Types → List Local → Type 0
 AreShaped types [] = Unit {0}

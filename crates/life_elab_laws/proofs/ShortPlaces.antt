@@ -1,12 +1,11 @@
 -- The places of a function that is translated have eight steps at most, since no path of its locals' types has more, into an object or into what is behind a parameter.
-use Rattle.std.proofs.Common.{◌≡◌, length, ◌<◌, ◌≤◌, ◌+◌, inl, ℕ, zero, suc, Bool, true, false, ◌&&◌, ◌||◌, List, [], ◌∷◌, ◌++◌, if◌then◌else◌, flat_map, map, nat_lt, slice_get, Option, Some, None, is_none, not, refl, ap, ◌∙◌, subst, sym, unwrap_or, arith, inr, ◌⊎◌}
-use Rattle.std.proofs.lemmas.Bool.{false≢true}
+use Rattle.std.proofs.Common.{◌≡◌, length, ◌<◌, ◌≤◌, ◌+◌, inl, ℕ, zero, suc, Bool, true, false, ◌&&◌, ◌||◌, List, [], ◌∷◌, ◌++◌, if◌then◌else◌, flat_map, map, nat_lt, slice_get, Option, Some, None, is_none, not, refl, ap, ◌∙◌, subst, sym, unwrap_or, arith, inr}
 use Rattle.std.proofs.lemmas.Bool.Decides.{nat_tests}
-use Rattle.life_served.specs.Served.{is_owner_of_values, is_served_variable, is_target}
+use Rattle.life_elab_laws.proofs.FormKinds.{is_admitted_variable, is_target}
 use Rattle.life_types.specs.Pointees.{or_void, ty_of}
 use Rattle.life_types.proofs.TreeLemmas.{tree_made}
 use Rattle.life_types.specs.Trees.{TypeTree, members_at, struct_of, tree_at, tree_of, tree_within}
-use Rattle.life_types.specs.TypeTests.{is_pointer, is_value}
+use Rattle.life_types.specs.TypeTests.{is_pointer}
 use Rattle.life_types.specs.Types.{Types}
 use Rattle.life_types.specs.declared.place.Place.{Place}
 use Rattle.life_types.specs.declared.ty.Ty.{Ty}
@@ -21,8 +20,8 @@ use Rattle.life_core.specs.declared.program.Local.{Local}
 use Rattle.life_core.specs.declared.program.LocalKind.{LocalKind}
 use Rattle.life_core.specs.declared.program.LocalKind.TheVariants.{Object, Register, Range}
 use Rattle.life_core.specs.Kinds.{is_object}
-use Rattle.life_pset.specs.Elements.{AreShort, Input, input_at, input_if, input_root, causes_of_end, caused_at, caused_elements, elements_of, end_elements, input_places, inputs_among, inputs_from, inputs_of, local_inputs, local_place, locations_in, node_elements, object_places, objects_from, places_from, places_in, pointers_in, step_elements}
-use Rattle.life_pset.specs.Shapes.{has_buffer, is_variable, shape, shape_if, target_of, tree_if, unslotted}
+use Rattle.life_pset.specs.Elements.{AreShort, Input, input_at, input_if, input_root, causes_of_end, caused_at, caused_elements, elements_of, end_elements, input_places, inputs_among, inputs_from, inputs_of, local_inputs, local_place, locations_in, node_elements, object_places, objects_from, places_from, places_in, step_elements, number_after}
+use Rattle.life_pset.specs.Shapes.{shape, shape_if, target_of, tree_if, unslotted, member_of, member_type, members_type, target_type, ty_if}
 use Rattle.life_pset.specs.declared.element.AbsPlace.{AbsPlace}
 use Rattle.life_pset.specs.declared.element.Cause.{Cause}
 use Rattle.life_pset.specs.declared.element.Element.{Element}
@@ -31,12 +30,11 @@ use Rattle.life_tree.specs.declared.limit.LimitName.TheVariants.{Path}
 use Rattle.life_elab.specs.Over.{over_local, over_locals}
 use Rattle.life_elab.specs.Paths.{longest, longest_behind, steps}
 use Rattle.life_elab_laws.proofs.PassedNone.{first_none, not_passed}
-use Rattle.life_elab_laws.proofs.PointlessStructs.{struct_locations}
 use Rattle.life_elab_laws.proofs.StructTypes.{HasStructs}
-use Rattle.life_elab_laws.proofs.ServedTypes.{IsServedType, serves, type_serves, value_serves}
+use Rattle.life_elab_laws.proofs.AdmittedTypes.{IsAdmittedType, admits, type_admits, value_admits}
 use Rattle.life_elab_laws.proofs.Shaped.{AreShaped, IsShaped}
 use Rattle.life_elab_laws.proofs.HandedTypes.{IsHandedType, a_raw, a_reference, a_value, a_view, a_walker, an_alias, an_owner, a_unique, a_struct_alias, a_struct}
-use Rattle.life_pset.specs.Places.{longer, member_place, owned_place, owned_step, root_place, too_long}
+use Rattle.life_pset.specs.Places.{longer, member_place, owned_place, owned_step, root_place, too_long, path}
 use Rattle.life_pset.specs.declared.element.Root.{Root}
 use Rattle.life_elab_laws.proofs.Targets.{owner_target, struct_target, target_referred, value_target, target_unslotted}
 
@@ -144,7 +142,7 @@ module _ (types : Types) (structs : HasStructs types) where
   tree_short id at room = within_short (suc id.0) id at room
 
   -- a type stands as it is, also where a parameter has it
-  same_shape : (parameter : Bool) (id : TyId) → is_served_variable types id ≡ true → shape_if types parameter id ≡ id
+  same_shape : (parameter : Bool) (id : TyId) → is_admitted_variable types id ≡ true → shape_if types parameter id ≡ id
   same_shape false id b = refl
   same_shape true id b = go (slice_get types.types id.0) b
     where
@@ -152,7 +150,7 @@ module _ (types : Types) (structs : HasStructs types) where
       plain true e = refl
       plain false e = e
 
-      go : (o : Option Ty) → serves types (unwrap_or o ty.Void) ≡ true → unslotted types id (or_void o) ≡ id
+      go : (o : Option Ty) → admits types (unwrap_or o ty.Void) ≡ true → unslotted types id (or_void o) ≡ id
       go (Some (ty.Reference target false)) b = target_referred id target (ty_of types target) (target_unslotted types types (λ n x e. e) target (plain (is_target types (type_at types target)) b))
       go _ b = refl
 
@@ -187,52 +185,11 @@ module _ (types : Types) (structs : HasStructs types) where
 
   -- ---- what is behind parameters
 
-  value_there : (o : Option Ty) → is_value (unwrap_or o ty.Void) ≡ true → is_value (or_void o) ≡ true
-  value_there None w = w
-  value_there (Some t) w = w
-
-  no_buffer : (k : LocalKind) (t : Ty) → is_value t ≡ true → is_variable k t ≡ false
-  no_buffer Object ty.Text w = absurd (false≢true w)
-  no_buffer Object (ty.Vector item) w = absurd (false≢true w)
-  no_buffer Object _ w = refl
-  no_buffer Register t w = refl
-  no_buffer Range t w = refl
-
-  -- a value has no location
-  no_pointers : (id : TyId) → is_value (type_at types id) ≡ true → (at : AbsPlace) → pointers_in at (tree_at types id) ≡ []
-  unfolding tree_at
-  no_pointers id w at = go (slice_get types.types id.0) w
-    where
-      go : (o : Option Ty) → is_value (unwrap_or o ty.Void) ≡ true → pointers_in at (tree_of types (tree_within id.0 types) o) ≡ []
-      go (Some ty.Bool) w = refl
-      go (Some ty.Char) w = refl
-      go (Some ty.Int) w = refl
-      go (Some ty.Long) w = refl
-      go (Some ty.Size) w = refl
-      go _ w = absurd (false≢true w)
-
-  no_locations : (k : LocalKind) (id : TyId) → is_value (type_at types id) ≡ true → (at : AbsPlace) → locations_in types k id at ≡ []
-  no_locations k id w at =
-      ap (λ (b : Bool). if b then at ∷ [] else pointers_in at (tree_at types id)) (no_buffer k (ty_of types id) (value_there (slice_get types.types id.0) w))
-      ∙ no_pointers id w at
-
-  -- a pointer is one
-  no_buffer_pointer : (k : LocalKind) (t : Ty) → has_buffer t ≡ false → is_variable k t ≡ false
-  no_buffer_pointer Object t none = none
-  no_buffer_pointer Register t none = refl
-  no_buffer_pointer Range t none = refl
-
-  itself_alone : (k : LocalKind) (id : TyId) (t : Ty) → slice_get types.types id.0 ≡ Some t → has_buffer t ≡ false → ((n : ℕ) (at : AbsPlace) → pointers_in at (tree_of types (tree_within n types) (Some t)) ≡ at ∷ []) → (at : AbsPlace) → locations_in types k id at ≡ at ∷ []
-  unfolding tree_at
-  itself_alone k id t found none one at =
-      ap (λ (b : Bool). if b then at ∷ [] else pointers_in at (tree_at types id)) (ap (λ (o : Option Ty). is_variable k (or_void o)) found ∙ no_buffer_pointer k t none)
-      ∙ ap (λ (o : Option Ty). pointers_in at (tree_of types (tree_within id.0 types) o)) found ∙ one id.0 at
-
   -- what stands behind it is short
-  abbrev IsShortBehind : TyId → Type 0
-  IsShortBehind id = (r : Root) → AreShort (map element.At (places_in (root_place r) (tree_if types (target_of (ty_of types id)))))
+  abbrev IsShortBehind : Option TyId → Type 0
+  IsShortBehind o = (r : Root) → AreShort (map element.At (places_in (root_place r) (tree_if types (target_type types o))))
 
-  behind_short : (id : TyId) → longest_behind (tree_at types id) ≤ 8 → IsShortBehind id
+  behind_short : (id : TyId) → longest_behind (tree_at types id) ≤ 8 → IsShortBehind (Some id)
   behind_short id few r = go (slice_get types.types id.0) (subst (λ (t : TypeTree). longest_behind t ≤ 8) (tree_made types structs.ordered id) few)
     where
       go : (o : Option Ty) → longest_behind (tree_of types (tree_at types) o) ≤ 8 → AreShort (map element.At (places_in (root_place r) (tree_if types (target_of (or_void o)))))
@@ -241,6 +198,32 @@ module _ (types : Types) (structs : HasStructs types) where
       go (Some (ty.Iterator target constant)) few = tree_short target (root_place r) (omega (arith, few))
       go (Some (ty.Span target constant)) few = tree_short target (root_place r) (omega (arith, few))
       go _ few = (omega arith, tt)
+
+  -- .. and so it is behind its members, and theirs
+  abbrev HasShortBehind : Option TyId → Type 0
+  HasShortBehind None = Unit {0}
+  HasShortBehind (Some id) = longest_behind (tree_at types id) ≤ 8
+
+  members_behind : (ids : List TyId) (m : ℕ) → longest_behind (struct_of (tree_at types) ids) ≤ 8 → HasShortBehind (slice_get ids m)
+  members_behind [] m few = tt
+  members_behind (id ∷ ids) zero few = omega (arith, few)
+  members_behind (id ∷ ids) (suc m) few = members_behind ids m (omega (arith, few))
+
+  member_behind : (id : TyId) (m : ℕ) → longest_behind (tree_at types id) ≤ 8 → HasShortBehind (member_type types (Some id) m)
+  member_behind id m few = go (slice_get types.types id.0) (subst (λ (t : TypeTree). longest_behind t ≤ 8) (tree_made types structs.ordered id) few)
+    where
+      go : (o : Option Ty) → longest_behind (tree_of types (tree_at types) o) ≤ 8 → HasShortBehind (member_of types (or_void o) m)
+      go (Some (ty.Struct number)) few = members_behind (members_at types number) m few
+      go _ few = tt
+
+  path_behind : (ms : List ℕ) (o : Option TyId) → HasShortBehind o → HasShortBehind (members_type types o ms)
+  path_behind [] o few = few
+  path_behind (m ∷ ms) None few = path_behind ms None tt
+  path_behind (m ∷ ms) (Some id) few = path_behind ms (member_type types (Some id) m) (member_behind id m few)
+
+  short_behind : (o : Option TyId) → HasShortBehind o → IsShortBehind o
+  short_behind None few r = (omega arith, tt)
+  short_behind (Some id) few r = behind_short id few r
 
   -- ---- inputs whose places are short
 
@@ -256,61 +239,38 @@ module _ (types : Types) (structs : HasStructs types) where
   inputs_places [] h = tt
   inputs_places (i ∷ is) h = short_places (input_places types i) (flat_map (input_places types) is) h.0 (inputs_places is h.1)
 
-  one_input : (x : ℕ) (id : TyId) → IsShortBehind id → AreShortInputs (inputs_among types x id 0 (local_place x ∷ []))
-  one_input x id one = go (is_pointer (ty_of types id))
+  -- whatever its locations are
+  inputs_all : (x : ℕ) (id : TyId) → longest_behind (tree_at types id) ≤ 8 → (k : ℕ) (ls : List AbsPlace) → AreShortInputs (inputs_among types x id k ls)
+  inputs_all x id few k [] = tt
+  inputs_all x id few k (l ∷ ls) =
+      inputs_append (input_if (is_pointer (ty_if types here)) (input_at x k l here)) (inputs_among types x id (number_after (is_pointer (ty_if types here)) k) ls) (one (is_pointer (ty_if types here)))
+      (inputs_all x id few (number_after (is_pointer (ty_if types here)) k) ls)
     where
-      go : (b : Bool) → AreShortInputs (input_if b (input_at x 0 (local_place x) (Some id)) ++ [])
-      go false = tt
-      go true = (one (input_root x 0 (local_place x)), tt)
+      here : Option TyId
+      here = members_type types (Some id) (path l)
 
-  pointer_inputs : (k : LocalKind) (x : ℕ) (id : TyId) (t : Ty) → slice_get types.types id.0 ≡ Some t → IsServedType types t → has_buffer t ≡ false → ((n : ℕ) (at : AbsPlace) → pointers_in at (tree_of types (tree_within n types) (Some t)) ≡ at ∷ []) → IsShortBehind id
-      → AreShortInputs (inputs_among types x (shape_if types true id) 0 (locations_in types k (shape_if types true id) (local_place x)))
-  pointer_inputs k x id t found reached none alone one =
-      let same = same_shape true id (ap (λ (o : Option Ty). serves types (unwrap_or o ty.Void)) found ∙ type_serves types t reached) in
-      subst (λ (i : TyId). AreShortInputs (inputs_among types x i 0 (locations_in types k i (local_place x)))) (sym same)
-      (subst (λ (xs : List AbsPlace). AreShortInputs (inputs_among types x id 0 xs)) (sym (itself_alone k id t found none alone (local_place x))) (one_input x id one))
+      one : (b : Bool) → AreShortInputs (input_if b (input_at x k l here))
+      one false = tt
+      one true = (short_behind here (path_behind (path l) (Some id) few) (input_root x k l), tt)
 
-  -- an owner is one location where it is an object, and else none
-  owner_locations : (k : LocalKind) (id : TyId) (t : Ty) → slice_get types.types id.0 ≡ Some t → is_owner_of_values types t ≡ true → (at : AbsPlace) → (locations_in types k id at ≡ at ∷ []) ⊎ (locations_in types k id at ≡ [])
-  unfolding tree_at
-  owner_locations Object id ty.Text found o at = inl (ap (λ (v : Option Ty). if is_variable Object (or_void v) then at ∷ [] else pointers_in at (tree_at types id)) found)
-  owner_locations Object id (ty.Vector item) found o at = inl (ap (λ (v : Option Ty). if is_variable Object (or_void v) then at ∷ [] else pointers_in at (tree_at types id)) found)
-  owner_locations Register id ty.Text found o at = inr (ap (λ (v : Option Ty). pointers_in at (tree_of types (tree_within id.0 types) v)) found)
-  owner_locations Register id (ty.Vector item) found o at = inr (ap (λ (v : Option Ty). pointers_in at (tree_of types (tree_within id.0 types) v)) found)
-  owner_locations Range id ty.Text found o at = inr (ap (λ (v : Option Ty). pointers_in at (tree_of types (tree_within id.0 types) v)) found)
-  owner_locations Range id (ty.Vector item) found o at = inr (ap (λ (v : Option Ty). pointers_in at (tree_of types (tree_within id.0 types) v)) found)
-  owner_locations k id _ found o at = absurd (false≢true o)
+  -- a parameter has its own type
+  handed_shape : (id : TyId) → IsHandedType types id → shape_if types true id ≡ id
+  handed_shape id is = same_shape true id (go is)
+    where
+      serving : (t : Ty) → slice_get types.types id.0 ≡ Some t → IsAdmittedType types t → is_admitted_variable types id ≡ true
+      serving t at reached = ap (λ (o : Option Ty). admits types (unwrap_or o ty.Void)) at ∙ type_admits types t reached
 
-  owner_inputs : (k : LocalKind) (x : ℕ) (id : TyId) (t : Ty) → slice_get types.types id.0 ≡ Some t → is_owner_of_values types t ≡ true → IsShortBehind id
-      → AreShortInputs (inputs_among types x (shape_if types true id) 0 (locations_in types k (shape_if types true id) (local_place x)))
-  owner_inputs k x id t found o behind =
-      let same = same_shape true id (ap (λ (v : Option Ty). serves types (unwrap_or v ty.Void)) found ∙ type_serves types t (inr (inl o))) in
-      subst (λ (i : TyId). AreShortInputs (inputs_among types x i 0 (locations_in types k i (local_place x)))) (sym same)
-      (elim (owner_locations k id t found o (local_place x)) [
-        | inl one ↦ subst (λ (xs : List AbsPlace). AreShortInputs (inputs_among types x id 0 xs)) (sym one) (one_input x id behind)
-        | inr other ↦ subst (λ (xs : List AbsPlace). AreShortInputs (inputs_among types x id 0 xs)) (sym other) tt
-      ])
-
-  handed_inputs : (k : LocalKind) (x : ℕ) (id : TyId) → IsHandedType types id → IsShortBehind id → AreShortInputs (inputs_among types x (shape_if types true id) 0 (locations_in types k (shape_if types true id) (local_place x)))
-  handed_inputs k x id (a_value w) behind =
-      let same = same_shape true id (value_serves types (type_at types id) w) in
-      subst (λ (xs : List AbsPlace). AreShortInputs (inputs_among types x (shape_if types true id) 0 xs)) (sym (ap (λ (i : TyId). locations_in types k i (local_place x)) same ∙ no_locations k id w (local_place x))) tt
-  handed_inputs k x id (a_raw target constant at w) behind = pointer_inputs k x id (ty.Raw target constant) at (inl w) refl (λ n place. refl) behind
-  handed_inputs k x id (a_reference target constant at w) behind =
-      pointer_inputs k x id (ty.Reference target constant) at (inl (value_target types (type_at types target) w)) refl (λ n place. refl) behind
-  handed_inputs k x id (an_alias target constant at o) behind =
-      pointer_inputs k x id (ty.Reference target constant) at (inl (owner_target types (type_at types target) o)) refl (λ n place. refl) behind
-  handed_inputs k x id (a_struct_alias target constant number at s pointless) behind =
-      pointer_inputs k x id (ty.Reference target constant) at (inl (struct_target types (type_at types target) pointless)) refl (λ n place. refl) behind
-  handed_inputs k x id (a_view at) behind = pointer_inputs k x id ty.View at (inl refl) refl (λ n place. refl) behind
-  handed_inputs k x id (a_walker (ty.Iterator target constant) at w) behind = pointer_inputs k x id (ty.Iterator target constant) at (inr (inr (inl w))) refl (λ n place. refl) behind
-  handed_inputs k x id (a_walker (ty.Span target constant) at w) behind = pointer_inputs k x id (ty.Span target constant) at (inr (inr (inl w))) refl (λ n place. refl) behind
-  handed_inputs k x id (a_walker _ at w) behind = absurd (false≢true w)
-  handed_inputs k x id (an_owner t at o) behind = owner_inputs k x id t at o behind
-  handed_inputs k x id (a_unique target at w) behind = pointer_inputs k x id (ty.Unique target) at (inr (inr (inr (inl w)))) refl (λ n place. refl) behind
-  handed_inputs k x id (a_struct number at pointless) behind =
-      let same = same_shape true id (ap (λ (o : Option Ty). serves types (unwrap_or o ty.Void)) at ∙ type_serves types (ty.Struct number) (inr (inr (inr (inr refl))))) in
-      subst (λ (xs : List AbsPlace). AreShortInputs (inputs_among types x (shape_if types true id) 0 xs)) (sym (ap (λ (i : TyId). locations_in types k i (local_place x)) same ∙ struct_locations types structs k id number at pointless (local_place x))) tt
+      go : IsHandedType types id → is_admitted_variable types id ≡ true
+      go (a_value w) = value_admits types (type_at types id) w
+      go (a_raw target constant at w) = serving (ty.Raw target constant) at (inl w)
+      go (a_reference target constant at w) = serving (ty.Reference target constant) at (inl (value_target types (type_at types target) w))
+      go (an_alias target constant at o) = serving (ty.Reference target constant) at (inl (owner_target types (type_at types target) o))
+      go (a_struct_alias target constant number at s pointless) = serving (ty.Reference target constant) at (inl (struct_target types (type_at types target) pointless))
+      go (a_view at) = serving ty.View at (inl refl)
+      go (a_walker t at w) = serving t at (inr (inr (inl w)))
+      go (an_owner t at o) = serving t at (inr (inl o))
+      go (a_unique target at w) = serving (ty.Unique target) at (inr (inr (inr (inl w))))
+      go (a_struct number at) = serving (ty.Struct number) at (inr (inr (inr (inr refl))))
 
   local_short : (n x : ℕ) (l : Local) → HasShortPaths l → (x < n → IsHandedType types l.ty) → AreShortInputs (local_inputs types n x l)
   local_short n x l few handed = go (nat_lt x n) refl
@@ -320,7 +280,9 @@ module _ (types : Types) (structs : HasStructs types) where
 
       go : (b : Bool) → nat_lt x n ≡ b → AreShortInputs (if b then inputs_among types x (shape_if types b l.ty) 0 (locations_in types l.kind (shape_if types b l.ty) (local_place x)) else [])
       go false is = tt
-      go true is = handed_inputs l.kind x l.ty (handed (lt_of x n is)) (behind_short l.ty (omega (arith, few)))
+      go true is =
+          subst (λ (id : TyId). AreShortInputs (inputs_among types x id 0 (locations_in types l.kind id (local_place x)))) (sym (handed_shape l.ty (handed (lt_of x n is))))
+          (inputs_all x l.ty (omega (arith, few)) 0 (locations_in types l.kind l.ty (local_place x)))
 
   inputs_short : (n x : ℕ) (ls : List Local) → HaveShortPaths ls → ((y : ℕ) (l : Local) → slice_get ls y ≡ Some l → x + y < n → IsHandedType types l.ty) → AreShortInputs (inputs_from types n x ls)
   inputs_short n x [] few handed = tt

@@ -2,7 +2,7 @@
 use Rattle.std.specs.Prelude.{pos}
 use Rattle.std.proofs.Common.{◌≡◌, ℕ, Bool, true, false, ◌&&◌, List, [], ◌∷◌, drop, length, nat_lt, reverse, slice_get, Option, Some, None, refl}
 use Rattle.std.proofs.lemmas.Bool.{and_from, and_parts, false≢true, or_left}
-use Rattle.life_served.specs.Served.{is_served_condition, is_served_condition_if, is_served_range, is_served_start, is_served_statement, is_served_step, takes_elements}
+use Rattle.life_elab_laws.proofs.FormKinds.{is_read_condition, is_read_condition_if, is_read_range, is_read_start, is_read_statement, is_read_step, takes_elements}
 use Rattle.life_types.specs.Types.{Types}
 use Rattle.life_types.specs.declared.place.Place.{Place}
 use Rattle.life_types.specs.declared.ty.Ty.TheVariants as ty
@@ -14,7 +14,7 @@ use Rattle.life_core.specs.Function.{Function}
 use Rattle.life_core.specs.Tree.{Tree, Choice, Returns, trees}
 use Rattle.life_well_typed.specs.Statements.{AreBranches, Decides, DecidesIfAny, IsSimpleIfAny, IsStart, IsStatement, is_one}
 use Rattle.life_well_typed.specs.Visible.{Visible, after, after_start, behind, with_next}
-use Rattle.life_writer.specs.Around.{Around}
+use Rattle.life_writer.specs.Around.{Around, end_line}
 use Rattle.life_writer.specs.Behind.{ending}
 use Rattle.life_writer.specs.ExpressionForms.{uses}
 use Rattle.life_writer.specs.Using.{condition}
@@ -26,7 +26,7 @@ use Rattle.life_typed.specs.Ends.{all_end, ends, last_ends}
 use Rattle.life_elab.specs.LastTokens.{last_token}
 use Rattle.life_elab.specs.SimpleForms.{simple_if}
 use Rattle.life_elab.specs.StatementForms.{branches_of, condition_or_true, result_given, started, statement}
-use Rattle.life_elab.specs.Statements.{end_line, looped}
+use Rattle.life_elab.specs.Statements.{looped}
 use Rattle.life_elab_laws.proofs.Branching.{asserted_does, branched_does, tested_follows}
 use Rattle.life_elab_laws.proofs.Conditions.{Tests, level_tests, non_zero_part}
 use Rattle.life_elab_laws.proofs.DeclarationWriting.{declaration_does}
@@ -82,21 +82,21 @@ module _ (a : Around) (types : Types) (texts : ℕ) (fs : List Function) (f : Fu
 
   -- ---- the parts of loops
 
-  pub decided : (v : Visible) (e : Typed) (behind : Place) (s : State) → is_served_condition texts a.program.types e ≡ true → Decides a.program a.function.locals a.function.result v.visible e → Follows types f a v s → Tests types texts fs f (Some behind) s (condition (uses a (whole_form e)) (ending behind) s)
+  pub decided : (v : Visible) (e : Typed) (behind : Place) (s : State) → is_read_condition texts a.program e ≡ true → Decides a.program a.function.locals a.function.result v.visible e → Follows types f a v s → Tests types texts fs f (Some behind) s (condition (uses a (whole_form e)) (ending behind) s)
   decided v e behind s b h follows = deciding_condition a v.visible types texts fs f setting (whole_form e) (deciding_expression a v.visible types texts fs f setting (whole_form e) b h.1) h.0 (ending behind) s follows.stands
 
-  pub decided_or_true : (v : Visible) (keyword : Place) (e : Option Typed) (behind : Place) (s : State) → is_served_condition_if texts a.program.types e ≡ true → DecidesIfAny a.program a.function.locals a.function.result v.visible e → Follows types f a v s
+  pub decided_or_true : (v : Visible) (keyword : Place) (e : Option Typed) (behind : Place) (s : State) → is_read_condition_if texts a.program e ≡ true → DecidesIfAny a.program a.function.locals a.function.result v.visible e → Follows types f a v s
       → Tests types texts fs f (Some behind) s (condition_or_true a keyword e behind s)
   decided_or_true v keyword None behind s b h follows =
       level_tests types texts fs f behind s (condition_or_true a keyword None behind s) refl
       (non_zero_part types texts fs f keyword None ty.Bool (computed None ty.Bool keyword (constant (pos 1))) s _ follows.stands.pends (temporary_ends types texts fs f (first_own a) setting.own) (constant_part types texts fs f None ty.Bool keyword (pos 1) (with_code [] s) refl tt))
   decided_or_true v keyword (Some e) behind s b h follows = decided v e behind s b h follows
 
-  pub stepped : (v : Visible) (it : Option SimpleForm) (place : Place) (s : State) → is_served_step texts a.program.types it ≡ true → IsSimpleIfAny a.program a.function.locals a.function.result v.visible it → Follows types f a v s → DoesLevel types texts fs f a v false s (simple_if a it place s)
+  pub stepped : (v : Visible) (it : Option SimpleForm) (place : Place) (s : State) → is_read_step texts a.program it ≡ true → IsSimpleIfAny a.program a.function.locals a.function.result v.visible it → Follows types f a v s → DoesLevel types texts fs f a v false s (simple_if a it place s)
   stepped v None place s b h follows = record { does = does_nothing types texts fs f a v false s follows; level = refl }
   stepped v (Some it) place s b h follows = simple_does a types texts fs f setting v false it place s b h follows
 
-  pub begun : (v : Visible) (in_loop : Bool) (start : Option ForStartForm) (place : Place) (s : State) → is_served_start texts a.program.types a.function.locals start ≡ true → IsStart a.program a.function.locals a.function.result start v → Follows types f a v s
+  pub begun : (v : Visible) (in_loop : Bool) (start : Option ForStartForm) (place : Place) (s : State) → is_read_start texts a.program a.function.locals start ≡ true → IsStart a.program a.function.locals a.function.result start v → Follows types f a v s
       → Does types texts fs f a (after_start start v) in_loop s (started a start place s)
   begun v in_loop None place s b h follows = does_nothing types texts fs f a v in_loop s follows
   begun v in_loop (Some (declared_first d)) place s b h follows = declaration_does a types texts fs f setting v in_loop d place s follows b h
@@ -115,7 +115,7 @@ module _ (a : Around) (types : Types) (texts : ℕ) (fs : List Function) (f : Fu
   -- ---- any statement
 
   mutual
-    pub statement_does : (form : StmtForm) (in_loop : Bool) (v : Visible) (s : State) → is_served_statement texts a.program.types a.function.locals form ≡ true → IsTyped form in_loop v → Follows types f a v s → HasRegister a s → IsDone form in_loop v s
+    pub statement_does : (form : StmtForm) (in_loop : Bool) (v : Visible) (s : State) → is_read_statement texts a.program a.function.locals form ≡ true → IsTyped form in_loop v → Follows types f a v s → HasRegister a s → IsDone form in_loop v s
     statement_does (block items closing) in_loop v s b h follows register =
         let inner = statement_does items in_loop v s b h follows register in
         let t = statement a items s in
@@ -131,14 +131,14 @@ module _ (a : Around) (types : Types) (texts : ℕ) (fs : List Function) (f : Fu
     statement_does (sentence it semicolon) in_loop v s b h follows register =
         done_alone (sentence it semicolon) in_loop v s (simple_does a types texts fs f setting v in_loop it semicolon s b h follows) (λ e. runs_on e) (λ before e. e)
     statement_does (branching branches last) in_loop v s b h follows register =
-        let parts = and_parts (is_served_statement texts a.program.types a.function.locals branches) (is_served_statement texts a.program.types a.function.locals last) b in
+        let parts = and_parts (is_read_statement texts a.program a.function.locals branches) (is_read_statement texts a.program a.function.locals last) b in
         let all = branches_do branches in_loop v s parts.0 h.0 follows register (statement a last) (after last (after branches v)) (ends last)
         (λ t later there.
         let end = statement_does last in_loop (after branches v) t parts.1 h.2 later there in
         record { does = level_of last in_loop (after branches v) t end h.1; stopped = end.over }) in
         done_alone (branching branches last) in_loop v s all.does all.stopped (λ before e. e)
     statement_does (while_loop keyword decides closing body) in_loop v s b h follows register =
-        let parts = and_parts (is_served_condition texts a.program.types decides) (is_served_statement texts a.program.types a.function.locals body) b in
+        let parts = and_parts (is_read_condition texts a.program decides) (is_read_statement texts a.program a.function.locals body) b in
         done_alone (while_loop keyword decides closing body) in_loop v s
         (loop_done v (after body v) in_loop (condition (uses a (whole_form decides)) (ending closing)) (statement a body) (λ t. t) s follows register (decided v decides closing s parts.0 h.0 follows)
         (λ t later there. level_of body true v t (statement_does body true v t parts.1 h.2 later there) h.1)
@@ -146,9 +146,9 @@ module _ (a : Around) (types : Types) (texts : ℕ) (fs : List Function) (f : Fu
         (λ e. runs_on e)
         (λ before e. e)
     statement_does (for_loop keyword start first decides second stepping closing body) in_loop v s b h follows register =
-        let one = and_parts (is_served_start texts a.program.types a.function.locals start) _ b in
-        let two = and_parts (is_served_condition_if texts a.program.types decides) _ one.1 in
-        let three = and_parts (is_served_step texts a.program.types stepping) (is_served_statement texts a.program.types a.function.locals body) two.1 in
+        let one = and_parts (is_read_start texts a.program a.function.locals start) _ b in
+        let two = and_parts (is_read_condition_if texts a.program decides) _ one.1 in
+        let three = and_parts (is_read_step texts a.program stepping) (is_read_statement texts a.program a.function.locals body) two.1 in
         let v1 = after_start start v in
         let begins = begun v in_loop start first s one.0 h.0 follows in
         let s1 = started a start first s in
@@ -167,8 +167,8 @@ module _ (a : Around) (types : Types) (texts : ℕ) (fs : List Function) (f : Fu
         (λ e. runs_on e)
         (λ before e. e)
     statement_does (range_loop keyword x name colon range closing body) in_loop v s b h follows register =
-        let one = and_parts (is_served_range texts a.program.types range) _ b in
-        let two = and_parts (takes_elements a.program.types (slice_get a.function.locals x) (range_element range.ty (is_const_place range.category))) (is_served_statement texts a.program.types a.function.locals body) one.1 in
+        let one = and_parts (is_read_range texts a.program range) _ b in
+        let two = and_parts (takes_elements a.program.types (slice_get a.function.locals x) (range_element range.ty (is_const_place range.category))) (is_read_statement texts a.program a.function.locals body) one.1 in
         done_alone (range_loop keyword x name colon range closing body) in_loop v s
         (range_does a types texts fs f setting v (after body (with_next v)) in_loop x range colon closing (last_token body closing) (statement a body) s one.0 two.0 h.0 follows register
         (λ t later there. level_of body true (with_next v) t (statement_does body true (with_next v) t two.1 h.2 later there) h.1))
@@ -200,7 +200,7 @@ module _ (a : Around) (types : Types) (texts : ℕ) (fs : List Function) (f : Fu
     statement_does no_more in_loop v s b h follows register =
         record { does = does_nothing types texts fs f a v in_loop s follows; level = λ one. refl; over = λ e. runs_on e; last = λ before p e. p e }
     statement_does (chain first others) in_loop v s b h follows register =
-        let parts = and_parts (is_served_statement texts a.program.types a.function.locals first) (is_served_statement texts a.program.types a.function.locals others) b in
+        let parts = and_parts (is_read_statement texts a.program a.function.locals first) (is_read_statement texts a.program a.function.locals others) b in
         let t = statement a first s in
         let one = statement_does first in_loop v s parts.0 h.0 follows register in
         let two = statement_does others in_loop (after first v) t parts.1 h.1 one.does.follows (register_later a s t one.does.adds.locals one.does.adds.table register) in
@@ -212,12 +212,12 @@ module _ (a : Around) (types : Types) (texts : ℕ) (fs : List Function) (f : Fu
         }
 
     -- the branches of an `if`, with what is done where no condition holds
-    pub branches_do : (branches : StmtForm) (in_loop : Bool) (v : Visible) (s : State) → is_served_statement texts a.program.types a.function.locals branches ≡ true → AreBranches a.program a.function.locals a.function.result branches in_loop v
+    pub branches_do : (branches : StmtForm) (in_loop : Bool) (v : Visible) (s : State) → is_read_statement texts a.program a.function.locals branches ≡ true → AreBranches a.program a.function.locals a.function.result branches in_loop v
         → Follows types f a v s → HasRegister a s → (last : State → State) (x : Visible) (over : Bool)
         → ((t : State) → Follows types f a (after branches v) t → HasRegister a t → DoesOver x in_loop over t (last t)) → DoesOver x in_loop (all_end branches && over) s (branches_of a branches last s)
     branches_do (chain (branch keyword decides closing body) others) in_loop v s b h follows register last x over end =
-        let parts = and_parts (is_served_condition texts a.program.types decides && is_served_statement texts a.program.types a.function.locals body) (is_served_statement texts a.program.types a.function.locals others) b in
-        let inner = and_parts (is_served_condition texts a.program.types decides) (is_served_statement texts a.program.types a.function.locals body) parts.0 in
+        let parts = and_parts (is_read_condition texts a.program decides && is_read_statement texts a.program a.function.locals body) (is_read_statement texts a.program a.function.locals others) b in
+        let inner = and_parts (is_read_condition texts a.program decides) (is_read_statement texts a.program a.function.locals body) parts.0 in
         let w = condition (uses a (whole_form decides)) (ending closing) s in
         let test = decided v decides closing s inner.0 h.0 follows in
         let ready = tested_follows types texts fs f a v in_loop s w follows test in

@@ -1,7 +1,7 @@
 -- Expressions that make a string: texts that are joined, and a string of a string, a view or a literal.
 use Rattle.std.proofs.Common.{◌≡◌, ◌⊎◌, inl, inr, ℕ, Bool, true, false, if◌then◌else◌, List, Ok, refl, sym, ap, ◌∙◌, subst}
 use Rattle.std.proofs.lemmas.Bool.{false≢true}
-use Rattle.life_served.specs.Served.{is_owner_of_values}
+use Rattle.life_elab_laws.proofs.FormKinds.{is_owner_of_values}
 use Rattle.life_types.specs.Types.{Types}
 use Rattle.life_types.specs.declared.place.Place.{Place}
 use Rattle.life_types.specs.declared.ty.Ty.{Ty}

@@ -1,7 +1,7 @@
 -- Structs at a place, such as variables, and their members.
 use Rattle.std.proofs.Common.{◌≡◌, ℕ, Bool, true, false, List, Contains, length, slice_get, Option, Some, None, refl, sym, ap, ◌∙◌, subst, unwrap_or}
 use Rattle.std.proofs.lemmas.Bool.{false≢true}
-use Rattle.life_served.specs.Served.{is_owner_of_values, is_owner_type, is_plain_type, is_struct, is_struct_member, is_struct_type, is_walker_of_values, is_plain_struct, is_walker_type, is_element}
+use Rattle.life_elab_laws.proofs.FormKinds.{is_owner_of_values, is_owner_type, is_plain_type, is_struct, is_struct_member, is_struct_type, is_walker_of_values, is_plain_struct, is_walker_type, is_element}
 use Rattle.life_types.specs.Trees.{members_at}
 use Rattle.life_types.specs.TypeTests.{is_value}
 use Rattle.life_types.specs.declared.place.Place.{Place}
@@ -28,7 +28,7 @@ use Rattle.life_writer.specs.ExpressionForms.{member_at, uses, form_uses}
 use Rattle.life_writer.specs.Using.{operand, with_member, location_in}
 use Rattle.life_writer.specs.Variables.{variable, variable_place}
 use Rattle.life_writer.specs.Writing.{Gives, State, gives, mapped}
-use Rattle.life_elab_laws.proofs.ExpressionForms.{IsForm, Placed, Standing, place_form}
+use Rattle.life_elab_laws.proofs.ExpressionForms.{IsForm, Placed, Standing, place_form, placed_finds}
 use Rattle.life_elab_laws.proofs.ExpressionKinds.{variable_built}
 use Rattle.life_elab_laws.proofs.FormedVariables.{const_same, object_formed, reference_formed}
 use Rattle.life_elab_laws.proofs.Gifts.{a_place, nothing as no_gift, a_pointing, IsPlaceOf}
@@ -273,6 +273,7 @@ module _ (a : Around) (visible : List ℕ) (types : Types) (texts : ℕ) (fs : L
             place_form a visible types texts fs f setting (member base which) e (kind_of_place a.program.types e found.id is.constant e.form found.told kind)
             (λ value. value_place (sym value ∙ found.held)) refl (λ place b. refl)
             (λ id constant at worth place s stands. as_type id constant at s stands)
+            (λ id constant at place s stands. placed_finds a visible types texts fs f setting (type_at a.program.types id) constant s (member_at (uses a base) which s) (as_type id constant at s stands))
             (λ p place s stands. points p s stands)
 
         pointed : (t : Ty) → type_at a.program.types found.id ≡ t → is_location t ≡ true → is_pointed e.ty ≡ true → (s : State) → Stood s → Makes types texts fs f None s (pointing_at s) (a_pointing types texts fs f e.ty)

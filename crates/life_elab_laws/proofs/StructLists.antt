@@ -1,5 +1,5 @@
 -- What a list builds for a struct: each member is given one after the other, where the struct has come to life.
-use Rattle.std.proofs.Common.{◌≡◌, ◌+◌, ℕ, true, false, List, None, Some, slice_get, refl, sym, ap, subst, arith, length, Bool, ◌<◌, ◌∙◌}
+use Rattle.std.proofs.Common.{◌≡◌, ◌+◌, ℕ, true, false, List, None, Some, slice_get, refl, sym, ap, subst, arith, length, ◌<◌}
 use Rattle.std.proofs.lemmas.Bool.{false≢true}
 use Rattle.life_types.specs.Trees.{members_at}
 use Rattle.life_types.specs.Types.{Types}
@@ -26,18 +26,17 @@ use Rattle.life_elab_laws.proofs.Setting.{Setting}
 use Rattle.life_elab_laws.proofs.StructMembers.{AreListed, members_written}
 use Rattle.life_core.specs.Operands.{whole, Operand, object_named, Name}
 use Rattle.life_elab_laws.proofs.WrittenMembers.{IsWriting, part_writing}
-use Rattle.life_elab_laws.proofs.FilledObjects.{filling_writing, FillsObject}
-use Rattle.life_served.specs.Served.{is_plain_struct}
-use Rattle.life_core.specs.Operands.{Operand, object_named}
+use Rattle.life_elab_laws.proofs.FilledObjects.{filling_writing}
+use Rattle.life_well_typed.specs.Expressions.{HasStructType}
 
 module _ (a : Around) (visible : List ℕ) (types : Types) (texts : ℕ) (fs : List Function) (f : Function) (setting : Setting a types fs f) where
   abbrev Stood : State → Type 0
   Stood s = Standing a visible types texts fs f setting s
 
   -- all of them
-  all_written : (number : ℕ) (to : Operand) {Writes : State → State → Type 0} → IsWriting types texts fs f (ty.Struct number) (is_plain_struct a.program.types (ty.Struct number)) to Writes → (es : Form) (d : DelimitersForm) (s : State) → AreListed a visible types texts fs f setting es
+  all_written : (number : ℕ) (to : Operand) {Writes : State → State → Type 0} → IsWriting types texts fs f (ty.Struct number) to Writes → (es : Form) (d : DelimitersForm) (s : State) → AreListed a visible types texts fs f setting es
       → are_each a.program.types (members_at a.program.types number) es ≡ true → Stood s
-      → (is_plain_struct a.program.types (ty.Struct number) ≡ false → (n : ℕ) × ((to ≡ Name (whole n)) × (n < length s.locals))) → Writes s (assigned_members a 0 (members_at a.program.types number) to (all_uses a es) d s)
+      → (n : ℕ) × ((to ≡ Name (whole n)) × (n < length s.locals)) → Writes s (assigned_members a 0 (members_at a.program.types number) to (all_uses a es) d s)
   all_written number to ways es d s given all stands lies =
       members_written a visible types texts fs f setting number to ways 0 (members_at a.program.types number)
       (λ k id there. let here : k ≡ 0 + k = omega arith in subst (λ (n : ℕ). slice_get (members_at a.program.types number) n ≡ Some id) here there) es d s given all stands lies
@@ -54,30 +53,28 @@ module _ (a : Around) (visible : List ℕ) (types : Types) (texts : ℕ) (fs : L
       (leaf_part types texts fs f tt s (no_gift types texts fs f) (λ b. tt) (λ b k alive. tt)) refl
       (λ place to r stands still new.
       all_written number to
-      (part_writing types texts fs f (ty.Struct number) (both types texts fs f (no_gift types texts fs f) (a_place types texts fs f (ty.Struct number) false)) (tt, to) to (λ h. h.1) (λ n k h. h.1) (is_plain_struct a.program.types (ty.Struct number))) (e ⨟ es) d r given all stands
-      (λ none. (new.number, (new.is, new.below))))
+      (part_writing types texts fs f (ty.Struct number) (both types texts fs f (no_gift types texts fs f) (a_place types texts fs f (ty.Struct number) false)) (tt, to) to (λ h. h.1) (λ n k h. h.1)) (e ⨟ es) d r given all stands
+      (new.number, (new.is, new.below)))
       (λ e. absurd (false≢true e))
   members_build number opening _ d s given all = absurd given
 
   -- .. where nothing else sees it
   pub members_unseen : (number : ℕ) (opening : Place) (es : Form) (d : DelimitersForm) → AreListed a visible types texts fs f setting es → are_members a.program.types (members_at a.program.types number) es ≡ true
       → (object : State → Gives Remaining) → ((s : State) → object s ≡ gives (list_object a (ty.Struct number) opening (all_uses a es) d) s) → IsBuiltUnseen a visible types texts fs f setting number object
-  members_unseen number opening nothing d given all object same = by_members Zero (λ place to r. r) same (λ pointless place x s stands. (filling_writing types texts fs f x (ty.Struct number)).none s)
+  members_unseen number opening nothing d given all object same = by_members Zero (λ place to r. r) same (λ place x s stands below. (filling_writing types texts fs f x (ty.Struct number)).none s)
   members_unseen number opening (e ⨟ es) d given all object same =
       by_members Plain (filled_in a (ty.Struct number) opening (all_uses a (e ⨟ es)) d) same
-      (λ pointless place x s stands.
-      all_written number (object_named x)
-      (subst (λ (b : Bool). IsWriting types texts fs f (ty.Struct number) b (object_named x) (FillsObject types texts fs f x (ty.Struct number))) (sym pointless) (filling_writing types texts fs f x (ty.Struct number))) (e ⨟ es) d s given all stands
-      (λ none. absurd (false≢true (sym none ∙ pointless))))
+      (λ place x s stands below. all_written number (object_named x) (filling_writing types texts fs f x (ty.Struct number)) (e ⨟ es) d s given all stands (x, (refl, below)))
   members_unseen number opening _ d given all object same = absurd given
 
   -- as an expression, which stands at its brace
-  pub constructed : (number : ℕ) (es : Form) (d : DelimitersForm) (e : Typed) (place : Place) → e ≡ value e.place (ty.Struct number) e.form → are_members a.program.types (members_at a.program.types number) es ≡ true → AreListed a visible types texts fs f setting es
+  pub constructed : (number : ℕ) (es : Form) (d : DelimitersForm) (e : Typed) (place : Place) → e ≡ value e.place (ty.Struct number) e.form → are_members a.program.types (members_at a.program.types number) es ≡ true → HasStructType a.program.types number → AreListed a visible types texts fs f setting es
       → IsMadeStructAt a visible types texts fs f setting e ((form_uses a (construct number es d) place e.ty e.category).object)
-  constructed number es d e place is all given = record {
+  constructed number es d e place is all has given = record {
     number = number;
     is = ap (λ (y : Typed). y.ty) is;
     value = ap (λ (y : Typed). y.category) is;
+    tabled = record { number = number; is = refl; at = has.0; there = has.1 };
     builds = λ s stands.
         subst (λ (t : Ty). BuildsIn a visible types texts fs f setting false (ty.Struct number) s (gives (list_object a t place (all_uses a es) d) s)) (sym (ap (λ (y : Typed). own_type y.ty) is)) (members_build number place es d s given all);
     unseen =

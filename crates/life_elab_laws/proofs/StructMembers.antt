@@ -2,7 +2,7 @@
 use Rattle.std.proofs.Common.{◌≡◌, ◌+◌, ℕ, zero, suc, Bool, true, false, List, [], ◌∷◌, None, Some, Option, inl, inr, slice_get, refl, sym, ap, ◌∙◌, subst, arith, ◌<◌, length}
 use Rattle.std.specs.Prelude.{◌&&◌}
 use Rattle.std.proofs.lemmas.Bool.{and_parts, false≢true}
-use Rattle.life_served.specs.Served.{is_owner_of_values, is_plain_struct}
+use Rattle.life_elab_laws.proofs.FormKinds.{is_owner_of_values}
 use Rattle.life_types.specs.Trees.{members_at}
 use Rattle.life_types.specs.TypeTests.{is_value}
 use Rattle.life_types.specs.Types.{Types, class}
@@ -22,7 +22,7 @@ use Rattle.life_typed.specs.declared.typed_expr.ExprType.TheVariants.{TextLitera
 use Rattle.life_typed.specs.Conversions.{fits}
 use Rattle.life_type_expr.specs.Lists.{fits_at_all, is_taken}
 use Rattle.life_core.specs.Function.{Function}
-use Rattle.life_core.specs.Operands.{Operand, object_named, Location, Name, whole}
+use Rattle.life_core.specs.Operands.{Operand, object_named, Name, whole}
 use Rattle.life_proper.specs.declared.known.Known.{Known}
 use Rattle.life_well_typed.specs.Expressions.{typed_in}
 use Rattle.life_well_typed.specs.Given.{is_number}
@@ -34,11 +34,11 @@ use Rattle.life_writer.specs.Lists.{assigned_members, member_target}
 use Rattle.life_writer.specs.Using.{temporary_of, value, with_member, location_in, pointing}
 use Rattle.life_writer.specs.Variables.{variable}
 use Rattle.life_writer.specs.Uses.{Act, Uses}
-use Rattle.life_writer.specs.Writing.{Gives, State, gives, emit}
+use Rattle.life_writer.specs.Writing.{Gives, State, gives}
 use Rattle.life_elab_laws.proofs.AliasForms.{given_literal, literal_object, no_owner_given, walker_no_struct_given}
 use Rattle.life_elab_laws.proofs.ExpressionForms.{IsWhole, Standing}
 use Rattle.life_elab_laws.proofs.FormedFits.{given_owner}
-use Rattle.life_elab_laws.proofs.Gifts.{Gift, IsPlaceOf, a_number, a_place, both, nothing as no_gift, a_pointing}
+use Rattle.life_elab_laws.proofs.Gifts.{Gift, IsPlaceOf, a_number, a_place, both}
 use Rattle.life_elab_laws.proofs.CopiedStructs.{listed_copied}
 use Rattle.life_elab_laws.proofs.FreshUniques.{IsFresh, given_null}
 use Rattle.life_elab_laws.proofs.GivenKinds.{taken_number}
@@ -49,33 +49,27 @@ use Rattle.life_elab_laws.proofs.Making.{IsPlace}
 use Rattle.life_elab_laws.proofs.MoveSteps.{a_source, moves_part, owner_moves}
 use Rattle.life_elab_laws.proofs.MovedOwners.{given_moved, source_part}
 use Rattle.life_elab_laws.proofs.OwnerSteps.{copies_part}
-use Rattle.life_elab_laws.proofs.Parts.{Makes, Part}
+use Rattle.life_elab_laws.proofs.Parts.{Makes}
 use Rattle.life_elab_laws.proofs.PointerForms.{held_typed}
 use Rattle.life_elab_laws.proofs.PushedElements.{giving_no_struct, giving_number}
 use Rattle.life_elab_laws.proofs.ReplacedOwners.{IsMovingAt, IsReplaced}
 use Rattle.life_elab_laws.proofs.Saving.{saved_part}
 use Rattle.life_elab_laws.proofs.Setting.{Setting}
-use Rattle.life_elab_laws.proofs.StructSteps.{member_apart, member_placed, member_there, struct_copies_part, fills_member, member_pointer, type_in_member}
+use Rattle.life_elab_laws.proofs.StructSteps.{member_apart, member_placed, member_there, struct_copies_part, type_in_member}
 use Rattle.life_elab_laws.proofs.StructTypes.{IsHeld, a_struct_held, a_value_held, an_owner_held, has_member, held_is, member_type_there, a_raw_held, a_unique_held, a_view_held, a_walker_held}
 use Rattle.life_elab_laws.proofs.Types.{value_class}
 use Rattle.life_elab_laws.proofs.VariablePlaces.{stands_later, walker_is}
 use Rattle.life_elab_laws.proofs.MadeStructs.{IsAnyStruct, as_struct, struct_at, struct_by_at, struct_typed}
-use Rattle.life_elab_laws.proofs.ServedTypes.{struct_tabled}
+use Rattle.life_elab_laws.proofs.AdmittedTypes.{struct_tabled}
 use Rattle.life_elab_laws.proofs.GivenOwners.{named_ready}
-use Rattle.life_elab_laws.proofs.WrittenMembers.{IsWriting, Stores, writes_behind}
+use Rattle.life_elab_laws.proofs.WrittenMembers.{IsWriting, Stores}
 use Rattle.life_core.specs.Step.{Copy, Move, Save}
 use Rattle.life_proper.specs.Placed.{type_in}
-use Rattle.life_elab_laws.proofs.Aiming.{pointed_fine, pointed_keeps, pointed_ready}
-use Rattle.life_elab_laws.proofs.Instructions.{acted_as_part}
 use Rattle.life_elab_laws.proofs.Locations.{is_location}
 use Rattle.life_elab_laws.proofs.ObjectForms.{IsOwner}
-use Rattle.life_elab_laws.proofs.PlainStructs.{no_pointer_in}
 use Rattle.life_elab_laws.proofs.PointerMembers.{IsShown, location_class, no_raw_struct, no_raw_walker, no_view_struct, no_view_walker, no_walker_struct, owner_no_raw, owner_span, string_view, walker_walker, whole_no_walker, whole_raw, whole_view}
 use Rattle.life_elab_laws.proofs.WalkerForms.{IsWalker}
-use Rattle.life_writer.specs.Pointers.{pointed, Pointing}
-use Rattle.life_elab_laws.proofs.PointedCalls.{GivesPointer, call_given, gives_called, gives_plainly}
-use Rattle.life_proper.specs.Knowing.{known_at}
-use Rattle.life_proper.specs.declared.known.Known.TheVariants as known
+use Rattle.life_elab_laws.proofs.FilledPointers.{pointer_given}
 
 module _ (a : Around) (visible : List ℕ) (types : Types) (texts : ℕ) (fs : List Function) (f : Function) (setting : Setting a types fs f) where
   -- ---- what a member is given
@@ -96,13 +90,13 @@ module _ (a : Around) (visible : List ℕ) (types : Types) (texts : ℕ) (fs : L
 -- ---- one after the other, however its members are written
 
 module _ (a : Around) (visible : List ℕ) (types : Types) (texts : ℕ) (fs : List Function) (f : Function) (setting : Setting a types fs f) (number : ℕ) (to : Operand) {Writes : State → State → Type 0}
-    (ways : IsWriting types texts fs f (ty.Struct number) (is_plain_struct a.program.types (ty.Struct number)) to Writes) where
+    (ways : IsWriting types texts fs f (ty.Struct number) to Writes) where
   abbrev Stood : State → Type 0
   Stood s = Standing a visible types texts fs f setting s
 
-  -- what holds pointers is a local that stands before
+  -- the struct is a local that stands before
   abbrev Lies : State → Type 0
-  Lies s = is_plain_struct a.program.types (ty.Struct number) ≡ false → (n : ℕ) × ((to ≡ Name (whole n)) × (n < length s.locals))
+  Lies s = (n : ℕ) × ((to ≡ Name (whole n)) × (n < length s.locals))
 
   -- ---- a member
 
@@ -173,45 +167,10 @@ module _ (a : Around) (visible : List ℕ) (types : Types) (texts : ℕ) (fs : L
     pointer_member : is_location t ≡ true → IsShown a visible types texts fs f setting e t → Writes s (assigned u t (member_target m to) at behind s)
     pointer_member loc shown =
         as_class classes.Pointer (location_class t loc)
-        (ways.points holds s (emit u.place (pointed (pointing u s).given l) (pointing u s).state) (assigns (shown.points s stands)))
+        (pointer_given a visible types texts fs f setting number to lies.0 m lies.1.0 t shown.source loc shown.taken typed u.place ways s (pointing u s) stands.opened lies.1.1 (shown.points s stands))
       where
-        -- so the struct holds one
-        holds : is_plain_struct a.program.types (ty.Struct number) ≡ false
-        holds = go (is_plain_struct a.program.types (ty.Struct number)) refl
-          where
-            go : (b : Bool) → is_plain_struct a.program.types (ty.Struct number) ≡ b → b ≡ false
-            go false plain = refl
-            go true plain = absurd (no_pointer_in a.program.types setting.values.ordered number m id there plain loc)
-
-        -- .. and is a local
-        named : ℕ
-        named = (lies holds).0
-
-        is : to ≡ Name (whole named)
-        is = (lies holds).1.0
-
-        l : Location
-        l = location_in here
-
-        typed : IsPlaceOf types texts fs f (ty.Struct number) false to → type_in types f l ≡ t
-        typed h = type_in_member types texts fs f t m to (whole named) is loc (here_typed h).typed
-
-        assigns : GivesPointer types texts fs f shown.source s (pointing u s) → Part types texts fs f P to None s (gives tt (emit u.place (pointed (pointing u s).given l) (pointing u s).state)) (no_gift types texts fs f)
-        assigns (gives_plainly first) =
-            let w = pointing u s in
-            let Q = a_pointing types texts fs f shown.source in
-            writes_behind types texts fs f (ty.Struct number) P to to (λ h. h) (λ n k h. h) s w Q u.place (pointed w.given l) stands.opened first
-            (acted_as_part types texts fs f (both types texts fs f P Q) (to, w.given) u.place (pointed w.given l) w.state
-            (λ h. pointed_fine types texts fs f l t shown.source w.given loc (typed h.0) shown.taken h.1)
-            (λ h n k p. pointed_ready f l n n w.given k (member_pointer m to (whole named) is n k p.0) p.1 (fills_member f m to (whole named) is))
-            (λ h n j k p. pointed_keeps f l n n w.given k (member_pointer m to (whole named) is n k p.0) p.1 j (fills_member f m to (whole named) is)))
-        assigns (gives_called c) =
-            let here_is : l ≡ record { local = named; members = m ∷ [] } = ap (λ (o : Operand). location_in (with_member m o)) is in
-            subst (λ (q : Location). Part types texts fs f P to None s (gives tt (emit u.place (pointed (pointing u s).given q) (pointing u s).state)) (no_gift types texts fs f)) (sym here_is)
-            (subst (λ (w : Gives Pointing). Part types texts fs f P to None s (gives tt (emit u.place (pointed w.given (record { local = named; members = m ∷ [] })) w.state)) (no_gift types texts fs f)) (sym c.is)
-            (call_given types texts fs f shown.source s (pointing u s) c P to t named m [] u.place ((lies holds).1.1) (λ h. subst (λ (q : Location). type_in types f q ≡ t) here_is (typed h))
-            (λ n k q. let h = member_pointer m to (whole named) is n k q in subst (λ (x : ℕ). known_at k x ≡ known.Ready) (sym h.is ∙ ap (λ (q : Location). q.local) here_is) h.held)
-            (inr shown.taken)))
+        typed : IsPlaceOf types texts fs f (ty.Struct number) false to → type_in types f (location_in here) ≡ t
+        typed h = type_in_member types texts fs f t m to (whole lies.0) lies.1.0 loc (here_typed h).typed
 
     -- ---- what it is given
 
@@ -372,6 +331,6 @@ module _ (a : Around) (visible : List ℕ) (types : Types) (texts : ℕ) (fs : L
       ways.chained s r (assigned_members a (suc m) ids to (all_uses a es) (behind_others d) r) stands.opened first
       (members_written (suc m) ids (λ k y at. let next : m + suc k ≡ suc m + k = omega arith in subst (λ (n : ℕ). slice_get (members_at a.program.types number) n ≡ Some y) next (each (suc k) y at)) es (behind_others d) r given.1 parts.1
       (stands_later a visible s r (ways.grows s r first) stands)
-      (λ none. let l = lies none in let more = (ways.grows s r first).count in (l.0, (l.1.0, omega (arith, l.1.1, more)))))
+      (let lower = lies.1.1 in let more = (ways.grows s r first).count in (lies.0, (lies.1.0, omega (arith, lower, more)))))
   members_written m [] each _ d s given all stands lies = absurd given
   members_written m (id ∷ ids) each _ d s given all stands lies = absurd given

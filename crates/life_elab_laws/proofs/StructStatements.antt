@@ -30,7 +30,7 @@ use Rattle.life_writer.specs.Lists.{built_type, listed}
 use Rattle.life_writer.specs.Uses.{Act, Uses}
 use Rattle.life_elab_laws.proofs.MadeForms.{temporary_made}
 use Rattle.life_elab_laws.proofs.MadeStructs.{IsAnyStruct, as_struct, struct_at, struct_by_at}
-use Rattle.life_elab_laws.proofs.ServedTypes.{struct_tabled}
+use Rattle.life_elab_laws.proofs.AdmittedTypes.{struct_tabled}
 use Rattle.life_elab_laws.proofs.StructLists.{members_build}
 use Rattle.life_elab_laws.proofs.StructMembers.{AreListed}
 

@@ -1,6 +1,6 @@
 -- Structs: what a table says of their members, also one with more types.
 use Rattle.std.proofs.Common.{◌≡◌, ◌<◌, ℕ, zero, suc, Bool, true, List, [], ◌∷◌, slice_get, Option, Some, None, refl, sym, ap, ◌∙◌, subst, unwrap_or, length, arith, false}
-use Rattle.std.specs.Prelude.{nat_lt, ◌^◌}
+use Rattle.std.specs.Prelude.{nat_lt}
 use Rattle.std.proofs.lemmas.Bool.{and_from, and_parts, false≢true, or_left}
 use Rattle.std.proofs.lemmas.Bool.Decides.{nat_tests}
 use Rattle.std.proofs.lemmas.Option.{none-some, same_Some}
@@ -11,7 +11,7 @@ use Rattle.life_types.specs.Types.{HasEachOnce, Types}
 use Rattle.life_types.specs.declared.ty.Ty.{Ty}
 use Rattle.life_types.specs.declared.ty.Ty.TheVariants as ty
 use Rattle.life_types.specs.declared.ty.TyId.{TyId}
-use Rattle.life_served.specs.Served.{are_struct_members, has_fine_structs, have_each, hold_members, is_owner_of_values, is_struct_member, are_plain, is_element, is_target, is_walker_of_values}
+use Rattle.life_elab_laws.proofs.FormKinds.{are_struct_members, has_fine_structs, have_each, hold_members, is_owner_of_values, is_struct_member, are_plain, is_element, is_target, is_walker_of_values}
 use Rattle.life_typed.specs.BaseTypes.{type_at}
 use Rattle.life_typed.specs.declared.basic.TheConstants.{CHAR}
 use Rattle.life_elab_laws.proofs.Fronts.{IsFront}
@@ -28,7 +28,7 @@ pub record HasStructs (types : Types) : Type 0 where
   pub members : (number : ℕ) → have_each (is_struct_member types) types (members_at types number) ≡ true
 
 -- .. and the table has chars, where views have elements
-pub record IsServedTable (types : Types) : Type 0 where
+pub record IsAdmittedTable (types : Types) : Type 0 where
   pub chars : type_at types CHAR ≡ ty.Char
   pub structs : HasStructs types
 
@@ -83,19 +83,16 @@ module _ (types : Types) where
   pub structs_told : IsOrdered types → HasEachOnce types → has_fine_structs types ≡ true → HasStructs types
   structs_told ordered once b = record { ordered = ordered; once = once; few = λ number. fewer number (slice_get types.structs number) refl; members = λ number. go number (slice_get types.structs number) refl }
     where
-      all : hold_members types types.structs ≡ true
-      all = (and_parts (hold_members types types.structs) (nat_lt (length types.structs) (2 ^ 32)) b).0
-
       lt_of : (m n : ℕ) → nat_lt m n ≡ true → m < n
       lt_of m n h = grind (arith, nat_tests)
 
       fewer : (number : ℕ) (o : Option (List TyId)) → slice_get types.structs number ≡ o → length (unwrap_or o []) < 33
       fewer number None there = omega arith
-      fewer number (Some ids) there = lt_of (length ids) 33 (and_parts (nat_lt (length ids) 33) (have_each (is_struct_member types) types ids) (members_in types.structs number ids all there)).0
+      fewer number (Some ids) there = lt_of (length ids) 33 (and_parts (nat_lt (length ids) 33) (have_each (is_struct_member types) types ids) (members_in types.structs number ids b there)).0
 
       go : (number : ℕ) (o : Option (List TyId)) → slice_get types.structs number ≡ o → have_each (is_struct_member types) types (unwrap_or o []) ≡ true
       go number None there = refl
-      go number (Some ids) there = (and_parts (nat_lt (length ids) 33) (have_each (is_struct_member types) types ids) (members_in types.structs number ids all there)).1
+      go number (Some ids) there = (and_parts (nat_lt (length ids) 33) (have_each (is_struct_member types) types ids) (members_in types.structs number ids b there)).1
 
 -- ---- in a table with more types too
 

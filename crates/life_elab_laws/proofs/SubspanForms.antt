@@ -1,7 +1,7 @@
 -- A part of a span, from an index on and so many.
 use Rattle.std.proofs.Common.{◌≡◌, ◌++◌, ℕ, Bool, true, List, [], ◌∷◌, Option, Some, None, refl, ap, ◌∙◌, subst, append_assoc, sym}
 use Rattle.std.proofs.lemmas.Bool.{and_from, and_parts, false≢true}
-use Rattle.life_served.specs.Served.{is_walker_of_values, is_element}
+use Rattle.life_elab_laws.proofs.FormKinds.{is_walker_of_values, is_element}
 use Rattle.life_types.specs.Pointees.{ty_of}
 use Rattle.life_types.specs.Types.{Types}
 use Rattle.life_types.specs.declared.place.Place.{Place}
@@ -73,6 +73,7 @@ module _ (types : Types) (texts : ℕ) (fs : List Function) (f : Function) where
     held = (pointer_is_held x.0.0 n k h.0.0, (h.0.1, counted x.1 h.1));
     touches = λ y e. refl;
     parts = λ y m ms. ap (λ (us : List ℕ). record nothing { uses = x.0.0.local ∷ x.0.1 ∷ us }) (sym (append_assoc (count_uses x.1) [] (y ∷ [])));
+    looks = λ l y m. absurd m;
   }
     where
       counted : (o : Option ℕ) → IsCounted o n k → AreHeld (count_uses o ++ []) n k

@@ -8,7 +8,7 @@ use Rattle.life_types.specs.Types.{Types, is_slot_target, is_slot_type}
 use Rattle.life_types.specs.declared.ty.Ty.{Ty}
 use Rattle.life_types.specs.declared.ty.Ty.TheVariants as ty
 use Rattle.life_types.specs.declared.ty.TyId.{TyId}
-use Rattle.life_served.specs.Served.{is_owner_of_values, is_plain_struct, is_target, is_struct}
+use Rattle.life_elab_laws.proofs.FormKinds.{is_owner_of_values, is_plain_struct, is_target, is_struct}
 use Rattle.life_typed.specs.BaseTypes.{type_at}
 use Rattle.life_proper.specs.OperandTypes.{same}
 use Rattle.life_pset.specs.Shapes.{referred}

@@ -3,7 +3,7 @@ use Rattle.std.proofs.Common.{◌≡◌, ◌<◌, ◌⊎◌, inl, inr, ℕ, true
 use Rattle.std.proofs.lemmas.Bool.{and_parts, false≢true, or_left}
 use Rattle.std.specs.List.{list_all}
 use Rattle.std.proofs.lemmas.Option.{slice_get_within}
-use Rattle.life_served.specs.Served.{is_owner_of_values, is_unique_of_element}
+use Rattle.life_elab_laws.proofs.FormKinds.{is_owner_of_values, is_unique_of_element}
 use Rattle.life_types.specs.TypeTests.{is_pointer, is_reference}
 use Rattle.life_types.specs.Types.{Types}
 use Rattle.life_types.specs.declared.place.Place.{Place}
@@ -33,7 +33,8 @@ use Rattle.life_elab_laws.proofs.Falling.{Fills, falls_filling}
 use Rattle.life_elab_laws.proofs.FormedVariables.{object_place, owner_no_reference}
 use Rattle.life_elab_laws.proofs.Fronts.{front_append, last_there}
 use Rattle.life_elab_laws.proofs.Gifts.{Gift, IsPlaceOf, a_place, nothing}
-use Rattle.life_elab_laws.proofs.GivenApart.{given_of, looked_of, one_pending, step_apart, then_opens}
+use Rattle.life_elab_laws.proofs.GivenApart.{given_of, one_pending, step_apart, then_opens}
+use Rattle.life_elab_laws.proofs.LookedLocals.{looked_of}
 use Rattle.life_elab_laws.proofs.Growing.{Begins, Grows}
 use Rattle.life_elab_laws.proofs.Knowledge.{at_set, beside_set, set_length}
 use Rattle.life_elab_laws.proofs.Making.{Alive, IsOpen}

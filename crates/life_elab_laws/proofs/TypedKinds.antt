@@ -1,4 +1,4 @@
--- The types that well typed expressions have, where they are served: values, pointers to values and to owners, views, literals, nothing, and nullptr.
+-- The types that well typed expressions have, where they are read as values: values, pointers to values and to owners, views, literals, nothing, and nullptr.
 use Rattle.std.proofs.Common.{◌≡◌, inl, inr, ℕ, Bool, true, false, ◌||◌, cond, subst, Option, Some, None, Result, Ok, Err, refl, sym, ap, ◌∙◌}
 use Rattle.std.proofs.lemmas.Bool.{false≢true}
 use Rattle.std.proofs.lemmas.Option.{cond_some}
@@ -8,7 +8,7 @@ use Rattle.life_types.specs.declared.place.Place.{Place}
 use Rattle.life_types.specs.declared.ty.Ty.{Ty}
 use Rattle.life_types.specs.declared.ty.Ty.TheVariants as ty
 use Rattle.life_types.specs.declared.ty.TyId.{TyId}
-use Rattle.life_served.specs.Served.{is_owner_of_values, is_plain_type, is_pointing, is_target, is_walker_of_values}
+use Rattle.life_elab_laws.proofs.FormKinds.{is_owner_of_values, is_plain_type, is_pointing, is_target, is_walker_of_values}
 use Rattle.life_typed.specs.BaseTypes.{type_at}
 use Rattle.life_typed.specs.Operators.{answer, answered, given, misfit, promoted}
 use Rattle.life_typed.specs.TypedForm.{Form, Typed}
@@ -17,7 +17,7 @@ use Rattle.life_typed.specs.declared.typed_expr.Category.{Category}
 use Rattle.life_typed.specs.declared.typed_expr.Category.TheVariants as category
 use Rattle.life_typed.specs.declared.typed_expr.ExprType.TheVariants.{Of, NullPointer, TextLiteral}
 use Rattle.life_type_expr.specs.Operands.{answer_of, combination, combined_to, place_of, value, variable_of}
-use Rattle.life_elab_laws.proofs.ServedTypes.{IsServedType}
+use Rattle.life_elab_laws.proofs.AdmittedTypes.{IsAdmittedType}
 use Rattle.life_elab_laws.proofs.ResultTypes.{IsResultType, gives_alias, gives_walker, gives_nothing, gives_raw, gives_reference, gives_struct, gives_value, gives_view, gives_owner, gives_unique, gives_whole}
 use Rattle.life_elab_laws.proofs.Targets.{IsTarget, target_is, to_owner, to_struct, to_value}
 use Rattle.life_elab_laws.proofs.Values.{by_values}
@@ -223,7 +223,7 @@ walker_refused types (ty.Iterator target constant) w n = false≢true n
 walker_refused types (ty.Span target constant) w n = false≢true n
 walker_refused types _ w n = false≢true w
 
-pub kind_of_variable : (types : Types) (e : Typed) (id : TyId) (c : Bool) (form : Form) (t : Ty) → type_at types id ≡ t → IsServedType types t
+pub kind_of_variable : (types : Types) (e : Typed) (id : TyId) (c : Bool) (form : Form) (t : Ty) → type_at types id ≡ t → IsAdmittedType types t
     → is_plain_type e.ty ≡ true → e ≡ variable_of t types id c e.place form → IsKind types e
 kind_of_variable types e id c form (ty.Unique target) at (inr (inr (inr (inl u)))) n is =
     absurd (false≢true (subst (λ (x : ExprType). is_plain_type x ≡ true) (ap (λ (x : Typed). x.ty) is ∙ ap Of at) n))
@@ -277,7 +277,7 @@ kind_of_result types e _ (gives_owner o) plain is = absurd (false≢true o)
 kind_of_result types e t (gives_unique target unique w) plain is =
     let here = is ∙ ap (λ (u : Ty). answer_of u types e.place e.form) unique in
     absurd (false≢true (subst (λ (x : ExprType). is_plain_type x ≡ true) (ap (λ (x : Typed). x.ty) here) plain))
-kind_of_result types e t (gives_whole number whole pointless) plain is =
+kind_of_result types e t (gives_whole number whole) plain is =
     let here = is ∙ ap (λ (u : Ty). answer_of u types e.place e.form) whole in
     absurd (false≢true (subst (λ (x : ExprType). is_plain_type x ≡ true) (ap (λ (x : Typed). x.ty) here) plain))
 kind_of_result types e t (gives_view view) plain is =

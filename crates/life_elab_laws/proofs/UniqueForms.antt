@@ -42,7 +42,7 @@ use Rattle.life_proper.specs.WellFormed.{is_itself}
 use Rattle.life_writer.specs.ExpressionForms.{target_at, uses}
 use Rattle.life_elab_laws.proofs.ViewForms.{gives_as}
 use Rattle.life_well_typed.specs.Given.{is_number}
-use Rattle.life_served.specs.Served.{is_element, is_owner_of_values, is_unique_type, is_walker_of_values}
+use Rattle.life_elab_laws.proofs.FormKinds.{is_element, is_owner_of_values, is_unique_type, is_walker_of_values}
 use Rattle.life_types.specs.TypeTests.{is_unique}
 use Rattle.life_elab_laws.proofs.FormedVariables.{object_formed}
 use Rattle.life_elab_laws.proofs.TypedKinds.{a_pointer, ok_same, owner_named, value_place, value_simple, walker_named}

@@ -8,7 +8,7 @@ use Rattle.life_core.specs.Function.{Function}
 use Rattle.life_elab_laws.proofs.Gifts.{Gift, a_place, nothing as no_gift}
 use Rattle.life_names.specs.declared.fault.IllKind.{IllKind}
 use Rattle.life_well_typed.specs.Members.{IsCalled}
-use Rattle.life_well_typed.specs.Expressions.{IsMadeOf, typed_in}
+use Rattle.life_well_typed.specs.Expressions.{typed_in}
 use Rattle.life_elab_laws.proofs.MovedOwners.{IsNamedAt, given_moved}
 use Rattle.life_elab_laws.proofs.UniqueForms.{unique_at, IsLying, IsUnique, unique_operand, unique_placed}
 use Rattle.life_core.specs.declared.instr.Made.TheVariants as made
@@ -16,22 +16,21 @@ use Rattle.life_core.specs.Step.{Make}
 use Rattle.life_elab_laws.proofs.Parts.{Makes, Part, then_part}
 use Rattle.life_types.specs.declared.place.Place.{Place}
 use Rattle.life_elab_laws.proofs.Setting.{Setting}
-use Rattle.life_elab_laws.proofs.FreshUniques.{IsFresh}
+use Rattle.life_elab_laws.proofs.FreshUniques.{IsFresh, given_null}
 use Rattle.life_elab_laws.proofs.MadeForms.{temporary_source, temporary_dead}
 use Rattle.life_writer.specs.Uses.{Act}
-use Rattle.life_elab_laws.proofs.ExpressionForms.{Standing}
+use Rattle.life_elab_laws.proofs.ExpressionForms.{Standing, IsWhole}
 use Rattle.life_writer.specs.Writing.{Gives, State, ◌>>◌, emit, gives, mapped}
 use Rattle.life_types.specs.Types.{Types, class}
 use Rattle.life_writer.specs.Assigning.{acted, assigned_by, moved, owner_by, replaced_by}
 use Rattle.life_elab_laws.proofs.ChangeForms.{alone_written}
 use Rattle.life_elab.specs.SimpleForms.{assigned, target_of, thrown}
-use Rattle.life_served.specs.Served.{is_nullptr}
 use Rattle.life_well_typed.specs.Given.{is_given}
 use Rattle.life_proper.specs.WellFormed.{is_itself}
 use Rattle.life_writer.specs.Using.{location_in, operand, temporary_of}
-use Rattle.life_typed.specs.TypedForm.{Form, Typed, method, null, typed, whole as whole_form}
+use Rattle.life_typed.specs.TypedForm.{Form, Typed, method, whole as whole_form}
 use Rattle.life_type_stmt.specs.Simples.{moved_in, named_in, onto_itself}
-use Rattle.life_writer.specs.OwnerForms.{made_at, moved_from, moved_out_of, owned_operand}
+use Rattle.life_writer.specs.OwnerForms.{made_at, moved_from, moved_out_of, owned_operand, made_null}
 use Rattle.life_core.specs.Operands.{Location, Name, Operand}
 use Rattle.life_typed.specs.TypedStatement.{one}
 use Rattle.life_elab_laws.proofs.VariablePlaces.{stands_later}
@@ -49,6 +48,8 @@ use Rattle.life_elab_laws.proofs.ListedUniques.{IsRenewing, by_making, by_moving
 use Rattle.life_elab_laws.proofs.UniqueWrites.{content_there, moved_there, nulled_there, source_there}
 use Rattle.life_elab_laws.proofs.VariableParts.{lies_apart, lies_stay}
 use Rattle.life_elab_laws.proofs.Growing.{Grows, grows_none}
+use Rattle.life_elab_laws.proofs.Making.{opened_later}
+use Rattle.life_elab_laws.proofs.WrittenMembers.{IsWriting, part_writing}
 
 module _ (a : Around) (visible : List ℕ) (types : Types) (texts : ℕ) (fs : List Function) (f : Function) (setting : Setting a types fs f) where
   abbrev Stood : State → Type 0
@@ -56,6 +57,10 @@ module _ (a : Around) (visible : List ℕ) (types : Types) (texts : ℕ) (fs : L
 
   abbrev Writes : State → State → Type 0
   Writes s s' = Makes types texts fs f None s (gives tt s') (no_gift types texts fs f)
+
+  -- one is written where it lies, behind its place
+  ways_at : (target : TyId) (l : Location) → IsWriting types texts fs f (ty.Unique target) (Name l) (λ s r. Part types texts fs f (a_place types texts fs f (ty.Unique target) false) (Name l) None s (gives tt r) (no_gift types texts fs f))
+  ways_at target l = part_writing types texts fs f (ty.Unique target) (a_place types texts fs f (ty.Unique target) false) (Name l) (Name l) (λ h. h) (λ n k q. q)
 
   -- one that is named or a member is found behind what it is made to own, and is where it was before
   module _ (target : Form) (to : IsUnique a visible types texts fs f setting target) where
@@ -78,9 +83,10 @@ module _ (a : Around) (visible : List ℕ) (types : Types) (texts : ℕ) (fs : L
   nulled_part target to place s stands =
       let w = to.location s in
       let P = a_place types texts fs f (ty.Unique to.target) false in
+      let placed = to.placed s stands in
       subst (λ (g : Gives Operand). Writes s (g >> λ o s. emit place (Make (location_in o) made.Null) s)) (sym (to.here s stands))
-      (then_part types texts fs f (no_gift types texts fs f) tt None s (mapped Name w) _ P (no_gift types texts fs f) stands.opened (to.placed s stands)
-      (nulled_there a visible types texts fs f setting P (Name w.given) to.target w.given (λ h. h) (λ n k h. h) place w.state))
+      (then_part types texts fs f (no_gift types texts fs f) tt None s (mapped Name w) _ P (no_gift types texts fs f) stands.opened placed
+      (nulled_there a visible types texts fs f setting (ty.Unique to.target) (Name w.given) (ways_at to.target w.given) to.target w.given (λ h. h) (λ n k q. q) place w.state (opened_later s w.state placed.grown stands.opened)))
 
   -- ---- `reset`
 
@@ -115,7 +121,7 @@ module _ (a : Around) (visible : List ℕ) (types : Types) (texts : ℕ) (fs : L
       ∙ ap (λ (k : Category). acted (owner_by k u t s) g equals) from.value
       ∙ ap (λ (r : Option (State → Gives Act)). acted (replaced_by r (temporary_of u t) s) g equals) plain))
       (written (whole_form target) to w (λ o s. moved w.given equals o s) s first.grown stands
-      (source_there a visible types texts fs f setting (a_place types texts fs f t false) (Name l) to.target l (λ h. h) (λ n k h. h) w equals s stands.opened first apart))
+      (source_there a visible types texts fs f setting t (Name l) (ways_at to.target l) to.target l (λ h. h) (λ n k q. q) w equals s stands.opened first apart))
 
   -- .. what is made anew
   content_assigned : (target : Form) (to : IsUnique a visible types texts fs f setting target) (id : TyId) (argument : Form) (closing : Place) → IsContentOf a visible types texts fs f setting to.target id argument closing → (place : Place) (s : State) → Stood s
@@ -123,7 +129,7 @@ module _ (a : Around) (visible : List ℕ) (types : Types) (texts : ℕ) (fs : L
   content_assigned target to id argument closing content place s stands =
       let w = owned_operand (type_of a id) (uses_if a argument) closing s in
       let l = unique_at a visible types texts fs f setting target to s in
-      let part = content_there a visible types texts fs f setting (a_place types texts fs f (ty.Unique to.target) false) (Name l) to.target l (λ h. h) (λ n k h. h) id argument closing content place s stands in
+      let part = content_there a visible types texts fs f setting (ty.Unique to.target) (Name l) (ways_at to.target l) to.target l (λ h. h) (λ n k q. q) id argument closing content place s stands in
       written target to w (λ o s. emit place (Make (location_in o) w.given) s) s part.grown stands part
 
   module _ (target e : Typed) (equals behind : Place) where
@@ -131,7 +137,7 @@ module _ (a : Around) (visible : List ℕ) (types : Types) (texts : ℕ) (fs : L
     Assigns s = Writes s (assigned a target equals (one e) behind s)
 
     -- what is done to it, by what replaces what it owns, if anything does
-    by_replacing : (owned : TyId) → target.ty ≡ Of (ty.Unique owned) → (r : Option (State → Gives Act)) (s : State) → (uses a (whole_form e)).replacing ≡ r → e.category ≡ category.Value
+    pub by_replacing : (owned : TyId) → target.ty ≡ Of (ty.Unique owned) → (r : Option (State → Gives Act)) (s : State) → (uses a (whole_form e)).replacing ≡ r → e.category ≡ category.Value
         → Writes s (acted (replaced_by r (temporary_of (uses a (whole_form e)) (ty.Unique owned)) s) (target_of (uses a (whole_form target))) equals) → Assigns s
     by_replacing owned is r s same held writes =
         let u = uses a (whole_form e) in
@@ -143,10 +149,10 @@ module _ (a : Around) (visible : List ℕ) (types : Types) (texts : ℕ) (fs : L
         writes
 
     -- nothing, also where it is a temporary
-    pub unique_nulled_part : IsLying a visible types texts fs f setting (whole_form target) → (form : Form) (s : State) → e.form ≡ form → is_nullptr form ≡ true → IsMadeOf a.program a.function.locals visible e form → Stood s → Assigns s
-    unique_nulled_part to null s same null_is told stands =
-        by_replacing to.target to.is (uses a (typed e.place e.ty e.category null)).replacing s (ap (λ (g : Form). (uses a (typed e.place e.ty e.category g)).replacing) same) told.1 (nulled_part (whole_form target) to equals s stands)
-    unique_nulled_part to _ s same null_is told stands = absurd (false≢true null_is)
+    pub unique_nulled_part : (to : IsLying a visible types texts fs f setting (whole_form target)) → IsWhole a visible types texts fs f setting (whole_form e) → is_given a.program.types (ty.Unique to.target) e ≡ true → (s : State) → Stood s → Assigns s
+    unique_nulled_part to from given s stands =
+        let null = given_null a visible types texts fs f setting e from.kind.kind to.target given in
+        by_replacing to.target to.is (Some (λ s. gives made_null s)) s (from.as_null null.0).1.0 null.1 (nulled_part (whole_form target) to equals s stands)
 
     -- .. of what is made, moved, or given by a call, which may stand in parentheses
     module _ (to : IsUnique a visible types texts fs f setting (whole_form target)) (from : IsFresh a visible types texts fs f setting (whole_form e)) (given : is_given a.program.types (ty.Unique to.target) e ≡ true)
@@ -166,7 +172,7 @@ module _ (a : Around) (visible : List ℕ) (types : Types) (texts : ℕ) (fs : L
           ∙ name.apart x moves.from.source moves.seen moves.from.found free s stands in
           by_replacing to.target to.is (Some (moved_from moves.place x)) s moves.replaces from.value
           (written (whole_form target) to (gives x s) (λ o s. moved_out_of moves.place x equals o s) s (grows_none s) stands
-          (moved_there a visible types texts fs f setting (a_place types texts fs f (ty.Unique to.target) false) (Name l) to.target l (λ h. h) (λ n k h. h) x moves.moved moves.from alike moves.seen moves.place s stands apart))
+          (moved_there a visible types texts fs f setting (ty.Unique to.target) (Name l) (ways_at to.target l) to.target l (λ h. h) (λ n k q. q) x moves.moved moves.from alike moves.seen moves.place s stands apart))
         where
           none_there : (o : Option IllKind) → is_none o ≡ true → o ≡ None
           none_there None e = refl

@@ -48,7 +48,7 @@ use Rattle.life_elab_laws.proofs.OwnerSteps.{place_held}
 use Rattle.life_elab_laws.proofs.Parts.{Part}
 use Rattle.life_elab_laws.proofs.Shaped.{element_further, PlainStays}
 use Rattle.life_elab_laws.proofs.Shaping.{IsFineStep, is_no_object}
-use Rattle.life_served.specs.Served.{is_element, is_target}
+use Rattle.life_elab_laws.proofs.FormKinds.{is_element, is_target}
 use Rattle.life_elab_laws.proofs.Targets.{target_no_void, target_same, target_no_slot}
 use Rattle.life_elab_laws.proofs.Types.{type_added}
 use Rattle.life_elab_laws.proofs.WrittenLocals.{fits_below, fits_register}
@@ -156,7 +156,7 @@ module _ (types : Types) (texts : ℕ) (fs : List Function) (f : Function) where
       fits u (inr e) = taken_by u e
 
   pub got_filling : (from : Location) (n : ℕ) (k : List Known) → IsPlace (Name from) n k → IsFilling f (λ p. Aim p (Get from)) n k
-  got_filling from n k h = record { uses = from.local ∷ []; held = place_held (Name from) n k h; touches = λ x e. refl; parts = λ x m ms. refl }
+  got_filling from n k h = record { uses = from.local ∷ []; held = place_held (Name from) n k h; touches = λ x e. refl; parts = λ x m ms. refl; looks = λ l x m. m }
 
   -- ---- what it owns, which is reached through a register
 

@@ -2,7 +2,7 @@
 use Rattle.std.proofs.Common.{◌≡◌, ◌<◌, inl, inr, ℕ, Bool, true, false, List, [], ◌∷◌, Contains, length, slice_get, Option, Some, refl, sym, ap, ◌∙◌, subst, unwrap_or, arith}
 use Rattle.std.proofs.lemmas.Bool.{false≢true}
 use Rattle.std.proofs.lemmas.Option.{slice_get_within}
-use Rattle.life_served.specs.Served.{is_element, is_owner_of_values, is_served_variable, is_target, is_walker, is_walker_of_values, owns_elements, is_plain_struct}
+use Rattle.life_elab_laws.proofs.FormKinds.{is_element, is_owner_of_values, is_admitted_variable, is_target, is_walker, is_walker_of_values, owns_elements, is_plain_struct}
 use Rattle.life_types.specs.TypeTests.{is_value, is_pointer, is_reference, is_view}
 use Rattle.life_types.specs.Types.{Types, class, class_at}
 use Rattle.life_types.specs.declared.ty.Ty.{Ty}
@@ -27,7 +27,7 @@ use Rattle.life_elab_laws.proofs.Fronts.{IsFront, front_then}
 use Rattle.life_elab_laws.proofs.Growing.{Grows, bare}
 use Rattle.life_elab_laws.proofs.Locations.{is_location}
 use Rattle.life_elab_laws.proofs.Making.{Alive, IsOpen, IsPlace, IsPointer}
-use Rattle.life_elab_laws.proofs.ServedTypes.{IsServedType, variable_found}
+use Rattle.life_elab_laws.proofs.AdmittedTypes.{IsAdmittedType, variable_found}
 use Rattle.life_elab_laws.proofs.Targets.{IsTarget, target_is, to_owner, to_struct, to_value}
 use Rattle.life_elab_laws.proofs.Values.{by_values}
 use Rattle.life_elab_laws.proofs.TypedKinds.{owner_named, walker_named}
@@ -49,10 +49,10 @@ pub data IsVariableType (types : Types) (id : TyId) : Type 0 where
   a_struct : (number : ℕ) → slice_get types.types id.0 ≡ Some (ty.Struct number) → IsVariableType types id
   a_struct_alias : (target : TyId) (constant : Bool) (number : ℕ) → slice_get types.types id.0 ≡ Some (ty.Reference target constant) → type_at types target ≡ ty.Struct number → is_plain_struct types (type_at types target) ≡ true → IsVariableType types id
 
-pub variable_type : (types : Types) (id : TyId) → is_served_variable types id ≡ true → IsVariableType types id
+pub variable_type : (types : Types) (id : TyId) → is_admitted_variable types id ≡ true → IsVariableType types id
 variable_type types id b = let found = variable_found types id b in go found.0 found.1 found.2
   where
-    go : (t : Ty) → slice_get types.types id.0 ≡ Some t → IsServedType types t → IsVariableType types id
+    go : (t : Ty) → slice_get types.types id.0 ≡ Some t → IsAdmittedType types t → IsVariableType types id
     go t at (inr (inl o)) = an_owner t at o
     go t at (inr (inr (inl w))) = a_walker t at w
     go (ty.Unique target) at (inr (inr (inr (inl u)))) = a_unique target at u
@@ -179,7 +179,7 @@ module _ (a : Around) (s : State) (x : ℕ) (v : TypedLocal) (h : IsVariableAt a
   pointer_there f k alive = record { local = variable s x; is = refl; below = below; held = alive.living (variable s x) h.lives }
 
 -- an expression of the type of a raw pointer or a view that names a variable names one of that type
-pub named_pointer : (types : Types) (e : Typed) (v : TypedLocal) (form : Form) → is_served_variable types v.ty ≡ true → e ≡ variable_of (type_at types v.ty) types v.ty v.constant e.place form
+pub named_pointer : (types : Types) (e : Typed) (v : TypedLocal) (form : Form) → is_admitted_variable types v.ty ≡ true → e ≡ variable_of (type_at types v.ty) types v.ty v.constant e.place form
     → (t : Ty) → e.ty ≡ Of t → is_location t ≡ true → slice_get types.types v.ty.0 ≡ Some t
 named_pointer types e v form reached is t of loc = go (variable_type types v.ty reached)
   where

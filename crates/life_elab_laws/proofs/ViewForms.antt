@@ -1,7 +1,7 @@
 -- Members of views: `size`, `empty` and `substr`.
-use Rattle.std.proofs.Common.{◌≡◌, ◌⊎◌, if◌then◌else◌, inl, inr, ℕ, Bool, true, false, List, Some, None, refl, sym, ap, ◌∙◌, subst}
+use Rattle.std.proofs.Common.{◌≡◌, ℕ, Bool, true, false, List, Some, None, refl, sym, ap, ◌∙◌, subst}
 use Rattle.std.proofs.lemmas.Bool.{and_parts, false≢true}
-use Rattle.life_served.specs.Served.{is_asking, is_served_method}
+use Rattle.life_elab_laws.proofs.FormKinds.{is_asking}
 use Rattle.life_types.specs.TypeTests.{is_value}
 use Rattle.life_types.specs.Types.{Types}
 use Rattle.life_types.specs.declared.ty.Ty.{Ty}
@@ -56,26 +56,8 @@ no_methods types t constant m x v h = none_some (sym plain ∙ h)
 abbrev pub IsAnswer : ExprType × Category → Typed → Type 0
 IsAnswer x e = Some x ≡ Some (e.ty, e.category)
 
-answered : (b : Bool) {x y : ExprType × Category} → (if b then Some x else None) ≡ Some y → Some x ≡ Some y
-answered true e = e
-answered false e = absurd (none_some e)
-
 pub gives_as : (x : ExprType × Category) (e : Typed) → IsAnswer x e → (e.ty ≡ x.0) × (e.category ≡ x.1)
 gives_as x e same = let one = some_same same in (sym (ap (λ (y : ExprType × Category). y.0) one), sym (ap (λ (y : ExprType × Category). y.1) one))
-
--- .. of one that only asks is a number, or a view
-pub asks_for : (types : Types) (m : Method) (t : ExprType) (c : Category) (given : Form) (e : Typed) → is_served_method m ≡ true → IsCalled types t c m given e → (is_number e.ty ≡ true) ⊎ ((e.ty ≡ Of ty.View) × (e.category ≡ category.Value))
-asks_for types methods.Substr (Of ty.View) c given e served called = inr (gives_as (Of ty.View, category.Value) e called.2)
-asks_for types methods.Substr (Of _) c given e served called = absurd (none_some called.2)
-asks_for types methods.Substr NullPointer c given e served called = absurd called
-asks_for types methods.Substr TextLiteral c given e served called = absurd called
-asks_for types methods.Size (Of t) c given e served called = inl (ap is_number (gives_as (Of ty.Size, category.Value) e (answered (has_method t methods.Size) called.2)).0)
-asks_for types methods.Size NullPointer c given e served called = absurd called
-asks_for types methods.Size TextLiteral c given e served called = absurd called
-asks_for types methods.Empty (Of t) c given e served called = inl (ap is_number (gives_as (Of ty.Bool, category.Value) e (answered (has_method t methods.Empty) called.2)).0)
-asks_for types methods.Empty NullPointer c given e served called = absurd called
-asks_for types methods.Empty TextLiteral c given e served called = absurd called
-asks_for types _ t c given e served called = absurd (false≢true served)
 
 module _ (a : Around) (visible : List ℕ) (types : Types) (texts : ℕ) (fs : List Function) (f : Function) (setting : Setting a types fs f) where
   -- all of several

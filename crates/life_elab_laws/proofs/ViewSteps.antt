@@ -71,6 +71,7 @@ module _ (types : Types) (texts : ℕ) (fs : List Function) (f : Function) where
     held = (pointer_is_held x.0.0 n k h.0.0, (h.0.1, counted x.1 h.1));
     touches = λ y e. refl;
     parts = λ y m ms. ap (λ (us : List ℕ). record nothing { uses = x.0.0.local ∷ x.0.1 ∷ us }) (sym (append_assoc (count_uses x.1) [] (y ∷ [])));
+    looks = λ l y m. absurd m;
   }
     where
       counted : (o : Option ℕ) → IsCounted o n k → AreHeld (count_uses o ++ []) n k

@@ -1,7 +1,7 @@
 -- Iterators and spans: how each expression that is one is written.
 use Rattle.std.proofs.Common.{◌≡◌, ℕ, Bool, true, false, List, Contains, slice_get, Option, Some, None, refl, sym, ap, ◌∙◌, subst, unwrap_or, [], ◌∷◌}
 use Rattle.std.proofs.lemmas.Bool.{false≢true}
-use Rattle.life_served.specs.Served.{is_owner_of_values, is_walker, is_walker_of_values, is_walker_type, is_element}
+use Rattle.life_elab_laws.proofs.FormKinds.{is_owner_of_values, is_walker, is_walker_of_values, is_walker_type, is_element}
 use Rattle.life_types.specs.TypeTests.{is_value, is_constant}
 use Rattle.life_types.specs.Types.{Types}
 use Rattle.life_types.specs.declared.ty.Ty.{Ty}

@@ -19,10 +19,12 @@ use Rattle.life_proper.specs.Placed.{element_of, is_const_base, is_const_place, 
 use Rattle.life_proper.specs.WellFormed.{is_source_of}
 use Rattle.life_proper.specs.declared.known.Known.{Known}
 use Rattle.life_writer.specs.Pointers.{By, aimed}
+use Rattle.life_elab_laws.proofs.Among.{among_left}
 use Rattle.life_elab_laws.proofs.Aiming.{keeps_further}
 use Rattle.life_elab_laws.proofs.BaseSteps.{IsBase, IsBaseOf}
 use Rattle.life_elab_laws.proofs.Gifts.{IsAt, IsGivenAs, IsNumberOf, IsPlaceOf, IsTakenBy}
 use Rattle.life_elab_laws.proofs.Locations.{is_location}
+use Rattle.life_elab_laws.proofs.LookedLocals.{base_used}
 use Rattle.life_elab_laws.proofs.Making.{AreHeld, IsFilling, IsHeld, IsPointer}
 use Rattle.life_elab_laws.proofs.OperandsThere.{number_any, same_is}
 use Rattle.life_elab_laws.proofs.ViewSteps.{pointer_is_held}
@@ -93,6 +95,7 @@ module _ (types : Types) (texts : ℕ) (fs : List Function) (f : Function) where
     held = subst (λ (xs : List ℕ). AreHeld (xs ++ []) n k) (sym h.uses) ((h.below, h.held), tt);
     touches = λ x e. refl;
     parts = λ x m ms. only_uses (sym (append_assoc (base_uses b) [] (x ∷ [])));
+    looks = λ l x m. among_left (base_uses b) [] x (base_used f b x m);
   }
 
   -- ---- so many elements on
@@ -113,7 +116,7 @@ module _ (types : Types) (texts : ℕ) (fs : List Function) (f : Function) where
       }
 
   pub advance_filling : (q : Location) (r : ℕ) (direction : Direction) (n : ℕ) (k : List Known) → IsPointer q n k → IsHeld r n k → IsFilling f (λ p. Advance p q r direction) n k
-  advance_filling q r direction n k h number = record { uses = q.local ∷ r ∷ []; held = (pointer_is_held q n k h, (number, tt)); touches = λ x e. refl; parts = λ x m ms. refl }
+  advance_filling q r direction n k h number = record { uses = q.local ∷ r ∷ []; held = (pointer_is_held q n k h, (number, tt)); touches = λ x e. refl; parts = λ x m ms. refl; looks = λ l x m. absurd m }
 
   -- ---- the whole of a vector
 

@@ -1,11 +1,11 @@
--- The core program of a well typed program that is served is well formed, is served itself, and leaves alone what is given over.
+-- The core program of a well typed program is well formed, has no local that is a slot, and leaves alone what is given over.
 use Rattle.std.proofs.Common.{◌≡◌, ◌⊎◌, inl, inr, ℕ, true, List, length, map, nat_le, slice_get, Some, refl, ap, ◌∙◌, subst}
 use Rattle.std.specs.List.{list_all}
 use Rattle.std.proofs.lemmas.Bool.{and_from}
 use Rattle.life_types.specs.Trees.{IsOrdered}
 use Rattle.life_types.specs.Types.{HasEachOnce, Types}
 use Rattle.life_types.specs.declared.ty.TyId.{TyId}
-use Rattle.life_served.specs.Served.{are_served_functions, is_struct}
+use Rattle.life_elab_laws.proofs.FormKinds.{are_read_functions, is_struct}
 use Rattle.life_typed.specs.Programs.{FunctionForm, ProgramForm}
 use Rattle.life_core.specs.Function.{Function}
 use Rattle.life_core_served.specs.Served.{is_served, is_served_local, is_served_program}
@@ -21,17 +21,17 @@ use Rattle.life_elab.specs.ProgramForms.{translated, written}
 use Rattle.life_elab.specs.Programs.{around, member_names, texts_of}
 use Rattle.life_elab_laws.proofs.ExpressionKinds.{variable_built}
 use Rattle.life_elab_laws.proofs.Fronts.{IsFront}
-use Rattle.life_elab_laws.proofs.ServedTypes.{variable_found}
+use Rattle.life_elab_laws.proofs.AdmittedTypes.{variable_found}
 use Rattle.life_elab_laws.proofs.ServedLocals.{all_pass, local_served}
 use Rattle.life_elab_laws.proofs.KeptGiven.{keeps_all}
 use Rattle.life_elab_laws.proofs.ProgramNames.{members_named, own_names}
-use Rattle.life_elab_laws.proofs.StructTypes.{IsServedTable, plain_later}
+use Rattle.life_elab_laws.proofs.StructTypes.{IsAdmittedTable, plain_later}
 use Rattle.life_elab_laws.proofs.Programs.{IsWritten, each_written, front, grows, of_program, one_body, one_head, passed_by_all, whole, whole_front, whole_order}
 use Rattle.life_elab_laws.proofs.WrittenLocals.{IsIntermediate, IsOwn, fits_later, hidden_later, hidden_local, local_later, owner_local, register_local, value_fits, unique_local, struct_local}
 use Rattle.life_elab_laws.proofs.FormedLocals.{variable_fits}
 use Rattle.life_elab_laws.proofs.Shaped.{owner_later, unique_later, PlainStays}
 
-module _ (p : ProgramForm) (typed : IsWellTyped p) (built : are_served_functions (length (texts_of p)) p.types p.functions ≡ true) (results : HasResults p) (told : IsServedTable p.types) (mains : HasIntMain p) where
+module _ (p : ProgramForm) (typed : IsWellTyped p) (built : are_read_functions (length (texts_of p)) p p.functions ≡ true) (results : HasResults p) (told : IsAdmittedTable p.types) (mains : HasIntMain p) where
   abbrev functions : List Function
   functions = (whole p typed built results told).functions
 

@@ -1,8 +1,8 @@
--- The core program of a well typed program that is served writes its results: on every way to a return of a function that gives something back the result was
+-- The core program of a well typed program writes its results: on every way to a return of a function that gives something back the result was
 -- written, but for the int of main.
 use Rattle.std.proofs.Common.{◌≡◌, ℕ, Bool, true, false, length, slice_get, Some, None, refl, sym, ap, ◌∙◌}
 use Rattle.std.proofs.lemmas.Bool.{false≢true}
-use Rattle.life_served.specs.Served.{are_served_functions}
+use Rattle.life_elab_laws.proofs.FormKinds.{are_read_functions}
 use Rattle.life_types.specs.TypeTests.{is_void}
 use Rattle.life_types.specs.declared.ty.NameId.{NameId}
 use Rattle.life_types.specs.declared.ty.Ty.{Ty}
@@ -20,7 +20,7 @@ use Rattle.life_well_typed.specs.Results.{HasResults}
 use Rattle.life_elab.specs.ProgramForms.{translated}
 use Rattle.life_elab.specs.Programs.{around, texts_of}
 use Rattle.life_elab_laws.proofs.GivingBack.{GivesResult}
-use Rattle.life_elab_laws.proofs.StructTypes.{IsServedTable}
+use Rattle.life_elab_laws.proofs.StructTypes.{IsAdmittedTable}
 use Rattle.life_elab_laws.proofs.Programs.{IsWritten, int_at, of_all, of_program, one_body, whole, written_result}
 use Rattle.life_elab_laws.proofs.ResultTypes.{past_end}
 
@@ -39,7 +39,7 @@ needs main t over int e w = let some = written_some main t w in (some, past_end 
 
 -- ---- each function
 
-module _ (p : ProgramForm) (typed : IsWellTyped p) (built : are_served_functions (length (texts_of p)) p.types p.functions ≡ true) (results : HasResults p) (told : IsServedTable p.types) (mains : HasIntMain p) where
+module _ (p : ProgramForm) (typed : IsWellTyped p) (built : are_read_functions (length (texts_of p)) p p.functions ≡ true) (results : HasResults p) (told : IsAdmittedTable p.types) (mains : HasIntMain p) where
   module _ (n : ℕ) (f : FunctionForm) (at : slice_get p.functions n ≡ Some f) (core : Function) (w : IsWritten p (whole p typed built results told).types f core) where
     gives : writes_result p.names (whole p typed built results told).types core ≡ true → GivesResult (around p f)
     gives must =

@@ -1,5 +1,5 @@
-//! What translations are: the core program of a well typed program that is served is proper, and has short
-//! places.
+//! What translations are: the core program of a well typed program that passes no limit is proper, and has
+//! short places.
 #![tactic(auto)]
 
 mod laws;

@@ -1,4 +1,0 @@
-pub mod Arms
-pub mod Inside
-pub mod Tables
-pub mod Tellings
