@@ -1,11 +1,13 @@
-//! What the files of a disk and a stream answer, a line each. The folder `data` has the one file that there
-//! is.
+//! What the files of a disk and streams answer, and in which pieces a text is handed over, a line each. The folder
+//! `data` has the one file that there is.
 #![tactic(auto)]
 
 mod narrow;
+mod told;
 
 use crate::narrow::Narrow;
-use life_base::{DiskFiles, Files, Sink, StreamSink};
+use crate::told::Told;
+use life_base::{DiskFiles, Files, Sink, StreamSink, write_whole};
 use std::io;
 
 fn main(rt: HostRuntime) -> io::Result<()> {
@@ -18,7 +20,7 @@ fn main(rt: HostRuntime) -> io::Result<()> {
     for piece in [b"bytes".as_slice(), b"", b"bytes", b"bytes"] {
         tell_write(&rt, &mut sink, piece)?;
     }
-    Ok(())
+    tell_pieces(&rt)
 }
 
 fn tell_file(rt: &HostRuntime, files: &mut DiskFiles, name: &str) -> io::Result<()> {
@@ -43,4 +45,11 @@ fn tell_write(rt: &HostRuntime, sink: &mut StreamSink<Narrow>, piece: &[u8]) -> 
     let written = sink.write(piece);
     let bytes = piece.escape_ascii();
     println!(rt; "write {bytes}: {written:?}")
+}
+
+// A text of 10,000 bytes goes over in pieces of at most 4,096.
+fn tell_pieces(rt: &HostRuntime) -> io::Result<()> {
+    let mut sink = StreamSink::new(Told { rt });
+    let written = write_whole(&mut sink, &[b'x'; 10_000]);
+    println!(rt; "write 10000: {written:?}")
 }
