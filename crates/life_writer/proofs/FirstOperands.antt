@@ -1,5 +1,5 @@
 -- The operands of member functions as the code has them, the first and the second, and what they are used for.
-use Rattle.std.proofs.Common.{◌≡◌, ◌≤◌, ℕ, List, [], ◌∷◌, Option, None, Some, get_or, sym, ap, ◌∙◌, refl, arith}
+use Rattle.std.proofs.Common.{◌≡◌, ◌≤◌, ℕ, true, List, [], ◌∷◌, Option, None, Some, get_or, length, sym, ap, ◌∙◌, refl, arith}
 use Rattle.life_types.specs.declared.place.Place.{Place}
 use Rattle.life_types.specs.declared.ty.Ty.{Ty}
 use Rattle.life_types.specs.declared.ty.Ty.TheVariants as ty
@@ -9,9 +9,10 @@ use Rattle.life_typed.specs.declared.typed_expr.TypedExpr.{TypedExpr}
 use Rattle.life_core.specs.Operands.{Location, Operand}
 use Rattle.life_core.specs.Step.{Changes, Cut, Erase, PushBack, Reserve}
 use Rattle.life_writer.specs.Around.{Around, own_type}
+use Rattle.life_writer.specs.Chains.{cut_by, has_first}
 use Rattle.life_writer.specs.ExpressionForms.{uses, uses_if}
 use Rattle.life_writer.specs.Giving.{given_over}
-use Rattle.life_writer.specs.MethodForms.{count_if, cut, erased, pushed_back, reserved, size_if}
+use Rattle.life_writer.specs.MethodForms.{count_if, erased, pushed_back, reserved, size_if}
 use Rattle.life_writer.specs.PartUses.{expressions_uses, part_uses}
 use Rattle.life_writer.specs.Parts.{first_form, part_form, part_view, second_form}
 use Rattle.life_writer.specs.Pointers.{By}
@@ -21,6 +22,12 @@ use Rattle.life_writer.specs.Writing.{State, Gives, gives, ◌>>◌, emit, mappe
 use Rattle.life_writer.specs.declared.parts.Part.{Part}
 use Rattle.life_writer.proofs.Handing.{first_token, second_token}
 use Rattle.life_writer.proofs.Weights.{weight}
+
+-- ---- whether there is one
+
+pub some_first : (es : List TypedExpr) → 1 ≤ length es → true ≡ has_first (forms (typed_views es))
+some_first [] more = absurd (omega arith)
+some_first (e ∷ es) more = refl
 
 -- ---- they weigh no more than all
 
@@ -52,6 +59,22 @@ second_uses a (e ∷ x ∷ more) d s = refl
 
 -- ---- what is done with them
 
+module _ (a : Around) (es : List TypedExpr) (o : Option Part) (p : Part) (is : part_form o ≡ first_form es) (there : o ≡ Some p) where
+  pub cut_first : (d : DelimitersForm) (q : Location) (b0 b1 : Place) (other : Option Part) (s s1 now : State) (i : ℕ) (n : Option ℕ)
+      → b0 ≡ get_or d.commas 0 d.closing → value (part_uses a (Some p)) b0 ty.Size None s ≡ gives i s1
+      → b1 ≡ get_or d.commas 1 d.closing → part_form other ≡ second_form es → size_if (uses_if a (part_form other)) b1 s1 ≡ gives n now
+      → cut_by q (expressions_uses a es) d s ≡ gives (By (λ r. Cut r q i n)) now
+  cut_first d q b0 b1 other s s1 now i n token0 index token1 second count =
+      let x = part_uses a (Some p) in let others = others_uses a es in
+      ap (λ (us : List Uses). cut_by q us d s) (first_uses a es o p is there)
+      ∙ ap (λ (b : Place). value x b ty.Size None s >> λ i s. mapped (λ n. By (λ r. Cut r q i n)) (count_if others (behind_others d) s)) (first_token d b0 token0)
+      ∙ ap (λ (w : Gives ℕ). mapped (λ n. By (λ r. Cut r q w.given n)) (count_if others (behind_others d) w.state)) index
+      ∙ ap (mapped (λ n. By (λ r. Cut r q i n)))
+      (second_uses a es (behind_others d) s1
+      ∙ ap (λ (f : Form). size_if (uses_if a f) (behind_first (behind_others d)) s1) (sym second)
+      ∙ ap (λ (b : Place). size_if (uses_if a (part_form other)) b s1) (second_token d b1 token1)
+      ∙ count)
+
 module _ (a : Around) (e : Uses) (es : List TypedExpr) (o : Option Part) (p : Part) (is : part_form o ≡ first_form es) (there : o ≡ Some p) where
   pub erased_first : (t : Ty) (s s1 now : State) (owner : Operand) (l : Location) → t ≡ own_type p.ty → operand e s ≡ gives owner s1 → pointer (part_uses a (Some p)) t s1 ≡ gives l now
       → erased e (expressions_uses a es) s ≡ gives (By (λ q. Changes owner (Erase l q))) now
@@ -61,23 +84,6 @@ module _ (a : Around) (e : Uses) (es : List TypedExpr) (o : Option Part) (p : Pa
       ∙ ap (λ (w : Gives Operand). mapped (λ l. By (λ q. Changes w.given (Erase l q))) (pointer x (own x) w.state)) first
       ∙ ap (λ (u : Ty). mapped (λ l. By (λ q. Changes owner (Erase l q))) (pointer x u s1)) (sym own_is)
       ∙ ap (mapped (λ l. By (λ q. Changes owner (Erase l q)))) second
-
-  pub cut_first : (d : DelimitersForm) (t : Ty) (b0 b1 : Place) (other : Option Part) (s s1 s2 now : State) (l : Location) (i : ℕ) (n : Option ℕ)
-      → t ≡ own e → pointer e t s ≡ gives l s1 → b0 ≡ get_or d.commas 0 d.closing → value (part_uses a (Some p)) b0 ty.Size None s1 ≡ gives i s2
-      → b1 ≡ get_or d.commas 1 d.closing → part_form other ≡ second_form es → size_if (uses_if a (part_form other)) b1 s2 ≡ gives n now
-      → cut e (expressions_uses a es) d s ≡ gives (By (λ q. Cut q l i n)) now
-  cut_first d t b0 b1 other s s1 s2 now l i n own_is from token0 index token1 second count =
-      let x = part_uses a (Some p) in let others = others_uses a es in
-      ap (λ (us : List Uses). cut e us d s) (first_uses a es o p is there)
-      ∙ ap (λ (u : Ty). pointer e u s >> λ l s. value x (behind_first d) ty.Size None s >> λ i s. mapped (λ n. By (λ q. Cut q l i n)) (count_if others (behind_others d) s)) (sym own_is)
-      ∙ ap (λ (w : Gives Location). value x (behind_first d) ty.Size None w.state >> λ i s. mapped (λ n. By (λ q. Cut q w.given i n)) (count_if others (behind_others d) s)) from
-      ∙ ap (λ (b : Place). value x b ty.Size None s1 >> λ i s. mapped (λ n. By (λ q. Cut q l i n)) (count_if others (behind_others d) s)) (first_token d b0 token0)
-      ∙ ap (λ (w : Gives ℕ). mapped (λ n. By (λ q. Cut q l w.given n)) (count_if others (behind_others d) w.state)) index
-      ∙ ap (mapped (λ n. By (λ q. Cut q l i n)))
-      (second_uses a es (behind_others d) s2
-      ∙ ap (λ (f : Form). size_if (uses_if a f) (behind_first (behind_others d)) s2) (sym second)
-      ∙ ap (λ (b : Place). size_if (uses_if a (part_form other)) b s2) (second_token d b1 token1)
-      ∙ count)
 
   pub pushed_first : (d : DelimitersForm) (t : Ty) (b : Place) (place : Place) (s s1 s2 now : State) (to : Operand) (x : ℕ) (u : Ty)
       → u ≡ t → operand e s ≡ gives to s1 → b ≡ get_or d.commas 0 d.closing → given_over (part_uses a (Some p)) u b s1 ≡ gives x s2 → now ≡ emit place (Changes to (PushBack x)) s2

@@ -6,7 +6,8 @@ use Rattle.std.specs.Prelude.{IsTrue, if◌then◌else◌}
 use Rattle.life_types.specs.contracts.ty.TyPartialEq.TheImpl.{ghosts as compared}
 use Rattle.life_types.specs.declared.place.Place.{Place}
 use Rattle.life_types.specs.declared.ty.Ty.{Ty}
-use Rattle.life_typed.specs.TypedForm.{Form, binary, typed, whole}
+use Rattle.life_typed.specs.Delimiters.{delimiters_view}
+use Rattle.life_typed.specs.TypedForm.{Form, binary, dereference, forms, index, member, method, typed, typed_views, whole}
 use Rattle.life_typed.specs.declared.typed_expr.BinaryOperator.{BinaryOperator}
 use Rattle.life_typed.specs.declared.typed_expr.Category.{Category}
 use Rattle.life_typed.specs.declared.typed_expr.Category.TheVariants as category
@@ -16,7 +17,7 @@ use Rattle.life_core.specs.Operands.{Location}
 use Rattle.life_core.specs.Tree.{Tree}
 use Rattle.life_writer.specs.Around.{Around, own_type}
 use Rattle.life_writer.specs.Behind.{ending, lasting}
-use Rattle.life_writer.specs.Chains.{Follows, Runs, converted_in, is_between, is_computed, is_link, joined_on, joined_with, links, operated_on, operated_with}
+use Rattle.life_writer.specs.Chains.{Call, Element, Follows, Link, Member, Operator, Owned, Runs, converted_in, is_between, is_called, is_computed, is_link, is_owned, is_reached, joined_on, joined_with, linked, links, operated_on, operated_with}
 use Rattle.life_writer.specs.Conditions.{nowhere}
 use Rattle.life_writer.specs.ExpressionForms.{binary_uses, uses}
 use Rattle.life_writer.specs.Parts.{HasLeft, inside, node_view, part_view, shape_form}
@@ -36,10 +37,10 @@ use Rattle.life_writer.specs.declared.rows.Row.TheVariants as row
 use Rattle.life_writer.specs.declared.parts.Shape.{Shape}
 use Rattle.life_writer.specs.declared.parts.Shape.TheVariants as shape
 
--- ---- which operators follow which
+-- ---- which links follow which
 
 module _ (which : Chain) where
-  follows_by : (place : Place) (t : ExprType) (category : Category) (s : Shape) (left : Form) → IsTrue (is_link which category s) → HasLeft s left
+  follows_by : (place : Place) (t : ExprType) (category : Category) (s : Shape) (left : Form) → IsTrue (is_link which t category s) → HasLeft s left
       → Follows which left (typed place t category (shape_form s))
   follows_by place t category (shape.Number n) left link beside = absurd (true≢false (sym link))
   follows_by place t category (shape.Char c) left link beside = absurd (true≢false (sym link))
@@ -54,10 +55,38 @@ module _ (which : Chain) where
   follows_by place t category (shape.MakeUnique element argument closing) left link beside = absurd (true≢false (sym link))
   follows_by place t category (shape.TextOf inner closing) left link beside = absurd (true≢false (sym link))
   follows_by place t category shape.Input left link beside = absurd (true≢false (sym link))
-  follows_by place t category (shape.Member base which) left link beside = absurd (true≢false (sym link))
-  follows_by place t category (shape.Dereference e) left link beside = absurd (true≢false (sym link))
-  follows_by place t category (shape.Index base position closing) left link beside = absurd (true≢false (sym link))
-  follows_by place t category (shape.Method base called arguments delimiters) left link beside = absurd (true≢false (sym link))
+  follows_by place t category (shape.Member base m) left link beside = record {
+    place = place;
+    ty = t;
+    kind = category;
+    by = Member m;
+    between = ap (λ (f : Form). typed place t category (member f m)) beside;
+    link = subst (λ (f : Form). IsTrue (is_reached which f)) beside link;
+  }
+  follows_by place t category (shape.Dereference e) left link beside = record {
+    place = place;
+    ty = t;
+    kind = category;
+    by = Owned;
+    between = ap (λ (f : Form). typed place t category (dereference f)) beside;
+    link = subst (λ (f : Form). IsTrue (is_owned which f)) beside link;
+  }
+  follows_by place t category (shape.Index base position closing) left link beside = record {
+    place = place;
+    ty = t;
+    kind = category;
+    by = Element (whole (part_view position)) closing;
+    between = ap (λ (f : Form). typed place t category (index f (whole (part_view position)) closing)) beside;
+    link = subst (λ (f : Form). IsTrue (is_reached which f)) beside link;
+  }
+  follows_by place t category (shape.Method base called arguments delimiters) left link beside = record {
+    place = place;
+    ty = t;
+    kind = category;
+    by = Call called (forms (typed_views arguments.now)) (delimiters_view delimiters.now);
+    between = ap (λ (f : Form). typed place t category (method f called (forms (typed_views arguments.now)) (delimiters_view delimiters.now))) beside;
+    link = subst (λ (f : Form). IsTrue (is_called which t called f (forms (typed_views arguments.now)))) beside link;
+  }
   follows_by place t category (shape.Negate e) left link beside = absurd (true≢false (sym link))
   follows_by place t category (shape.Not e) left link beside = absurd (true≢false (sym link))
   follows_by place t category (shape.AddressOf e) left link beside = absurd (true≢false (sym link))
@@ -65,13 +94,12 @@ module _ (which : Chain) where
     place = place;
     ty = t;
     kind = category;
-    by = o;
-    right = whole (part_view right);
+    by = Operator o (whole (part_view right));
     between = ap (λ (f : Form). typed place t category (binary o f (whole (part_view right)))) beside;
-    link = subst (λ (f : Form). IsTrue (is_between which category (row_between o f (whole (part_view right))))) beside link;
+    link = subst (λ (f : Form). IsTrue (is_between which t category (row_between o f (whole (part_view right))))) beside link;
   }
 
-  linked_by : (place : Place) (t : ExprType) (category : Category) (s : Shape) → is_link which category s ≡ links which (typed place t category (shape_form s))
+  linked_by : (place : Place) (t : ExprType) (category : Category) (s : Shape) → is_link which t category s ≡ links which (typed place t category (shape_form s))
   linked_by place t category (shape.Number n) = refl
   linked_by place t category (shape.Char c) = refl
   linked_by place t category (shape.Bool b) = refl
@@ -94,7 +122,7 @@ module _ (which : Chain) where
   linked_by place t category (shape.AddressOf e) = refl
   linked_by place t category (shape.Binary o l right) = refl
 
-  pub follows : (n : Node) (left : Form) → IsTrue (is_link which n.category n.shape) → HasLeft n.shape left → Follows which left (whole (node_view n))
+  pub follows : (n : Node) (left : Form) → IsTrue (is_link which n.ty n.category n.shape) → HasLeft n.shape left → Follows which left (whole (node_view n))
   follows n left link beside = follows_by n.place n.ty n.category n.shape left link beside
 
 shorter : (operands : List TypedOperand) (i : ℕ) → i < length operands → take (length (take (i + 1) operands) - 1) (take (i + 1) operands) ≡ take i operands
@@ -106,7 +134,7 @@ shorter operands i within =
 -- .. where one is an operand of a list
 pub follows_at : (which : Chain) (n : Node) (part : Part) (operands : List TypedOperand) (i : ℕ) (b : Bool) → i < length operands
     → whole (part_view part) ≡ inside (take (i + 1) operands) → part.within.now ≡ take (length (take (i + 1) operands) - 1) (take (i + 1) operands)
-    → node_view n ≡ part_view part → HasLeft n.shape (inside part.within.now) → b ≡ is_link which n.category n.shape → IsTrue b
+    → node_view n ≡ part_view part → HasLeft n.shape (inside part.within.now) → b ≡ is_link which n.ty n.category n.shape → IsTrue b
     → Follows which (inside (take i operands)) (inside (take (i + 1) operands))
 follows_at which n part operands i b more form within node left found is =
     let here : Follows which (inside part.within.now) (whole (node_view n)) = follows which n (inside part.within.now) (sym found ∙ is) left in
@@ -114,7 +142,7 @@ follows_at which n part operands i b more form within node left found is =
     subst (λ (f : Form). Follows which f (inside (take (i + 1) operands))) (ap inside (within ∙ shorter operands i more)) behind
 
 -- whether it is one, where it is an operand of a list
-pub linked_at : (which : Chain) (n : Node) (part : Part) (form : Form) (b : Bool) → whole (part_view part) ≡ form → node_view n ≡ part_view part → b ≡ is_link which n.category n.shape → b ≡ links which form
+pub linked_at : (which : Chain) (n : Node) (part : Part) (form : Form) (b : Bool) → whole (part_view part) ≡ form → node_view n ≡ part_view part → b ≡ is_link which n.ty n.category n.shape → b ≡ links which form
 linked_at which n part form b same node found = found ∙ linked_by which n.place n.ty n.category n.shape ∙ ap (λ (f : Form). links which f) (ap whole node ∙ same)
 
 -- one more operand
@@ -164,12 +192,22 @@ value_between : (a : Around) (place behind : Place) (t : ExprType) (category : C
 value_between a place behind t (category.Place ty constant) o left right into s h = absurd (true≢false (sym h))
 value_between a place behind t category.Value o left right into s h = between place behind t (uses a left) (uses a right) into s (row_between o left right) h
 
+value_linked : (a : Around) (place behind : Place) (t : ExprType) (category : Category) (by : Link) (left : Form) (into : Option ℕ) (s : State)
+    → IsTrue (links chain.Computed (typed place t category (linked by left)))
+    → own_value (uses a (typed place t category (linked by left))) behind into s
+    ≡ (own_value (uses a left) behind None s >> λ r s. operated_on a (typed place t category (linked by left)) behind r into s)
+value_linked a place behind t category (Operator o right) left into s h = value_between a place behind t category o left right into s h
+value_linked a place behind t category (Call called arguments delimiters) left into s h = absurd (true≢false (sym h))
+value_linked a place behind t category (Member m) left into s h = absurd (true≢false (sym h))
+value_linked a place behind t category (Element position closing) left into s h = absurd (true≢false (sym h))
+value_linked a place behind t category Owned left into s h = absurd (true≢false (sym h))
+
 pub next_value : (a : Around) (behind : Place) (first second : Form) (into : Option ℕ) (s0 s : State) (r : ℕ) → Follows chain.Computed first second → own_value (uses a first) behind None s0 ≡ gives r s
     → own_value (uses a second) behind into s0 ≡ operated_on a second behind r into s
 next_value a behind first second into s0 s r h so_far =
     subst (λ (f : Form). own_value (uses a f) behind into s0 ≡ operated_on a f behind r into s) (sym h.between)
-    (value_between a h.place behind h.ty h.kind h.by first h.right into s0 h.link
-    ∙ ap (λ (w : Gives ℕ). operated_on a (typed h.place h.ty h.kind (binary h.by first h.right)) behind w.given into w.state) so_far)
+    (value_linked a h.place behind h.ty h.kind h.by first into s0 h.link
+    ∙ ap (λ (w : Gives ℕ). operated_on a (typed h.place h.ty h.kind (linked h.by first)) behind w.given into w.state) so_far)
 
 -- ---- conditions
 
@@ -191,6 +229,15 @@ condition_between a place b t category o left right s h =
     let e = uses a (typed place t category (binary o left right)) in
     joined_between place b t category (uses a left) (uses a right) (nullable e) (read_or_made e b.token None) s (row_between o left right) h
 
+condition_linked : (a : Around) (place : Place) (b : Behind) (t : ExprType) (category : Category) (by : Link) (left : Form) (s : State) → IsTrue (links chain.Joined (typed place t category (linked by left)))
+    → condition (uses a (typed place t category (linked by left))) b s
+    ≡ (condition (uses a left) (ending place) s >> λ test s. joined_on a (typed place t category (linked by left)) b.token test s)
+condition_linked a place b t category (Operator o right) left s h = condition_between a place b t category o left right s h
+condition_linked a place b t category (Call called arguments delimiters) left s h = absurd (true≢false (sym h))
+condition_linked a place b t category (Member m) left s h = absurd (true≢false (sym h))
+condition_linked a place b t category (Element position closing) left s h = absurd (true≢false (sym h))
+condition_linked a place b t category Owned left s h = absurd (true≢false (sym h))
+
 -- the place of an expression
 abbrev pub form_place : Form → Place
 form_place (typed place t category form) = place
@@ -204,6 +251,6 @@ pub next_condition : (a : Around) (b : Behind) (first second : Form) (s0 s : Sta
     → condition (uses a second) b s0 ≡ joined_on a second b.token test s
 next_condition a b first second s0 s test h so_far =
     subst (λ (f : Form). condition (uses a f) b s0 ≡ joined_on a f b.token test s) (sym h.between)
-    (condition_between a h.place b h.ty h.kind h.by first h.right s0 h.link
-    ∙ ap (λ (w : Gives Tree). joined_on a (typed h.place h.ty h.kind (binary h.by first h.right)) b.token w.given w.state)
+    (condition_linked a h.place b h.ty h.kind h.by first s0 h.link
+    ∙ ap (λ (w : Gives Tree). joined_on a (typed h.place h.ty h.kind (linked h.by first)) b.token w.given w.state)
     (ap (λ (place : Place). condition (uses a first) (ending place) s0) (follows_place chain.Joined first second h) ∙ so_far))

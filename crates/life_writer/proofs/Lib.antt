@@ -5,6 +5,9 @@ pub mod Decided
 pub mod Elements
 pub mod FirstOperands
 pub mod Following
+pub mod FollowingPlaces
+pub mod FollowingPointers
+pub mod FollowingTexts
 pub mod FormsKeep
 pub mod Giving
 pub mod GivingKeep

@@ -1,4 +1,4 @@
--- Iterators that are moved, and texts that are seen, compared and joined; and what calls give.
+-- Texts that are seen, compared and joined; and what calls give.
 use Rattle.std.proofs.Common.{◌≡◌, ℕ, Bool, List, Option, None, refl, sym, ap, ◌∙◌}
 use Rattle.life_types.specs.declared.place.Place.{Place}
 use Rattle.life_types.specs.declared.ty.Ty.{Ty}
@@ -9,16 +9,14 @@ use Rattle.life_typed.specs.TypedForm.{Form}
 use Rattle.life_typed.specs.declared.typed_expr.Category.{Category}
 use Rattle.life_typed.specs.declared.typed_expr.ExprType.{ExprType}
 use Rattle.life_core.specs.Operands.{Argument, Location, Operand}
-use Rattle.life_core.specs.Step.{Advance, Same}
-use Rattle.life_core.specs.declared.instr.Direction.{Direction}
+use Rattle.life_core.specs.Step.{Same}
 use Rattle.life_core.specs.declared.instr.Form.TheVariants.{Plain}
 use Rattle.life_writer.specs.Around.{Around, parameter_types}
 use Rattle.life_writer.specs.Calls.{called}
 use Rattle.life_writer.specs.Characters.{InRegister, InString, InView, Seen, concatenated, seen, seen_by, viewed}
-use Rattle.life_writer.specs.ExpressionForms.{advanced_uses, all_uses, called_with, compared_with}
+use Rattle.life_writer.specs.ExpressionForms.{all_uses, called_with, compared_with}
 use Rattle.life_writer.specs.Giving.{arguments}
 use Rattle.life_writer.specs.OwnerForms.{concatenation_uses}
-use Rattle.life_writer.specs.Pointers.{By}
 use Rattle.life_writer.specs.Registers.{computed, target}
 use Rattle.life_writer.specs.Uses.{Uses, lived, own}
 use Rattle.life_writer.specs.Using.{operand, pointer, value}
@@ -30,17 +28,6 @@ pub called_given : (a : Around) (f : ℕ) (es : Form) (d : DelimitersForm) (type
     → arguments a (all_uses a es) d types s ≡ gives xs now → called_with a f (all_uses a es) d s ≡ gives (called f xs) now
 called_given a f es d types xs s now as_declared given =
     ap (λ (ts : List TyId). mapped (called f) (arguments a (all_uses a es) d ts s)) (sym as_declared) ∙ ap (mapped (called f)) given
-
--- ---- iterators
-
-pub advances : (direction : Direction) (left right : Uses) (place : Place) (t : ExprType) (c : Category) (own_left own_right : Ty) (s s1 now : State) (q : Location) (n : ℕ)
-    → own_left ≡ own left → own_right ≡ own right → pointer left own_left s ≡ gives q s1 → value right place own_right None s1 ≡ gives n now
-    → (advanced_uses direction left right place t c).pointing s ≡ gives (By (λ p. Advance p q n direction)) now
-advances direction left right place t c own_left own_right s s1 now q n left_is right_is first second =
-    ap (λ (u : Ty). pointer left u s >> λ q s. mapped (λ n. By (λ p. Advance p q n direction)) (value right place (own right) None s)) (sym left_is)
-    ∙ ap (λ (w : Gives Location). mapped (λ n. By (λ p. Advance p w.given n direction)) (value right place (own right) None w.state)) first
-    ∙ ap (λ (u : Ty). mapped (λ n. By (λ p. Advance p q n direction)) (value right place u None s1)) (sym right_is)
-    ∙ ap (mapped (λ n. By (λ p. Advance p q n direction))) second
 
 -- ---- characters
 

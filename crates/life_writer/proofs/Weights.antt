@@ -9,7 +9,7 @@ use Rattle.life_typed.specs.Conversions.{is_place}
 use Rattle.life_typed.specs.TypedForm.{Form, Typed, call, construct, paren, make_unique, text_of, member, dereference, index, method, negate, not, address_of, binary, typed, ◌⨟◌, forms, typed_view, typed_views, whole}
 use Rattle.life_typed.specs.declared.typed_expr.TypedExpr.{TypedExpr}
 use Rattle.life_typed.specs.declared.typed_expr.TypedOperand.{TypedOperand}
-use Rattle.life_writer.specs.Chains.{Follows, Runs}
+use Rattle.life_writer.specs.Chains.{Call, Element, Follows, Link, Member, Operator, Owned, Runs, linked}
 use Rattle.life_writer.specs.Around.{own_type}
 use Rattle.life_writer.specs.Calls.{Called, call_for, expression_call, form_call}
 use Rattle.life_writer.specs.Conditions.{on}
@@ -88,10 +88,17 @@ pub side_lighter : (side : Side) (left : Option Part) (right : Part) → weight 
 side_lighter Left left right = omega arith
 side_lighter Right left right = omega arith
 
--- an operator weighs more than what is to its left
+-- a link weighs more than what is to its left
+linked_heavier : (by : Link) (left : Form) → weight left < weight (linked by left)
+linked_heavier (Operator by right) left = omega arith
+linked_heavier (Call called arguments delimiters) left = omega arith
+linked_heavier (Member m) left = omega arith
+linked_heavier (Element position closing) left = omega arith
+linked_heavier Owned left = omega arith
+
 pub left_lighter : (which : Chain) (first second : Form) → Follows which first second → suc (weight first) < weight second
 left_lighter which first second h =
-    let sum : weight second ≡ suc (suc (weight first + weight h.right)) = ap weight h.between in omega arith
+    let whole_one : weight second ≡ suc (weight (linked h.by first)) = ap weight h.between in let more = linked_heavier h.by first in omega arith
 
 -- operands from one on weigh more and more
 module _ (which : Chain) (operands : List TypedOperand) (from : ℕ) (runs : Runs which operands from) where

@@ -70,7 +70,11 @@ abbrev pub node_form : Option Node → Form
 node_form None = nothing
 node_form (Some n) = whole (node_view n)
 
--- the left operand of an operator is this one
+-- the left operand of an operator, the object of a member or an element, or what is dereferenced, is this one
 abbrev pub HasLeft : Shape → Form → Type 0
 HasLeft (shape.Binary operator left right) f = part_form left ≡ f
+HasLeft (shape.Method base called arguments delimiters) f = part_form base ≡ f
+HasLeft (shape.Member base which) f = part_form base ≡ f
+HasLeft (shape.Dereference e) f = part_form e ≡ f
+HasLeft (shape.Index base position closing) f = part_form base ≡ f
 HasLeft _ f = Unit {0}

@@ -78,3 +78,13 @@ computes _ = false
 abbrev pub joins : Row → Bool
 joins (Joined join) = true
 joins _ = false
+
+-- a text that is made of two others
+abbrev pub concatenates : Row → Bool
+concatenates Concatenated = true
+concatenates _ = false
+
+-- an iterator that is moved
+abbrev pub advances : Row → Bool
+advances (Advanced direction) = true
+advances _ = false

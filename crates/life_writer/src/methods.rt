@@ -6,7 +6,6 @@ ghost use Rattle.life_typed.specs.Delimiters.{delimiters_view};
 ghost use Rattle.life_typed.specs.Members.{element_type};
 ghost use Rattle.life_writer.specs.Answers.{Answers};
 ghost use Rattle.life_writer.specs.MethodForms as spec;
-ghost use Rattle.life_writer.specs.ExpressionForms.{uses_if};
 ghost use Rattle.life_writer.specs.PartUses.{expressions_uses, part_uses};
 ghost use Rattle.life_writer.specs.Parts.{first_form, part_form, second_form};
 ghost use Rattle.life_writer.specs.Uses.{own};
@@ -32,8 +31,8 @@ fn element_type(a: &Around, base: Ty) -> Ty
     }
 }
 
-// The first of these.
-fn first(arguments: &[TypedExpr]) -> Option<Part<'_>>
+/// The first of these.
+pub(crate) fn first(arguments: &[TypedExpr]) -> Option<Part<'_>>
     ensures { part_form result ≡ first_form arguments.now }
 {
     match arguments {
@@ -42,8 +41,8 @@ fn first(arguments: &[TypedExpr]) -> Option<Part<'_>>
     }
 }
 
-// .. and the second.
-fn second(arguments: &[TypedExpr]) -> Option<Part<'_>>
+/// .. and the second.
+pub(crate) fn second(arguments: &[TypedExpr]) -> Option<Part<'_>>
     ensures { part_form result ≡ second_form arguments.now }
 {
     match arguments {
@@ -78,48 +77,6 @@ impl Writer {
     {
         let owner = self.part_operand(a, base)?;
         Ok(Pointing::At(Source::Get(location_in(owner))))
-    }
-
-    /// A part of a span or a view ([string.view.ops]).
-    #[cycle(uses)]
-    pub(crate) fn cut(
-        &mut self,
-        a: &Around,
-        base: Option<Part<'_>>,
-        arguments: &[TypedExpr],
-        delimiters: &Delimiters,
-    ) -> Result<Pointing, NoMemory>
-        ensures { Answers pointing_of result (spec.cut (part_uses (around_of a.now) base.entry) (expressions_uses (around_of a.now) arguments.now) (delimiters_view delimiters.now) (state_of self.old)) (state_of self.new) }
-    {
-        let Some(found) = base else {
-            return Err(NoMemory);
-        };
-        let Some(index) = first(arguments) else {
-            return Err(NoMemory);
-        };
-        let from = self.part_pointer(a, base, own_type(found.ty))?;
-        let index = self.part_value(a, Some(index), delimiters.behind(0), Ty::Size, None)?;
-        let count = self.size_if(a, second(arguments), delimiters.behind(1))?;
-        Ok(Pointing::Cut(from, index, count))
-    }
-
-    // A count, if it is said.
-    #[cycle(uses)]
-    fn size_if(
-        &mut self,
-        a: &Around,
-        count: Option<Part<'_>>,
-        behind: Place,
-    ) -> Result<Option<u32>, NoMemory>
-        ensures { Answers (λ x. x) result (spec.size_if (uses_if (around_of a.now) (part_form count.entry)) behind (state_of self.old)) (state_of self.new) }
-    {
-        match count {
-            Some(part) => {
-                let register = self.part_value(a, Some(part), behind, Ty::Size, None)?;
-                Ok(Some(register))
-            }
-            None => Ok(None),
-        }
     }
 
     /// The value that a member function answers, by the member.

@@ -2,24 +2,26 @@
 // [unique.ptr], [dcl.init.list]).
 ghost use Rattle.std.specs.Prelude.{Some};
 ghost use Rattle.life_writer.specs.Answers.{Answers};
+ghost use Rattle.life_writer.specs.Chains.{text_on};
 ghost use Rattle.life_writer.specs.Characters as characters;
 ghost use Rattle.life_writer.specs.Around.{type_of};
 ghost use Rattle.life_writer.specs.ExpressionForms.{binary_uses, uses_if};
 ghost use Rattle.life_writer.specs.OwnerForms as spec;
 ghost use Rattle.life_writer.specs.PartUses.{node_uses, part_uses};
-ghost use Rattle.life_writer.specs.Parts.{part_form};
+ghost use Rattle.life_writer.specs.Parts.{node_form, part_form};
 ghost use Rattle.life_writer.specs.Using as using;
 ghost use Rattle.life_writer.specs.Views.{around_of, destination_of, last_of, seen_of, state_of};
 
 use crate::acts::Act;
 use crate::around::{Around, own_type};
 use crate::building::{Destination, Last};
+use crate::chains::{Chain, chain_begins, is_link};
 use crate::characters::SeenCharacters;
-use crate::parts::{Node, Part, Shape};
+use crate::parts::{Node, Part, Shape, last_of, opened};
 use crate::pointers::Pointing;
 use crate::rows::{Row, row_between};
 use crate::writer::Writer;
-use life_core::{Made, Source};
+use life_core::{Made, Operand, Source};
 use life_typed::Category;
 use life_types::{NoMemory, Place, Ty, TyId};
 
@@ -196,13 +198,61 @@ impl Writer {
         }
     }
 
-    /// Where a part's characters are found.
+    // A string that two texts become, the left one of which is found already.
+    #[cycle(uses)]
+    fn text_on(
+        &mut self,
+        a: &Around,
+        node: Option<Node<'_>>,
+        left: SeenCharacters,
+    ) -> Result<SeenCharacters, NoMemory>
+        ensures { Answers seen_of result (text_on (around_of a.now) (node_form node.entry) (seen_of left) (state_of self.old)) (state_of self.new) }
+    {
+        let Some(node) = node else {
+            return Err(NoMemory);
+        };
+        match node.shape {
+            Shape::Binary { right, .. } => {
+                let right = self.seen(a, Some(right))?;
+                let last = Last::Lived(Act::Joined(node.place, left, right));
+                let goal = Destination::Temporary(node.place, own_type(node.ty));
+                let local = self.built(last, goal)?;
+                let string = Operand::name(self.alloc, local);
+                Ok(SeenCharacters::InString(node.place, string))
+            }
+            _ => Err(NoMemory),
+        }
+    }
+
+    /// Where a part's characters are found. A chain of `+` is written from its innermost operand on.
     #[cycle(uses)]
     pub(crate) fn seen(
         &mut self,
         a: &Around,
         part: Option<Part<'_>>,
     ) -> Result<SeenCharacters, NoMemory>
+        ensures { Answers seen_of result (characters.seen (part_uses (around_of a.now) part.entry) (state_of self.old)) (state_of self.new) }
+    {
+        let Some(found) = part else {
+            return Err(NoMemory);
+        };
+        let node = found.opened();
+        if !is_link(Chain::Concatenated, &node) {
+            return self.lone_seen(a, part);
+        }
+        let within = found.within;
+        let from = chain_begins(Chain::Concatenated, within);
+        let mut text = self.seen(a, last_of(&within[..from]))?;
+        'operators: for number in from..within.len() {
+            let next = opened(last_of(&within[..number + 1]));
+            text = self.text_on(a, next, text)?;
+        }
+        self.text_on(a, Some(node), text)
+    }
+
+    // .. which no `+` makes of two others.
+    #[cycle(uses)]
+    fn lone_seen(&mut self, a: &Around, part: Option<Part<'_>>) -> Result<SeenCharacters, NoMemory>
         ensures { Answers seen_of result (characters.seen (part_uses (around_of a.now) part.entry) (state_of self.old)) (state_of self.new) }
     {
         let Some(found) = part else {

@@ -1,8 +1,7 @@
 // Places and pointers (ISO/IEC 14882:2017 [basic.lval], [expr.unary.op], [dcl.ptr]).
-ghost use Rattle.std.specs.Prelude.{◌≡◌, IfOk, Some};
-ghost use Rattle.life_core.specs.Operands.{Whole, location_of, operand_of};
+ghost use Rattle.life_core.specs.Operands.{Whole, operand_of};
 ghost use Rattle.life_writer.specs.Answers.{Answers};
-ghost use Rattle.life_writer.specs.ExpressionForms.{binary_uses, member_at, target_at};
+ghost use Rattle.life_writer.specs.ExpressionForms.{member_at, target_at};
 ghost use Rattle.life_writer.specs.PartUses.{node_uses, part_uses};
 ghost use Rattle.life_writer.specs.Pointers.{aimed};
 ghost use Rattle.life_writer.specs.Using as spec;
@@ -15,39 +14,14 @@ use crate::around::{Around, own_type};
 use crate::bases::reference_to;
 use crate::building::{Destination, Last};
 use crate::parts::{Node, Part, Shape};
+use crate::placed::with_member;
 use crate::pointers::Pointing;
-use crate::rows::{Row, row_between};
+use crate::rows::row_between;
 use crate::writer::Writer;
 use life_core::{Location, Operand, Source, Which};
 use life_typed::Category;
-use life_types::{NoMemory, Ty, is_pointer};
+use life_types::{NoMemory, Ty};
 use std::vec::Vec;
-
-// What is no pointer itself is seen by one of the type that is wanted.
-fn register_type(wanted: Ty, own: Ty) -> Ty
-    ensures { result ≡ spec.register_type wanted own }
-{
-    if is_pointer(own) { own } else { wanted }
-}
-
-// A member of a place.
-fn with_member(place: Operand, member: u32) -> Result<Operand, NoMemory>
-    ensures { IfOk result (λ o. operand_of o ≡ spec.with_member member (operand_of place)) }
-{
-    match place {
-        Operand::Name(Location { local, mut members }) => {
-            members.push(member)?;
-            Ok(Operand::Name(Location { local, members }))
-        }
-        Operand::Through {
-            pointer,
-            mut members,
-        } => {
-            members.push(member)?;
-            Ok(Operand::Through { pointer, members })
-        }
-    }
-}
 
 impl Writer {
     /// A part where a place is wanted.
@@ -59,9 +33,12 @@ impl Writer {
     ) -> Result<Operand, NoMemory>
         ensures { Answers operand_of result (spec.operand (part_uses (around_of a.now) part.entry) (state_of self.old)) (state_of self.new) }
     {
-        match part {
-            Some(part) => self.node_operand(a, &part.opened()),
-            None => Err(NoMemory),
+        let Some(found) = part else {
+            return Err(NoMemory);
+        };
+        match found.category {
+            Category::Value => self.node_operand(a, &found.opened()),
+            Category::Place { .. } => self.part_at(a, part),
         }
     }
 
@@ -80,22 +57,7 @@ impl Writer {
         }
     }
 
-    /// The place that a part is.
-    #[cycle(uses)]
-    pub(crate) fn part_at(
-        &mut self,
-        a: &Around,
-        part: Option<Part<'_>>,
-    ) -> Result<Operand, NoMemory>
-        ensures { Answers operand_of result ((part_uses (around_of a.now) part.entry).at (state_of self.old)) (state_of self.new) }
-    {
-        match part {
-            Some(part) => self.at(a, &part.opened()),
-            None => Err(NoMemory),
-        }
-    }
-
-    /// .. once it is opened.
+    /// The place that an opened part is.
     #[cycle(uses)]
     pub(crate) fn at(&mut self, a: &Around, node: &Node<'_>) -> Result<Operand, NoMemory>
         ensures { Answers operand_of result ((node_uses (around_of a.now) node.now).at (state_of self.old)) (state_of self.new) }
@@ -283,32 +245,6 @@ impl Writer {
         }
     }
 
-    // An iterator is moved by so many elements, by the row ([random.access.iterators]).
-    #[cycle(uses)]
-    fn advanced(
-        &mut self,
-        a: &Around,
-        node: &Node<'_>,
-        row: Row,
-        left: Option<Part<'_>>,
-        right: Part<'_>,
-    ) -> Result<Pointing, NoMemory>
-        ensures { Answers pointing_of result ((binary_uses row (part_uses (around_of a.now) left.entry) (part_uses (around_of a.now) (Some right.entry)) node.now.place node.now.ty node.now.category).pointing (state_of self.old)) (state_of self.new) }
-    {
-        let Some(found) = left else {
-            return Err(NoMemory);
-        };
-        match row {
-            Row::Advanced(direction) => {
-                let from = self.part_pointer(a, left, own_type(found.ty))?;
-                let ty = own_type(right.ty);
-                let count = self.part_value(a, Some(right), node.place, ty, None)?;
-                Ok(Pointing::Advanced(from, count, direction))
-            }
-            _ => Err(NoMemory),
-        }
-    }
-
     #[cycle(uses)]
     fn part_points_to(&mut self, a: &Around, part: Option<Part<'_>>) -> Result<Pointing, NoMemory>
         ensures { Answers pointing_of result ((part_uses (around_of a.now) part.entry).pointing (state_of self.old)) (state_of self.new) }
@@ -317,24 +253,5 @@ impl Writer {
             Some(part) => self.points_to(a, &part.opened()),
             None => Err(NoMemory),
         }
-    }
-
-    /// The location of the pointer that a part is, or that sees it where a pointer of this type is
-    /// wanted.
-    #[cycle(uses)]
-    pub(crate) fn part_pointer(
-        &mut self,
-        a: &Around,
-        part: Option<Part<'_>>,
-        wanted: Ty,
-    ) -> Result<Location, NoMemory>
-        ensures { Answers location_of result (spec.pointer (part_uses (around_of a.now) part.entry) wanted (state_of self.old)) (state_of self.new) }
-    {
-        let Some(found) = part else {
-            return Err(NoMemory);
-        };
-        let pointing = self.part_pointing(a, part)?;
-        let ty = register_type(wanted, own_type(found.ty));
-        self.located(found.place, ty, pointing)
     }
 }

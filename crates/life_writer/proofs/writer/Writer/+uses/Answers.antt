@@ -7,8 +7,8 @@ use Rattle.life_typed.specs.Delimiters.{delimiters_view}
 use Rattle.life_typed.specs.Operators.{is_nullable}
 use Rattle.life_typed.specs.TypedForm.{Form, Typed, forms, typed, typed_views, whole}
 use Rattle.life_typed.specs.declared.typed_program.TypedLocal.{TypedLocal}
-use Rattle.life_core.specs.Operands.{Argument, Base, Get, GivenOver, Location, Operand, PointerOf, argument_of, base_of, behind, object_named, operand_of, location_of, whole as all_of}
-use Rattle.life_core.specs.Step.{NonZero, NotNull, Size, Step}
+use Rattle.life_core.specs.Operands.{Argument, Base, Get, GivenOver, Location, Operand, Owner, PointerOf, argument_of, base_of, behind, object_named, operand_of, location_of, whole as all_of}
+use Rattle.life_core.specs.Step.{Advance, NonZero, NotNull, Size, Step}
 use Rattle.life_types.specs.declared.ty.Ty.{Ty}
 use Rattle.life_writer.specs.Around.{own_type, type_of}
 use Rattle.life_writer.specs.Bases.{element, reference_to}
@@ -16,15 +16,16 @@ use Rattle.life_writer.specs.Building.{Fill, built}
 use Rattle.life_writer.specs.Registers.{computed, eval, wanted}
 use Rattle.life_core.specs.Tree.{condition_tree, tree_of}
 use Rattle.life_writer.specs.Behind.{ending, lasting}
-use Rattle.life_writer.specs.Chains.{joined_on, operated_on}
+use Rattle.life_writer.specs.Chains.{advanced_by, joined_on, moved_on, moved_to, operated_on, placed_on, text_on}
+use Rattle.life_writer.specs.Characters.{InString, Seen, concatenated, seen}
 use Rattle.life_writer.specs.ExpressionForms.{binary_uses, target_at, uses, uses_if}
 use Rattle.life_writer.specs.Calls.{call_for, called}
 use Rattle.life_writer.specs.Giving.{argument, arguments, copied, given, given_over, object_by, pointer_argument}
-use Rattle.life_writer.specs.Pointers.{As, By, aimed, pointed}
+use Rattle.life_writer.specs.Pointers.{As, By, Pointing, aimed, located, pointed}
 use Rattle.life_writer.specs.PartUses.{expressions_uses, node_uses, part_uses}
 use Rattle.life_writer.specs.Parts.{inside, node_form, part_form, part_view, shape_form}
 use Rattle.life_writer.specs.Uses.{Remaining, Uses, filled, lived, own}
-use Rattle.life_writer.specs.Using.{condition, location_in, nullable, object_in, own_value, owned_by, read_or_made, operand, operand_by, pointing, pointing_by, temporary_of, value, with_member}
+use Rattle.life_writer.specs.Using.{condition, location_in, nullable, object_in, own_value, owned_by, read_or_made, operand, operand_by, pointer, pointing, pointing_by, temporary_of, value, with_member}
 use Rattle.life_writer.specs.Views.{act_of, around_of, called_of, destination_of, keeps_of, last_of, seen_of, state_of, pointing_of}
 use Rattle.life_writer.specs.Writing.{State, Gives, ◌>>◌, emit, gives, mapped}
 use Rattle.std.specs.Prelude.{option_map}
@@ -40,11 +41,15 @@ use Rattle.life_writer.proofs.Handing.{Handed, all_handed, behind_left, no_param
 use Rattle.life_writer.proofs.Made.{is_made, is_read, made_between, made_called, made_negated, made_number, made_taken, made_within, operated_between, operated_computes, operated_goes_on}
 use Rattle.life_writer.proofs.MadeTests.{both_decided, joined_answers, joined_between, null_decided, some_decided}
 use Rattle.life_writer.proofs.Opened.{opened_uses, value_converted, value_same}
-use Rattle.life_writer.proofs.Turns.{condition_turn, last_condition, last_value, value_turn, within_lighter}
+use Rattle.life_writer.proofs.Turns.{condition_turn, last_condition, last_link, last_value, link_turn, value_turn, within_lighter}
 use Rattle.life_writer.proofs.Weights.{argument_lighter, call_lighter, side_lighter, weight}
 use Rattle.life_writer.proofs.FirstOperands.{cut_first, erased_first, first_lighter, second_lighter}
+use Rattle.life_writer.proofs.FollowingPointers.{advanced_alone, cut_alone, next_own, next_pointer, own_location}
+use Rattle.life_writer.proofs.FollowingPlaces.{next_place}
+use Rattle.life_writer.proofs.FollowingTexts.{next_text}
 use Rattle.life_writer.proofs.Nameless.{method_nameless, operator_nameless, string_replacing, text_undecided}
-use Rattle.life_writer.specs.Rows.{row_between}
+use Rattle.life_writer.specs.Rows.{advances, row_between}
+use Rattle.life_writer.specs.Temporaries.{temporary}
 use Rattle.std.proofs.lemmas.Result.{on_ok_weaker}
 use Rattle.life_writer.specs.Targets.{target_of}
 use Rattle.life_writer.proofs.Assigned.{acted_on, not_replaced, owner_assigned, pointer_assigned, replaced_is, struct_assigned, value_assigned}
@@ -61,7 +66,7 @@ use Rattle.life_writer.specs.Lists.{list_object}
 use Rattle.life_writer.specs.OwnerForms.{copied_at, made_at, owned_operand, set_to, standing, string_of, string_of_string, string_uses}
 use Rattle.life_writer.proofs.ListTurns.{all_assigned, all_pushed, list_of_none, list_of_some, member_turn, members_past, pushed_turn, struct_filled, vector_filled}
 use Rattle.life_writer.proofs.StringsBuilt.{nothing_replaced, place_unreplaced, string_copied, string_of_view, string_replaced}
-use Rattle.life_writer.proofs.Sequences.{advances, called_given, compares, concatenates, seen_character, seen_string, seen_view}
+use Rattle.life_writer.proofs.Sequences.{called_given, compares, concatenates, seen_character, seen_string, seen_view}
 use Rattle.life_writer.proofs.Elements.{argument_as, base_owned, base_seen, has_view, method_undecided, pointer_handed}
 use Rattle.life_writer.specs.declared.chains.Chain.TheVariants as chain
 use Rattle.life_writer.proofs.writer.Writer.+uses.Goals as goal
@@ -403,11 +408,18 @@ decided-returns-in_ok-condition-in-NotNull t c =
 
 -- ---- places
 
-pub part_operand-returns-in-Some : goal.part_operand-returns-in-Some
-part_operand-returns-in-Some t c =
+pub part_operand-returns-in-Value : goal.part_operand-returns-in-Value
+part_operand-returns-in-Value t c =
     answers_as operand_of c.node_operand.result _ _ _
-    (ap (λ (e : Uses). operand e (state_of c.args.self.now)) (opened_uses (around_of c.args.a.now) c.args.part c.in-Some.part c.opened.result c.in-Some.is c.opened.ensures.node))
+    (ap (λ (e : Uses). operand e (state_of c.args.self.now)) (opened_uses (around_of c.args.a.now) c.args.part c.in-Some.found c.opened.result c.in-Some.is c.opened.ensures.node))
     c.node_operand.ensures
+
+pub part_operand-returns-in-Place : goal.part_operand-returns-in-Place
+part_operand-returns-in-Place t c =
+    let a = around_of c.args.a.now in
+    answers_as operand_of c.part_at.result _ _ _
+    (place_wanted (part_uses a c.args.part) (state_of c.args.self.now) c.in-Place.ty c.in-Place.constant (ap (λ (o : Option Part). (part_uses a o).category) c.in-Some.is ∙ c.in-Place.is))
+    c.part_at.ensures
 
 pub node_operand-returns-in-Place : goal.node_operand-returns-in-Place
 node_operand-returns-in-Place t c =
@@ -415,11 +427,78 @@ node_operand-returns-in-Place t c =
     (place_wanted (node_uses (around_of c.args.a.now) c.args.node.now) (state_of c.args.self.now) c.in-Place.ty c.in-Place.constant c.in-Place.is)
     c.at.ensures
 
-pub part_at-returns-in-Some : goal.part_at-returns-in-Some
-part_at-returns-in-Some t c =
+pub part_at-returns-then-not-is_link : goal.part_at-returns-then-not-is_link
+part_at-returns-then-not-is_link t c =
     answers_as operand_of c.at.result _ _ _
-    (ap (λ (e : Uses). e.at (state_of c.args.self.now)) (opened_uses (around_of c.args.a.now) c.args.part c.in-Some.part c.opened.result c.in-Some.is c.opened.ensures.node))
+    (ap (λ (e : Uses). e.at (state_of c.args.self.now)) (opened_uses (around_of c.args.a.now) c.args.part c.in-Some.found c.opened-node.result c.in-Some.is c.opened-node.ensures.node))
     c.at.ensures
+
+pub part_at-part_at-requires : goal.part_at-part_at-requires
+part_at-part_at-requires t c =
+    let lighter = within_lighter c.opened-node.result c.in-Some.found c.opened-node.ensures.node c.opened-node.ensures.left chain.Placed c.is_link.result c.is_link.ensures c.if-not-is_link.false
+    c.chain_begins-from.result c.chain_begins-from.result c.chain_begins-from.ensures.links (omega arith) c.chain_begins-from.ensures.few in
+    let first = ap weight c.last_of.ensures.form in
+    let all = ap (λ (o : Option Part). weight (part_form o)) c.in-Some.is in
+    omega arith
+
+pub part_at-links-init : goal.part_at-links-init
+part_at-links-init t c = ap (λ (f : Form). (uses (around_of c.args.a.now) f).at (state_of c.args.self.now)) (sym c.last_of.ensures.form) ∙ c.in_ok-place.ensures
+
+pub part_at-placed_on-requires : goal.part_at-placed_on-requires
+part_at-placed_on-requires t c =
+    let lighter = within_lighter c.opened-node.result c.in-Some.found c.opened-node.ensures.node c.opened-node.ensures.left chain.Placed c.is_link.result c.is_link.ensures c.if-not-is_link.false
+    c.chain_begins-from.result (c.links.number + 1) c.chain_begins-from.ensures.links (omega arith) (omega arith) in
+    let next = ap weight (c.opened-next.ensures ∙ c.last_of-in-links.ensures.form) in
+    let all = ap (λ (o : Option Part). weight (part_form o)) c.in-Some.is in
+    omega arith
+
+pub part_at-links-preserved : goal.part_at-links-preserved
+part_at-links-preserved t c =
+    let a = around_of c.args.a.now in let s = state_of c.args.self.now in
+    link_turn chain.Placed Operand (λ f. (uses a f).at s) (λ f. (uses a f).at s) (placed_on a) (next_place a s) c.in-Some.found.within.now c.chain_begins-from.result c.links.number c.chain_begins-from.ensures.links (omega arith) c.links-test.true
+    (state_of c.links.self) (state_of c.placed_on.new.self) (operand_of c.links.place) (operand_of c.in_ok-place-2.place) (node_form c.opened-next.result)
+    c.links.invariant (c.opened-next.ensures ∙ c.last_of-in-links.ensures.form) c.in_ok-place-2.ensures
+
+pub part_at-returns : goal.part_at-returns
+part_at-returns t c =
+    let a = around_of c.args.a.now in let s = state_of c.args.self.now in
+    answers_as operand_of c.placed_on-2.result _ _ _
+    (ap (λ (o : Option Part). (part_uses a o).at s) c.in-Some.is)
+    (last_link chain.Placed Operand (λ f. (uses a f).at s) (λ f. (uses a f).at s) (placed_on a) (next_place a s) c.opened-node.result c.in-Some.found c.opened-node.ensures.node c.opened-node.ensures.left
+    c.is_link.result c.is_link.ensures c.if-not-is_link.false c.links.number c.links-test.false operand_of (state_of c.links.self) (operand_of c.links.place) c.placed_on-2.result (state_of c.placed_on-2.new.self)
+    c.links.invariant c.placed_on-2.ensures)
+
+pub placed_on-returns-in_ok-reached-in-Member : goal.placed_on-returns-in_ok-reached-in-Member
+placed_on-returns-in_ok-reached-in-Member t c =
+    let a = around_of c.args.a.now in let n = c.in-Some.node in let q = operand_of c.args.place in let s = state_of c.args.self.now in
+    ap (λ (o : Option Node). placed_on a (node_form o) q s) c.in-Some.is
+    ∙ ap (λ (x : Shape). placed_on a (typed n.place n.ty n.category (shape_form x)) q s) c.in-Member.is
+    ∙ ap (λ (o : Operand). gives o s) (sym c.in_ok-reached-in-Member.ensures)
+
+pub placed_on-returns-in_ok-register-in-Index : goal.placed_on-returns-in_ok-register-in-Index
+placed_on-returns-in_ok-register-in-Index t c =
+    let a = around_of c.args.a.now in let n = c.in-Some.node in let q = operand_of c.args.place in let s = state_of c.args.self.now in
+    answers_as operand_of c.element.result _ _ _
+    (ap (λ (o : Option Node). placed_on a (node_form o) q s) c.in-Some.is
+    ∙ ap (λ (x : Shape). placed_on a (typed n.place n.ty n.category (shape_form x)) q s) c.in-Index.is
+    ∙ ap (λ (w : Gives ℕ). element n.place n.category (Owner q) (which.Index w.given) w.state) c.in_ok-register-in-Index.ensures)
+    c.element.ensures
+
+pub placed_on-returns-in-Dereference : goal.placed_on-returns-in-Dereference
+placed_on-returns-in-Dereference t c =
+    let a = around_of c.args.a.now in let n = c.in-Some.node in let q = operand_of c.args.place in let s = state_of c.args.self.now in
+    answers_as operand_of c.element-in-Dereference.result _ _ _
+    (ap (λ (o : Option Node). placed_on a (node_form o) q s) c.in-Some.is
+    ∙ ap (λ (x : Shape). placed_on a (typed n.place n.ty n.category (shape_form x)) q s) c.in-Dereference.is)
+    c.element-in-Dereference.ensures
+
+pub placed_on-returns-in-Method : goal.placed_on-returns-in-Method
+placed_on-returns-in-Method t c =
+    let a = around_of c.args.a.now in let n = c.in-Some.node in let q = operand_of c.args.place in let s = state_of c.args.self.now in
+    answers_as operand_of c.end_on.result _ _ _
+    (ap (λ (o : Option Node). placed_on a (node_form o) q s) c.in-Some.is
+    ∙ ap (λ (x : Shape). placed_on a (typed n.place n.ty n.category (shape_form x)) q s) c.in-Method.is)
+    c.end_on.ensures
 
 -- ---- pointers
 
@@ -435,8 +514,73 @@ part_points_to-returns-in-Some t c =
     (ap (λ (e : Uses). e.pointing (state_of c.args.self.now)) (opened_uses (around_of c.args.a.now) c.args.part c.in-Some.part c.opened.result c.in-Some.is c.opened.ensures.node))
     c.points_to.ensures
 
+pub part_pointer-own_pointer-requires : goal.part_pointer-own_pointer-requires
+part_pointer-own_pointer-requires t c =
+    let lighter = within_lighter c.opened-node.result c.in-Some.found c.opened-node.ensures.node c.opened-node.ensures.left chain.Moved c.is_link.result c.is_link.ensures c.if-not-is_link.false
+    c.chain_begins-from.result c.chain_begins-from.result c.chain_begins-from.ensures.links (omega arith) c.chain_begins-from.ensures.few in
+    let first = ap weight c.last_of.ensures.form in
+    let all = ap (λ (o : Option Part). weight (part_form o)) c.in-Some.is in
+    omega arith
+
+pub part_pointer-links-init : goal.part_pointer-links-init
+part_pointer-links-init t c =
+    ap (λ (f : Form). own_location (around_of c.args.a.now) (state_of c.args.self.now) f) (sym c.last_of.ensures.form) ∙ c.in_ok-pointer.ensures
+
+pub part_pointer-moved_to-requires : goal.part_pointer-moved_to-requires
+part_pointer-moved_to-requires t c =
+    let lighter = within_lighter c.opened-node.result c.in-Some.found c.opened-node.ensures.node c.opened-node.ensures.left chain.Moved c.is_link.result c.is_link.ensures c.if-not-is_link.false
+    c.chain_begins-from.result (c.links.number + 1) c.chain_begins-from.ensures.links (omega arith) (omega arith) in
+    let next = ap weight (c.opened-next.ensures ∙ c.last_of-in-links.ensures.form) in
+    let all = ap (λ (o : Option Part). weight (part_form o)) c.in-Some.is in
+    omega arith
+
+pub part_pointer-links-preserved : goal.part_pointer-links-preserved
+part_pointer-links-preserved t c =
+    let a = around_of c.args.a.now in let s = state_of c.args.self.now in
+    link_turn chain.Moved Location (own_location a s) (own_location a s) (moved_to a) (next_own a s) c.in-Some.found.within.now c.chain_begins-from.result c.links.number c.chain_begins-from.ensures.links (omega arith) c.links-test.true
+    (state_of c.links.self) (state_of c.moved_to.new.self) (location_of c.links.pointer) (location_of c.in_ok-pointer-2.pointer) (node_form c.opened-next.result)
+    c.links.invariant (c.opened-next.ensures ∙ c.last_of-in-links.ensures.form) c.in_ok-pointer-2.ensures
+
 pub part_pointer-returns : goal.part_pointer-returns
 part_pointer-returns t c =
+    let a = around_of c.args.a.now in let s = state_of c.args.self.now in
+    answers_as location_of c.moved_to-2.result _ _ _
+    (ap (λ (o : Option Part). pointer (part_uses a o) c.args.wanted s) c.in-Some.is)
+    (last_link chain.Moved Location (own_location a s) (λ f. pointer (uses a f) c.args.wanted s) (moved_to a) (next_pointer a c.args.wanted s) c.opened-node.result c.in-Some.found c.opened-node.ensures.node c.opened-node.ensures.left
+    c.is_link.result c.is_link.ensures c.if-not-is_link.false c.links.number c.links-test.false location_of (state_of c.links.self) (location_of c.links.pointer) c.moved_to-2.result (state_of c.moved_to-2.new.self)
+    c.links.invariant c.moved_to-2.ensures)
+
+pub own_pointer-returns : goal.own_pointer-returns
+own_pointer-returns t c =
+    let a = around_of c.args.a.now in let s = state_of c.args.self.now in
+    answers_as location_of c.part_pointer.result _ _ _
+    (ap (λ (u : Ty). pointer (part_uses a c.args.part) u s) (ap (λ (o : Option Part). own (part_uses a o)) c.in-Some.is ∙ sym c.own_type.ensures)) c.part_pointer.ensures
+
+pub moved_to-returns : goal.moved_to-returns
+moved_to-returns t c =
+    let a = around_of c.args.a.now in let n = c.in-Some.node in
+    answers_as location_of c.located.result _ _ _
+    (ap (λ (o : Option Node). moved_to a (node_form o) (location_of c.args.from) (state_of c.args.self.now)) c.in-Some.is
+    ∙ ap (λ (w : Gives Pointing). located n.place (own_type n.ty) w.given w.state) c.in_ok-pointing.ensures
+    ∙ ap (λ (u : Ty). located n.place u (pointing_of c.in_ok-pointing.pointing) (state_of c.moved_on.new.self)) (sym c.own_type.ensures))
+    c.located.ensures
+
+pub moved_on-returns-in-Binary : goal.moved_on-returns-in-Binary
+moved_on-returns-in-Binary t c =
+    let a = around_of c.args.a.now in let n = c.args.node.now in let q = location_of c.args.from in let s = state_of c.args.self.now in
+    answers_as pointing_of c.advanced_by.result _ _ _
+    (ap (λ (x : Shape). moved_on a (typed n.place n.ty n.category (shape_form x)) q s) c.in-Binary.is
+    ∙ ap (λ (w : Row). advanced_by w q (part_uses a (Some c.in-Binary.right)) n.place s) (sym c.row_between-row.ensures))
+    c.advanced_by.ensures
+
+pub moved_on-returns-in-Method : goal.moved_on-returns-in-Method
+moved_on-returns-in-Method t c =
+    let n = c.args.node.now in
+    answers_as pointing_of c.cut_by.result _ _ _
+    (ap (λ (x : Shape). moved_on (around_of c.args.a.now) (typed n.place n.ty n.category (shape_form x)) (location_of c.args.from) (state_of c.args.self.now)) c.in-Method.is) c.cut_by.ensures
+
+pub lone_pointer-returns : goal.lone_pointer-returns
+lone_pointer-returns t c =
     let a = around_of c.args.a.now in
     pointer_located (part_uses a c.args.part) c.args.wanted c.own_type.result c.register_type-ty.result c.in-Some.found.place (state_of c.args.self.now) (state_of c.part_pointing.new.self) (state_of c.located.new.self)
     (pointing_of c.in_ok-pointing.pointing) c.located.result
@@ -558,33 +702,47 @@ erased-returns t c =
     erased_first a (part_uses a c.args.base) c.args.arguments.now c.first.result c.in-Some.at c.first.ensures c.in-Some.is c.own_type.result (state_of c.args.self.now) (state_of c.part_operand.new.self) (state_of c.part_pointer.new.self)
     (operand_of c.in_ok-owner.owner) (location_of c.in_ok-at.at) c.own_type.ensures c.in_ok-owner.ensures c.in_ok-at.ensures
 
-pub cut-part_value-requires : goal.cut-part_value-requires
-cut-part_value-requires t c =
+pub cut_by-part_value-requires : goal.cut_by-part_value-requires
+cut_by-part_value-requires t c =
     let lighter = first_lighter c.args.arguments.now c.first.result c.first.ensures in
-    let same = ap (λ (o : Option Part). weight (part_form o)) c.in-Some-first.is in
+    let same = ap (λ (o : Option Part). weight (part_form o)) c.in-Some.is in
     omega arith
 
-pub cut-size_if-requires : goal.cut-size_if-requires
-cut-size_if-requires t c =
+pub cut_by-size_if-requires : goal.cut_by-size_if-requires
+cut_by-size_if-requires t c =
     let lighter = second_lighter c.args.arguments.now c.second.result c.second.ensures in
     omega arith
+
+pub cut_by-returns : goal.cut_by-returns
+cut_by-returns t c =
+    cut_first (around_of c.args.a.now) c.args.arguments.now c.first.result c.in-Some.index c.first.ensures c.in-Some.is (delimiters_view c.args.delimiters.now) (location_of c.args.from) c.behind.result c.behind-2.result c.second.result
+    (state_of c.args.self.now) (state_of c.part_value.new.self) (state_of c.size_if.new.self) c.in_ok-index.index c.in_ok-count.count
+    c.behind.ensures c.in_ok-index.ensures c.behind-2.ensures c.second.ensures c.in_ok-count.ensures
 
 pub cut-returns : goal.cut-returns
 cut-returns t c =
     let a = around_of c.args.a.now in
-    cut_first a (part_uses a c.args.base) c.args.arguments.now c.first.result c.in-Some-first.index c.first.ensures c.in-Some-first.is (delimiters_view c.args.delimiters.now) c.own_type.result c.behind.result c.behind-2.result c.second.result
-    (state_of c.args.self.now) (state_of c.part_pointer.new.self) (state_of c.part_value.new.self) (state_of c.size_if.new.self) (location_of c.in_ok-from.from) c.in_ok-index.index c.in_ok-count.count
-    (c.own_type.ensures ∙ sym (ap (λ (o : Option Part). own (part_uses a o)) c.in-Some.is)) c.in_ok-from.ensures c.behind.ensures c.in_ok-index.ensures c.behind-2.ensures c.second.ensures c.in_ok-count.ensures
+    answers_as pointing_of c.cut_by.result _ _ _
+    (cut_alone a (part_uses a c.args.base) (forms (typed_views c.args.arguments.now)) (delimiters_view c.args.delimiters.now) (state_of c.args.self.now) (state_of c.own_pointer.new.self) (location_of c.in_ok-from.from)
+    (sym c.has_first.ensures ∙ c.if-not-has_first.false) c.in_ok-from.ensures)
+    c.cut_by.ensures
 
 -- ---- iterators and texts
 
-pub advanced-returns-in_ok-count-in-Advanced : goal.advanced-returns-in_ok-count-in-Advanced
-advanced-returns-in_ok-count-in-Advanced t c =
-    let a = around_of c.args.a.now in let n = c.args.node.now in let left = part_uses a c.args.left in let right = part_uses a (Some c.args.right) in
-    ap (λ (w : Row). (binary_uses w left right n.place n.ty n.category).pointing (state_of c.args.self.now)) c.in-Advanced.is
-    ∙ advances c.in-Advanced.direction left right n.place n.ty n.category c.own_type.result c.own_type-ty.result (state_of c.args.self.now) (state_of c.part_pointer.new.self) (state_of c.part_value.new.self)
-    (location_of c.in_ok-from-in-Advanced.from) c.in_ok-count-in-Advanced.count (c.own_type.ensures ∙ sym (ap (λ (o : Option Part). own (part_uses a o)) c.in-Some.is)) c.own_type-ty.ensures
-    c.in_ok-from-in-Advanced.ensures c.in_ok-count-in-Advanced.ensures
+pub advanced-returns-in_ok-from-in-Advanced : goal.advanced-returns-in_ok-from-in-Advanced
+advanced-returns-in_ok-from-in-Advanced t c =
+    let a = around_of c.args.a.now in let n = c.args.node.now in
+    answers_as pointing_of c.advanced_by.result _ _ _
+    (advanced_alone c.args.row (part_uses a c.args.left) (part_uses a (Some c.args.right)) n.place n.ty n.category (state_of c.args.self.now) (state_of c.own_pointer.new.self)
+    (location_of c.in_ok-from-in-Advanced.from) (ap advances c.in-Advanced.is) c.in_ok-from-in-Advanced.ensures)
+    c.advanced_by.ensures
+
+pub advanced_by-returns-in_ok-count-in-Advanced : goal.advanced_by-returns-in_ok-count-in-Advanced
+advanced_by-returns-in_ok-count-in-Advanced t c =
+    let right = part_uses (around_of c.args.a.now) (Some c.args.right) in let q = location_of c.args.from in let s = state_of c.args.self.now in
+    ap (λ (w : Row). advanced_by w q right c.args.place s) c.in-Advanced.is
+    ∙ ap (λ (u : Ty). mapped (λ n. By (λ p. Advance p q n c.in-Advanced.direction)) (value right c.args.place u None s)) (sym c.own_type-ty.ensures)
+    ∙ ap (mapped (λ n. By (λ p. Advance p q n c.in-Advanced.direction))) c.in_ok-count-in-Advanced.ensures
 
 pub points_to-returns-in-Binary : goal.points_to-returns-in-Binary
 points_to-returns-in-Binary t c =
@@ -617,14 +775,59 @@ object_last-returns-in-Binary t c =
     ∙ ap (λ (w : Row). (binary_uses w (part_uses a c.in-Binary.left) (part_uses a (Some c.in-Binary.right)) n.place n.ty n.category).object (state_of c.args.self.now)) (sym c.row_between-row.ensures))
     c.concatenated.ensures
 
-pub seen-returns-in_ok-string-in-Text : goal.seen-returns-in_ok-string-in-Text
-seen-returns-in_ok-string-in-Text t c =
+pub seen-seen-requires : goal.seen-seen-requires
+seen-seen-requires t c =
+    let lighter = within_lighter c.opened-node.result c.in-Some.found c.opened-node.ensures.node c.opened-node.ensures.left chain.Concatenated c.is_link.result c.is_link.ensures c.if-not-is_link.false
+    c.chain_begins-from.result c.chain_begins-from.result c.chain_begins-from.ensures.links (omega arith) c.chain_begins-from.ensures.few in
+    let first = ap weight c.last_of.ensures.form in
+    let all = ap (λ (o : Option Part). weight (part_form o)) c.in-Some.is in
+    omega arith
+
+pub seen-operators-init : goal.seen-operators-init
+seen-operators-init t c = ap (λ (f : Form). seen (uses (around_of c.args.a.now) f) (state_of c.args.self.now)) (sym c.last_of.ensures.form) ∙ c.in_ok-text.ensures
+
+pub seen-text_on-requires : goal.seen-text_on-requires
+seen-text_on-requires t c =
+    let lighter = within_lighter c.opened-node.result c.in-Some.found c.opened-node.ensures.node c.opened-node.ensures.left chain.Concatenated c.is_link.result c.is_link.ensures c.if-not-is_link.false
+    c.chain_begins-from.result (c.operators.number + 1) c.chain_begins-from.ensures.links (omega arith) (omega arith) in
+    let next = ap weight (c.opened-next.ensures ∙ c.last_of-in-operators.ensures.form) in
+    let all = ap (λ (o : Option Part). weight (part_form o)) c.in-Some.is in
+    omega arith
+
+pub seen-operators-preserved : goal.seen-operators-preserved
+seen-operators-preserved t c =
+    let a = around_of c.args.a.now in let s = state_of c.args.self.now in
+    link_turn chain.Concatenated Seen (λ f. seen (uses a f) s) (λ f. seen (uses a f) s) (text_on a) (next_text a s) c.in-Some.found.within.now c.chain_begins-from.result c.operators.number c.chain_begins-from.ensures.links (omega arith)
+    c.operators-test.true (state_of c.operators.self) (state_of c.text_on.new.self) (seen_of c.operators.text) (seen_of c.in_ok-text-2.text) (node_form c.opened-next.result)
+    c.operators.invariant (c.opened-next.ensures ∙ c.last_of-in-operators.ensures.form) c.in_ok-text-2.ensures
+
+pub seen-returns : goal.seen-returns
+seen-returns t c =
+    let a = around_of c.args.a.now in let s = state_of c.args.self.now in
+    answers_as seen_of c.text_on-2.result _ _ _
+    (ap (λ (o : Option Part). seen (part_uses a o) s) c.in-Some.is)
+    (last_link chain.Concatenated Seen (λ f. seen (uses a f) s) (λ f. seen (uses a f) s) (text_on a) (next_text a s) c.opened-node.result c.in-Some.found c.opened-node.ensures.node c.opened-node.ensures.left
+    c.is_link.result c.is_link.ensures c.if-not-is_link.false c.operators.number c.operators-test.false seen_of (state_of c.operators.self) (seen_of c.operators.text) c.text_on-2.result (state_of c.text_on-2.new.self)
+    c.operators.invariant c.text_on-2.ensures)
+
+pub text_on-returns-in_ok-local-in-Binary : goal.text_on-returns-in_ok-local-in-Binary
+text_on-returns-in_ok-local-in-Binary t c =
+    let a = around_of c.args.a.now in let n = c.in-Some.node in let x = seen_of c.args.left in let y = seen_of c.in_ok-right-in-Binary.right in let s = state_of c.args.self.now in
+    ap (λ (o : Option Node). text_on a (node_form o) x s) c.in-Some.is
+    ∙ ap (λ (z : Shape). text_on a (typed n.place n.ty n.category (shape_form z)) x s) c.in-Binary.is
+    ∙ ap (λ (w : Gives Seen). mapped (λ m. InString n.place (object_named m)) (lived Plain (concatenated n.place x w.given) (temporary n.place (own_type n.ty)) w.state)) c.in_ok-right-in-Binary.ensures
+    ∙ ap (λ (u : Ty). mapped (λ m. InString n.place (object_named m)) (lived Plain (concatenated n.place x y) (temporary n.place u) (state_of c.seen.new.self))) (sym c.own_type.ensures)
+    ∙ ap (mapped (λ m. InString n.place (object_named m))) c.in_ok-local-in-Binary.ensures
+    ∙ ap (λ (o : Operand). gives (InString n.place o) (state_of c.built.new.self)) (sym c.name-string.ensures)
+
+pub lone_seen-returns-in_ok-string-in-Text : goal.lone_seen-returns-in_ok-string-in-Text
+lone_seen-returns-in_ok-string-in-Text t c =
     let a = around_of c.args.a.now in
     seen_string (part_uses a c.args.part) c.own_type-own.result c.in-Some.found.place (state_of c.args.self.now) (state_of c.part_operand.new.self) (operand_of c.in_ok-string-in-Text.string)
     (c.own_type-own.ensures ∙ sym (ap (λ (o : Option Part). own (part_uses a o)) c.in-Some.is)) c.in-Text.is (sym (ap (λ (o : Option Part). (part_uses a o).place) c.in-Some.is)) c.in_ok-string-in-Text.ensures
 
-pub seen-returns-in_ok-register-in-Char : goal.seen-returns-in_ok-register-in-Char
-seen-returns-in_ok-register-in-Char t c =
+pub lone_seen-returns-in_ok-register-in-Char : goal.lone_seen-returns-in_ok-register-in-Char
+lone_seen-returns-in_ok-register-in-Char t c =
     let a = around_of c.args.a.now in
     seen_character (part_uses a c.args.part) c.own_type-own.result c.in-Some.found.place (state_of c.args.self.now) (state_of c.part_value.new.self) c.in_ok-register-in-Char.register
     (c.own_type-own.ensures ∙ sym (ap (λ (o : Option Part). own (part_uses a o)) c.in-Some.is)) c.in-Char.is (sym (ap (λ (o : Option Part). (part_uses a o).place) c.in-Some.is)) c.in_ok-register-in-Char.ensures
@@ -1080,8 +1283,8 @@ part_base-returns-in_ok-owner-in_default-own t c =
     base_owned (part_uses a c.args.part) c.own_type-own.result (state_of c.args.self.now) (state_of c.part_operand.new.self) (operand_of c.in_ok-owner-in_default-own.owner)
     (c.own_type-own.ensures ∙ sym (ap (λ (o : Option Part). own (part_uses a o)) c.in-Some.is)) c.in_default-own.not-View c.in_default-own.not-Span c.in_ok-owner-in_default-own.ensures
 
-pub seen-returns-in_ok-view-in_default-own : goal.seen-returns-in_ok-view-in_default-own
-seen-returns-in_ok-view-in_default-own t c =
+pub lone_seen-returns-in_ok-view-in_default-own : goal.lone_seen-returns-in_ok-view-in_default-own
+lone_seen-returns-in_ok-view-in_default-own t c =
     let a = around_of c.args.a.now in
     seen_view (part_uses a c.args.part) c.own_type-own.result (state_of c.args.self.now) (state_of c.part_pointer.new.self) (location_of c.in_ok-view-in_default-own.view)
     (c.own_type-own.ensures ∙ sym (ap (λ (o : Option Part). own (part_uses a o)) c.in-Some.is)) c.in_default-own.not-Text c.in_default-own.not-Char c.in_ok-view-in_default-own.ensures

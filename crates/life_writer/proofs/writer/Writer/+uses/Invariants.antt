@@ -2,18 +2,20 @@ use Rattle.std.proofs.Common.{◌≡◌, ◌+◌, ◌*◌, None, drop, map, take
 use Rattle.life_typed.specs.Delimiters.{delimiters_view}
 use Rattle.life_typed.specs.TypedForm.{forms, typed_views, whole}
 use Rattle.life_typed.specs.declared.typed_program.TypedLocal.{TypedLocal}
-use Rattle.life_core.specs.Operands.{argument_of, object_named}
+use Rattle.life_core.specs.Operands.{argument_of, location_of, object_named, operand_of}
 use Rattle.life_core.specs.Tree.{condition_tree}
 use Rattle.life_writer.specs.Behind.{ending}
 use Rattle.life_writer.specs.Chains.{token_behind}
+use Rattle.life_writer.specs.Characters.{seen}
 use Rattle.life_writer.specs.ExpressionForms.{uses}
 use Rattle.life_writer.specs.Giving.{arguments}
 use Rattle.life_writer.specs.Lists.{assigned_members, pushed}
 use Rattle.life_writer.specs.PartUses.{expressions_uses}
 use Rattle.life_writer.specs.Parts.{inside, node_form, node_view, part_form, part_view}
 use Rattle.life_writer.specs.Using.{condition, own_value}
-use Rattle.life_writer.specs.Views.{around_of, state_of}
+use Rattle.life_writer.specs.Views.{around_of, seen_of, state_of}
 use Rattle.life_writer.specs.Writing.{gives}
+use Rattle.life_writer.proofs.FollowingPointers.{own_location}
 use Rattle.life_writer.proofs.Handing.{Handed, behind_left}
 use Rattle.life_writer.proofs.Weights.{target_weight, weight}
 use Rattle.life_writer.proofs.writer.Writer.+uses.Given as goal
@@ -36,7 +38,7 @@ abbrev pub decreases-operated_with : goal.decreases-operated_with
 decreases-operated_with l = weight (whole (part_view l.right)) * 64 + 31
 
 abbrev pub decreases-operated_by : goal.decreases-operated_by
-decreases-operated_by l = (weight (part_form l.left) + weight (whole (part_view l.right))) * 64 + 33
+decreases-operated_by l = (weight (part_form l.left) + weight (whole (part_view l.right))) * 64 + 34
 
 abbrev pub decreases-read_or_made : goal.decreases-read_or_made
 decreases-read_or_made l = weight (whole (node_view l.node.now)) * 64 + 19
@@ -75,7 +77,19 @@ abbrev pub decreases-decided : goal.decreases-decided
 decreases-decided l = (weight (part_form l.left) + weight (whole (part_view l.right))) * 64 + 31
 
 abbrev pub decreases-part_pointer : goal.decreases-part_pointer
-decreases-part_pointer l = weight (part_form l.part) * 64 + 17
+decreases-part_pointer l = weight (part_form l.part) * 64 + 18
+
+abbrev pub decreases-lone_pointer : goal.decreases-lone_pointer
+decreases-lone_pointer l = weight (part_form l.part) * 64 + 17
+
+abbrev pub decreases-own_pointer : goal.decreases-own_pointer
+decreases-own_pointer l = weight (part_form l.part) * 64 + 19
+
+abbrev pub decreases-moved_to : goal.decreases-moved_to
+decreases-moved_to l = weight (node_form l.node) * 64 + 3
+
+abbrev pub decreases-moved_on : goal.decreases-moved_on
+decreases-moved_on l = weight (whole (node_view l.node.now)) * 64 + 2
 
 abbrev pub decreases-part_pointing : goal.decreases-part_pointing
 decreases-part_pointing l = weight (part_form l.part) * 64 + 16
@@ -94,6 +108,9 @@ decreases-part_operand l = weight (part_form l.part) * 64 + 14
 
 abbrev pub decreases-part_at : goal.decreases-part_at
 decreases-part_at l = weight (part_form l.part) * 64 + 13
+
+abbrev pub decreases-placed_on : goal.decreases-placed_on
+decreases-placed_on l = weight (node_form l.node) * 64 + 2
 
 abbrev pub decreases-at : goal.decreases-at
 decreases-at l = weight (whole (node_view l.node.now)) * 64 + 9
@@ -114,7 +131,7 @@ abbrev pub decreases-whole : goal.decreases-whole
 decreases-whole l = weight (whole (node_view l.node.now)) * 64 + 13
 
 abbrev pub decreases-part_base : goal.decreases-part_base
-decreases-part_base l = weight (part_form l.part) * 64 + 18
+decreases-part_base l = weight (part_form l.part) * 64 + 19
 
 abbrev pub decreases-indexed : goal.decreases-indexed
 decreases-indexed l = (weight (part_form l.base) + weight (whole (part_view l.index))) * 64 + 31
@@ -172,10 +189,16 @@ abbrev pub decreases-owned : goal.decreases-owned
 decreases-owned l = weight (part_form l.argument) * 64 + 40
 
 abbrev pub decreases-concatenated : goal.decreases-concatenated
-decreases-concatenated l = (weight (part_form l.left) + weight (whole (part_view l.right))) * 64 + 32
+decreases-concatenated l = (weight (part_form l.left) + weight (whole (part_view l.right))) * 64 + 33
 
 abbrev pub decreases-seen : goal.decreases-seen
-decreases-seen l = weight (part_form l.part) * 64 + 31
+decreases-seen l = weight (part_form l.part) * 64 + 32
+
+abbrev pub decreases-lone_seen : goal.decreases-lone_seen
+decreases-lone_seen l = weight (part_form l.part) * 64 + 31
+
+abbrev pub decreases-text_on : goal.decreases-text_on
+decreases-text_on l = weight (node_form l.node) * 64 + 2
 
 abbrev pub decreases-owned_by : goal.decreases-owned_by
 decreases-owned_by l = weight (whole (node_view l.node.now)) * 64 + 14
@@ -183,10 +206,13 @@ decreases-owned_by l = weight (whole (node_view l.node.now)) * 64 + 14
 -- operators
 
 abbrev pub decreases-compared : goal.decreases-compared
-decreases-compared l = (weight (part_form l.left) + weight (whole (part_view l.right))) * 64 + 32
+decreases-compared l = (weight (part_form l.left) + weight (whole (part_view l.right))) * 64 + 33
 
 abbrev pub decreases-advanced : goal.decreases-advanced
 decreases-advanced l = (weight (part_form l.left) + weight (whole (part_view l.right))) * 64 + 32
+
+abbrev pub decreases-advanced_by : goal.decreases-advanced_by
+decreases-advanced_by l = weight (whole (part_view l.right)) * 64 + 31
 
 abbrev pub decreases-member_at : goal.decreases-member_at
 decreases-member_at l = weight (part_form l.base) * 64 + 31
@@ -210,6 +236,9 @@ decreases-got l = weight (part_form l.base) * 64 + 31
 
 abbrev pub decreases-cut : goal.decreases-cut
 decreases-cut l = (weight (part_form l.base) + weight (forms (typed_views l.arguments.now))) * 64 + 39
+
+abbrev pub decreases-cut_by : goal.decreases-cut_by
+decreases-cut_by l = weight (forms (typed_views l.arguments.now)) * 64 + 32
 
 abbrev pub decreases-size_if : goal.decreases-size_if
 decreases-size_if l = weight (part_form l.count) * 64 + 31
@@ -275,6 +304,15 @@ invariant-own_value-operators l = own_value (uses (around_of l.a) (inside (take 
 abbrev pub invariant-part_condition-operators : goal.invariant-part_condition-operators
 invariant-part_condition-operators l =
     condition (uses (around_of l.a) (inside (take l.number l.within))) (ending (token_behind l.within l.number l.part.place)) (state_of l.fn.self) ≡ gives (condition_tree l.condition) (state_of l.self)
+
+abbrev pub invariant-part_pointer-links : goal.invariant-part_pointer-links
+invariant-part_pointer-links l = own_location (around_of l.a) (state_of l.fn.self) (inside (take l.number l.within)) ≡ gives (location_of l.pointer) (state_of l.self)
+
+abbrev pub invariant-part_at-links : goal.invariant-part_at-links
+invariant-part_at-links l = (uses (around_of l.a) (inside (take l.number l.within))).at (state_of l.fn.self) ≡ gives (operand_of l.place) (state_of l.self)
+
+abbrev pub invariant-seen-operators : goal.invariant-seen-operators
+invariant-seen-operators l = seen (uses (around_of l.a) (inside (take l.number l.within))) (state_of l.fn.self) ≡ gives (seen_of l.text) (state_of l.self)
 
 -- the elements that are left are pushed as all were
 abbrev pub invariant-pushed-elements : goal.invariant-pushed-elements
