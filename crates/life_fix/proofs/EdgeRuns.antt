@@ -10,10 +10,10 @@ use Rattle.life_core.specs.Node.{spot_seen}
 use Rattle.life_core.specs.declared.node.SpotRef.{SpotRef}
 use Rattle.life_core.specs.declared.stmt.Edge.{Edge}
 use Rattle.life_plan.specs.Carried.{IsCarried}
-use Rattle.life_plan.specs.Crossing.{Crossing, crossing_in, crossing_of}
+use Rattle.life_plan.specs.Crossing.{Crossing, crossing_of}
 use Rattle.life_plan.specs.Noted.{HasNewAt, Notes}
 use Rattle.life_plan.specs.declared.plan.Plan.{Plan}
-use Rattle.life_plan.proofs.Crossings.{crossing_is}
+use Rattle.life_plan.proofs.Crossings.{crossing_at}
 use Rattle.life_fix.specs.Solution.{AllLimited}
 use Rattle.life_fix.specs.Solving.{pairs_at, IsFlow, RunsEdge, RunsRow}
 use Rattle.life_fix.specs.declared.flow.Flow.{Flow}
@@ -21,8 +21,8 @@ use Rattle.life_fix.proofs.PointRows.{pairs_of_row, pairs_other, pairs_same}
 
 -- what the code has at hand along an edge is what the edge crosses
 pub crossed : (flow : Flow) (edge : Edge) (spot : Option SpotRef) → IsFlow flow → option_map spot_seen spot ≡ spot_of (function_of flow.f.now) edge.from
-    → crossing_in (record { f = flow.f; sigs = flow.sigs; types = flow.types; table = flow.table; edge = edge; spot = spot }) ≡ crossing_of flow.sigs.now flow.types.now (function_of flow.f.now) edge
-crossed flow edge spot is at = crossing_is (record { f = flow.f; sigs = flow.sigs; types = flow.types; table = flow.table; edge = edge; spot = spot }) (record { table = is.table; spot = at })
+    → record { table = flow.table.now; sigs = flow.sigs.now; types = flow.types.now; f = function_of flow.f.now; branch = edge.branch; spot = option_map spot_seen spot } ≡ crossing_of flow.sigs.now flow.types.now (function_of flow.f.now) edge
+crossed flow edge spot is at = crossing_at flow.table.now flow.sigs.now flow.types.now (function_of flow.f.now) edge (option_map spot_seen spot) is.table at
 
 -- the row at a place has the limits of all
 pub limit_of : {R : Type 0} (limit : R → ℕ) (n m : ℕ) (rows : List R) (i : ℕ) (row : R) → AllLimited limit n rows → slice_get rows i ≡ Some row → m ≡ n → limit row ≡ m

@@ -9,6 +9,7 @@ use Rattle.life_core.specs.declared.stmt.Edge.{Edge}
 use Rattle.life_core.specs.declared.stmt.Point.{Point}
 use Rattle.life_pset.specs.Elements.{IsWithinLimits}
 use Rattle.life_pset.specs.Table.{Table, table_of}
+use Rattle.life_rules.specs.Callees.{AreCallees}
 use Rattle.life_rules.specs.Deriving.{entry_facts}
 use Rattle.life_rules.specs.FactSets.{CarriesPair, GainsSome, IsPairOf}
 use Rattle.life_sets.specs.NumberSets.{Numbers, holds}
@@ -30,6 +31,7 @@ pub record IsFlow (flow : Flow) : Type 0 where
   pub join : AllJoin (points_of (function_of flow.f.now)) flow.edges.now
   pub ascend : AreAscending flow.edges.now
   pub spots : map spot_seen flow.spots.now ≡ map spot_of_linked (code_of (function_of flow.f.now))
+  pub callees : AreCallees flow.types.now flow.sigs.now (map spot_of_linked (code_of (function_of flow.f.now))) flow.callees.now
   pub count : length flow.spots.now ≡ points_of (function_of flow.f.now)
 
 -- ---- sets of pairs at points, which are numbered from 1

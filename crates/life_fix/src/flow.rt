@@ -9,17 +9,18 @@ ghost use Rattle.life_fix.specs.Solution.{AllLimited};
 ghost use Rattle.life_fix.specs.Solving.{pairs_at, IsFlow, IsMade, RunsEdge, RunsRow};
 
 use life_base::Steps;
-use life_contract::Signatures;
+use life_contract::{Callee, Signatures};
 use life_core::{CoreFn, Edge, Point, SpotRef};
 use life_plan::{EdgeContext, Plan, Workspace};
 use life_pset::ElementTable;
-use life_rules::spot_in;
+use life_rules::{callee_in, spot_in};
 use life_sets::{NumberSet, Rows};
 use life_types::{NoMemory, TypeTable};
 use std::alloc::Global;
 use std::sync::ledger::Ledger;
 
-/// A function, with its table, its edges and what stands at its points.
+/// A function, with its table, its edges, what stands at its points, and the functions that are called
+/// there.
 #[derive(Clone, Copy)]
 pub struct Flow<'a> {
     pub f: &'a CoreFn,
@@ -28,6 +29,7 @@ pub struct Flow<'a> {
     pub table: &'a ElementTable,
     pub edges: &'a [Edge],
     pub spots: &'a [SpotRef<'a>],
+    pub callees: &'a [Option<Callee<'a>>],
 }
 
 /// The plan of an edge, which has carried nothing yet.
@@ -42,6 +44,7 @@ pub fn plan_of(alloc: Global, flow: &Flow, edge: Edge) -> Result<Plan, NoMemory>
         table: flow.table,
         edge,
         spot: spot_in(flow.spots, edge.from),
+        callee: callee_in(flow.callees, edge.from),
     };
     Plan::of(alloc, &context)
 }
@@ -200,6 +203,7 @@ fn run_row<R: Rows, L: Ledger>(
         table: flow.table,
         edge,
         spot: spot_in(flow.spots, edge.from),
+        callee: callee_in(flow.callees, edge.from),
     };
     plan.run(alloc, &context, due, from, into, gained, workspace, steps)?;
     Ok(())

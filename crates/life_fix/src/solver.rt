@@ -1,10 +1,12 @@
 // The solver.
-ghost use Rattle.std.specs.Prelude.{◌≡◌, ◌+◌, ◌≤◌, length, IfOk};
+ghost use Rattle.std.specs.Prelude.{◌≡◌, ◌+◌, ◌≤◌, length, map, IfOk};
 ghost use Rattle.life_core.specs.Function.{function_of};
 ghost use Rattle.life_core.specs.Linked.{points_of};
+ghost use Rattle.life_core.specs.Node.{spot_seen};
 ghost use Rattle.life_pset.specs.Causes.{AreSpotsOf};
 ghost use Rattle.life_pset.specs.Elements.{IsWithinLimits};
 ghost use Rattle.life_pset.specs.Table.{table_of};
+ghost use Rattle.life_rules.specs.Callees.{AreCallees};
 ghost use Rattle.life_fix.specs.Solution.{AllLimited, IsSolution};
 ghost use Rattle.life_fix.specs.Solving.{most_steps, pairs_at, IsSolved};
 
@@ -13,9 +15,10 @@ use crate::flow::Flow;
 use crate::solution::Solution;
 use crate::worklist::run_all;
 use life_base::Steps;
-use life_contract::Signatures;
+use life_contract::{Callee, Signatures};
 use life_core::{CoreFn, SpotRef, edges, spots};
 use life_pset::ElementTable;
+use life_rules::callees_of;
 use life_sets::Rows;
 use life_types::{NoMemory, TypeTable};
 use std::alloc::Global;
@@ -61,11 +64,11 @@ pub(crate) fn solve_listed<R: Rows, L: Ledger>(
 }
 
 // A row for each point, with exactly the pairs that are derived there.
-fn solved_rows<R: Rows, L: Ledger>(
+fn solved_rows<'a, R: Rows, L: Ledger>(
     alloc: Global,
     f: &CoreFn,
-    sigs: &Signatures,
-    types: &TypeTable,
+    sigs: &'a Signatures,
+    types: &'a TypeTable,
     table: &ElementTable,
     spots: &[SpotRef],
     steps: &mut Steps<L>,
@@ -80,6 +83,32 @@ fn solved_rows<R: Rows, L: Ledger>(
     ensures locations { IfOk result (λ rows. AllLimited R.location_limit (length table.now.locations) rows.items) }
     ensures elements { IfOk result (λ rows. AllLimited R.element_limit (length table.now.elements) rows.items) }
 {
+    let callees = callees_of(alloc, sigs, types, spots)?;
+    rows_with(alloc, f, sigs, types, table, spots, &callees, steps)
+}
+
+// .. where the functions that are called at the points are known.
+fn rows_with<R: Rows, L: Ledger>(
+    alloc: Global,
+    f: &CoreFn,
+    sigs: &Signatures,
+    types: &TypeTable,
+    table: &ElementTable,
+    spots: &[SpotRef],
+    callees: &[Option<Callee>],
+    steps: &mut Steps<L>,
+) -> Result<Vec<R>, NoMemory>
+    requires limits { IsWithinLimits types.now (function_of f.now) }
+    requires spots { AreSpotsOf (function_of f.now) spots.now }
+    requires count { length spots.now ≡ points_of (function_of f.now) }
+    requires table { table.now ≡ table_of types.now (function_of f.now) }
+    requires callees { AreCallees types.now sigs.now (map spot_seen spots.now) callees.now }
+    ensures count { IfOk result (λ rows. length rows.items ≡ points_of (function_of f.now)) }
+    ensures solved { IfOk result (λ rows. IsSolved sigs.now types.now (function_of f.now) (pairs_at R.has rows.items)) }
+    ensures ticks { steps.new ≤ steps.old + most_steps types.now (function_of f.now) }
+    ensures locations { IfOk result (λ rows. AllLimited R.location_limit (length table.now.locations) rows.items) }
+    ensures elements { IfOk result (λ rows. AllLimited R.element_limit (length table.now.elements) rows.items) }
+{
     let edges = edges(alloc, f)?;
     let flow = Flow {
         f,
@@ -88,6 +117,7 @@ fn solved_rows<R: Rows, L: Ledger>(
         table,
         edges: &edges,
         spots,
+        callees,
     };
     let mut rows = first_rows(alloc, &flow)?;
     let mut plans = plans_of(alloc, &flow)?;

@@ -12,7 +12,7 @@ use Rattle.life_rules.specs.FactSets.{CarriesPair, GainsSome}
 use Rattle.life_rules.specs.Matching.{fact_at}
 use Rattle.life_plan.specs.Carried.{AreKept}
 use Rattle.life_plan.specs.Crossing.{Crosses, Crossing, IsContext, crossing_in}
-use Rattle.life_plan.specs.Numbered.{IsAmong}
+use Rattle.life_plan.specs.Numbered.{IsAmong, IsAmongAt}
 use Rattle.life_plan.specs.Still.{IsStill}
 use Rattle.life_plan.specs.declared.context.EdgeContext.{EdgeContext}
 use Rattle.life_plan.proofs.Crossings.{crosses_carries, crossing_is}
@@ -73,13 +73,14 @@ module _ (locations elements : ℕ) (due : ℕ → Bool) (from a b : ℕ → ℕ
 -- ---- one location
 
 module _ (locations elements : ℕ) (from : ℕ → ℕ → Bool) (l : ℕ) (in_l : l < locations) (within : (e : ℕ) → IsTrue (from l e) → e < elements) where
-  pub among_between : (a b : ℕ → ℕ → Bool) → IsBetween (pairs_from from l) a b → GainsSome a b (IsAmong locations elements from)
+  pub among_between : (a b : ℕ → ℕ → Bool) → IsBetween (pairs_from from l) a b → GainsSome a b (IsAmongAt l locations elements from)
   among_between a b between n m = ((between n m).0, λ h. elim ((between n m).1 h) [ inl was ↦ inl was | inr new ↦ inr (at n m new) ])
     where
-      at : (n m : ℕ) → IsTrue (pairs_from from l n m) → IsAmong locations elements from n m
+      at : (n m : ℕ) → IsTrue (pairs_from from l n m) → IsAmongAt l locations elements from n m
       at n m h =
           let p = and_parts (nat_eq n l) (from l m) h in
-          subst (λ (q : ℕ). IsAmong locations elements from q m) (sym (eqb-true n l p.0)) (in_l, (within m p.1, p.1))
+          let is = eqb-true n l p.0 in
+          (is, subst (λ (q : ℕ). IsAmong locations elements from q m) (sym is) (in_l, (within m p.1, p.1)))
 
 pub among_joined : (from : ℕ → ℕ → Bool) (l : ℕ) (a b : ℕ → ℕ → Bool) → ((n m : ℕ) → b n m ≡ (pairs_from from l n m || a n m)) → (m : ℕ) → IsTrue (from l m) → IsTrue (b l m)
 among_joined from l a b joined m h = joined l m ∙ or_left (pairs_from from l l m) (a l m) (and_from (nat_eq l l) (from l m) (eq-eqb l l refl) h)

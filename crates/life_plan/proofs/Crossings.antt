@@ -1,10 +1,13 @@
 -- The pairs that an edge carries come of no fact, of one or of two.
-use Rattle.std.proofs.Common.{◌≡◌, ℕ, Bool, List, [], ◌∷◌, inl, inr, subst}
-use Rattle.std.specs.Prelude.{Contains}
+use Rattle.std.proofs.Common.{◌≡◌, ℕ, Bool, List, [], ◌∷◌, Option, inl, inr, subst}
+use Rattle.std.specs.Prelude.{Contains, option_map}
 use Rattle.life_types.specs.Types.{Types}
 use Rattle.life_core.specs.Function.{Function, function_of}
+use Rattle.life_core.specs.Linked.{spot_of}
+use Rattle.life_core.specs.Node.{spot_seen}
+use Rattle.life_core.specs.Tree.{Spot}
 use Rattle.life_core.specs.declared.stmt.Edge.{Edge}
-use Rattle.life_pset.specs.Table.{Names, table_of}
+use Rattle.life_pset.specs.Table.{Names, Table, table_of}
 use Rattle.life_pset.specs.declared.element.Fact.{Fact}
 use Rattle.life_pset.proofs.Members.{none_in_empty, in_head, in_tail, cons_cases}
 use Rattle.life_contract.specs.Signatures.{Signature}
@@ -13,9 +16,14 @@ use Rattle.life_rules.specs.FactSets.{CarriesPair, Holds}
 use Rattle.life_plan.specs.Crossing.{Crosses, IsContext, crossing_in, crossing_of}
 use Rattle.life_plan.specs.declared.context.EdgeContext.{EdgeContext}
 
--- what the code has at hand is what the edge crosses
+-- what has these parts is what the edge crosses
+pub crossing_at : (table : Table) (sigs : List Signature) (types : Types) (f : Function) (edge : Edge) (spot : Option Spot) → table ≡ table_of types f → spot ≡ spot_of f edge.from
+    → record { table = table; sigs = sigs; types = types; f = f; branch = edge.branch; spot = spot } ≡ crossing_of sigs types f edge
+crossing_at table sigs types f edge spot is at = λ i. record { table = is i; sigs = sigs; types = types; f = f; branch = edge.branch; spot = at i }
+
+-- .. and so is what the code has at hand
 pub crossing_is : (c : EdgeContext) → IsContext c → crossing_in c ≡ crossing_of c.sigs.now c.types.now (function_of c.f.now) c.edge
-crossing_is c is = λ i. record { table = is.table i; sigs = c.sigs.now; types = c.types.now; f = function_of c.f.now; branch = c.edge.branch; spot = is.spot i }
+crossing_is c is = crossing_at c.table.now c.sigs.now c.types.now (function_of c.f.now) c.edge (option_map spot_seen c.spot) is.table is.spot
 
 module _ (sigs : List Signature) (types : Types) (f : Function) (edge : Edge) (from : ℕ → ℕ → Bool) where
   abbrev AllHeld : List Fact → Type 0

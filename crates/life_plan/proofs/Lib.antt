@@ -16,3 +16,5 @@ pub mod Sound
 pub mod Starting
 pub mod Stillness
 pub mod Tabulating
+pub mod Unmoved
+pub mod Untargeted

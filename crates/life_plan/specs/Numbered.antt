@@ -1,5 +1,5 @@
 -- What the numbers of a plan mean, against the rules.
-use Rattle.std.specs.Prelude.{◌≡◌, ◌⊎◌, ◌↔◌, ◌<◌, ℕ, Bool, false, IsTrue, IfSome, List, Option, Some, None, Contains, length, slice_get}
+use Rattle.std.specs.Prelude.{◌≡◌, ◌⊎◌, ◌↔◌, ◌<◌, ℕ, Bool, false, IsTrue, IfSome, List, [], Option, Some, None, Contains, length, slice_get}
 use Rattle.std.specs.List.{flat_map}
 use Rattle.life_pset.specs.Table.{Names}
 use Rattle.life_pset.specs.declared.element.AbsPlace.{AbsPlace}
@@ -80,6 +80,12 @@ pub record IsMarking (c : Crossing) (m : Marking) : Type 0 where
 abbrev pub LeadsTo : Staying → Marking → (e m : ℕ) → Type 0
 LeadsTo s k e m = StaysAs s e m ⊎ (IsTrue (holds k.mask e) × (k.mark ≡ Some m))
 
+-- each element stays as it is, and leads to nothing else
+pub record MovesNothing (s : Staying) (k : Marking) : Type 0 where
+  pub gone : (e : ℕ) → holds s.gone e ≡ false
+  pub becoming : s.becoming.items ≡ []
+  pub mark : k.mark ≡ None
+
 -- a location that isn't written has such an element; both are below these limits
 abbrev pub KeepsFrom : Staying → Marking → (locations elements : ℕ) → (from : ℕ → ℕ → Bool) → (l m : ℕ) → Type 0
 KeepsFrom s k locations elements from l m =
@@ -142,3 +148,7 @@ pub record IsTabulated (c : Crossing) (t : Tabulated) : Type 0 where
 -- the pair is in the set, and below these limits
 abbrev pub IsAmong : (locations elements : ℕ) → (from : ℕ → ℕ → Bool) → (l m : ℕ) → Type 0
 IsAmong locations elements from l m = (l < locations) × ((m < elements) × IsTrue (from l m))
+
+-- .. at this location
+abbrev pub IsAmongAt : (at locations elements : ℕ) → (from : ℕ → ℕ → Bool) → (l m : ℕ) → Type 0
+IsAmongAt at locations elements from l m = (l ≡ at) × IsAmong locations elements from l m

@@ -14,7 +14,7 @@ use life_base::Steps;
 use life_contract::Signatures;
 use life_core::{CoreFn, Edge};
 use life_pset::ElementTable;
-use life_rules::spot_in;
+use life_rules::{callee_in, callees_of, spot_in};
 use life_sets::{NumberSet, Rows};
 use life_types::{NoMemory, TypeTable};
 use std::alloc::Global;
@@ -22,12 +22,12 @@ use std::sync::ledger::Ledger;
 
 /// Adds to a row exactly what the edge carries from the facts of another row, and says whether it
 /// gained one. Takes one step. After `NoMemory` the row has some of what is carried.
-pub fn transfer<R: Rows, L: Ledger>(
+pub fn transfer<'a, R: Rows, L: Ledger>(
     alloc: Global,
-    f: &CoreFn,
-    sigs: &Signatures,
-    types: &TypeTable,
-    table: &ElementTable,
+    f: &'a CoreFn,
+    sigs: &'a Signatures,
+    types: &'a TypeTable,
+    table: &'a ElementTable,
     edge: Edge,
     from: &R,
     into: &mut R,
@@ -49,6 +49,7 @@ pub fn transfer<R: Rows, L: Ledger>(
 {
     steps.tick();
     let spots = life_core::spots(alloc, f)?;
+    let callees = callees_of(alloc, sigs, types, &spots)?;
     let context = EdgeContext {
         f,
         sigs,
@@ -56,6 +57,7 @@ pub fn transfer<R: Rows, L: Ledger>(
         table,
         edge,
         spot: spot_in(&spots, edge.from),
+        callee: callee_in(&callees, edge.from),
     };
     let mut plan = Plan::of(alloc, &context)?;
     let due = all_numbers(alloc, table.location_count())?;

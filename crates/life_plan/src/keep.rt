@@ -1,14 +1,15 @@
 // What is kept at locations, by whole sets.
-ghost use Rattle.std.specs.Prelude.{◌≡◌, ◌↔◌, ◌⊎◌, ◌||◌, ◌&&◌, not, ℕ, ◌<◌, Some, OnOk, IsTrue};
+ghost use Rattle.std.specs.Prelude.{◌≡◌, ◌↔◌, ◌⊎◌, ◌||◌, ◌&&◌, not, ℕ, ◌<◌, Some, true, OnOk, IsTrue};
 ghost use Rattle.life_sets.specs.NumberSets.{holds};
 ghost use Rattle.life_rules.specs.FactSets.{GainsSome};
 ghost use Rattle.life_plan.specs.Carried.{IsRoom};
 ghost use Rattle.life_plan.specs.Noted.{Notes};
-ghost use Rattle.life_plan.specs.Numbered.{IsSizedMarking, IsSizedStaying, KeepsFrom, LeadsTo, AreSized, Becomes};
+ghost use Rattle.life_plan.specs.Numbered.{IsSizedMarking, IsSizedStaying, KeepsFrom, LeadsTo, AreSized, Becomes, MovesNothing};
 
 use crate::marking::Marking;
 use crate::numbers::insert_if;
 use crate::staying::{Becoming, Staying};
+use crate::whole::carry_at;
 use crate::workspace::Workspace;
 use life_sets::{NumberSet, Rows};
 use life_types::NoMemory;
@@ -39,25 +40,38 @@ pub fn keep_due<R: Rows>(
     ensures gained { gained.new.limit ≡ gained.old.limit }
     ensures room { IsRoom (R.element_limit from.now) workspace.new }
 {
+    let still = moves_nothing(staying, marking);
     for l in 0..due.limit() {
         let is_due = all | due.contains(l);
         if is_due {
-            keep_at(staying, marking, l, from, into, gained, workspace)?;
+            keep_at(staying, marking, still, l, from, into, gained, workspace)?;
         }
     }
     Ok(())
+}
+
+// Whether each element stays as it is, and leads to nothing else, as at most points.
+fn moves_nothing(staying: &Staying, marking: &Marking) -> bool
+    ensures { result ≡ true → MovesNothing staying.now marking.now }
+{
+    match marking.mark {
+        None => staying.becoming.is_empty() && staying.gone.is_empty(),
+        Some(_) => false,
+    }
 }
 
 // Adds what is kept at a location.
 fn keep_at<R: Rows>(
     staying: &Staying,
     marking: &Marking,
+    still: bool,
     l: u32,
     from: &R,
     into: &mut R,
     gained: &mut NumberSet,
     workspace: &mut Workspace,
 ) -> Result<(), NoMemory>
+    requires still { still ≡ true → MovesNothing staying.now marking.now }
     requires location { l < R.location_limit from.now }
     requires locations { R.location_limit into.old ≡ R.location_limit from.now }
     requires elements { R.element_limit into.old ≡ R.element_limit from.now }
@@ -75,6 +89,9 @@ fn keep_at<R: Rows>(
 {
     if staying.written.contains(l) {
         return Ok(());
+    }
+    if still {
+        return carry_at(l, from, into, gained);
     }
     from.read(l, &mut workspace.before);
     leave(staying, marking, &workspace.before, &mut workspace.after);

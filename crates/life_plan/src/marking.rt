@@ -1,5 +1,5 @@
 // What targets mark.
-ghost use Rattle.std.specs.Prelude.{◌≡◌, ◌||◌, ◌↔◌, ◌⊎◌, ℕ, ◌<◌, Some, false, IfOk, IfSome, OnOk, IsTrue, length, slice_get, option_map};
+ghost use Rattle.std.specs.Prelude.{◌≡◌, ◌||◌, ◌↔◌, ◌⊎◌, ℕ, ◌<◌, Some, None, false, IfOk, IfSome, OnOk, IsTrue, length, slice_get, option_map};
 ghost use Rattle.life_core.specs.Function.{function_of};
 ghost use Rattle.life_core.specs.Node.{spot_seen};
 ghost use Rattle.life_pset.specs.declared.element.Element.{Element};
@@ -11,6 +11,7 @@ ghost use Rattle.life_plan.specs.Numbered.{passes, IsMarking, IsNew, MarksNumber
 
 use crate::context::EdgeContext;
 use crate::numbers::insert_if;
+use life_core::SpotRef;
 use life_pset::Element;
 use life_rules::{is_marked, is_target_at, mark_at};
 use life_sets::{NumberSet, Rows};
@@ -111,6 +112,16 @@ impl Marking {
     }
 }
 
+// Whether the point may mark elements: at most points nothing is marked, and so nothing is a target.
+fn marks_some(spot: Option<SpotRef>) -> bool
+    ensures { result ≡ false → mark (option_map spot_seen spot.entry) ≡ None }
+{
+    match mark_at(spot) {
+        None => false,
+        Some(_) => true,
+    }
+}
+
 // The locations of targets.
 fn target_locations(alloc: Global, context: &EdgeContext) -> Result<NumberSet, NoMemory>
     ensures limit { IfOk result (λ set. set.limit ≡ length context.now.table.now.locations) }
@@ -118,26 +129,27 @@ fn target_locations(alloc: Global, context: &EdgeContext) -> Result<NumberSet, N
         ≡ passes (spot_targets context.now.sigs.now context.now.types.now (function_of context.now.f.now) (option_map spot_seen context.now.spot)) (slice_get context.now.table.now.locations n)) }
 {
     let mut set = NumberSet::empty(alloc, context.table.location_count())?;
+    if !marks_some(context.spot) {
+        return Ok(set);
+    }
     for n in 0..context.table.location_count() {
-        let test = is_target(alloc, context, n)?;
-        insert_if(test, n, &mut set);
+        insert_if(is_target(context, n), n, &mut set);
     }
     Ok(set)
 }
 
 // Whether the elements of the location with this number are targets.
-fn is_target(alloc: Global, context: &EdgeContext, n: u32) -> Result<bool, NoMemory>
-    ensures { IfOk result (λ answer. answer
-        ≡ passes (spot_targets context.now.sigs.now context.now.types.now (function_of context.now.f.now) (option_map spot_seen context.now.spot)) (slice_get context.now.table.now.locations n)) }
+fn is_target(context: &EdgeContext, n: u32) -> bool
+    ensures { result
+        ≡ passes (spot_targets context.now.sigs.now context.now.types.now (function_of context.now.f.now) (option_map spot_seen context.now.spot)) (slice_get context.now.table.now.locations n) }
 {
     match context.table.location_at(n) {
-        None => Ok(false),
+        None => false,
         Some(location) => is_target_at(
-            alloc,
-            context.sigs,
             context.types,
             context.f,
             context.spot,
+            context.callee,
             location,
         ),
     }

@@ -209,11 +209,11 @@ fn push_made_fact(
     };
     push_made(
         alloc,
-        context.sigs,
         context.types,
         context.f,
         context.edge.branch,
         context.spot,
+        context.callee,
         &fact,
         facts,
     )

@@ -3,7 +3,7 @@ ghost use Rattle.std.specs.Prelude.{◌≡◌, ℕ, ◌<◌, OnOk, IsTrue};
 ghost use Rattle.life_sets.specs.NumberSets.{holds};
 ghost use Rattle.life_rules.specs.FactSets.{GainsSome};
 ghost use Rattle.life_plan.specs.Noted.{Notes};
-ghost use Rattle.life_plan.specs.Numbered.{IsAmong};
+ghost use Rattle.life_plan.specs.Numbered.{IsAmong, IsAmongAt};
 
 use crate::numbers::insert_if;
 use life_sets::{NumberSet, Rows};
@@ -36,14 +36,19 @@ pub fn carry_whole<R: Rows>(
     Ok(())
 }
 
-// Adds the pairs at a location.
-fn carry_at<R: Rows>(l: u32, from: &R, into: &mut R, gained: &mut NumberSet) -> Result<(), NoMemory>
+/// Adds the pairs at a location.
+pub(crate) fn carry_at<R: Rows>(
+    l: u32,
+    from: &R,
+    into: &mut R,
+    gained: &mut NumberSet,
+) -> Result<(), NoMemory>
     requires location { l < R.location_limit from.now }
     requires locations { R.location_limit into.old ≡ R.location_limit from.now }
     requires elements { R.element_limit into.old ≡ R.element_limit from.now }
     requires gained { gained.old.limit ≡ R.location_limit from.now }
     ensures kept { OnOk result ((m : ℕ) → IsTrue (R.has from.now l m) → IsTrue (R.has into.new l m)) }
-    ensures some { GainsSome (R.has into.old) (R.has into.new) (IsAmong (R.location_limit from.now) (R.element_limit from.now) (R.has from.now)) }
+    ensures some { GainsSome (R.has into.old) (R.has into.new) (IsAmongAt l (R.location_limit from.now) (R.element_limit from.now) (R.has from.now)) }
     ensures noted { OnOk result (Notes (R.has into.old) (R.has into.new) (holds gained.old) (holds gained.new)) }
     ensures locations { R.location_limit into.new ≡ R.location_limit into.old }
     ensures elements { R.element_limit into.new ≡ R.element_limit into.old }

@@ -4,9 +4,11 @@ pub mod Kept
 pub mod Nothing
 pub mod OneFact
 pub mod OneFunction
+pub mod PointCalls
 pub mod PrintedLines
 pub mod Spots
 pub mod TwoFacts
 pub mod Unique
+pub mod Unpointed
 pub mod Untold
 pub mod ValueCalls

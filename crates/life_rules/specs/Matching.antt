@@ -33,6 +33,15 @@ facts_if here l e = cond here (facts_at l e) []
 abbrev pub is_rooted_among : List ℕ → AbsPlace → Bool
 is_rooted_among xs place = list_any (λ x. is_rooted x place) xs
 
+-- the element is a place
+abbrev pub is_at_place : Element → Bool
+is_at_place element.Null = false
+is_at_place (element.Invalid c) = false
+is_at_place (element.Moved c) = false
+is_at_place element.Own = false
+is_at_place element.Static = false
+is_at_place (element.At place) = true
+
 -- it points to one of these locals
 abbrev pub points_among : List ℕ → Element → Bool
 points_among xs element.Null = false

@@ -1,15 +1,17 @@
 // What a call makes of facts.
 ghost use Rattle.std.specs.List.{flat_map};
 ghost use Rattle.std.specs.Option.{option_copied};
-ghost use Rattle.std.specs.Prelude.{◌≡◌, ◌++◌, map, option_map, OnOk};
+ghost use Rattle.std.specs.Prelude.{◌≡◌, ◌++◌, map, option_map, OnOk, Option};
 ghost use Rattle.life_core.specs.Operands.{argument_of, location_of};
 ghost use Rattle.life_pset.specs.Inputs.{input_seen};
+ghost use Rattle.life_contract.specs.Signatures.{Signature};
+ghost use Rattle.life_rules.specs.Callees.{IsCallee};
 ghost use Rattle.life_rules.specs.Calling.{called_none, called_one, fixed_facts, fixed_into, is_in_target, passed_element, passed_fact, passed_facts, passed_for, passed_into, result_at};
 ghost use Rattle.life_rules.specs.Matching.{fact_at};
 
 use crate::matching::located;
 use life_contract::{
-    Signature, fixed_elements, inputs_of, is_argument_of, promised_behind, result_locations,
+    Callee, Signature, fixed_elements, is_argument_of, promised_behind, result_locations,
     result_type, steps_place,
 };
 use life_core::{Argument, Location};
@@ -130,26 +132,25 @@ fn push_elements(
 pub fn push_called_one(
     alloc: Global,
     types: &TypeTable,
-    sig: Option<&Signature>,
+    callee: Option<&Callee<'_>>,
     arguments: &[Argument],
     target: &Option<Location>,
     fact: Fact,
     out: &mut Vec<Fact>,
 ) -> Result<(), NoMemory>
-    ensures { OnOk result
+    ensures { (sig : Option Signature) → IsCallee types.now sig (option_copied callee.entry) → OnOk result
         (out.new.items
-        ≡ out.old.items ++ called_one types.now (option_copied sig.entry) (map argument_of arguments.now) (option_map location_of target.now) fact) }
+        ≡ out.old.items ++ called_one types.now sig (map argument_of arguments.now) (option_map location_of target.now) fact) }
 {
-    match sig {
+    match callee {
         None => Ok(()),
-        Some(sig) => push_passed_into(alloc, types, sig, arguments, target, fact, out),
+        Some(callee) => push_passed_into(alloc, callee, arguments, target, fact, out),
     }
 }
 
 fn push_passed_into(
     alloc: Global,
-    types: &TypeTable,
-    sig: &Signature,
+    callee: &Callee<'_>,
     arguments: &[Argument],
     target: &Option<Location>,
     fact: Fact,
@@ -157,23 +158,20 @@ fn push_passed_into(
 ) -> Result<(), NoMemory>
     ensures { OnOk result
         (out.new.items
-        ≡ out.old.items ++ passed_into types.now sig.now (map argument_of arguments.now) (option_map location_of target.now) fact) }
+        ≡ out.old.items ++ passed_into callee.now.types.now callee.now.sig.now (map argument_of arguments.now) (option_map location_of target.now) fact) }
 {
     match target {
         None => Ok(()),
-        Some(target) => {
-            let inputs = inputs_of(alloc, sig, types)?;
-            push_passed_for_all(
-                alloc,
-                types,
-                sig,
-                arguments,
-                located(target),
-                fact,
-                &inputs,
-                out,
-            )
-        }
+        Some(target) => push_passed_for_all(
+            alloc,
+            callee.types,
+            callee.sig,
+            arguments,
+            located(target),
+            fact,
+            callee.inputs(),
+            out,
+        ),
     }
 }
 

@@ -1,12 +1,11 @@
 // A point of a function, where it is asked what is wrong.
-ghost use Rattle.std.specs.Option.{option_copied};
 ghost use Rattle.std.specs.Prelude.{◌≡◌, IfOk};
 ghost use Rattle.life_core.specs.Node.{node_seen};
-ghost use Rattle.life_core.specs.Step.{step_of};
-ghost use Rattle.life_rules.specs.Callees.{callee_at, callee_of, IsCallee};
+ghost use Rattle.life_rules.specs.Callees.{callee_at, IsCallee};
 
-use life_contract::{Callee, Signature, Signatures};
-use life_core::{CoreFn, Instr, NodeRef, SpotRef};
+use crate::callees::callee_at;
+use life_contract::{Callee, Signatures};
+use life_core::{CoreFn, SpotRef};
 use life_types::{NoMemory, TypeTable};
 use std::alloc::Global;
 
@@ -52,51 +51,5 @@ impl<'a> PointContext<'a> {
             alloc,
             callee,
         })
-    }
-}
-
-fn callee_at<'a>(
-    alloc: Global,
-    sigs: &'a Signatures,
-    types: &'a TypeTable,
-    node: NodeRef<'a>,
-) -> Result<Option<Callee<'a>>, NoMemory>
-    ensures { IfOk result (λ callee. IsCallee types.now (callee_at sigs.now (node_seen node.entry)) callee) }
-{
-    match node {
-        NodeRef::Action(instr) => callee_of(alloc, sigs, types, instr),
-        NodeRef::Question(_) => Ok(None),
-        NodeRef::Return => Ok(None),
-        NodeRef::Stop => Ok(None),
-    }
-}
-
-fn callee_of<'a>(
-    alloc: Global,
-    sigs: &'a Signatures,
-    types: &'a TypeTable,
-    instr: &Instr,
-) -> Result<Option<Callee<'a>>, NoMemory>
-    ensures { IfOk result (λ callee. IsCallee types.now (callee_of sigs.now (step_of instr.now)) callee) }
-{
-    match instr {
-        Instr::Call { function, .. } => known_callee(alloc, types, sigs.get(*function)),
-        _ => Ok(None),
-    }
-}
-
-fn known_callee<'a>(
-    alloc: Global,
-    types: &'a TypeTable,
-    sig: Option<&'a Signature>,
-) -> Result<Option<Callee<'a>>, NoMemory>
-    ensures { IfOk result (λ callee. IsCallee types.now (option_copied sig.entry) callee) }
-{
-    match sig {
-        None => Ok(None),
-        Some(sig) => {
-            let callee = Callee::of(alloc, sig, types)?;
-            Ok(Some(callee))
-        }
     }
 }

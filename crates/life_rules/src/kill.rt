@@ -8,7 +8,7 @@ ghost use Rattle.life_core.specs.Step.{step_of};
 ghost use Rattle.life_pset.specs.Shapes.{operand_type, tree_if};
 ghost use Rattle.life_rules.specs.Carrying.{after_kill, is_gone, is_killed, is_killed_by, kills, named_kill, one_kill};
 
-use crate::matching::{located, points_among, points_under};
+use crate::matching::{is_at_place, located, points_among, points_under};
 use life_core::{CoreFn, Instr, Operand};
 use life_pset::{AbsPlace, Cause, Element, changed, holds_owner_if, moved, operand_type};
 use life_types::{Place, TypeTable};
@@ -113,7 +113,9 @@ pub fn after_kill(kill: Option<Kill>, element: Element) -> Element
     }
 }
 
-/// Whether an element doesn't stay: its root ended, or it points under what is changed.
+/// Whether an element doesn't stay: its root ended, or it points under what is changed. What points to no
+/// place stays, so it isn't asked what the instruction changes.
+#[tactic(auto, using(crate::proofs::Unpointed::stays))]
 pub fn is_gone(
     types: &TypeTable,
     f: &CoreFn,
@@ -121,6 +123,16 @@ pub fn is_gone(
     instr: &Instr,
     element: &Element,
 ) -> bool
+    ensures { result ≡ is_gone types.now (function_of f.now) place (step_of instr.now) element.now }
+{
+    if !is_at_place(element) {
+        return false;
+    }
+    is_taken(types, f, place, instr, element)
+}
+
+// .. of any element.
+fn is_taken(types: &TypeTable, f: &CoreFn, place: Place, instr: &Instr, element: &Element) -> bool
     ensures { result ≡ is_gone types.now (function_of f.now) place (step_of instr.now) element.now }
 {
     match instr {

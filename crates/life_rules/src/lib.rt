@@ -3,6 +3,7 @@
 
 mod arguing;
 mod branch;
+mod callees;
 mod calling;
 mod context;
 mod diag;
@@ -27,6 +28,7 @@ mod writes;
 mod wrong;
 mod wrong_two;
 
+pub use callees::{callee_in, callees_of};
 pub use context::PointContext;
 pub use diag::{Diag, DiagKind, ListedDiag, PrintedLine, Why};
 pub use entry::entry_facts;

@@ -1,65 +1,58 @@
 // What a target marks: a target of the pointer through which an instruction changes an owner, or of a
 // mutating argument, makes what points under it invalid.
 ghost use Rattle.std.specs.Option.{option_copied};
-ghost use Rattle.std.specs.Prelude.{◌≡◌, map, IfOk};
+ghost use Rattle.std.specs.Prelude.{◌≡◌, map, List, Option};
 ghost use Rattle.life_core.specs.Function.{function_of};
 ghost use Rattle.life_core.specs.Operands.{argument_of, operand_of};
 ghost use Rattle.life_core.specs.Step.{step_of};
+ghost use Rattle.life_contract.specs.Signatures.{Signature};
+ghost use Rattle.life_rules.specs.Callees.{callee_of, IsCallee};
 ghost use Rattle.life_rules.specs.Staying.{mark_through, mutates, points_behind, points_through, step_mark, step_marks, targets};
 
 use crate::matching::points_under;
 use crate::reads::goes_through;
-use life_contract::{Callee, Signature, Signatures};
+use life_contract::Callee;
 use life_core::{Argument, CoreFn, Instr, Operand};
 use life_pset::{AbsPlace, Element, called, holds_owner_if, operand_type, owner_changed};
-use life_types::{NoMemory, Place, TypeTable};
-use std::alloc::Global;
+use life_types::{Place, TypeTable};
 
 // ---- targets
 
 // Whether the location is a mutating argument of the function that is called, if there is one.
 fn mutates(
-    alloc: Global,
     types: &TypeTable,
-    sig: Option<&Signature>,
+    callee: Option<&Callee<'_>>,
     arguments: &[Argument],
     location: &AbsPlace,
-) -> Result<bool, NoMemory>
-    ensures { IfOk result (λ answer. answer ≡ mutates types.now (option_copied sig.entry) (map argument_of arguments.now) location.now) }
+) -> bool
+    ensures { (sig : Option Signature) → IsCallee types.now sig (option_copied callee.entry) → result ≡ mutates types.now sig (map argument_of arguments.now) location.now }
 {
-    match sig {
-        None => Ok(false),
-        Some(sig) => {
-            let callee = Callee::of(alloc, sig, types)?;
-            Ok(callee.is_mutating_argument(arguments, location))
-        }
+    match callee {
+        None => false,
+        Some(callee) => callee.is_mutating_argument(arguments, location),
     }
 }
 
-/// Whether the elements of a location are targets.
+/// Whether the elements of a location are targets. `callee` is the function that the instruction calls, if
+/// it calls one.
 pub fn targets(
-    alloc: Global,
-    sigs: &Signatures,
     types: &TypeTable,
     f: &CoreFn,
     instr: &Instr,
+    callee: Option<&Callee<'_>>,
     location: &AbsPlace,
-) -> Result<bool, NoMemory>
-    ensures { IfOk result (λ answer. answer ≡ targets sigs.now types.now (function_of f.now) (step_of instr.now) location.now) }
+) -> bool
+    ensures { (sigs : List Signature) → IsCallee types.now (callee_of sigs (step_of instr.now)) (option_copied callee.entry)
+        → result ≡ targets sigs types.now (function_of f.now) (step_of instr.now) location.now }
 {
     match instr {
         Instr::Copy { to, .. } => {
-            let owned = holds_owner_if(types, operand_type(types, f, to));
-            Ok(owned && goes_through(to, location))
+            holds_owner_if(types, operand_type(types, f, to)) && goes_through(to, location)
         }
-        Instr::Move { to, .. } => Ok(goes_through(to, location)),
-        Instr::Change { place: operand, .. } => Ok(goes_through(operand, location)),
-        Instr::Call {
-            function,
-            arguments,
-            ..
-        } => mutates(alloc, types, sigs.get(*function), arguments, location),
-        _ => Ok(false),
+        Instr::Move { to, .. } => goes_through(to, location),
+        Instr::Change { place: operand, .. } => goes_through(operand, location),
+        Instr::Call { arguments, .. } => mutates(types, callee, arguments, location),
+        _ => false,
     }
 }
 

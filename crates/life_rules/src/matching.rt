@@ -1,6 +1,6 @@
 // Which facts a rule speaks of, and what it makes of their elements.
 ghost use Rattle.std.specs.Prelude.{◌≡◌};
-ghost use Rattle.life_rules.specs.Matching.{given_over, gotten, is_held, is_null, is_rooted_among, part_of, points_among, points_under, position_in, reached};
+ghost use Rattle.life_rules.specs.Matching.{given_over, gotten, is_at_place, is_held, is_null, is_rooted_among, part_of, points_among, points_under, position_in, reached};
 
 pub use life_contract::{is_location, is_rooted, located};
 use life_pset::{AbsPlace, Element, under};
@@ -10,6 +10,20 @@ pub fn is_rooted_among(locals: &[u32], place: &AbsPlace) -> bool
     ensures { result ≡ is_rooted_among locals.now place.now }
 {
     locals.iter().any(|local| is_rooted(*local, place))
+}
+
+/// Whether the element is a place.
+pub fn is_at_place(element: &Element) -> bool
+    ensures { result ≡ is_at_place element.now }
+{
+    match element {
+        Element::Null => false,
+        Element::Invalid(_) => false,
+        Element::Moved(_) => false,
+        Element::Own => false,
+        Element::Static => false,
+        Element::At(_) => true,
+    }
 }
 
 /// Whether the element points to one of these locals, or into one.

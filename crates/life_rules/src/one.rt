@@ -1,8 +1,11 @@
 // What an instruction makes of one fact, beside what stays of it.
-ghost use Rattle.std.specs.Prelude.{◌≡◌, ◌++◌, OnOk};
+ghost use Rattle.std.specs.Option.{option_copied};
+ghost use Rattle.std.specs.Prelude.{◌≡◌, ◌++◌, List, OnOk};
 ghost use Rattle.life_core.specs.Function.{function_of};
 ghost use Rattle.life_core.specs.Operands.{base_of, location_of, operand_of, source_of};
 ghost use Rattle.life_core.specs.Step.{change_of, step_of};
+ghost use Rattle.life_contract.specs.Signatures.{Signature};
+ghost use Rattle.life_rules.specs.Callees.{callee_of, IsCallee};
 ghost use Rattle.life_rules.specs.Carrying.{aimed_from, copied_facts, copied_from, copied_location, element_from, moved_facts, position_facts, position_from, reached_from, taken};
 ghost use Rattle.life_rules.specs.Staying.{made};
 
@@ -11,26 +14,26 @@ use crate::kill::{Kill, after_kill, kills};
 use crate::matching::{given_over, gotten, is_location, located, position_in, reached};
 use crate::push::{push_at_if, push_if};
 use crate::writes::is_whole;
-use life_contract::Signatures;
+use life_contract::Callee;
 use life_core::{Base, Change, CoreFn, Instr, Location, Operand, Source};
 use life_pset::{AbsPlace, Fact, is_within, location_type, place_type, rest_of, ty_if};
 use life_types::{NoMemory, Place, TypeTable, is_pointer, is_unique};
 use std::alloc::Global;
 
 /// Adds what an instruction at a place makes of a fact where its location is read, beside what stays of
-/// it.
+/// it. `callee` is the function that the instruction calls, if it calls one.
 pub fn push_made_by(
     alloc: Global,
-    sigs: &Signatures,
     types: &TypeTable,
     f: &CoreFn,
     place: Place,
     instr: &Instr,
+    callee: Option<&Callee<'_>>,
     fact: Fact,
     out: &mut Vec<Fact>,
 ) -> Result<(), NoMemory>
-    ensures { OnOk result
-        (out.new.items ≡ out.old.items ++ made sigs.now types.now (function_of f.now) place (step_of instr.now) fact) }
+    ensures { (sigs : List Signature) → IsCallee types.now (callee_of sigs (step_of instr.now)) (option_copied callee.entry) → OnOk result
+        (out.new.items ≡ out.old.items ++ made sigs types.now (function_of f.now) place (step_of instr.now) fact) }
 {
     match instr {
         Instr::Copy { to, from } => {
@@ -50,17 +53,9 @@ pub fn push_made_by(
         } => push_position_facts(operand, change, fact, out),
         Instr::Call {
             target,
-            function,
             arguments,
-        } => push_called_one(
-            alloc,
-            types,
-            sigs.get(*function),
-            arguments,
-            target,
-            fact,
-            out,
-        ),
+            ..
+        } => push_called_one(alloc, types, callee, arguments, target, fact, out),
         _ => Ok(()),
     }
 }

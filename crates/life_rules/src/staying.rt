@@ -1,9 +1,12 @@
 // What an edge makes of a fact, seen from its location: what stays there, what is made, and what targets
 // mark.
-ghost use Rattle.std.specs.Prelude.{◌≡◌, ◌++◌, ◌∷◌, [], false, map, option_map, IfOk, OnOk};
+ghost use Rattle.std.specs.Option.{option_copied};
+ghost use Rattle.std.specs.Prelude.{◌≡◌, ◌++◌, ◌∷◌, [], false, map, option_map, List, OnOk};
 ghost use Rattle.life_core.specs.Function.{function_of};
 ghost use Rattle.life_core.specs.Node.{spot_seen};
 ghost use Rattle.life_pset.specs.declared.element.Element.{Element};
+ghost use Rattle.life_contract.specs.Signatures.{Signature};
+ghost use Rattle.life_rules.specs.Callees.{callee_in, IsCallee};
 ghost use Rattle.life_rules.specs.Staying.{made_at, mark, marks, spot_keeps, spot_moves, spot_reads, spot_removes, spot_targets, spot_writes, staying};
 
 use crate::branch::stops_at;
@@ -14,7 +17,7 @@ use crate::push::push_unless;
 use crate::reads::{is_of_value, is_tested, reads};
 use crate::stays::{keeps, moves, push_stays};
 use crate::writes::writes;
-use life_contract::Signatures;
+use life_contract::Callee;
 use life_core::{CoreFn, NodeRef, SpotRef};
 use life_pset::{AbsPlace, Element, Fact};
 use life_types::{NoMemory, TypeTable};
@@ -67,25 +70,25 @@ pub fn is_read_at(spot: Option<SpotRef>, location: &AbsPlace) -> bool
 }
 
 /// Adds what is made of a fact along a branch, beside what stays of it. Nothing is made where the
-/// location isn't read.
+/// location isn't read. `callee` is the function that the point calls, if it calls one.
 pub fn push_made(
     alloc: Global,
-    sigs: &Signatures,
     types: &TypeTable,
     f: &CoreFn,
     branch: Option<bool>,
     spot: Option<SpotRef>,
+    callee: Option<&Callee<'_>>,
     fact: &Fact,
     out: &mut Vec<Fact>,
 ) -> Result<(), NoMemory>
-    ensures { OnOk result
-        (out.new.items ≡ out.old.items ++ made_at sigs.now types.now (function_of f.now) branch (option_map spot_seen spot.entry) fact.now) }
+    ensures { (sigs : List Signature) → IsCallee types.now (callee_in sigs (option_map spot_seen spot.entry)) (option_copied callee.entry) → OnOk result
+        (out.new.items ≡ out.old.items ++ made_at sigs types.now (function_of f.now) branch (option_map spot_seen spot.entry) fact.now) }
 {
     match spot {
         None => Ok(()),
         Some(spot) => match spot.node {
             NodeRef::Action(instr) => push_made_by(
-                alloc, sigs, types, f, spot.place, instr, *fact, out,
+                alloc, types, f, spot.place, instr, callee, *fact, out,
             ),
             NodeRef::Question(test) => push_unless(stops_at(test, branch, *fact), *fact, out),
             NodeRef::Return => Ok(()),
@@ -164,25 +167,24 @@ fn spot_removes(types: &TypeTable, f: &CoreFn, spot: Option<SpotRef>, element: &
 }
 
 /// Whether the elements of the location are targets: the point changes an owner through a pointer there,
-/// or hands it over to a function that may.
+/// or hands it over to a function that may. `callee` is the function that the point calls, if it calls one.
 pub fn is_target_at(
-    alloc: Global,
-    sigs: &Signatures,
     types: &TypeTable,
     f: &CoreFn,
     spot: Option<SpotRef>,
+    callee: Option<&Callee<'_>>,
     location: &AbsPlace,
-) -> Result<bool, NoMemory>
-    ensures { IfOk result
-        (λ answer. answer ≡ spot_targets sigs.now types.now (function_of f.now) (option_map spot_seen spot.entry) location.now) }
+) -> bool
+    ensures { (sigs : List Signature) → IsCallee types.now (callee_in sigs (option_map spot_seen spot.entry)) (option_copied callee.entry)
+        → result ≡ spot_targets sigs types.now (function_of f.now) (option_map spot_seen spot.entry) location.now }
 {
     match spot {
-        None => Ok(false),
+        None => false,
         Some(spot) => match spot.node {
-            NodeRef::Action(instr) => targets(alloc, sigs, types, f, instr, location),
-            NodeRef::Question(_) => Ok(false),
-            NodeRef::Return => Ok(false),
-            NodeRef::Stop => Ok(false),
+            NodeRef::Action(instr) => targets(types, f, instr, callee, location),
+            NodeRef::Question(_) => false,
+            NodeRef::Return => false,
+            NodeRef::Stop => false,
         },
     }
 }

@@ -14,12 +14,12 @@ use std::alloc::Global;
 use std::marker::Model;
 
 /// A row as one bit for each pair: quick to join. It takes all of its memory when it is made, and none
-/// for up to four words, which serve most functions.
+/// for up to 16 words, which serve most functions.
 #[derive(Drop)]
 pub struct BitRows {
     locations: u32,
     elements: u32,
-    words: SmallVec<u64, 4>,
+    words: SmallVec<u64, 16>,
 }
 
 impl Model for BitRows {

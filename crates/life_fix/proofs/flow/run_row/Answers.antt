@@ -1,10 +1,19 @@
-use Rattle.std.proofs.Common.{subst, sym}
+use Rattle.std.proofs.Common.{Option, subst, sym}
+use Rattle.std.specs.Option.{option_copied}
 use Rattle.life_core.specs.Function.{function_of}
+use Rattle.life_core.specs.Tree.{Spot}
 use Rattle.life_sets.specs.NumberSets.{holds}
+use Rattle.life_rules.specs.Callees.{callee_in, IsCallee}
 use Rattle.life_plan.specs.Carried.{none_due, IsCarried}
 use Rattle.life_plan.specs.Crossing.{Crossing}
 use Rattle.life_fix.proofs.EdgeRuns.{crossed, noted_now}
 use Rattle.life_fix.proofs.flow.run_row.Goals as goal
+
+pub invariant_of-context : goal.invariant_of-context
+invariant_of-context g c =
+    let flow = c.args.flow.now in
+    let f = function_of flow.f.now in
+    record { called = subst (λ (s : Option Spot). IsCallee flow.types.now (callee_in flow.sigs.now s) (option_copied c.callee_in.result)) (sym (c.spot_in.ensures f c.requires.flow.spots)) (c.callee_in.ensures flow.types.now flow.sigs.now f c.requires.flow.callees) }
 
 pub run-requires-clause-context : goal.run-requires-clause-context
 run-requires-clause-context g c = record {

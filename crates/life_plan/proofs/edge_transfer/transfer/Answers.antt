@@ -1,25 +1,38 @@
-use Rattle.std.proofs.Common.{◌<◌, ◌∙◌, ℕ, ap, inl, inr, map, refl, subst, sym}
+use Rattle.std.proofs.Common.{◌<◌, ◌∙◌, ℕ, Option, ap, inl, inr, map, refl, subst, sym}
+use Rattle.std.specs.Option.{option_copied}
+use Rattle.std.specs.Prelude.{option_map}
 use Rattle.life_core.specs.Function.{function_of}
 use Rattle.life_core.specs.Node.{spot_seen}
+use Rattle.life_core.specs.Tree.{Spot}
 use Rattle.life_sets.specs.NumberSets.{holds}
+use Rattle.life_rules.specs.Callees.{callee_by, callee_in, callee_seen, IsCallee}
 use Rattle.life_plan.specs.Carried.{IsCarried, none_due}
-use Rattle.life_plan.specs.Crossing.{Crossing, IsContext}
-use Rattle.life_plan.specs.declared.context.EdgeContext.{EdgeContext}
-use Rattle.life_plan.proofs.Crossings.{crossing_is}
+use Rattle.life_plan.specs.Crossing.{Crossing}
+use Rattle.life_plan.proofs.Crossings.{crossing_at}
 use Rattle.life_plan.proofs.Gained.{gained_iff}
 use Rattle.life_plan.proofs.Settled.{carried_settled}
 use Rattle.life_plan.proofs.edge_transfer.transfer.Goals as goal
 
+pub invariant_of-context : goal.invariant_of-context
+invariant_of-context g c =
+    let sigs = c.args.sigs.now in
+    let types = c.args.types.now in
+    let f = function_of c.args.f.now in
+    let points = c.in_ok-spots.ensures.all in
+    let callees = ap (map (option_map callee_seen)) c.deref-3.ensures.value ∙ c.in_ok-callees.ensures ∙ ap (map (callee_by types sigs)) (ap (map spot_seen) c.deref.ensures.value ∙ points) in
+    let at = c.spot_in.ensures f (ap (map spot_seen) c.deref-2.ensures.value ∙ points) in
+    record { called = subst (λ (s : Option Spot). IsCallee types (callee_in sigs s) (option_copied c.callee_in.result)) (sym at) (c.callee_in.ensures types sigs f callees) }
+
 pub of-requires : goal.of-requires
 of-requires g c = record {
   table = c.requires.table;
-  spot = c.spot_in.ensures (function_of c.args.f.now) (ap (map spot_seen) c.deref.ensures.value ∙ c.in_ok-spots.ensures.all);
+  spot = c.spot_in.ensures (function_of c.args.f.now) (ap (map spot_seen) c.deref-2.ensures.value ∙ c.in_ok-spots.ensures.all);
 }
 
 pub carry-requires-clause-context : goal.carry-requires-clause-context
 carry-requires-clause-context g c = record {
   table = c.requires.table;
-  spot = c.spot_in.ensures (function_of c.args.f.now) (ap (map spot_seen) c.deref.ensures.value ∙ c.in_ok-spots.ensures.all);
+  spot = c.spot_in.ensures (function_of c.args.f.now) (ap (map spot_seen) c.deref-2.ensures.value ∙ c.in_ok-spots.ensures.all);
 }
 
 pub carry-requires-clause-carried : goal.carry-requires-clause-carried
@@ -29,12 +42,10 @@ carry-requires-clause-carried g c =
 pub returns-clause-carried : goal.returns-clause-carried
 returns-clause-carried g c = λ l e.
     let has = g.R.Rows.has in
-    let x : EdgeContext = record { f = c.args.f; sigs = c.args.sigs; types = c.args.types; table = c.args.table; edge = c.args.edge; spot = c.spot_in.result } in
-    let is : IsContext x = record {
-      table = c.requires.table;
-      spot = c.spot_in.ensures (function_of c.args.f.now) (ap (map spot_seen) c.deref.ensures.value ∙ c.in_ok-spots.ensures.all);
-    } in
-    let carried = subst (λ (y : Crossing). IsCarried y c.carry.new.self none_due (has c.args.from.now) (has c.carry.new.into)) (crossing_is x is) c.in_ok-carry.ensures.carried in (
+    let f = function_of c.args.f.now in
+    let spot = c.spot_in.ensures f (ap (map spot_seen) c.deref-2.ensures.value ∙ c.in_ok-spots.ensures.all) in
+    let is = crossing_at c.args.table.now c.args.sigs.now c.args.types.now f c.args.edge (option_map spot_seen c.spot_in.result) c.requires.table spot in
+    let carried = subst (λ (y : Crossing). IsCarried y c.carry.new.self none_due (has c.args.from.now) (has c.carry.new.into)) is c.in_ok-carry.ensures.carried in (
       λ h. (c.carry.ensures.sound l e).1 h,
       λ h. elim h [
         | inl was ↦ (c.carry.ensures.sound l e).0 was

@@ -1,8 +1,8 @@
 use Rattle.std.proofs.Common.{◌∙◌, ◌<◌, ℕ, sym, arith, rules}
 use Rattle.life_sets.specs.NumberSets.{holds}
-use Rattle.life_plan.specs.Numbered.{IsAmong}
+use Rattle.life_plan.specs.Numbered.{IsAmong, IsAmongAt}
 use Rattle.life_plan.proofs.AllKept.{whole_more, whole_past}
-use Rattle.life_plan.proofs.Growing.{notes_more, notes_none, some_includes, some_more, some_none}
+use Rattle.life_plan.proofs.Growing.{notes_more, notes_none, some_as, some_includes, some_more, some_none}
 use Rattle.life_plan.proofs.whole.carry_whole.Goals as goal
 use Rattle.life_plan.proofs.whole.carry_whole.Goals.{else-is_due, then-is_due+in_ok-carry_at}
 
@@ -26,12 +26,13 @@ loop-l-preserved g c =
     elim c.if-is_due.branch [
       | then-is_due+in_ok-carry_at w ↦
           let now = w.carry_at.ensures in
+          let some = some_as (has c.loop-l.into) (has w.carry_at.new.into) (IsAmongAt c.loop-l.l ls es (has c.args.from.now)) among (λ n m h. h.1) now.some in
           rw (w.into-is, w.gained-is)
           (record {
-            kept = whole_more ls es (holds c.args.due.now) (has c.args.from.now) (has c.loop-l.into) (has w.carry_at.new.into) c.loop-l.l was.kept (some_includes (has c.loop-l.into) (has w.carry_at.new.into) among now.some) w.in_ok-carry_at.ensures.kept;
-            some = some_more (has c.args.into.now) (has c.loop-l.into) (has w.carry_at.new.into) among was.some now.some;
+            kept = whole_more ls es (holds c.args.due.now) (has c.args.from.now) (has c.loop-l.into) (has w.carry_at.new.into) c.loop-l.l was.kept (some_includes (has c.loop-l.into) (has w.carry_at.new.into) among some) w.in_ok-carry_at.ensures.kept;
+            some = some_more (has c.args.into.now) (has c.loop-l.into) (has w.carry_at.new.into) among was.some some;
             noted = notes_more (has c.args.into.now) (has c.loop-l.into) (has w.carry_at.new.into) (holds c.args.gained.now) (holds c.loop-l.gained) (holds w.carry_at.new.gained) (some_includes (has c.args.into.now) (has c.loop-l.into) among was.some)
-                (some_includes (has c.loop-l.into) (has w.carry_at.new.into) among now.some) was.noted w.in_ok-carry_at.ensures.noted;
+                (some_includes (has c.loop-l.into) (has w.carry_at.new.into) among some) was.noted w.in_ok-carry_at.ensures.noted;
             locations = now.locations ∙ was.locations;
             elements = now.elements ∙ was.elements;
             gained = now.gained ∙ was.gained;

@@ -5,7 +5,7 @@ use Rattle.life_sets.specs.NumberSets.{Numbers}
 use Rattle.life_plan.specs.declared.plan.Plan.{Plan}
 use Rattle.life_fix.specs.Solving.{set_at, AreMade, IsFirstDue}
 use Rattle.life_fix.proofs.Starting.{first_rows}
-use Rattle.life_fix.proofs.solver.solved_rows.Goals as goal
+use Rattle.life_fix.proofs.solver.rows_with.Goals as goal
 
 pub run_all-requires-clause-partial : goal.run_all-requires-clause-partial
 run_all-requires-clause-partial g c =
