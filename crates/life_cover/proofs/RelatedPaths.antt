@@ -1,29 +1,13 @@
 -- Of two paths into one object one goes on from the other, or what they lead to lies beside each other.
-use Rattle.std.proofs.Common.{◌≡◌, ⊎_elim, ◌⊎◌, inl, inr, ℕ, zero, suc, ◌+◌, ◌≤◌, ◌<◌, List, [], ◌∷◌, ◌++◌, Option, Some, None, refl, sym, ap, subst, ◌∙◌, arith}
-use Rattle.std.proofs.lemmas.List.Sums.{sum_by-cons}
+use Rattle.std.proofs.Common.{◌≡◌, ⊎_elim, ◌⊎◌, inl, inr, ℕ, ◌+◌, ◌≤◌, List, [], ◌∷◌, ◌++◌, Option, Some, None, refl, sym, ap, subst, ◌∙◌, arith}
 use Rattle.std.specs.Prelude.{slice_get, sum_by, take}
 use Rattle.life_types.specs.Trees.{IsOrdered}
 use Rattle.life_types.specs.Types.{Types}
 use Rattle.life_types.specs.declared.ty.TyId.{TyId}
 use Rattle.life_store.specs.Parts.{members_of, type_within, width_at, word_within}
-use Rattle.life_store.proofs.CellLemmas.{none_some, some_same}
+use Rattle.life_store.proofs.CellLemmas.{some_same}
 use Rattle.life_forest.proofs.Coming.{below_or}
-use Rattle.life_forest.proofs.Members.{path_within}
-
--- what stands before a later member reaches as far as an earlier one does
-sums_apart : (w : TyId → ℕ) (xs : List TyId) (m n : ℕ) (x : TyId) → m < n → slice_get xs m ≡ Some x → sum_by w (take m xs) + w x ≤ sum_by w (take n xs)
-sums_apart w [] m n x lt e = absurd (none_some e)
-sums_apart w (y ∷ ys) m zero x lt e = absurd (omega (arith, lt))
-sums_apart w (y ∷ ys) zero (suc n) x lt e =
-    let same = ap w (some_same e) in
-    let all : sum_by w (take (suc n) (y ∷ ys)) ≡ w y + sum_by w (take n ys) = sum_by-cons w y (take n ys) in
-    let none : sum_by w (take zero (y ∷ ys)) ≡ 0 = refl in
-    omega (arith, same, all, none)
-sums_apart w (y ∷ ys) (suc m) (suc n) x lt e =
-    let more = sums_apart w ys m n x (omega (arith, lt)) e in
-    let first : sum_by w (take (suc m) (y ∷ ys)) ≡ w y + sum_by w (take m ys) = sum_by-cons w y (take m ys) in
-    let second : sum_by w (take (suc n) (y ∷ ys)) ≡ w y + sum_by w (take n ys) = sum_by-cons w y (take n ys) in
-    omega (arith, more, first, second)
+use Rattle.life_forest.proofs.PathsApart.{lies_before, no_path}
 
 module _ (types : Types) (ordered : IsOrdered types) where
   -- one of them goes on from the other, or the words of what they lead to follow each other
@@ -32,28 +16,12 @@ module _ (types : Types) (ordered : IsOrdered types) where
       ((ks : List ℕ) × (ns ≡ ms ++ ks))
       ⊎ (((ks : List ℕ) × (ms ≡ ns ++ ks)) ⊎ ((word_within types (Some id) ms + width_at types a ≤ word_within types (Some id) ns) ⊎ (word_within types (Some id) ns + width_at types b ≤ word_within types (Some id) ms)))
 
-  nowhere : (ns : List ℕ) (a : TyId) → type_within types None ns ≡ Some a → ⊥
-  nowhere [] a k = none_some k
-  nowhere (n ∷ ns) a k = none_some k
-
-  -- an earlier member lies before a later one
-  before : (id a : TyId) (m : ℕ) (ms : List ℕ) (n : ℕ) (ns : List ℕ) → m < n → type_within types (Some id) (m ∷ ms) ≡ Some a → word_within types (Some id) (m ∷ ms) + width_at types a ≤ word_within types (Some id) (n ∷ ns)
-  before id a m ms n ns lt e = go (slice_get (members_of types id) m) refl e
-    where
-      go : (x : Option TyId) → slice_get (members_of types id) m ≡ x → type_within types x ms ≡ Some a
-          → (sum_by (width_at types) (take m (members_of types id)) + word_within types x ms) + width_at types a ≤ sum_by (width_at types) (take n (members_of types id)) + word_within types (slice_get (members_of types id) n) ns
-      go None there h = absurd (nowhere ms a h)
-      go (Some x) there h =
-          let fits = (path_within types ordered x a ms h).fits in
-          let sums = sums_apart (width_at types) (members_of types id) m n x lt there in
-          omega (arith, fits, sums)
-
   pub paths_related : (ms ns : List ℕ) (id a b : TyId) → type_within types (Some id) ms ≡ Some a → type_within types (Some id) ns ≡ Some b → AreRelated id a b ms ns
   paths_related [] ns id a b at_a at_b = inl (ns, refl)
   paths_related (m ∷ ms) [] id a b at_a at_b = inr (inl (m ∷ ms, refl))
   paths_related (m ∷ ms) (n ∷ ns) id a b at_a at_b =
-      below_or m n (λ lt. inr (inr (inl (before id a m ms n ns lt at_a))))
-      (λ le. below_or n m (λ lt. inr (inr (inr (before id b n ns m ms lt at_b)))) (λ ge. equal (omega (arith, le, ge)) (λ x h k. paths_related ms ns x a b h k)))
+      below_or m n (λ lt. inr (inr (inl (lies_before types ordered id a m ms n ns lt at_a))))
+      (λ le. below_or n m (λ lt. inr (inr (inr (lies_before types ordered id b n ns m ms lt at_b)))) (λ ge. equal (omega (arith, le, ge)) (λ x h k. paths_related ms ns x a b h k)))
     where
       equal : m ≡ n → ((x : TyId) → type_within types (Some x) ms ≡ Some a → type_within types (Some x) ns ≡ Some b → AreRelated x a b ms ns) → AreRelated id a b (m ∷ ms) (n ∷ ns)
       equal e more = go (slice_get (members_of types id) m) refl at_a
@@ -62,7 +30,7 @@ module _ (types : Types) (ordered : IsOrdered types) where
           there = ap (slice_get (members_of types id)) (sym e)
 
           go : (x : Option TyId) → slice_get (members_of types id) m ≡ x → type_within types x ms ≡ Some a → AreRelated id a b (m ∷ ms) (n ∷ ns)
-          go None is h = absurd (nowhere ms a h)
+          go None is h = absurd (no_path types ordered ms a h)
           go (Some x) is h =
               let one : word_within types (slice_get (members_of types id) m) ms ≡ word_within types (Some x) ms = ap (λ (y : Option TyId). word_within types y ms) is in
               let two : word_within types (slice_get (members_of types id) n) ns ≡ word_within types (Some x) ns = ap (λ (y : Option TyId). word_within types y ns) (there ∙ is) in
@@ -85,7 +53,7 @@ module _ (types : Types) (ordered : IsOrdered types) where
     where
       go : (x : Option TyId) → slice_get (members_of types id) m ≡ x → type_within types x ms ≡ Some a → ((y : TyId) → type_within types (Some y) ms ≡ Some a → word_within types (Some y) (ms ++ ks) ≡ word_within types (Some y) ms + word_within types (Some a) ks)
           → sum_by (width_at types) (take m (members_of types id)) + word_within types (slice_get (members_of types id) m) (ms ++ ks) ≡ (sum_by (width_at types) (take m (members_of types id)) + word_within types (slice_get (members_of types id) m) ms) + word_within types (Some a) ks
-      go None there h more = absurd (nowhere ms a h)
+      go None there h more = absurd (no_path types ordered ms a h)
       go (Some x) there h more =
           let one : word_within types (slice_get (members_of types id) m) (ms ++ ks) ≡ word_within types (Some x) (ms ++ ks) = ap (λ (y : Option TyId). word_within types y (ms ++ ks)) there in
           let two : word_within types (slice_get (members_of types id) m) ms ≡ word_within types (Some x) ms = ap (λ (y : Option TyId). word_within types y ms) there in

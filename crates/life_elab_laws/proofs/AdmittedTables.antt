@@ -25,7 +25,7 @@ use Rattle.life_well_typed.proofs.ObjectsKept.{object_there}
 use Rattle.life_well_typed.specs.Results.{HasTable, HaveMembers}
 use Rattle.life_well_typed.specs.Tables.{AreMemberTypes, AreVariables, HasObjects, HasTarget, HasTargetIfAny, IsObject, IsPlainObject}
 use Rattle.life_well_typed.proofs.TargetsHeld.{target_at}
-use Rattle.life_elab_laws.proofs.FormKinds.{are_plain, are_admitted_parameters, are_admitted_variables, are_struct_members, has_fine_structs, have_each, hold_members, is_element, is_owner_of_values, is_owner_within, is_owning, is_plain_struct, is_pointing, is_admitted_parameter, is_admitted_result, is_admitted_variable, is_struct, is_struct_member, is_target, is_unique_of_element, is_walker_of_values}
+use Rattle.life_elab_laws.proofs.ObjectTypes.{are_plain, are_admitted_parameters, are_admitted_variables, are_struct_members, has_fine_structs, have_each, hold_members, is_element, is_owner_of_values, is_owner_within, is_owning, is_plain_struct, is_pointing, is_admitted_parameter, is_admitted_result, is_admitted_variable, is_struct, is_struct_member, is_target, is_unique_of_element, is_walker_of_values}
 use Rattle.life_elab_laws.proofs.Elements.{element_target}
 use Rattle.life_elab_laws.proofs.PassedNone.{first_none, not_passed}
 use Rattle.life_elab_laws.proofs.AdmittedTypes.{IsAdmittedType, admitted_type_is, admits, type_admits}

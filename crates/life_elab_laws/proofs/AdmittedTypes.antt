@@ -7,7 +7,7 @@ use Rattle.life_types.specs.declared.ty.Ty.{Ty}
 use Rattle.life_types.specs.declared.ty.Ty.TheVariants as ty
 use Rattle.life_types.specs.declared.ty.TyId.{TyId}
 use Rattle.life_typed.specs.BaseTypes.{type_at}
-use Rattle.life_elab_laws.proofs.FormKinds.{is_owner_of_values, is_pointing, is_admitted_type, is_admitted_variable, is_struct, is_unique_of_element, is_walker_of_values}
+use Rattle.life_elab_laws.proofs.ObjectTypes.{is_owner_of_values, is_pointing, is_admitted_type, is_admitted_variable, is_struct, is_unique_of_element, is_walker_of_values}
 
 -- the test of a type
 abbrev pub admits : Types → Ty → Bool

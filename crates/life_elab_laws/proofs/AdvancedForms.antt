@@ -1,7 +1,9 @@
 -- What is made of iterators: one that stands so many elements on, the element that one points to, and whether two are the same.
 use Rattle.std.proofs.Common.{◌≡◌, ◌⊎◌, inl, inr, ℕ, Bool, true, false, List, [], ◌∷◌, Option, Some, None, Ok, refl, sym, ap, ◌∙◌, subst}
 use Rattle.std.proofs.lemmas.Bool.{and_from, false≢true}
-use Rattle.life_elab_laws.proofs.FormKinds.{is_end, is_owner_of_values, is_walker, is_walker_of_values, is_walker_type}
+use Rattle.life_elab_laws.proofs.FormKinds.{is_end}
+use Rattle.life_elab_laws.proofs.ObjectTypes.{is_owner_of_values, is_walker_of_values}
+use Rattle.life_elab_laws.proofs.TypeKinds.{is_walker, is_walker_type}
 use Rattle.life_types.specs.Pointees.{ty_of}
 use Rattle.life_types.specs.TypeTests.{is_iterator, is_value}
 use Rattle.life_types.specs.Types.{Types}
@@ -53,11 +55,11 @@ use Rattle.life_elab_laws.proofs.PointerForms.{own_typed}
 use Rattle.life_elab_laws.proofs.RowTypes.{AreIterators, Fits, IsCompared, row_fits_between, sees}
 use Rattle.life_elab_laws.proofs.Setting.{Setting}
 use Rattle.life_elab_laws.proofs.TypedKinds.{IsCombined, err_ok, none_some, ok_same}
-use Rattle.life_elab_laws.proofs.Values.{by_values}
+use Rattle.life_elab_laws.proofs.Values.{by_walkers}
 use Rattle.life_elab_laws.proofs.VariablePlaces.{stands_later}
 use Rattle.life_elab_laws.proofs.ViewForms.{gives_as}
 use Rattle.life_elab_laws.proofs.ViewSteps.{pointer_held}
-use Rattle.life_elab_laws.proofs.WalkerForms.{IsWalker, IsWalkerAt, cursor_walker, walker_pointer, walker_type, no_place}
+use Rattle.life_elab_laws.proofs.WalkerForms.{IsWalker, IsWalkerAt, cursor_walker, walker_pointer, walker_type, no_place, value_no_walker}
 use Rattle.life_elab_laws.proofs.WalkerSteps.{advance_filling, advance_given}
 use Rattle.life_elab_laws.proofs.FormedFits.{same_id}
 use Rattle.life_elab_laws.proofs.EqualityRows.{compares}
@@ -68,9 +70,6 @@ use Rattle.life_elab_laws.proofs.PointedCalls.{gives_plainly}
 
 same_of : {u w : Ty} → Of u ≡ Of w → u ≡ w
 same_of e = cc
-
-value_no_walker : (t : Ty) → is_value t ≡ true → is_walker t ≡ true → ⊥
-value_no_walker t v w = false≢true (sym (by_values (λ t. is_walker t ≡ false) refl refl refl refl refl t v) ∙ w)
 
 module _ (a : Around) (visible : List ℕ) (types : Types) (texts : ℕ) (fs : List Function) (f : Function) (setting : Setting a types fs f) where
   -- ---- the ends of a vector
@@ -104,10 +103,10 @@ module _ (a : Around) (visible : List ℕ) (types : Types) (texts : ℕ) (fs : L
       walks = let w = walker_type e.ty n in subst (λ (t : Ty). is_walker t ≡ true) (same_of (sym w.is ∙ c.is.0)) w.walker
 
       go : (w : Row) → Fits w (typed_in left).ty (typed_in right).ty c.ty → IsWalkerAt a visible types texts fs f setting e ((binary_uses w (uses a left) (uses a right) place e.ty e.category).pointing)
-      go (Computed by common) fit = absurd (value_no_walker c.ty fit.worth walks)
-      go (Joined by) fit = absurd (value_no_walker c.ty fit.worth walks)
-      go (IsNull side) fit = absurd (value_no_walker c.ty fit.worth walks)
-      go (NotNull side) fit = absurd (value_no_walker c.ty fit.worth walks)
+      go (Computed by common) fit = absurd (false≢true (sym (value_no_walker c.ty fit.worth) ∙ walks))
+      go (Joined by) fit = absurd (false≢true (sym (value_no_walker c.ty fit.worth) ∙ walks))
+      go (IsNull side) fit = absurd (false≢true (sym (value_no_walker c.ty fit.worth) ∙ walks))
+      go (NotNull side) fit = absurd (false≢true (sym (value_no_walker c.ty fit.worth) ∙ walks))
       go (Compared equal) fit = absurd (false≢true (sym (ap is_walker fit.answers) ∙ walks))
       go Concatenated fit = absurd (false≢true (sym (ap is_walker fit.answers) ∙ walks))
       go (Advanced direction) fit = by_type l.ty refl l.walker (sym (same_of (sym l.is ∙ fit.left))) fit.iterator
@@ -202,18 +201,14 @@ module _ (a : Around) (visible : List ℕ) (types : Types) (texts : ℕ) (fs : L
   walker_seen form is s = ap (λ (x : Ty). seen_by x (uses a form) s) (ap own_type (sym (own_typed a visible types texts fs f setting form) ∙ is.is)) ∙ go is.ty is.walker
     where
       go : (t : Ty) → is_walker_of_values a.program.types t ≡ true → seen_by t (uses a form) s ≡ mapped InView (pointer (uses a form) ty.View s)
-      go (ty.Iterator item constant) w = refl
-      go (ty.Span item constant) w = refl
-      go _ w = absurd (false≢true w)
+      go = by_walkers a.program.types _ (λ item constant. refl) (λ item constant. refl)
 
   module _ (left right : Form) (t : Ty) (l : IsWalker a visible types texts fs f setting left) (r : IsWalker a visible types texts fs f setting right) where
     walkers : (fit : IsCompared (typed_in left).ty (typed_in right).ty t) → are_compared types l.ty r.ty ≡ true
     walkers fit = go fit.operands
       where
         none : (u : Ty) → is_walker_of_values a.program.types u ≡ true → sees (Of u) ≡ false
-        none (ty.Iterator item constant) w = refl
-        none (ty.Span item constant) w = refl
-        none _ w = absurd (false≢true w)
+        none = by_walkers a.program.types _ (λ item constant. refl) (λ item constant. refl)
 
         go : ((sees (typed_in left).ty ≡ true) × (sees (typed_in right).ty ≡ true)) ⊎ AreIterators (typed_in left).ty (typed_in right).ty → are_compared types l.ty r.ty ≡ true
         go (inl s) = absurd (false≢true (sym (ap sees l.is ∙ none l.ty l.walker) ∙ s.0))

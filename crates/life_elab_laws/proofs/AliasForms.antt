@@ -1,7 +1,8 @@
 -- What a reference to an owner is given: a place that it refers to, or an owner that is built for it: a copy, one that is made, or a string of a literal.
 use Rattle.std.proofs.Common.{◌≡◌, ℕ, Bool, true, false, List, None, Option, refl, sym, ap, ◌∙◌, subst, length}
 use Rattle.std.proofs.lemmas.Bool.{false≢true}
-use Rattle.life_elab_laws.proofs.FormKinds.{is_owner_of_values, owns_elements, is_target, is_walker_of_values}
+use Rattle.life_elab_laws.proofs.ObjectTypes.{is_owner_of_values, is_target, is_walker_of_values}
+use Rattle.life_elab_laws.proofs.TypeKinds.{owns_elements}
 use Rattle.life_types.specs.Types.{Types}
 use Rattle.life_types.specs.declared.place.Place.{Place}
 use Rattle.life_types.specs.declared.ty.Ty.{Ty}
@@ -44,7 +45,7 @@ use Rattle.life_elab_laws.proofs.PointerForms.{held_typed}
 use Rattle.life_elab_laws.proofs.Setting.{Setting}
 use Rattle.life_elab_laws.proofs.Targets.{owner_target, value_target, IsTarget, target_is, to_owner, to_struct, to_value}
 use Rattle.life_elab_laws.proofs.TypedKinds.{HasKind, a_null, a_number, a_pointer as is_pointer_kind, a_text, a_view, kind_no_owner, no_value, place_same, value_place}
-use Rattle.life_elab_laws.proofs.Values.{by_values}
+use Rattle.life_elab_laws.proofs.Values.{by_owners, by_values, by_walkers}
 use Rattle.life_elab_laws.proofs.GivenKinds.{given_number}
 use Rattle.life_types.specs.TypeTests.{is_value}
 use Rattle.life_elab_laws.proofs.WalkerForms.{IsWalker}
@@ -61,26 +62,18 @@ no_owner_given types (ty.Vector item) o _ none c h = false≢true h
 no_owner_given types _ o u none c h = false≢true o
 
 pub null_refused : (types : Types) (t : Ty) → is_owner_of_values types t ≡ true → (c : Category) → fits_at_all (fits types t NullPointer c) ≡ true → ⊥
-null_refused types ty.Text o c h = false≢true h
-null_refused types (ty.Vector item) o c h = false≢true h
-null_refused types _ o c h = false≢true o
+null_refused types = by_owners types _ (λ c h. false≢true h) (λ item c h. false≢true h)
 
 -- a literal is given to a string alone
 literal_string : (types : Types) (t : Ty) → is_owner_of_values types t ≡ true → (c : Category) → fits_at_all (fits types t TextLiteral c) ≡ true → t ≡ ty.Text
-literal_string types ty.Text o c h = refl
-literal_string types (ty.Vector item) o c h = absurd (false≢true h)
-literal_string types _ o c h = absurd (false≢true o)
+literal_string types = by_owners types _ (λ c h. refl) (λ item c h. absurd (false≢true h))
 
 -- .. nor does a struct come of an owner, an iterator or a span
 pub owner_no_struct_given : (types : Types) (t : Ty) → is_owner_of_values types t ≡ true → (number : ℕ) (c : Category) → fits_at_all (fits types (ty.Struct number) (Of t) c) ≡ true → ⊥
-owner_no_struct_given types ty.Text o number c h = false≢true h
-owner_no_struct_given types (ty.Vector item) o number c h = false≢true h
-owner_no_struct_given types _ o number c h = false≢true o
+owner_no_struct_given types = by_owners types _ (λ number c h. false≢true h) (λ item number c h. false≢true h)
 
 pub walker_no_struct_given : (types : Types) (t : Ty) → is_walker_of_values types t ≡ true → (number : ℕ) (c : Category) → fits_at_all (fits types (ty.Struct number) (Of t) c) ≡ true → ⊥
-walker_no_struct_given types (ty.Iterator item held) w number c h = false≢true h
-walker_no_struct_given types (ty.Span item held) w number c h = false≢true h
-walker_no_struct_given types _ w number c h = false≢true w
+walker_no_struct_given types = by_walkers types _ (λ item held number c h. false≢true h) (λ item held number c h. false≢true h)
 
 module _ (a : Around) (visible : List ℕ) (types : Types) (texts : ℕ) (fs : List Function) (f : Function) (setting : Setting a types fs f) where
   abbrev Stood : State → Type 0

@@ -20,7 +20,8 @@ use Rattle.life_core.specs.Operands.{Get, Operand, whole, object_named, Location
 use Rattle.life_core.specs.Tree.{Tree}
 use Rattle.life_well_typed.specs.Expressions.{IsMadeOf, typed_in}
 use Rattle.life_well_typed.specs.Given.{is_given}
-use Rattle.life_elab_laws.proofs.FormKinds.{is_element, is_unique_type}
+use Rattle.life_elab_laws.proofs.ObjectTypes.{is_element}
+use Rattle.life_elab_laws.proofs.TypeKinds.{is_unique_type}
 use Rattle.life_writer.specs.Around.{Around, own_type}
 use Rattle.life_writer.specs.Conditions.{not_null}
 use Rattle.life_writer.specs.ExpressionForms.{form_uses, uses}

@@ -1,13 +1,13 @@
 -- Owners that are assigned to: one at a place, or one that is made, which is a temporary.
-use Rattle.std.proofs.Common.{◌≡◌, ◌<◌, ◌&&◌, ◌||◌, ℕ, true, false, arith, Contains, length, slice_get, Option, Some, None, refl, sym, ap, ◌∙◌, subst, unwrap_or, List, inl, inr, not}
+use Rattle.std.proofs.Common.{◌≡◌, ◌<◌, ◌&&◌, ◌||◌, ℕ, true, false, arith, Contains, length, slice_get, Option, Some, None, sym, ap, ◌∙◌, subst, unwrap_or, List, inl, inr, not}
 use Rattle.std.proofs.lemmas.Bool.{and_parts, false≢true, or_cases}
-use Rattle.life_elab_laws.proofs.FormKinds.{is_owner_of_values, is_owner_type, is_read_object, is_read_owner}
+use Rattle.life_elab_laws.proofs.FormKinds.{is_read_object, is_read_owner}
+use Rattle.life_elab_laws.proofs.ObjectTypes.{is_owner_of_values}
+use Rattle.life_elab_laws.proofs.TypeKinds.{is_owner_type}
 use Rattle.life_types.specs.Types.{Types, class}
 use Rattle.life_types.specs.declared.place.Place.{Place}
 use Rattle.life_types.specs.declared.ty.Class.{Class}
-use Rattle.life_types.specs.declared.ty.Class.TheVariants as classes
 use Rattle.life_types.specs.declared.ty.Ty.{Ty}
-use Rattle.life_types.specs.declared.ty.Ty.TheVariants as ty
 use Rattle.life_typed.specs.Conversions.{is_place}
 use Rattle.life_typed.specs.TypedForm.{Form, Typed, whole as whole_form}
 use Rattle.life_typed.specs.TypedStatement.{one}
@@ -43,6 +43,7 @@ use Rattle.life_elab_laws.proofs.Parts.{Makes, and_part, then_part}
 use Rattle.life_elab_laws.proofs.PointerForms.{placed_operand}
 use Rattle.life_elab_laws.proofs.Setting.{Setting}
 use Rattle.life_elab_laws.proofs.VariablePlaces.{IsVariableAt, stands_later}
+use Rattle.life_elab_laws.proofs.Types.{owner_class}
 
 module _ (a : Around) (visible : List ℕ) (types : Types) (texts : ℕ) (fs : List Function) (f : Function) (setting : Setting a types fs f) where
   abbrev Stood : State → Type 0
@@ -118,11 +119,6 @@ module _ (a : Around) (visible : List ℕ) (types : Types) (texts : ℕ) (fs : L
 
   -- ---- assignments
 
-  owner_class : (t : Ty) → is_owner_of_values a.program.types t ≡ true → class (Some t) ≡ classes.Owner
-  owner_class ty.Text o = refl
-  owner_class (ty.Vector item) o = refl
-  owner_class _ o = absurd (false≢true o)
-
   -- it is given what a variable owns, at `move`
   pub moved_assigned_part : (target : Typed) (x : ℕ) (moved e : Typed) (place equals behind : Place) (s : State) → (to : IsAssignable (whole_form target)) → onto_itself (named_in (whole_form target)) (Some x) ≡ None
       → (uses a (whole_form e)).replacing ≡ Some (moved_from place x) → e.category ≡ category.Value → Contains visible x
@@ -140,7 +136,7 @@ module _ (a : Around) (visible : List ℕ) (types : Types) (texts : ℕ) (fs : L
       let stays : variable o.state x ≡ variable s x = ap (λ (vs : List ℕ). unwrap_or (slice_get vs x) 0) first.grown.variables in
       let others = ap (λ (z : ℕ). is_itself types texts fs f z o.given) stays ∙ to.other x is.source c is.found other s stands in
       subst (λ (r : State). Makes types texts fs f None s (gives tt r) (no_gift types texts fs f))
-      (sym (ap (λ (k : Class). assigned_by k u (own_type target.ty) t equals behind s) (ap (λ (w : Ty). class (Some w)) (ap own_type to.is) ∙ owner_class to.ty to.owner)
+      (sym (ap (λ (k : Class). assigned_by k u (own_type target.ty) t equals behind s) (ap (λ (w : Ty). class (Some w)) (ap own_type to.is) ∙ owner_class a.program.types to.ty to.owner)
       ∙ ap (λ (w : Ty). acted (owner_by u.category u w s) t equals) (ap own_type to.is)
       ∙ ap (λ (k : Category). acted (owner_by k u to.ty s) t equals) value
       ∙ ap (λ (r : Option (State → Gives Act)). acted (replaced_by r (temporary_of u to.ty) s) t equals) replaces))

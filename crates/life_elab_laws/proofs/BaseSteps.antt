@@ -41,7 +41,7 @@ use Rattle.life_elab_laws.proofs.Parts.{Part}
 use Rattle.life_elab_laws.proofs.Types.{type_added}
 use Rattle.life_elab_laws.proofs.WrittenLocals.{fits_below, fits_register}
 use Rattle.life_elab_laws.proofs.Targets.{target_no_void, target_same, target_no_slot}
-use Rattle.life_elab_laws.proofs.FormKinds.{is_element, is_target}
+use Rattle.life_elab_laws.proofs.ObjectTypes.{is_element, is_target}
 use Rattle.life_elab_laws.proofs.Elements.{element_target, element_there}
 use Rattle.life_elab_laws.proofs.Shaped.{element_further, PlainStays}
 

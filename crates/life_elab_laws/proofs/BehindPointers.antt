@@ -1,7 +1,7 @@
 -- What is behind a pointer, and what a reference refers to that a call gives, whatever it is: its place, and its address.
 use Rattle.std.proofs.Common.{◌≡◌, ℕ, Bool, true, false, List, Ok, Some, None, refl, sym, ap, ◌∙◌, subst, slice_get, ◌∷◌, []}
 use Rattle.std.proofs.lemmas.Bool.{and_from, false≢true}
-use Rattle.life_elab_laws.proofs.FormKinds.{is_target}
+use Rattle.life_elab_laws.proofs.ObjectTypes.{is_target}
 use Rattle.life_types.specs.Pointees.{ty_of}
 use Rattle.life_types.specs.Types.{Types}
 use Rattle.life_types.specs.declared.place.Place.{Place}

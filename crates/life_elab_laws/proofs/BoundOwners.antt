@@ -2,7 +2,7 @@
 use Rattle.std.proofs.Common.{◌≡◌, ◌<◌, ◌⊎◌, inl, inr, ℕ, Bool, true, false, List, [], ◌∷◌, ◌++◌, Contains, drop, length, reverse, slice_get, slice_set, take, Some, None, refl, sym, ap, ◌∙◌, subst, arith, append_assoc, length-append}
 use Rattle.std.proofs.lemmas.List.Elements.{Contains-push, Contains-push_cases}
 use Rattle.std.proofs.lemmas.Option.{slice_get_within}
-use Rattle.life_elab_laws.proofs.FormKinds.{is_admitted_variable, is_target}
+use Rattle.life_elab_laws.proofs.ObjectTypes.{is_admitted_variable, is_target}
 use Rattle.life_types.specs.Types.{Types}
 use Rattle.life_types.specs.declared.place.Place.{Place}
 use Rattle.life_types.specs.declared.ty.Ty.{Ty}
@@ -26,7 +26,7 @@ use Rattle.life_writer.specs.Around.{Around, result_local}
 use Rattle.life_writer.specs.Uses.{Remaining}
 use Rattle.life_writer.specs.Variables.{end_pending, variable_local}
 use Rattle.life_writer.specs.Writing.{Gives, State, emit, gives, with_code}
-use Rattle.life_elab_laws.proofs.Among.{Among, all_among, among_contains, among_drop, among_either, among_left, among_or, among_reverse, among_right, among_take, apart_reverse, ascend_apart, ascend_drop, contains_among, reverse_among}
+use Rattle.life_elab_laws.proofs.Among.{Among, all_among, among_contains, among_either, among_left, among_or, among_right, among_take, apart_reverse, ascend_apart, ascend_drop, contains_among}
 use Rattle.life_elab_laws.proofs.BoundVariables.{adds_temporary, begins_before_it, follows_temporary, kept_none, kept_place, temporary_lives, temporary_local, temporary_written, with_temporary}
 use Rattle.life_elab_laws.proofs.Declaring.{adds_new, begins_old, follows_new, its_local, new_then, with_new}
 use Rattle.life_elab_laws.proofs.Doing.{Acting, Does}
@@ -49,6 +49,7 @@ use Rattle.life_elab_laws.proofs.Making.{Alive, IsOpen, opened_later}
 use Rattle.life_elab_laws.proofs.NewVariables.{bound_given, reference_declared, reference_kept}
 use Rattle.life_elab_laws.proofs.OrderedTypes.{HasPartsIn, order_then, type_ordered}
 use Rattle.life_elab_laws.proofs.Parts.{Goes, Part, Runs}
+use Rattle.life_elab_laws.proofs.PendingEnds.{ends_pending, none_kept, pending_ends}
 use Rattle.life_elab_laws.proofs.PendingTemporaries.{ArePending, temporary_later}
 use Rattle.life_elab_laws.proofs.AdmittedTypes.{IsBuilt}
 use Rattle.life_elab_laws.proofs.Setting.{Setting}
@@ -147,23 +148,11 @@ module _ (a : Around) (types : Types) (texts : ℕ) (fs : List Function) (f : Fu
   abbrev n : ℕ
   n = length s.pending
 
-  no_more : n ≡ 0
-  no_more = ap length h.pending
-
-  none_left : (xs : List ℕ) → take n xs ≡ []
-  none_left xs = ap (λ (k : ℕ). take k xs) no_more
-
   abbrev over : List ℕ
   over = reverse (drop n acted.pending)
 
-  pending_over : (y : ℕ) → Among y acted.pending → Among y over
-  pending_over y m = among_reverse (drop n acted.pending) y (subst (λ (k : ℕ). Among y (drop k acted.pending)) (sym no_more) m)
-
-  over_pending : (y : ℕ) → Among y over → Among y acted.pending
-  over_pending y m = among_drop n acted.pending y (reverse_among (drop n acted.pending) y m)
-
   same_pending : take n acted.pending ≡ take n w.state.pending
-  same_pending = none_left acted.pending ∙ sym (none_left w.state.pending)
+  same_pending = none_kept s.pending acted.pending h.pending ∙ sym (none_kept s.pending w.state.pending h.pending)
 
   -- ---- the reference
 
@@ -245,7 +234,7 @@ module _ (a : Around) (types : Types) (texts : ℕ) (fs : List Function) (f : Fu
   below_acted z m = let was = pends.each z m in slice_get_within acted.locals z was.local was.there
 
   y_beside : Among y over → ⊥
-  y_beside m = let lt = below_acted y (over_pending y m) in omega (arith, lt)
+  y_beside m = let lt = below_acted y (ends_pending s.pending acted.pending y m) in omega (arith, lt)
 
   -- the reference is aimed at the temporary, which stands
   aims_apart : Apart f acted news (trees aims)
@@ -295,7 +284,7 @@ module _ (a : Around) (types : Types) (texts : ℕ) (fs : List Function) (f : Fu
 
     ends_fine : IsFine types texts fs f e.code
     ends_fine =
-        e.fine (all_among (ends_here types texts fs f) over (λ z m. temporary_ends types texts fs f (first_own a) setting.own z (temporary_later _ acted.locals f.locals acted.types.types types.types z old.locals old.table (pends.each z (over_pending z m)))))
+        e.fine (all_among (ends_here types texts fs f) over (λ z m. temporary_ends types texts fs f (first_own a) setting.own z (temporary_later _ acted.locals f.locals acted.types.types types.types z old.locals old.table (pends.each z (ends_pending s.pending acted.pending z m)))))
 
     all_fine : IsFine types texts fs f all_code
     all_fine =
@@ -357,7 +346,7 @@ module _ (a : Around) (types : Types) (texts : ℕ) (fs : List Function) (f : Fu
       ready : can_leave i over ≡ true
       ready =
           ends_there over i (apart_reverse (drop n acted.pending) (ascend_apart 0 (drop n acted.pending) (ascend_drop n 0 acted.pending pends.ascend)))
-          (λ z m. ready_set r.after y z y_there (r.alive.pending z (over_pending z m)))
+          (λ z m. ready_set r.after y z y_there (r.alive.pending z (ends_pending s.pending acted.pending z m)))
 
       falls : Falls types f all_code k final
       falls =
@@ -381,7 +370,7 @@ module _ (a : Around) (types : Types) (texts : ℕ) (fs : List Function) (f : Fu
           lived : (z : ℕ) → Among z acted.living ⊎ Among z (y ∷ []) → known_at final z ≡ known.Ready
           lived z (inl m) =
               let c = among_contains acted.living z m in
-              blank_beside over i z (λ p. pends.beside z (over_pending z p) c)
+              blank_beside over i z (λ p. pends.beside z (ends_pending s.pending acted.pending z p) c)
               ∙ beside_set r.after y z known.Ready (λ e. let far = opened_acted z c in omega (arith, e, far)) ∙ r.alive.living z c
           lived z (inr (inl e)) = subst (λ (q : ℕ). known_at final q ≡ known.Ready) e (blank_beside over i y y_beside ∙ at_set r.after y known.Ready y_there)
           lived z (inr (inr none)) = absurd none
@@ -392,7 +381,7 @@ module _ (a : Around) (types : Types) (texts : ℕ) (fs : List Function) (f : Fu
             | inr none ↦
                 blank_beside over i z none
                 ∙ beside_set r.after y z known.Ready (λ e. out (among_right acted.living (y ∷ []) z (inl e)))
-                ∙ r.alive.blank z q there lasts (λ m. out (among_left acted.living (y ∷ []) z m)) (λ m. none (pending_over z m))
+                ∙ r.alive.blank z q there lasts (λ m. out (among_left acted.living (y ∷ []) z m)) (λ m. none (pending_ends s.pending acted.pending h.pending z m))
           ]
 
       all_apart : Apart f s finished (trees all_code)

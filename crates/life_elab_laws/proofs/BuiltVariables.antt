@@ -2,7 +2,7 @@
 use Rattle.std.proofs.Common.{◌≡◌, ◌<◌, ◌⊎◌, inl, inr, ℕ, Bool, true, false, List, [], ◌∷◌, ◌++◌, Contains, drop, length, reverse, slice_get, slice_set, take, Some, None, refl, sym, ap, ◌∙◌, subst, arith, append_assoc, length-append}
 use Rattle.std.proofs.lemmas.List.Elements.{Contains-append_left, Contains-push_cases}
 use Rattle.std.proofs.lemmas.Option.{slice_get_within}
-use Rattle.life_elab_laws.proofs.FormKinds.{is_admitted_variable}
+use Rattle.life_elab_laws.proofs.ObjectTypes.{is_admitted_variable}
 use Rattle.life_types.specs.Types.{Types}
 use Rattle.life_types.specs.declared.place.Place.{Place}
 use Rattle.life_types.specs.declared.ty.Ty.{Ty}
@@ -21,7 +21,7 @@ use Rattle.life_well_typed.specs.Visible.{Visible, with_next}
 use Rattle.life_writer.specs.Around.{Around, result_local}
 use Rattle.life_writer.specs.Variables.{end_pending, variable_local}
 use Rattle.life_writer.specs.Writing.{Gives, State, emit, gives, with_code}
-use Rattle.life_elab_laws.proofs.Among.{Among, all_among, among_contains, among_drop, among_left, among_or, among_reverse, among_right, among_take, apart_reverse, ascend_apart, ascend_drop, reverse_among}
+use Rattle.life_elab_laws.proofs.Among.{Among, all_among, among_contains, among_left, among_or, among_right, among_take, apart_reverse, ascend_apart, ascend_drop}
 use Rattle.life_elab_laws.proofs.Declaring.{adds_new, follows_new, its_local, new_none, with_new}
 use Rattle.life_elab_laws.proofs.Doing.{Acting, Does}
 use Rattle.life_elab_laws.proofs.Emitting.{keeps_set}
@@ -39,6 +39,7 @@ use Rattle.life_elab_laws.proofs.Knowledge.{at_set, beside_set, set_length}
 use Rattle.life_elab_laws.proofs.Making.{Alive, IsOpen, opened_later}
 use Rattle.life_elab_laws.proofs.OrderedTypes.{order_then}
 use Rattle.life_elab_laws.proofs.Parts.{Goes, Part, Runs, Makes}
+use Rattle.life_elab_laws.proofs.PendingEnds.{ends_pending, none_kept, pending_ends}
 use Rattle.life_elab_laws.proofs.PendingTemporaries.{ArePending, temporary_later}
 use Rattle.life_elab_laws.proofs.Setting.{Setting}
 use Rattle.life_elab_laws.proofs.Shaped.{is_passing, named_lasts}
@@ -113,20 +114,8 @@ module _ (a : Around) (types : Types) (texts : ℕ) (fs : List Function) (f : Fu
       abbrev n : ℕ
       n = length s.pending
 
-      no_more : n ≡ 0
-      no_more = ap length h.pending
-
-      none_left : (xs : List ℕ) → take n xs ≡ []
-      none_left xs = ap (λ (k : ℕ). take k xs) no_more
-
       abbrev over : List ℕ
       over = reverse (drop n done.pending)
-
-      pending_over : (y : ℕ) → Among y done.pending → Among y over
-      pending_over y m = among_reverse (drop n done.pending) y (subst (λ (k : ℕ). Among y (drop k done.pending)) (sym no_more) m)
-
-      over_pending : (y : ℕ) → Among y over → Among y done.pending
-      over_pending y m = among_drop n done.pending y (reverse_among (drop n done.pending) y m)
 
       -- ---- where they have ended
 
@@ -149,7 +138,7 @@ module _ (a : Around) (types : Types) (texts : ℕ) (fs : List Function) (f : Fu
       same_variables = subst (IsFront begun.variables) (sym part.grown.variables) (front_itself begun.variables)
 
       same_pending : take n done.pending ≡ take n w.state.pending
-      same_pending = none_left done.pending ∙ sym (none_left w.state.pending)
+      same_pending = none_kept s.pending done.pending h.pending ∙ sym (none_kept s.pending w.state.pending h.pending)
 
       adds : Adds types f s finished
       adds =
@@ -189,7 +178,7 @@ module _ (a : Around) (types : Types) (texts : ℕ) (fs : List Function) (f : Fu
 
         ends_fine : IsFine types texts fs f e.code
         ends_fine =
-            e.fine (all_among (ends_here types texts fs f) over (λ y m. temporary_ends types texts fs f (first_own a) setting.own y (temporary_later _ done.locals f.locals done.types.types types.types y b.locals b.table (pends.each y (over_pending y m)))))
+            e.fine (all_among (ends_here types texts fs f) over (λ y m. temporary_ends types texts fs f (first_own a) setting.own y (temporary_later _ done.locals f.locals done.types.types types.types y b.locals b.table (pends.each y (ends_pending s.pending done.pending y m)))))
 
         all_fine : IsFine types texts fs f whole
         all_fine =
@@ -244,7 +233,7 @@ module _ (a : Around) (types : Types) (texts : ℕ) (fs : List Function) (f : Fu
           final = set_blank over r.after
 
           ready : can_leave r.after over ≡ true
-          ready = ends_there over r.after (apart_reverse (drop n done.pending) (ascend_apart 0 (drop n done.pending) (ascend_drop n 0 done.pending pends.ascend))) (λ y m. r.alive.pending y (over_pending y m))
+          ready = ends_there over r.after (apart_reverse (drop n done.pending) (ascend_apart 0 (drop n done.pending) (ascend_drop n 0 done.pending pends.ascend))) (λ y m. r.alive.pending y (ends_pending s.pending done.pending y m))
 
           falls : Falls types f whole k final
           falls =
@@ -258,14 +247,14 @@ module _ (a : Around) (types : Types) (texts : ℕ) (fs : List Function) (f : Fu
             sized = blank_length over r.after ∙ r.alive.sized;
             alive = λ y m.
                 let c = among_contains done.living y m in
-                blank_beside over r.after y (λ p. pends.beside y (over_pending y p) c) ∙ r.alive.living y c;
+                blank_beside over r.after y (λ p. pends.beside y (ends_pending s.pending done.pending y p) c) ∙ r.alive.living y c;
             blank = gone;
           }
             where
               gone : (y : ℕ) (z : Local) → slice_get f.locals y ≡ Some z → is_passing z ≡ false → (Among y done.living → ⊥) → known_at final y ≡ known.Blank
               gone y z there lasts out = elim (among_or y over) [
                 | inl m ↦ blank_in over r.after y (omega (arith, r.alive.sized, slice_get_within f.locals y z there)) m
-                | inr none ↦ blank_beside over r.after y none ∙ r.alive.blank y z there lasts out (λ m. none (pending_over y m))
+                | inr none ↦ blank_beside over r.after y none ∙ r.alive.blank y z there lasts out (λ m. none (pending_ends s.pending done.pending h.pending y m))
               ]
 
           all_apart : Apart f s finished (trees whole)

@@ -34,7 +34,7 @@ use Rattle.life_elab_laws.proofs.PointedCalls.{IsPointedCall}
 use Rattle.life_elab_laws.proofs.Types.{type_added}
 use Rattle.life_elab_laws.proofs.WalkerSteps.{keeps_itself}
 use Rattle.life_elab_laws.proofs.WrittenLocals.{fits_below, fits_later}
-use Rattle.life_elab_laws.proofs.FormKinds.{is_target, is_walker_of_values}
+use Rattle.life_elab_laws.proofs.ObjectTypes.{is_target, is_walker_of_values}
 use Rattle.life_elab_laws.proofs.Targets.{one_target, target_no_void, target_type, target_unslotted}
 use Rattle.life_elab_laws.proofs.Shaped.{PlainStays}
 use Rattle.life_elab_laws.proofs.HandedArguments.{Hands}

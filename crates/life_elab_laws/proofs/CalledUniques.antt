@@ -1,7 +1,8 @@
 -- A unique_ptr that a call gives.
 use Rattle.std.proofs.Common.{◌≡◌, inr, ℕ, true, List, Option, Some, None, slice_get, sym, ap, ◌∙◌, subst, refl, inl}
 use Rattle.std.proofs.lemmas.Bool.{false≢true}
-use Rattle.life_elab_laws.proofs.FormKinds.{is_element, is_unique_of_element, is_unique_type}
+use Rattle.life_elab_laws.proofs.ObjectTypes.{is_element, is_unique_of_element}
+use Rattle.life_elab_laws.proofs.TypeKinds.{is_unique_type}
 use Rattle.life_types.specs.Types.{Types}
 use Rattle.life_types.specs.declared.place.Place.{Place}
 use Rattle.life_types.specs.declared.ty.Ty.{Ty}

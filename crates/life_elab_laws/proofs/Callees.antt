@@ -3,12 +3,13 @@ use Rattle.std.proofs.Common.{◌≡◌, ◌<◌, ◌≤◌, ℕ, zero, suc, tru
 use Rattle.std.proofs.lemmas.Bool.{and_parts, false≢true}
 use Rattle.std.proofs.lemmas.Option.{none-some, same_Some}
 use Rattle.life_types.specs.Pointees.{or_void, ty_of}
-use Rattle.life_types.specs.TypeTests.{is_void}
+use Rattle.life_types.specs.TypeTests.{is_void, is_value}
 use Rattle.life_types.specs.Types.{Types, class, class_at}
 use Rattle.life_types.specs.declared.ty.Ty.{Ty}
 use Rattle.life_types.specs.declared.ty.Ty.TheVariants as ty
 use Rattle.life_types.specs.declared.ty.TyId.{TyId}
-use Rattle.life_elab_laws.proofs.FormKinds.{are_admitted_variables, is_read_function, is_admitted_result, is_read_statement, are_admitted_parameters, is_admitted_parameter, is_walker_of_values, is_owner_of_values}
+use Rattle.life_elab_laws.proofs.ObjectTypes.{are_admitted_variables, is_admitted_result, are_admitted_parameters, is_admitted_parameter, is_walker_of_values, is_owner_of_values}
+use Rattle.life_elab_laws.proofs.StatementKinds.{is_read_function, is_read_statement}
 use Rattle.life_typed.specs.BaseTypes.{type_at}
 use Rattle.life_typed.specs.Ends.{ends}
 use Rattle.life_typed.specs.Programs.{FunctionForm, ProgramForm, is_main}
@@ -32,6 +33,7 @@ use Rattle.life_elab_laws.proofs.Setting.{GivesBack, asked, unasked}
 use Rattle.life_elab_laws.proofs.Types.{value_class}
 use Rattle.life_elab_laws.proofs.OwnLocals.{first_own}
 use Rattle.life_elab_laws.proofs.Shaped.{PlainStays}
+use Rattle.life_elab_laws.proofs.NoVoid.{no_void}
 
 -- what stands in a table is the type there
 pub type_found : (types : Types) (id : TyId) (t : Ty) → slice_get types.types id.0 ≡ Some t → type_at types id ≡ t
@@ -134,49 +136,22 @@ module _ (p : ProgramForm) (of : FunctionForm) (T types : Types) (core : Functio
       pointing : is_void (type_at p.types of.result) ≡ false → (type_at p.types of.result ≡ ty.Int → ⊥) → GivesBack (around p of) types core
       pointing some other = asked begun.count some (past_end (is_main p.names of.name) (is_void (type_at p.types of.result)) (ends of.body) some (λ main. other (mains main)) is.typed.ending)
 
+      -- .. of a type that is no int
+      pointing_as : (t : Ty) → type_at p.types of.result ≡ t → is_void t ≡ false → is_value t ≡ false → GivesBack (around p of) types core
+      pointing_as t is some other = pointing (ap is_void is ∙ some) (λ int. false≢true (sym other ∙ ap is_value (sym is ∙ int)))
+
       go : IsResultType p.types (type_at p.types of.result) → GivesBack (around p of) types core
       go (gives_nothing void) = unasked (class_is ∙ ap (λ (t : Ty). class (Some t)) void)
       go (gives_value v) = unasked (class_is ∙ value_class (type_at p.types of.result) v)
-      go (gives_raw target constant raw w) = pointing (ap is_void raw) (λ int. clash (sym int ∙ raw))
-        where
-          clash : ty.Int ≡ ty.Raw target constant → ⊥
-          clash e = cc
-      go (gives_walker w) = pointing (walker_some (type_at p.types of.result) w) (λ int. false≢true (subst (λ (t : Ty). is_walker_of_values p.types t ≡ true) int w))
-        where
-          walker_some : (t : Ty) → is_walker_of_values p.types t ≡ true → is_void t ≡ false
-          walker_some (ty.Iterator target constant) w = refl
-          walker_some (ty.Span target constant) w = refl
-          walker_some _ w = absurd (false≢true w)
-      go (gives_owner o) = pointing (owner_some (type_at p.types of.result) o) (λ int. false≢true (subst (λ (t : Ty). is_owner_of_values p.types t ≡ true) int o))
-        where
-          owner_some : (t : Ty) → is_owner_of_values p.types t ≡ true → is_void t ≡ false
-          owner_some ty.Text o = refl
-          owner_some (ty.Vector item) o = refl
-          owner_some _ o = absurd (false≢true o)
-      go (gives_unique target unique w) = pointing (ap is_void unique) (λ int. clash (sym int ∙ unique))
-        where
-          clash : ty.Int ≡ ty.Unique target → ⊥
-          clash e = cc
-      go (gives_whole number whole) = pointing (ap is_void whole) (λ int. clash (sym int ∙ whole))
-        where
-          clash : ty.Int ≡ ty.Struct number → ⊥
-          clash e = cc
-      go (gives_view view) = pointing (ap is_void view) (λ int. clash (sym int ∙ view))
-        where
-          clash : ty.Int ≡ ty.View → ⊥
-          clash e = cc
-      go (gives_reference target constant refers w) = pointing (ap is_void refers) (λ int. clash (sym int ∙ refers))
-        where
-          clash : ty.Int ≡ ty.Reference target constant → ⊥
-          clash e = cc
-      go (gives_alias target constant refers o) = pointing (ap is_void refers) (λ int. clash (sym int ∙ refers))
-        where
-          clash : ty.Int ≡ ty.Reference target constant → ⊥
-          clash e = cc
-      go (gives_struct target constant number refers structure pointless) = pointing (ap is_void refers) (λ int. clash (sym int ∙ refers))
-        where
-          clash : ty.Int ≡ ty.Reference target constant → ⊥
-          clash e = cc
+      go (gives_raw target constant raw w) = pointing_as (ty.Raw target constant) raw refl refl
+      go (gives_walker w) = pointing (no_void (is_walker_of_values p.types) refl (type_at p.types of.result) w) (λ int. false≢true (subst (λ (t : Ty). is_walker_of_values p.types t ≡ true) int w))
+      go (gives_owner o) = pointing (no_void (is_owner_of_values p.types) refl (type_at p.types of.result) o) (λ int. false≢true (subst (λ (t : Ty). is_owner_of_values p.types t ≡ true) int o))
+      go (gives_unique target unique w) = pointing_as (ty.Unique target) unique refl refl
+      go (gives_whole number whole) = pointing_as (ty.Struct number) whole refl refl
+      go (gives_view view) = pointing_as ty.View view refl refl
+      go (gives_reference target constant refers w) = pointing_as (ty.Reference target constant) refers refl refl
+      go (gives_alias target constant refers o) = pointing_as (ty.Reference target constant) refers refl refl
+      go (gives_struct target constant number refers structure pointless) = pointing_as (ty.Reference target constant) refers refl refl
 
   -- what the core function gives back is what is told of it
   result_void : is_void (ty_of types core.result) ≡ is_void (type_at p.types of.result)

@@ -1,7 +1,8 @@
 -- Members that change an owner: `push_back`, `pop_back`, `clear` and `reserve`, each of which stands alone.
 use Rattle.std.proofs.Common.{◌≡◌, ℕ, Bool, true, false, cond, List, [], ◌∷◌, Option, Some, None, refl, sym, ap, ◌∙◌, subst}
 use Rattle.std.proofs.lemmas.Bool.{and_parts, false≢true}
-use Rattle.life_elab_laws.proofs.FormKinds.{is_changing, is_owner_of_values}
+use Rattle.life_elab_laws.proofs.FormKinds.{is_changing}
+use Rattle.life_elab_laws.proofs.ObjectTypes.{is_owner_of_values}
 use Rattle.life_types.specs.TypeTests.{is_void}
 use Rattle.life_types.specs.Types.{Types, class}
 use Rattle.life_types.specs.declared.place.Place.{Place}

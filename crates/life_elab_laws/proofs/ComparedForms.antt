@@ -1,7 +1,7 @@
 -- Texts that are compared, where one of them is a string.
 use Rattle.std.proofs.Common.{◌≡◌, ◌⊎◌, inl, inr, ℕ, true, false, List, None, Option, refl, sym, ap, ◌∙◌, Some}
 use Rattle.std.proofs.lemmas.Bool.{false≢true}
-use Rattle.life_elab_laws.proofs.FormKinds.{is_owner_of_values}
+use Rattle.life_elab_laws.proofs.ObjectTypes.{is_owner_of_values}
 use Rattle.life_types.specs.TypeTests.{is_iterator, is_value}
 use Rattle.life_types.specs.Types.{Types}
 use Rattle.life_types.specs.declared.place.Place.{Place}
@@ -31,6 +31,7 @@ use Rattle.life_elab_laws.proofs.SeenForms.{Shows, compared_part, string_shows, 
 use Rattle.life_elab_laws.proofs.Setting.{Setting}
 use Rattle.life_elab_laws.proofs.TypedKinds.{IsCombined}
 use Rattle.life_elab_laws.proofs.EqualityRows.{compares}
+use Rattle.life_elab_laws.proofs.Values.{by_owners}
 
 module _ (a : Around) (visible : List ℕ) (types : Types) (texts : ℕ) (fs : List Function) (f : Function) (setting : Setting a types fs f) where
   -- an expression with a value, or an owner
@@ -42,9 +43,7 @@ module _ (a : Around) (visible : List ℕ) (types : Types) (texts : ℕ) (fs : L
   owner_text form is s = go is.ty is.owner (sym (ap sees is.is) ∙ s)
     where
       go : (t : Ty) → is_owner_of_values a.program.types t ≡ true → sees (Of t) ≡ true → t ≡ ty.Text
-      go ty.Text o s = refl
-      go (ty.Vector item) o s = absurd (false≢true s)
-      go _ o s = absurd (false≢true o)
+      go = by_owners a.program.types _ (λ s. refl) (λ item s. absurd (false≢true s))
 
   pub either_shows : (form : Form) → IsEither form → sees (typed_in form).ty ≡ true → Shows a visible types texts fs f setting form
   either_shows form (inl is) s = whole_shows a visible types texts fs f setting form is (seen_kind a.program.types (typed_in form) is.kind.kind s)
@@ -56,9 +55,7 @@ module _ (a : Around) (visible : List ℕ) (types : Types) (texts : ℕ) (fs : L
   either_no_iterator form (inr is) = ap (λ (x : ExprType). is_iterator (own_type x)) is.is ∙ go is.ty is.owner
     where
       go : (t : Ty) → is_owner_of_values a.program.types t ≡ true → is_iterator t ≡ false
-      go ty.Text o = refl
-      go (ty.Vector item) o = refl
-      go _ o = absurd (false≢true o)
+      go = by_owners a.program.types _ refl (λ item. refl)
 
   module _ (left right : Form) (t : Ty) (l : IsEither left) (r : IsEither right) where
     both_see : IsCompared (typed_in left).ty (typed_in right).ty t → (sees (typed_in left).ty ≡ true) × (sees (typed_in right).ty ≡ true)

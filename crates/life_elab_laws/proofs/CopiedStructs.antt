@@ -1,8 +1,7 @@
 -- Structs that may be copied: no member holds a unique_ptr, which typing asks of each struct that is copied or assigned to.
-use Rattle.std.proofs.Common.{◌≡◌, ℕ, Bool, true, false, ◌&&◌, ◌||◌, not, List, [], ◌∷◌, length, slice_get, Option, Some, None, Err, is_none, refl, sym, ap, ◌∙◌, subst, unwrap_or, if◌then◌else◌, nat_eq}
+use Rattle.std.proofs.Common.{◌≡◌, ℕ, Bool, true, false, ◌&&◌, ◌||◌, not, List, [], ◌∷◌, Err, is_none, refl, sym, ap, ◌∙◌, subst, if◌then◌else◌, nat_eq}
 use Rattle.std.proofs.lemmas.Bool.{and_from, and_parts, false≢true}
-use Rattle.life_types.proofs.TreeLemmas.{Grows, tree_stays}
-use Rattle.life_types.specs.Trees.{AllBelow, IsOrdered, Member, TypeTree, Unique, holds_unique, is_plain, members_at, struct_of, tree_at}
+use Rattle.life_types.specs.Trees.{IsOrdered, Member, TypeTree, Unique, holds_unique, is_plain, members_at, struct_of, tree_at}
 use Rattle.life_types.specs.Types.{Types}
 use Rattle.life_types.specs.declared.ty.Ty.{Ty}
 use Rattle.life_types.specs.declared.ty.Ty.TheVariants as ty
@@ -19,15 +18,14 @@ use Rattle.life_type_expr.specs.Lists.{fits_at_all, struct_fault}
 use Rattle.life_type_stmt.specs.Simples.{whole_fault}
 use Rattle.life_well_typed.specs.Given.{is_given}
 use Rattle.life_well_typed.specs.Members.{can_be_listed}
-use Rattle.life_elab_laws.proofs.FormKinds.{are_plain, is_plain_struct}
+use Rattle.life_elab_laws.proofs.ObjectTypes.{are_plain, is_plain_struct, have_trees}
 use Rattle.life_elab_laws.proofs.Fronts.{IsFront}
-use Rattle.life_elab_laws.proofs.OrderedTypes.{KeepsOrder, members_later}
+use Rattle.life_elab_laws.proofs.OrderedTypes.{KeepsOrder, trees_later}
 use Rattle.life_elab_laws.proofs.PlainStructs.{as_type, void_struct}
 
 -- none of these types holds a unique_ptr
 abbrev pub are_copied : Types → List TyId → Bool
-are_copied types [] = true
-are_copied types (id ∷ ids) = not (holds_unique (tree_at types id)) && are_copied types ids
+are_copied types ids = have_trees (λ (t : TypeTree). not (holds_unique t)) types ids
 
 abbrev pub is_copied_struct : Types → ℕ → Bool
 is_copied_struct types number = are_copied types (members_at types number)
@@ -106,18 +104,4 @@ module _ (types : Types) where
 
 module _ (few more : Types) (front : IsFront few.types more.types) (order : KeepsOrder few more) where
   pub copied_later : IsOrdered few → CopiesStay few more
-  copied_later ordered number copies =
-      subst (λ (ids : List TyId). are_copied more ids ≡ true) (sym (members_later few more order number)) (go (slice_get few.structs number) refl copies)
-    where
-      grows : Grows few more
-      grows = record { types = front; structs = λ n ids at. ap (λ (structs : List (List TyId)). slice_get structs n) order.structs ∙ at }
-
-      each : (ids : List TyId) → AllBelow (length few.types) ids → are_copied few ids ≡ true → are_copied more ids ≡ true
-      each [] below copies = refl
-      each (id ∷ ids) below copies =
-          let parts = and_parts (not (holds_unique (tree_at few id))) (are_copied few ids) copies in
-          and_from (not (holds_unique (tree_at more id))) (are_copied more ids) (ap (λ (t : TypeTree). not (holds_unique t)) (tree_stays few more ordered grows id below.0) ∙ parts.0) (each ids below.1 parts.1)
-
-      go : (o : Option (List TyId)) → slice_get few.structs number ≡ o → are_copied few (unwrap_or o []) ≡ true → are_copied more (unwrap_or o []) ≡ true
-      go None at copies = refl
-      go (Some ids) at copies = each ids (ordered.members number ids at) copies
+  copied_later ordered number copies = trees_later few more front order (λ (t : TypeTree). not (holds_unique t)) ordered number copies

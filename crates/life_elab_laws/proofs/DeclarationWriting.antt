@@ -2,7 +2,10 @@
 use Rattle.std.proofs.Common.{◌≡◌, [], ℕ, ◌<◌, Bool, true, false, ◌&&◌, ◌||◌, cond, not, List, ◌∷◌, ◌++◌, length, slice_get, Option, Some, None, refl, sym, ap, ◌∙◌, subst, unwrap_or, arith, append_assoc, inl, inr, flat_map, length-append}
 use Rattle.std.proofs.lemmas.Bool.{and_parts, false≢true, or_cases, and_from}
 use Rattle.std.specs.List.{list_all}
-use Rattle.life_elab_laws.proofs.FormKinds.{is_owner_of_values, is_owner_type, is_plain_struct, is_read_declaration, is_read_declared, is_read_expression, is_read_initial, is_read_owned, is_read_owner, is_admitted_variable, is_read_walker, is_walker, is_walker_of_values, is_read_owning, are_read_elements, are_read_listed, is_element, is_target, takes_list, takes_owner, takes_value, is_read_struct, is_struct, takes_struct, is_read_fresh, are_read_arguments, lists_members}
+use Rattle.life_elab_laws.proofs.FormKinds.{is_read_expression, is_read_owner, is_read_walker, is_read_owning, are_read_elements, are_read_listed, is_read_struct, is_read_fresh, are_read_arguments}
+use Rattle.life_elab_laws.proofs.ObjectTypes.{is_owner_of_values, is_plain_struct, is_admitted_variable, is_walker_of_values, is_element, is_target, is_struct}
+use Rattle.life_elab_laws.proofs.StatementKinds.{is_read_declaration, is_read_declared, is_read_initial, is_read_owned}
+use Rattle.life_elab_laws.proofs.TypeKinds.{is_owner_type, is_walker, takes_list, takes_owner, takes_value, takes_struct, lists_members}
 use Rattle.life_types.specs.Pointees.{ty_of}
 use Rattle.life_types.specs.TypeTests.{is_value, is_unique, is_reference}
 use Rattle.life_types.specs.Types.{Types, class}
@@ -77,7 +80,7 @@ use Rattle.life_elab_laws.proofs.Setting.{Setting}
 use Rattle.life_elab_laws.proofs.Shaping.{fine_acts, fine_append, is_no_object, IsFineStep, step_keeps}
 use Rattle.life_elab_laws.proofs.TypedKinds.{none_some, value_simple}
 use Rattle.life_elab_laws.proofs.Types.{same_types}
-use Rattle.life_elab_laws.proofs.Values.{by_values}
+use Rattle.life_elab_laws.proofs.Values.{by_owners, by_values, by_walkers}
 use Rattle.life_elab_laws.proofs.MadeForms.{Builds, BuildsIn, gift_of, is_made, IsMade, IsOwning, owning_owner, stands_there, one_new}
 use Rattle.life_elab_laws.proofs.VariablePlaces.{a_raw, a_reference, a_struct, a_unique, a_value, a_view, a_walker, an_alias, an_owner, IsVariableType, variable_type, walker_is, a_struct_alias}
 use Rattle.life_elab_laws.proofs.ObjectForms.{IsObject, IsOwner}
@@ -92,7 +95,7 @@ use Rattle.life_typed.specs.declared.typed_expr.Category.{Category}
 use Rattle.life_typed.specs.declared.typed_expr.ExprType.TheVariants.{Of}
 use Rattle.life_elab_laws.proofs.BuiltVariables.{built_does}
 use Rattle.life_typed.specs.declared.typed_expr.ExprType.{ExprType}
-use Rattle.life_elab_laws.proofs.WalkerForms.{IsWalker, vector_points, walker_points}
+use Rattle.life_elab_laws.proofs.WalkerForms.{IsWalker, vector_points, walker_points, value_no_walker, owner_no_walker}
 use Rattle.life_elab_laws.proofs.WalkerSteps.{keeps_itself}
 use Rattle.life_elab_laws.proofs.ListForms.{list_builds}
 use Rattle.life_well_typed.specs.Members.{is_listed, makes_object}
@@ -351,9 +354,7 @@ module _ (a : Around) (types : Types) (texts : ℕ) (fs : List Function) (f : Fu
           (value_builds a v.visible types texts fs f setting (whole_form e) whole_is t o given behind s h.stands))
         where
           by_string : (t : Ty) → is_owner_of_values a.program.types t ≡ true → GivenOne t ≡ (giving.given (uses a (whole_form e)) t behind s >> λ rest s. rest (home a u) s).state
-          by_string ty.Text o = refl
-          by_string (ty.Vector item) o = refl
-          by_string _ o = absurd (false≢true o)
+          by_string = by_owners a.program.types _ refl (λ item. refl)
 
       one_does : takes_value (type_of a u.ty) ≡ true → is_given a.program.types (type_of a u.ty) e ≡ true → Born (GivenOne (type_of a u.ty))
       one_does plain given = go (variable_type a.program.types u.ty built)
@@ -403,9 +404,7 @@ module _ (a : Around) (types : Types) (texts : ℕ) (fs : List Function) (f : Fu
       by_moved _ o = absurd (false≢true o)
 
       by_owner : (t : Ty) → is_owner_of_values a.program.types t ≡ true → GivenThis t ≡ (object_by (uses a (whole_form e)).category (uses a (whole_form e)).at (uses a (whole_form e)).object s >> λ rest s. rest (home a u) s).state
-      by_owner ty.Text o = refl
-      by_owner (ty.Vector item) o = refl
-      by_owner _ o = absurd (false≢true o)
+      by_owner = by_owners a.program.types _ refl (λ item. refl)
 
       -- a pointer, as what gives it something of a type
       shown_does : (t : Ty) → is_location t ≡ true → slice_get a.program.types.types u.ty.0 ≡ Some t → (source : ExprType) → Makes types texts fs f None s (pointing (uses a (whole_form e)) s) (a_pointing types texts fs f source) → takes_from types t source ≡ true
@@ -520,7 +519,7 @@ module _ (a : Around) (types : Types) (texts : ℕ) (fs : List Function) (f : Fu
         no_walker t is none p = absurd (false≢true (sym (ap is_walker (type_is t is) ∙ none) ∙ p))
 
         given_walker_does : is_walker (type_of a u.ty) ≡ true → IsWalker a v.visible types texts fs f setting (whole_form e) → IsVariableType a.program.types u.ty → Born (GivenThis e he behind (type_of a u.ty))
-        given_walker_does p from (a_value t is w) = no_walker t is (by_values (λ t. is_walker t ≡ false) refl refl refl refl refl t w) p
+        given_walker_does p from (a_value t is w) = no_walker t is (value_no_walker t w) p
         given_walker_does p from (a_raw target constant is w) = no_walker (ty.Raw target constant) is refl p
         given_walker_does p from (a_reference target constant is w) = no_walker (ty.Reference target constant) is refl p
         given_walker_does p from (an_alias target constant is o) = no_walker (ty.Reference target constant) is refl p
@@ -528,9 +527,7 @@ module _ (a : Around) (types : Types) (texts : ℕ) (fs : List Function) (f : Fu
         given_walker_does p from (a_unique target is w) = no_walker (ty.Unique target) is refl p
         given_walker_does p from (a_struct number is) = no_walker (ty.Struct number) is refl p
         given_walker_does p from (a_struct_alias target constant number is structure pointless) = no_walker (ty.Reference target constant) is refl p
-        given_walker_does p from (an_owner ty.Text is o) = no_walker ty.Text is refl p
-        given_walker_does p from (an_owner (ty.Vector item) is o) = no_walker (ty.Vector item) is refl p
-        given_walker_does p from (an_owner _ is o) = absurd (false≢true o)
+        given_walker_does p from (an_owner t is o) = no_walker t is (owner_no_walker a.program.types t o) p
         given_walker_does p from (a_walker t is w) = as_type t is (walker_does e he behind from t is w (as_given t is))
 
         no_unique : (t : Ty) → slice_get a.program.types.types u.ty.0 ≡ Some t → is_unique t ≡ false → is_unique (type_of a u.ty) ≡ true → Born (GivenThis e he behind (type_of a u.ty))
@@ -567,12 +564,8 @@ module _ (a : Around) (types : Types) (texts : ℕ) (fs : List Function) (f : Fu
             let wide = struct_target a.program.types (type_at a.program.types target) pointless in
             as_type (ty.Reference target constant) is (alias_does e behind target constant is wide (struct_built a.program.types target number structure) (aliased from target constant is wide).aliased)
         given_struct_does p from (a_view is) = no_struct ty.View is refl p
-        given_struct_does p from (a_walker (ty.Iterator item constant) is w) = no_struct (ty.Iterator item constant) is refl p
-        given_struct_does p from (a_walker (ty.Span item constant) is w) = no_struct (ty.Span item constant) is refl p
-        given_struct_does p from (a_walker _ is w) = absurd (false≢true w)
-        given_struct_does p from (an_owner ty.Text is o) = no_struct ty.Text is refl p
-        given_struct_does p from (an_owner (ty.Vector item) is o) = no_struct (ty.Vector item) is refl p
-        given_struct_does p from (an_owner _ is o) = absurd (false≢true o)
+        given_struct_does p from (a_walker t is w) = no_struct t is (by_walkers a.program.types (λ t. takes_struct t ≡ false) (λ item constant. refl) (λ item constant. refl) t w) p
+        given_struct_does p from (an_owner t is o) = no_struct t is (by_owners a.program.types (λ t. takes_struct t ≡ false) refl (λ item. refl) t o) p
         given_struct_does p from (a_unique target is w) = no_struct (ty.Unique target) is refl p
         given_struct_does p from (a_struct number is) =
             let of = as_struct a v.visible types texts fs f setting (whole_form e) number from (as_given (ty.Struct number) is) in
@@ -597,9 +590,7 @@ module _ (a : Around) (types : Types) (texts : ℕ) (fs : List Function) (f : Fu
         as_type t is born = subst (λ (x : Ty). Born (default_to x (home a u) s).state) (sym (type_is t is)) born
 
         owner_default : (t : Ty) → is_owner_of_values a.program.types t ≡ true → default_to t (home a u) s ≡ live (home a u) s
-        owner_default ty.Text o = refl
-        owner_default (ty.Vector element) o = refl
-        owner_default _ o = absurd (false≢true o)
+        owner_default = by_owners a.program.types _ refl (λ element. refl)
 
         go : IsVariableType a.program.types u.ty → Born (default_to (type_of a u.ty) (home a u) s).state
         go (a_value t is w) =
@@ -714,9 +705,7 @@ module _ (a : Around) (types : Types) (texts : ℕ) (fs : List Function) (f : Fu
             (builds_does (ty.Struct number) is refl refl (gives (list_object a (ty.Struct number) list.opening (all_uses a (forms list.elements)) list.delimiters) s)
             (members_build a v.visible types texts fs f setting number list.opening (forms list.elements) list.delimiters s (parts (served (ty.Struct number) is)) (as_listed (ty.Struct number) is)))
         go p (a_view is) = no_list ty.View is refl p
-        go p (a_walker (ty.Iterator item constant) is w) = no_list (ty.Iterator item constant) is refl p
-        go p (a_walker (ty.Span item constant) is w) = no_list (ty.Span item constant) is refl p
-        go p (a_walker _ is w) = absurd (false≢true w)
+        go p (a_walker t is w) = no_list t is (by_walkers a.program.types (λ t. takes_list a.program.types t ≡ false) (λ item constant. refl) (λ item constant. refl) t w) p
         go p (an_owner ty.Text is o) = no_list ty.Text is refl p
         go p (an_owner (ty.Vector item) is o) =
             as_type (ty.Vector item) is

@@ -3,7 +3,7 @@ use Rattle.std.proofs.Common.{◌≡◌, ◌<◌, ◌⊎◌, inl, inr, ℕ, Bool
 use Rattle.std.proofs.lemmas.Bool.{or_left, or_right}
 use Rattle.std.proofs.lemmas.List.Elements.{Contains-append_left, Contains-push, Contains-push_cases}
 use Rattle.std.proofs.lemmas.Option.{same_Some, slice_get_within, none-some}
-use Rattle.life_elab_laws.proofs.FormKinds.{is_admitted_variable, is_target}
+use Rattle.life_elab_laws.proofs.ObjectTypes.{is_admitted_variable, is_target}
 use Rattle.life_types.specs.TypeTests.{is_pointer}
 use Rattle.life_types.specs.Types.{Types, class, class_at}
 use Rattle.life_types.specs.declared.ty.Ty.{Ty}

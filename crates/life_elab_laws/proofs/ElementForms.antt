@@ -1,7 +1,9 @@
 -- Elements by an index, and members of owners that only ask.
 use Rattle.std.proofs.Common.{◌≡◌, ◌⊎◌, inl, inr, ℕ, Bool, true, false, cond, if◌then◌else◌, length, List, Option, Some, None, Ok, refl, sym, ap, ◌∙◌, subst}
 use Rattle.std.proofs.lemmas.Bool.{false≢true}
-use Rattle.life_elab_laws.proofs.FormKinds.{is_asking, is_owner_of_values, is_owner_type, is_read_either, form_type, is_edge, is_plain_type}
+use Rattle.life_elab_laws.proofs.FormKinds.{is_asking, is_read_either, is_edge}
+use Rattle.life_elab_laws.proofs.ObjectTypes.{is_owner_of_values}
+use Rattle.life_elab_laws.proofs.TypeKinds.{is_owner_type, form_type, is_plain_type}
 use Rattle.life_types.specs.Types.{Types}
 use Rattle.life_types.specs.declared.place.Place.{Place}
 use Rattle.life_types.specs.declared.ty.Ty.{Ty}

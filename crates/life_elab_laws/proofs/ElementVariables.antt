@@ -1,7 +1,8 @@
 -- The variable of a loop over a range, which is given the element that the hidden iterator stands at: its value, or a reference to it.
 use Rattle.std.proofs.Common.{◌≡◌, ◌<◌, inl, inr, ℕ, zero, suc, Bool, true, false, ◌&&◌, cond, List, [], ◌∷◌, ◌++◌, drop, length, reverse, slice_get, slice_set, take, if◌then◌else◌, Option, Some, None, refl, sym, ap, ◌∙◌, subst, arith, append_assoc, unwrap_or}
 use Rattle.std.proofs.lemmas.Bool.{and_parts, false≢true, or_cases}
-use Rattle.life_elab_laws.proofs.FormKinds.{is_element, is_owner_of_values, is_admitted_variable, is_struct, is_target, takes_as, takes_element}
+use Rattle.life_elab_laws.proofs.ObjectTypes.{is_element, is_owner_of_values, is_admitted_variable, is_struct, is_target}
+use Rattle.life_elab_laws.proofs.TypeKinds.{takes_as, takes_element}
 use Rattle.life_types.specs.TypeTests.{is_value}
 use Rattle.life_types.specs.Types.{Types, class}
 use Rattle.life_types.specs.contracts.ty.TyPartialEq.TheImpl.{ghosts as compared}
@@ -74,7 +75,7 @@ use Rattle.life_elab_laws.proofs.Targets.{owner_target, struct_named, struct_tar
 use Rattle.life_elab_laws.proofs.TemporaryEnds.{TemporariesEnd, temporary_ends}
 use Rattle.life_elab_laws.proofs.TypedKinds.{place_same}
 use Rattle.life_elab_laws.proofs.Under.{DoesUnder, does_more}
-use Rattle.life_elab_laws.proofs.Values.{by_values}
+use Rattle.life_elab_laws.proofs.Values.{by_owners, by_values}
 use Rattle.life_elab_laws.proofs.VariablePlaces.{IsVariableType, a_raw, a_reference, a_value, a_view, a_walker, an_alias, an_owner, variable_type, a_struct, a_unique, a_struct_alias}
 use Rattle.life_elab_laws.proofs.WalkerSteps.{span_given}
 use Rattle.life_elab_laws.proofs.OwnLocals.{first_own}
@@ -237,9 +238,7 @@ module _ (a : Around) (types : Types) (texts : ℕ) (fs : List Function) (f : Fu
       copy_fine types texts fs f a.program.types z (object_named (length s.locals)) (behind it) o new.typed new.held (q.typed ∙ same_type)))
     where
       by_owner : (q : Ty) → is_owner_of_values a.program.types q ≡ true → given_element a (class (Some q)) u colon it element s ≡ copied
-      by_owner ty.Text o = refl
-      by_owner (ty.Vector item) o = refl
-      by_owner _ o = absurd (false≢true o)
+      by_owner = by_owners a.program.types _ refl (λ item. refl)
 
   pub struct_declared : (number : ℕ) → is_copied_struct types number ≡ true → slice_get a.program.types.types u.ty.0 ≡ Some (ty.Struct number) → t ≡ ty.Struct number → Born (given_element a (class (Some (type_of a u.ty))) u colon it element s)
   struct_declared number copies is same_type =
@@ -407,9 +406,7 @@ module _ (a : Around) (types : Types) (texts : ℕ) (fs : List Function) (f : Fu
       given_as z is = subst (λ (q : Ty). is_given a.program.types q as_given ≡ true) (type_is z is) fits
 
       owned : (z : Ty) → is_owner_of_values a.program.types z ≡ true → takes_as a.program.types z id ≡ true → is_owner_of_values a.program.types t ≡ true
-      owned ty.Text o e = owner_element a.program.types t worth e
-      owned (ty.Vector item) o e = owner_element a.program.types t worth e
-      owned _ o e = absurd (false≢true o)
+      owned = by_owners a.program.types _ (λ e. owner_element a.program.types t worth e) (λ item e. owner_element a.program.types t worth e)
 
       structure : (number : ℕ) → is_struct t ≡ true → is_given a.program.types (ty.Struct number) as_given ≡ true → t ≡ ty.Struct number
       structure number is_one given = let found = struct_named t is_one in found.1 ∙ ap ty.Struct (given_struct a.program.types number found.0 as_given (ap Of found.1) given)

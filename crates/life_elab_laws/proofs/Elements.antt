@@ -8,7 +8,8 @@ use Rattle.life_types.specs.Types.{Types}
 use Rattle.life_types.specs.declared.ty.Ty.{Ty}
 use Rattle.life_types.specs.declared.ty.Ty.TheVariants as ty
 use Rattle.life_types.specs.declared.ty.TyId.{TyId}
-use Rattle.life_elab_laws.proofs.FormKinds.{is_element, is_inner_owner, is_owner_of_values, is_owner_within, is_plain_type, is_plain_struct, is_target, owns_elements}
+use Rattle.life_elab_laws.proofs.ObjectTypes.{is_element, is_inner_owner, is_owner_of_values, is_owner_within, is_plain_struct, is_target}
+use Rattle.life_elab_laws.proofs.TypeKinds.{is_plain_type, owns_elements}
 use Rattle.life_typed.specs.BaseTypes.{type_at}
 use Rattle.life_typed.specs.Members.{element_type}
 use Rattle.life_typed.specs.declared.typed_expr.ExprType.TheVariants.{Of}

@@ -4,7 +4,8 @@ use Rattle.std.proofs.lemmas.Bool.{false≢true}
 use Rattle.life_types.specs.TypeTests.{is_iterator, is_value}
 use Rattle.life_types.specs.declared.ty.Ty.{Ty}
 use Rattle.life_types.specs.declared.ty.Ty.TheVariants as ty
-use Rattle.life_elab_laws.proofs.FormKinds.{is_equality, is_owner_type, is_walker_type, owns_elements}
+use Rattle.life_elab_laws.proofs.FormKinds.{is_equality}
+use Rattle.life_elab_laws.proofs.TypeKinds.{is_owner_type, is_walker_type, owns_elements}
 use Rattle.life_typed.specs.Operators.{is_nullable}
 use Rattle.life_typed.specs.TypedForm.{Form}
 use Rattle.life_typed.specs.declared.typed_expr.BinaryOperator.{BinaryOperator}

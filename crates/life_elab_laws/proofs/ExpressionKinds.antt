@@ -1,7 +1,9 @@
 -- Each well typed expression that is built is of one of these kinds.
 use Rattle.std.proofs.Common.{◌≡◌, ℕ, Bool, true, false, cond, List, Option, Some, None, Ok, slice_get, unwrap_or, refl, sym, ap, ◌∙◌, subst, true≢false}
 use Rattle.std.proofs.lemmas.Bool.{false≢true}
-use Rattle.life_elab_laws.proofs.FormKinds.{are_read_functions, are_admitted_variables, is_plain_type, is_read_function, is_admitted_variable}
+use Rattle.life_elab_laws.proofs.ObjectTypes.{are_admitted_variables, is_admitted_variable}
+use Rattle.life_elab_laws.proofs.StatementKinds.{are_read_functions, is_read_function}
+use Rattle.life_elab_laws.proofs.TypeKinds.{is_plain_type}
 use Rattle.life_types.specs.Trees.{is_plain, tree_at, tree_of, tree_within}
 use Rattle.life_types.specs.TypeTests.{is_raw, is_value, is_view}
 use Rattle.life_types.specs.Types.{Types}

@@ -22,9 +22,9 @@ use Rattle.life_elab_laws.proofs.Locations.{is_location, is_seen}
 use Rattle.life_elab_laws.proofs.RowTypes.{no_text, promoted_is, sees}
 use Rattle.life_elab_laws.proofs.TypedKinds.{HasKind, IsKind, a_null, a_number, a_pointer, a_text, a_view, err_ok, no_value, ok_same, value_simple}
 use Rattle.life_elab_laws.proofs.ResultTypes.{IsResultType, gives_walker, gives_nothing, gives_raw, gives_reference, gives_value, gives_view, gives_alias, gives_struct, gives_owner, gives_unique, gives_whole}
-use Rattle.life_elab_laws.proofs.Values.{by_values}
+use Rattle.life_elab_laws.proofs.Values.{by_owners, by_values, by_walkers}
 use Rattle.life_elab_laws.proofs.WrittenLocals.{fits_register, value_fits}
-use Rattle.life_elab_laws.proofs.FormKinds.{is_owner_of_values, is_target, is_walker_of_values, is_element, is_plain_struct}
+use Rattle.life_elab_laws.proofs.ObjectTypes.{is_owner_of_values, is_target, is_walker_of_values, is_element, is_plain_struct}
 
 -- ---- types of expressions
 
@@ -108,15 +108,11 @@ answered_as types e t kind is = go kind
     go (gives_walker w) = let here = is ∙ walks t w in answers_walker w (ap (λ (x : Typed). x.ty) here) (ap (λ (x : Typed). x.category) here)
       where
         walks : (t : Ty) → is_walker_of_values types t ≡ true → answer_of t types e.place e.form ≡ value_typed e.place t e.form
-        walks (ty.Iterator target constant) w = refl
-        walks (ty.Span target constant) w = refl
-        walks _ w = absurd (false≢true w)
+        walks = by_walkers types _ (λ target constant. refl) (λ target constant. refl)
     go (gives_owner o) = let here = is ∙ owns t o in answers_made o (ap (λ (x : Typed). x.ty) here) (ap (λ (x : Typed). x.category) here)
       where
         owns : (t : Ty) → is_owner_of_values types t ≡ true → answer_of t types e.place e.form ≡ value_typed e.place t e.form
-        owns ty.Text o = refl
-        owns (ty.Vector item) o = refl
-        owns _ o = absurd (false≢true o)
+        owns = by_owners types _ refl (λ item. refl)
     go (gives_unique target unique w) =
         let here = as_type (ty.Unique target) unique in
         answers_unique target unique w (ap (λ (x : Typed). x.ty) here) (ap (λ (x : Typed). x.category) here)

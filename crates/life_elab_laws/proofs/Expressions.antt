@@ -2,7 +2,9 @@
 use Rattle.std.proofs.Common.{◌≡◌, inl, inr, ℕ, zero, suc, Bool, true, false, List, [], ◌∷◌, slice_get, Option, Some, None, refl, sym, ap, ◌∙◌, subst, ◌&&◌, ◌||◌, if◌then◌else◌, Ok}
 use Rattle.std.proofs.lemmas.Bool.{and_parts, false≢true, or_cases}
 use Rattle.std.specs.Prelude.{pos}
-use Rattle.life_elab_laws.proofs.FormKinds.{is_element, are_read_arguments, are_read_elements, form_type, is_asking, is_edge, is_end, is_equality, is_erase, is_get, is_owner_of_values, is_owner_type, is_plain_type, is_read_either, is_read_form, is_read_object, is_read_owner, is_read_struct, is_read_unique, is_read_walker, is_struct_type, is_subspan, is_testing, is_walker_of_values, is_walker_type, owns_elements, is_read_content, is_read_fresh, is_unique_type, are_read_arguments}
+use Rattle.life_elab_laws.proofs.FormKinds.{are_read_arguments, are_read_elements, is_asking, is_edge, is_end, is_equality, is_erase, is_get, is_read_either, is_read_form, is_read_object, is_read_owner, is_read_struct, is_read_unique, is_read_walker, is_subspan, is_testing, is_read_content, is_read_fresh, are_read_arguments}
+use Rattle.life_elab_laws.proofs.ObjectTypes.{is_element, is_owner_of_values, is_walker_of_values}
+use Rattle.life_elab_laws.proofs.TypeKinds.{form_type, is_owner_type, is_plain_type, is_struct_type, is_walker_type, owns_elements, is_unique_type}
 use Rattle.life_types.specs.Types.{Types}
 use Rattle.life_types.specs.declared.place.Place.{Place}
 use Rattle.life_types.specs.declared.ty.Ty.TheVariants as ty
@@ -83,6 +85,7 @@ use Rattle.life_elab_laws.proofs.MemberUniques.{member_unique}
 use Rattle.life_type_stmt.specs.Simples.{moved_in}
 use Rattle.life_elab_laws.proofs.AnsweredUniques.{IsHolding, IsHoldingAt, holds_answer, holds_named, holding_lies, holding_same, made_answer, moved_answer}
 use Rattle.life_writer.specs.Behind.{closed_by}
+use Rattle.life_elab_laws.proofs.Values.{by_owners, by_walkers}
 
 module _ (a : Around) (visible : List ℕ) (types : Types) (texts : ℕ) (fs : List Function) (f : Function) (setting : Setting a types fs f) where
   abbrev Standing : State → Type 0
@@ -125,17 +128,13 @@ module _ (a : Around) (visible : List ℕ) (types : Types) (texts : ℕ) (fs : L
   walker_ranged form is = subst (λ (x : ExprType). is_ranged x ≡ true) (sym is.is) (go is.ty is.walker)
     where
       go : (t : Ty) → is_walker_of_values a.program.types t ≡ true → is_ranged (Of t) ≡ true
-      go (ty.Iterator item constant) w = refl
-      go (ty.Span item constant) w = refl
-      go _ w = absurd (false≢true w)
+      go = by_walkers a.program.types _ (λ item constant. refl) (λ item constant. refl)
 
   owner_ranged : (form : Form) → IsOwner a visible types texts fs f setting form → is_ranged (typed_in form).ty ≡ true
   owner_ranged form is = subst (λ (x : ExprType). is_ranged x ≡ true) (sym is.is) (go is.ty is.owner)
     where
       go : (t : Ty) → is_owner_of_values a.program.types t ≡ true → is_ranged (Of t) ≡ true
-      go ty.Text o = refl
-      go (ty.Vector item) o = refl
-      go _ o = absurd (false≢true o)
+      go = by_owners a.program.types _ refl (λ item. refl)
 
   -- values are, or texts of which one is a string
   equated_form : (o : BinaryOperator) (left right : Form) (e : Typed) → IsCombined o (typed_in left) (typed_in right) e → is_equality o ≡ true → IsEither a visible types texts fs f setting left → IsEither a visible types texts fs f setting right

@@ -27,7 +27,7 @@ use Rattle.life_writer.specs.Uses.{Act}
 use Rattle.life_writer.specs.Variables.{end_pending}
 use Rattle.life_writer.specs.Writing.{Gives, State, with_code, write}
 use Rattle.life_elab.specs.Statements.{left}
-use Rattle.life_elab_laws.proofs.Among.{Among, all_among, among_contains, among_drop, among_reverse, among_take, apart_reverse, ascend_apart, ascend_drop, ascend_low, contains_among, reverse_among}
+use Rattle.life_elab_laws.proofs.Among.{Among, all_among, among_contains, among_drop, among_take, apart_reverse, ascend_apart, ascend_drop, ascend_low, contains_among, reverse_among}
 use Rattle.life_elab_laws.proofs.Doing.{Acting, Does, DoesLevel}
 use Rattle.life_elab_laws.proofs.EndSteps.{IsEnded, ended, ends_here}
 use Rattle.life_elab_laws.proofs.Ending.{blank_beside, ends_there, set_blank}
@@ -47,6 +47,7 @@ use Rattle.life_elab_laws.proofs.Nowhere.{nowhere_flows}
 use Rattle.life_elab_laws.proofs.OperandsThere.{object_there, type_there}
 use Rattle.life_elab_laws.proofs.OrderedTypes.{order_then}
 use Rattle.life_elab_laws.proofs.OwnLocals.{first_own}
+use Rattle.life_elab_laws.proofs.PendingEnds.{ends_pending, none_kept}
 use Rattle.life_elab_laws.proofs.PendingTemporaries.{ArePending, temporary_later}
 use Rattle.life_elab_laws.proofs.Returning.{result_ready}
 use Rattle.life_elab_laws.proofs.AdmittedTypes.{IsBuilt}
@@ -122,20 +123,8 @@ module _ (a : Around) (types : Types) (texts : ℕ) (fs : List Function) (f : Fu
     abbrev n : ℕ
     n = length s.pending
 
-    no_more : n ≡ 0
-    no_more = ap length h.pending
-
-    none_left : (xs : List ℕ) → take n xs ≡ []
-    none_left xs = ap (λ (k : ℕ). take k xs) no_more
-
     abbrev over : List ℕ
     over = reverse (drop n acted.pending)
-
-    pending_over : (y : ℕ) → Among y acted.pending → Among y over
-    pending_over y m = among_reverse (drop n acted.pending) y (subst (λ (k : ℕ). Among y (drop k acted.pending)) (sym no_more) m)
-
-    over_pending : (y : ℕ) → Among y over → Among y acted.pending
-    over_pending y m = among_drop n acted.pending y (reverse_among (drop n acted.pending) y m)
 
     e : IsEnded types texts fs f over token acted
     e = ended types texts fs f over token acted
@@ -167,7 +156,7 @@ module _ (a : Around) (types : Types) (texts : ℕ) (fs : List Function) (f : Fu
     same_variables = subst (IsFront first.variables) (sym fills.grown.variables) (front_itself first.variables)
 
     same_pending : take n acted.pending ≡ take n found.state.pending
-    same_pending = none_left acted.pending ∙ sym (none_left found.state.pending)
+    same_pending = none_kept s.pending acted.pending h.pending ∙ sym (none_kept s.pending found.state.pending h.pending)
 
     follows : Follows types f a v finished
     follows =
@@ -223,7 +212,7 @@ module _ (a : Around) (types : Types) (texts : ℕ) (fs : List Function) (f : Fu
 
       ends_fine : IsFine types texts fs f e.code
       ends_fine =
-          e.fine (all_among (ends_here types texts fs f) over (λ z m. temporary_ends types texts fs f (first_own a) setting.own z (temporary_later _ acted.locals f.locals acted.types.types types.types z b.locals b.table (pends.each z (over_pending z m)))))
+          e.fine (all_among (ends_here types texts fs f) over (λ z m. temporary_ends types texts fs f (first_own a) setting.own z (temporary_later _ acted.locals f.locals acted.types.types types.types z b.locals b.table (pends.each z (ends_pending s.pending acted.pending z m)))))
 
       all_fine : IsFine types texts fs f all_code
       all_fine =
@@ -272,7 +261,7 @@ module _ (a : Around) (types : Types) (texts : ℕ) (fs : List Function) (f : Fu
         ready : can_leave filled over ≡ true
         ready =
             ends_there over filled (apart_reverse (drop n acted.pending) (ascend_apart 0 (drop n acted.pending) (ascend_drop n 0 acted.pending pends.ascend)))
-            (λ z m. beside_set r.after x z known.Ready (λ e. other z (inr (over_pending z m)) e) ∙ r.alive.pending z (over_pending z m))
+            (λ z m. beside_set r.after x z known.Ready (λ e. other z (inr (ends_pending s.pending acted.pending z m)) e) ∙ r.alive.pending z (ends_pending s.pending acted.pending z m))
 
         lives : (z : ℕ) → Among z ending → Among z acted.living
         lives z m = among_drop 0 acted.living z (reverse_among (drop 0 acted.living) z m)
@@ -281,7 +270,7 @@ module _ (a : Around) (types : Types) (texts : ℕ) (fs : List Function) (f : Fu
         all_ready =
             ends_there ending middle (apart_reverse (drop 0 acted.living) (ascend_apart 0 (drop 0 acted.living) (ascend_drop 0 0 acted.living follows.ascend)))
             (λ z m. let c = among_contains acted.living z (lives z m) in
-            blank_beside over filled z (λ p. pends.beside z (over_pending z p) c) ∙ beside_set r.after x z known.Ready (λ e. other z (inl (lives z m)) e) ∙ r.alive.living z c)
+            blank_beside over filled z (λ p. pends.beside z (ends_pending s.pending acted.pending z p) c) ∙ beside_set r.after x z known.Ready (λ e. other z (inl (lives z m)) e) ∙ r.alive.living z c)
 
         falls : Falls types f all_code k middle
         falls =
@@ -297,7 +286,7 @@ module _ (a : Around) (types : Types) (texts : ℕ) (fs : List Function) (f : Fu
         written_there : known_at last x ≡ known.Ready
         written_there =
             blank_beside ending middle x (λ m. other x (inl (lives x m)) refl)
-            ∙ blank_beside over filled x (λ m. other x (inr (over_pending x m)) refl)
+            ∙ blank_beside over filled x (λ m. other x (inr (ends_pending s.pending acted.pending x m)) refl)
             ∙ at_set r.after x known.Ready x_there
 
         leaves_there : Leaves f in_loop finished.living (take s.outside s.living) (flow types f (trees (all_code ++ back)) (Some k))

@@ -1,7 +1,7 @@
 -- What ends is an object or a pointer, and neither the result nor a slot.
 use Rattle.std.proofs.Common.{◌≡◌, ℕ, true, false, not, List, slice_get, Option, Some, refl, sym, ap, ◌∙◌, None, ◌≤◌, ◌<◌}
 use Rattle.std.proofs.lemmas.Bool.{and_from, false≢true}
-use Rattle.life_elab_laws.proofs.FormKinds.{is_owner_of_values, is_walker_of_values}
+use Rattle.life_elab_laws.proofs.ObjectTypes.{is_owner_of_values, is_walker_of_values}
 use Rattle.life_types.specs.Pointees.{ty_of}
 use Rattle.life_types.specs.TypeTests.{is_value, is_void}
 use Rattle.life_types.specs.Types.{Types, is_slot_type}

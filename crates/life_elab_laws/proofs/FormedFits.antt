@@ -2,7 +2,7 @@
 use Rattle.std.proofs.Common.{◌≡◌, ℕ, Bool, true, false, ◌&&◌, not, cond, Err, refl, ap, ◌∙◌, subst, rules, ◌||◌, sym, nat_eq, if◌then◌else◌, arith}
 use Rattle.std.proofs.lemmas.Bool.{and_from, false≢true}
 use Rattle.std.proofs.lemmas.Bool.Decides.{nat_tests}
-use Rattle.life_elab_laws.proofs.FormKinds.{is_owner_of_values, is_walker_of_values, is_element, is_target}
+use Rattle.life_elab_laws.proofs.ObjectTypes.{is_owner_of_values, is_walker_of_values, is_element, is_target}
 use Rattle.life_types.specs.Pointees.{ty_of}
 use Rattle.life_types.specs.Types.{Types}
 use Rattle.life_types.specs.contracts.ty.TyIdPartialEq.TheImpl.{ghosts as id}
@@ -27,6 +27,7 @@ use Rattle.life_elab_laws.proofs.Locations.{is_seen}
 use Rattle.life_types.specs.declared.ty.Ty.{Ty}
 use Rattle.life_elab_laws.proofs.Elements.{one_element, element_target}
 use Rattle.life_elab_laws.proofs.Targets.{one_target}
+use Rattle.life_elab_laws.proofs.Values.{by_owners}
 
 pub same_id : (a b : TyId) → id.eq a b ≡ true → a ≡ b
 same_id a b e = search rules
@@ -161,9 +162,7 @@ pub given_string : (types : Types) (u : Ty) (e : Typed) → is_owner_of_values t
 given_string types u e own is given = go u own (subst (λ (x : ExprType). fits_at_all (fits types ty.View x e.category) ≡ true) is given)
   where
     go : (u : Ty) → is_owner_of_values types u ≡ true → fits_at_all (fits types ty.View (Of u) e.category) ≡ true → u ≡ ty.Text
-    go ty.Text own h = refl
-    go (ty.Vector found) own h = absurd (false≢true h)
-    go _ own h = absurd (false≢true own)
+    go = by_owners types _ (λ h. refl) (λ found h. absurd (false≢true h))
 
 -- ---- iterators and spans
 

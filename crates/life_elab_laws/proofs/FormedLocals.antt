@@ -12,7 +12,7 @@ use Rattle.life_types.specs.declared.ty.NameId.{NameId}
 use Rattle.life_types.specs.declared.ty.Ty.{Ty}
 use Rattle.life_types.specs.declared.ty.Ty.TheVariants as ty
 use Rattle.life_types.specs.declared.ty.TyId.{TyId}
-use Rattle.life_elab_laws.proofs.FormKinds.{have_each, is_element, is_owner_of_values, is_pointing, is_struct, is_struct_member, is_target, is_unique_of_element, is_walker_of_values, is_plain_struct, is_pointer_member}
+use Rattle.life_elab_laws.proofs.ObjectTypes.{have_each, is_element, is_owner_of_values, is_pointing, is_struct, is_struct_member, is_target, is_unique_of_element, is_walker_of_values, is_plain_struct, is_pointer_member}
 use Rattle.life_typed.specs.BaseTypes.{type_at}
 use Rattle.life_typed.specs.Programs.{FunctionForm, ProgramForm, PromiseForm, default, listed}
 use Rattle.life_typed.specs.declared.typed_program.ParameterPromise.{ParameterPromise}
@@ -39,7 +39,7 @@ use Rattle.life_elab_laws.proofs.ExpressionKinds.{variable_built}
 use Rattle.life_elab_laws.proofs.Fronts.{IsFront, front_length, passed_at}
 use Rattle.life_elab_laws.proofs.AdmittedTypes.{IsAdmittedType, variable_found}
 use Rattle.life_elab_laws.proofs.ResultTypes.{result_is}
-use Rattle.life_elab_laws.proofs.Values.{by_values}
+use Rattle.life_elab_laws.proofs.Values.{by_owners, by_values, by_walkers}
 use Rattle.life_elab_laws.proofs.WrittenLocals.{AreWrittenLocals, fits_later, fits_local, fits_register, FitsNameless, FitsTemporary, hidden_later, hidden_local, hidden_pointer, IsIntermediate, IsOwn, local_later, owner_local, register_local, struct_local, unique_local}
 use Rattle.life_elab_laws.proofs.Shaped.{owner_later, unique_later, PlainStays}
 use Rattle.life_elab_laws.proofs.OrderedTypes.{all_below}
@@ -48,6 +48,7 @@ use Rattle.life_elab_laws.proofs.Targets.{IsTarget, target_is, target_referred, 
 use Rattle.life_elab_laws.proofs.Elements.{element_target}
 use Rattle.life_types.proofs.TreeLemmas.{tree_made}
 use Rattle.life_elab_laws.proofs.PlainStructs.{struct_plain}
+use Rattle.life_elab_laws.proofs.NoVoid.{no_void}
 
 -- ---- what a register or a variable holds
 
@@ -171,8 +172,7 @@ module _ (types : Types) where
       go _ h = refl
 
   fits_no_void : (t : Ty) → fits_local types t ≡ true → not (is_void t) ≡ true
-  fits_no_void ty.Void h = absurd (false≢true h)
-  fits_no_void _ h = refl
+  fits_no_void t h = ap not (no_void (fits_local types) refl t h)
 
   fits_kept : (t : Ty) → fits_register types t ≡ true → fits_kind Register t ≡ true
   fits_kept ty.Void h = absurd (false≢true h)
@@ -218,15 +218,11 @@ module _ (types : Types) where
   variable_kept t (inr (inr (inl w))) = go t w
     where
       go : (t : Ty) → is_walker_of_values types t ≡ true → fits_kind (kind (class (Some t))) t ≡ true
-      go (ty.Iterator target constant) w = refl
-      go (ty.Span target constant) w = refl
-      go _ w = absurd (false≢true w)
+      go = by_walkers types _ (λ target constant. refl) (λ target constant. refl)
   variable_kept t (inr (inl o)) = go t o
     where
       go : (t : Ty) → is_owner_of_values types t ≡ true → fits_kind (kind (class (Some t))) t ≡ true
-      go ty.Text o = refl
-      go (ty.Vector element) o = refl
-      go _ o = absurd (false≢true o)
+      go = by_owners types _ refl (λ element. refl)
   variable_kept t (inl b) = go t b
     where
       go : (t : Ty) → (is_value t || is_pointing types t) ≡ true → fits_kind (kind (class (Some t))) t ≡ true
@@ -254,15 +250,11 @@ module _ (types : Types) where
   variable_named t name (inr (inr (inl w))) = go t w
     where
       go : (t : Ty) → is_walker_of_values types t ≡ true → is_named_as (kind (class (Some t))) t (Some name) ≡ true
-      go (ty.Iterator target constant) w = refl
-      go (ty.Span target constant) w = refl
-      go _ w = absurd (false≢true w)
+      go = by_walkers types _ (λ target constant. refl) (λ target constant. refl)
   variable_named t name (inr (inl o)) = go t o
     where
       go : (t : Ty) → is_owner_of_values types t ≡ true → is_named_as (kind (class (Some t))) t (Some name) ≡ true
-      go ty.Text o = refl
-      go (ty.Vector element) o = refl
-      go _ o = absurd (false≢true o)
+      go = by_owners types _ refl (λ element. refl)
   variable_named t name (inl b) = go t b
     where
       go : (t : Ty) → (is_value t || is_pointing types t) ≡ true → is_named_as (kind (class (Some t))) t (Some name) ≡ true
@@ -365,9 +357,7 @@ module _ (p : ProgramForm) (of : FunctionForm) (T types : Types) (names : ℕ) (
       nameless_formed fits kept = local_formed types structs names core.parameters x l is.ty (later l.ty.0 is.ty is.typed) fits kept (ap (is_named_as l.kind is.ty) is.nameless) (ap (is_name_if names) is.nameless) (has_name x l at)
 
       owner_kept : (t : Ty) → is_owner_of_values types t ≡ true → fits_kind Object t ≡ true
-      owner_kept ty.Text o = refl
-      owner_kept (ty.Vector element) o = refl
-      owner_kept _ o = absurd (false≢true o)
+      owner_kept = by_owners types _ refl (λ element. refl)
 
       unique_kept : (t : Ty) → is_unique_of_element types t ≡ true → fits_kind Object t ≡ true
       unique_kept (ty.Unique target) u = refl

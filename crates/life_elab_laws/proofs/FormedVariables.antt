@@ -1,7 +1,7 @@
 -- Variables as places and as pointers: their types in the finished function, and const where the text has it.
 use Rattle.std.proofs.Common.{◌≡◌, ℕ, Bool, true, false, not, if◌then◌else◌, List, [], nat_lt, slice_get, Option, Some, None, refl, sym, ap, ◌∙◌, subst, unwrap_or}
 use Rattle.std.proofs.lemmas.Bool.{false≢true}
-use Rattle.life_elab_laws.proofs.FormKinds.{is_owner_of_values, is_admitted_variable, is_target}
+use Rattle.life_elab_laws.proofs.ObjectTypes.{is_owner_of_values, is_admitted_variable, is_target}
 use Rattle.life_types.specs.Pointees.{or_void, pointee, ty_of}
 use Rattle.life_types.specs.TypeTests.{is_constant, is_reference, is_value, is_void}
 use Rattle.life_types.specs.Types.{Types, class, is_slot_target}
@@ -28,12 +28,13 @@ use Rattle.life_elab_laws.proofs.Targets.{target_no_void, target_referred, targe
 use Rattle.life_elab_laws.proofs.Locations.{is_location}
 use Rattle.life_elab_laws.proofs.TypedKinds.{place_same, owner_named, walker_named}
 use Rattle.life_elab_laws.proofs.Types.{value_kind}
-use Rattle.life_elab_laws.proofs.Values.{by_values}
+use Rattle.life_elab_laws.proofs.Values.{by_owners, by_values}
 use Rattle.life_elab_laws.proofs.VariablePlaces.{a_raw, a_reference, a_struct, a_unique, a_value, a_view, a_walker, an_alias, an_owner, IsVariableAt, IsVariableType, kind_is, owner_kind, place_is, variable_type, walker_is, a_struct_alias}
 use Rattle.life_proper.specs.OperandTypes.{keeps_const}
 use Rattle.life_proper.specs.Placed as placed
 use Rattle.life_elab_laws.proofs.Gifts.{IsAt, IsPlaceOf}
 use Rattle.life_elab_laws.proofs.OperandsThere.{object_there, register_there, type_there, value_no_reference}
+use Rattle.life_elab_laws.proofs.NoVoid.{no_void}
 
 -- what isn't const is taken as const or not
 pub keeps_all : (to : Bool) → keeps_const to false ≡ true
@@ -65,23 +66,16 @@ pub type_later : (few more : Types) → IsFront few.types more.types → (id : T
 type_later few more front id v = ap or_void (type_found few more front id v)
 
 pub value_no_void : (t : Ty) → is_value t ≡ true → not (is_void t) ≡ true
-value_no_void ty.Void e = absurd (false≢true e)
-value_no_void _ e = refl
+value_no_void t v = ap not (no_void is_value refl t v)
 
 pub owner_no_value : (types : Types) (t : Ty) → is_owner_of_values types t ≡ true → is_value t ≡ true → ⊥
-owner_no_value types ty.Text o v = false≢true v
-owner_no_value types (ty.Vector element) o v = false≢true v
-owner_no_value types _ o v = false≢true o
+owner_no_value types = by_owners types _ false≢true (λ element. false≢true)
 
 pub owner_no_location : (types : Types) (t : Ty) → is_owner_of_values types t ≡ true → is_location t ≡ true → ⊥
-owner_no_location types ty.Text o l = false≢true l
-owner_no_location types (ty.Vector item) o l = false≢true l
-owner_no_location types _ o l = false≢true o
+owner_no_location types = by_owners types _ false≢true (λ item. false≢true)
 
 pub owner_no_reference : (types : Types) (t : Ty) → is_owner_of_values types t ≡ true → is_reference t ≡ false
-owner_no_reference types ty.Text o = refl
-owner_no_reference types (ty.Vector element) o = refl
-owner_no_reference types _ o = absurd (false≢true o)
+owner_no_reference types = by_owners types _ refl (λ element. refl)
 
 pub location_no_reference : (t : Ty) → is_location t ≡ true → is_reference t ≡ false
 location_no_reference (ty.Raw target constant) loc = refl

@@ -1,7 +1,8 @@
 -- unique_ptrs that are built where they have come to life: of nullptr, made anew, or of what is moved out of a variable.
 use Rattle.std.proofs.Common.{◌≡◌, [], ℕ, true, List, ◌∷◌, Contains, refl, sym, ap, ◌∙◌, subst, false, None}
 use Rattle.std.proofs.lemmas.Bool.{false≢true}
-use Rattle.life_elab_laws.proofs.FormKinds.{is_element, is_unique_type}
+use Rattle.life_elab_laws.proofs.ObjectTypes.{is_element}
+use Rattle.life_elab_laws.proofs.TypeKinds.{is_unique_type}
 use Rattle.life_types.specs.TypeTests.{is_unique, is_value}
 use Rattle.life_types.specs.Types.{Types}
 use Rattle.life_types.specs.declared.place.Place.{Place}

@@ -1,7 +1,10 @@
 -- What a return gives back: a value, a pointer or a view that is given something, or a reference that is aimed at a place, which may be a temporary's.
 use Rattle.std.proofs.Common.{◌≡◌, ℕ, Bool, true, false, cond, List, slice_get, Option, Some, None, inl, inr, refl, sym, ap, ◌∙◌, subst, ◌||◌, ◌⊎◌}
 use Rattle.std.proofs.lemmas.Bool.{false≢true, or_cases, and_parts}
-use Rattle.life_elab_laws.proofs.FormKinds.{is_read_expression, is_owner_of_values, is_read_owner, is_read_returned, is_target, is_read_any, is_read_walker, is_walker_of_values, is_read_struct, is_owner_type, owns_elements, is_element, is_read_fresh, is_read_unique, is_unique_of_element, is_unique_type}
+use Rattle.life_elab_laws.proofs.FormKinds.{is_read_expression, is_read_owner, is_read_any, is_read_walker, is_read_struct, is_read_fresh, is_read_unique}
+use Rattle.life_elab_laws.proofs.ObjectTypes.{is_owner_of_values, is_target, is_walker_of_values, is_element, is_unique_of_element}
+use Rattle.life_elab_laws.proofs.StatementKinds.{is_read_returned}
+use Rattle.life_elab_laws.proofs.TypeKinds.{is_owner_type, owns_elements, is_unique_type}
 use Rattle.life_types.specs.TypeTests.{is_unique, is_value, is_void}
 use Rattle.life_types.specs.Types.{Types, class}
 use Rattle.life_types.specs.declared.place.Place.{Place}
@@ -62,7 +65,7 @@ use Rattle.life_elab_laws.proofs.Returning.{back_given, result_returned, return_
 use Rattle.life_elab_laws.proofs.Setting.{Setting}
 use Rattle.life_elab_laws.proofs.TypedKinds.{place_same, value_place, value_simple, HasKind, a_null, a_number as is_number_kind, a_pointer as is_pointer_kind, a_text, a_view as is_view_kind, no_value}
 use Rattle.life_elab_laws.proofs.ValueTemporaries.{value_temporary}
-use Rattle.life_elab_laws.proofs.Values.{by_values}
+use Rattle.life_elab_laws.proofs.Values.{by_owners, by_values}
 use Rattle.life_elab_laws.proofs.AliasForms.{IsAliased, owning_aliased, value_reference_refused, whole_aliased, to_built, to_place, walker_reference_refused, struct_reference_refused, no_owner_given, null_refused, owning_builds, value_builds, owner_no_struct_given, walker_no_struct_given}
 use Rattle.life_elab_laws.proofs.ObjectForms.{IsOwner}
 use Rattle.life_elab_laws.proofs.MadeForms.{IsOwning, owning_owner, temporary_made, Builds}
@@ -97,17 +100,7 @@ use Rattle.life_elab.specs.StatementForms as statements
 use Rattle.life_elab_laws.proofs.AnsweredUniques.{IsHolding, holds_answer, holds_named, holding_lies}
 use Rattle.life_elab_laws.proofs.MadeStructs.{IsAnyStruct, struct_typed, as_struct}
 use Rattle.life_elab_laws.proofs.ReturnedStructs.{struct_back}
-
-owner_plain : (types : Types) (t : Ty) → is_owner_of_values types t ≡ true → is_unique t ≡ false
-owner_plain types ty.Text o = refl
-owner_plain types (ty.Vector item) o = refl
-owner_plain types _ o = absurd (false≢true o)
-
--- what is so of strings and vectors is so of owners
-as_owner : (types : Types) (t : Ty) → is_owner_of_values types t ≡ true → (C : Ty → Type 0) → C ty.Text → ((item : TyId) → C (ty.Vector item)) → C t
-as_owner types ty.Text o C one other = one
-as_owner types (ty.Vector item) o C one other = other item
-as_owner types _ o C one other = absurd (false≢true o)
+use Rattle.life_elab_laws.proofs.UniqueForms.{owner_no_unique, walker_no_unique}
 
 no_register : Object ≡ Register → ⊥
 no_register e = cc
@@ -289,11 +282,6 @@ module _ (a : Around) (types : Types) (texts : ℕ) (fs : List Function) (f : Fu
             (temporary_made a v.visible types texts fs f setting (type_at a.program.types target) e.place s (giving.given (uses a (whole_form e)) (type_at a.program.types target) token s) o (made token s h.stands) h.stands) (by_building none)
 
       -- a span of the whole of a vector
-      walker_no_unique : (u : Ty) → is_walker_of_values a.program.types u ≡ true → is_unique u ≡ false
-      walker_no_unique (ty.Iterator item constant) w = refl
-      walker_no_unique (ty.Span item constant) w = refl
-      walker_no_unique _ w = absurd (false≢true w)
-
       walks_as : (u : Ty) → is_walker_of_values a.program.types u ≡ true → (keyword behind : Place) (s : State) → result_by a (class (Some u)) (uses a (whole_form e)) u keyword behind s
           ≡ emit e.place (pointed (pointing (uses a (whole_form e)) s).given (whole (result_local a))) (pointing (uses a (whole_form e)) s).state
       walks_as (ty.Iterator item constant) w keyword behind s = refl
@@ -325,7 +313,7 @@ module _ (a : Around) (types : Types) (texts : ℕ) (fs : List Function) (f : Fu
       whole_returned whole_is (gives_unique target unique w) = absurd (no_unique_result target unique w)
       whole_returned whole_is (gives_whole number whole) = absurd (no_whole_result number whole)
       whole_returned whole_is (gives_view view) = view_returned whole_is view
-      whole_returned whole_is (gives_walker w) = absurd (no_walker_given a.program.types e whole_is.kind.kind t w (given_as t refl (walker_no_unique t w)))
+      whole_returned whole_is (gives_walker w) = absurd (no_walker_given a.program.types e whole_is.kind.kind t w (given_as t refl (walker_no_unique a.program.types t w)))
       whole_returned whole_is (gives_reference target constant refers_to w) = reference_returned target constant refers_to (value_target a.program.types (type_at a.program.types target) w) whole_is w
       whole_returned whole_is (gives_alias target constant refers_to o) =
           alias_returned target constant refers_to (owner_target a.program.types (type_at a.program.types target) o) (inl o)
@@ -378,7 +366,7 @@ module _ (a : Around) (types : Types) (texts : ℕ) (fs : List Function) (f : Fu
           go (gives_walker w) =
               let loc = (walker_is a.program.types t w).location in
               pointer_returned t refl loc (Of from.ty) (walker_points a v.visible types texts fs f setting (whole_form e) from s h.stands)
-              (given_walker a.program.types types setting.front t from.ty e w from.walker from.is (given_as t refl (walker_no_unique t w))) (walks_as t w keyword token s)
+              (given_walker a.program.types types setting.front t from.ty e w from.walker from.is (given_as t refl (walker_no_unique a.program.types t w))) (walks_as t w keyword token s)
           go (gives_reference target constant refers_to w) = absurd (walker_reference_refused a v.visible types texts fs f setting (whole_form e) target constant (value_target a.program.types (type_at a.program.types target) w) (given_as (ty.Reference target constant) refers_to refl) from)
           go (gives_struct target constant number refers_to structure pointless) =
               absurd (walker_reference_refused a v.visible types texts fs f setting (whole_form e) target constant (struct_target a.program.types (type_at a.program.types target) pointless) (given_as (ty.Reference target constant) refers_to refl) from)
@@ -403,7 +391,7 @@ module _ (a : Around) (types : Types) (texts : ℕ) (fs : List Function) (f : Fu
           go (gives_raw target constant raw w) =
               absurd (false≢true (subst (λ (x : ExprType). is_pointed x ≡ true) its.1 (given_pointer a.program.types (ty.Raw target constant) e refl (given_as (ty.Raw target constant) raw refl))))
           go (gives_view view) = absurd (false≢true (subst (λ (x : ExprType). sees x ≡ true) its.1 (given_view a.program.types e (given_as ty.View view refl))))
-          go (gives_walker w) = absurd (struct_no_walker a.program.types t w its.0 e.category (told_as t refl (walker_no_unique t w)))
+          go (gives_walker w) = absurd (struct_no_walker a.program.types t w its.0 e.category (told_as t refl (walker_no_unique a.program.types t w)))
           go (gives_owner owned) = absurd (unowned (inl owned))
           go (gives_unique target unique w) = absurd (no_unique_result target unique w)
           go (gives_whole number whole) = absurd (no_whole_result number whole)
@@ -434,7 +422,7 @@ module _ (a : Around) (types : Types) (texts : ℕ) (fs : List Function) (f : Fu
           go (gives_unique target unique w) = no_unique_result target unique w
           go (gives_whole number whole) = no_whole_result number whole
           go (gives_view view) = false≢true (subst (λ (x : ExprType). sees x ≡ true) is (given_view a.program.types e (given_as ty.View view refl)))
-          go (gives_walker w) = walker_no_unique_given a.program.types t w owned e.category (told t (given_as t refl (walker_no_unique t w)))
+          go (gives_walker w) = walker_no_unique_given a.program.types t w owned e.category (told t (given_as t refl (walker_no_unique a.program.types t w)))
           go (gives_reference target constant refers_to w) =
               let wide = value_target a.program.types (type_at a.program.types target) w in
               bound target constant wide (λ initial. false≢true (subst (λ (x : ExprType). is_number x ≡ true) is (given_number a.program.types (type_at a.program.types target) e w initial)))
@@ -458,14 +446,14 @@ module _ (a : Around) (types : Types) (texts : ℕ) (fs : List Function) (f : Fu
       Given = left 0 keyword (Returns keyword) (result_given a (Some e) keyword token s)
 
       its_given : is_given a.program.types t e ≡ true
-      its_given = back_given t a.function.result (named_local a.function.locals (named_in e.form)) (is_given a.program.types t e) (owner_plain a.program.types t owner) r.1
+      its_given = back_given t a.function.result (named_local a.function.locals (named_in e.form)) (is_given a.program.types t e) (owner_no_unique a.program.types t owner) r.1
 
       -- .. or moved there
       abbrev by_name : Option ℕ → State
       by_name o = (statements.moved_out classes.Owner o (giving.given u t token) s >> λ rest s. rest (result a keyword) s).state
 
       by_owner : given_back a e keyword token s ≡ by_name (statements.object_named u.named s)
-      by_owner = as_owner a.program.types t owner (λ q. result_by a (class (Some q)) u q keyword token s ≡ (statements.moved_out classes.Owner (statements.object_named u.named s) (giving.given u q token) s >> λ rest s. rest (result a keyword) s).state) refl (λ item. refl)
+      by_owner = by_owners a.program.types (λ q. result_by a (class (Some q)) u q keyword token s ≡ (statements.moved_out classes.Owner (statements.object_named u.named s) (giving.given u q token) s >> λ rest s. rest (result a keyword) s).state) refl (λ item. refl) t owner
 
       built_back : (w : Gives Remaining) → Builds a v.visible types texts fs f setting t s w → (w.given (result a keyword) w.state).state ≡ by_name (statements.object_named u.named s) → Back Given
       built_back w is same = owner_given_back a types texts fs f setting v in_loop s h object (inl owner) r.0 keyword token w is (given_back a e keyword token s) (by_owner ∙ sym same)

@@ -59,11 +59,11 @@ use Rattle.life_elab_laws.proofs.Setting.{Setting}
 use Rattle.life_elab_laws.proofs.Shaped.{target_later, PlainStays}
 use Rattle.life_elab_laws.proofs.Types.{type_added}
 use Rattle.life_elab_laws.proofs.ValueTemporaries.{value_temporary}
-use Rattle.life_elab_laws.proofs.Values.{by_values}
+use Rattle.life_elab_laws.proofs.Values.{by_owners, by_values}
 use Rattle.life_elab_laws.proofs.VariablePlaces.{stands_later}
 use Rattle.life_elab_laws.proofs.WalkerSteps.{keeps_itself}
 use Rattle.life_elab_laws.proofs.WrittenLocals.{fits_below}
-use Rattle.life_elab_laws.proofs.FormKinds.{is_walker_of_values, is_owner_of_values, is_target, is_unique_of_element}
+use Rattle.life_elab_laws.proofs.ObjectTypes.{is_walker_of_values, is_owner_of_values, is_target, is_unique_of_element}
 use Rattle.life_type_expr.specs.Lists.{fits_at_all}
 use Rattle.life_elab_laws.proofs.TypedKinds.{HasKind, a_null, a_number as is_number_kind, a_pointer as is_pointer_kind, a_text, a_view as is_view_kind, no_value}
 use Rattle.life_elab_laws.proofs.AliasForms.{IsAliased, whole_aliased, to_built, to_place, value_builds}
@@ -231,9 +231,7 @@ module _ (a : Around) (visible : List ℕ) (types : Types) (texts : ℕ) (fs : L
   over_built t u behind s (inl o) = go t o
     where
       go : (t : Ty) → is_owner_of_values a.program.types t ≡ true → giving.argument a u t behind s ≡ mapped GivenOver (giving.given u t behind s >> λ rest r. rest (consumed u.place t) r)
-      go ty.Text o = refl
-      go (ty.Vector item) o = refl
-      go _ o = absurd (false≢true o)
+      go = by_owners a.program.types _ refl (λ item. refl)
   over_built t u behind s (inr (inr structure)) =
       subst (λ (x : Ty). giving.argument a u x behind s ≡ mapped GivenOver (giving.given u x behind s >> λ rest r. rest (consumed u.place x) r)) (sym structure.is) refl
   over_built t u behind s (inr (inl w)) = go t w

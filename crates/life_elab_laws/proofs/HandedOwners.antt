@@ -6,7 +6,7 @@ use Rattle.life_types.specs.Types.{Types, is_slot_type}
 use Rattle.life_types.specs.declared.ty.Ty.{Ty}
 use Rattle.life_types.specs.declared.ty.Ty.TheVariants as ty
 use Rattle.life_types.specs.declared.ty.TyId.{TyId}
-use Rattle.life_elab_laws.proofs.FormKinds.{is_owner_of_values, is_walker_of_values}
+use Rattle.life_elab_laws.proofs.ObjectTypes.{is_owner_of_values, is_walker_of_values}
 use Rattle.life_typed.specs.BaseTypes.{type_at}
 use Rattle.life_typed.specs.Conversions.{fits}
 use Rattle.life_typed.specs.Delimiters.{DelimitersForm, behind_first, behind_others}
@@ -51,6 +51,7 @@ use Rattle.life_elab_laws.proofs.WrittenLocals.{fits_register}
 use Rattle.life_elab_laws.proofs.AliasForms.{no_owner_given, owning_aliased, owning_builds, value_reference_refused, walker_reference_refused, struct_reference_refused, owner_no_struct_given, walker_no_struct_given}
 use Rattle.life_elab_laws.proofs.Targets.{owner_target, value_target, struct_target}
 use Rattle.life_elab_laws.proofs.Elements.{one_element}
+use Rattle.life_elab_laws.proofs.Values.{by_owners, by_walkers}
 
 -- ---- what is handed to no such parameter
 
@@ -61,20 +62,14 @@ owner_no_iterator types _ e o target constant h = false≢true o
 
 -- a unique_ptr
 pub owner_no_unique_given : (types : Types) (t : Ty) → is_owner_of_values types t ≡ true → (target : TyId) (c : Category) → fits_at_all (fits types (ty.Unique target) (Of t) c) ≡ true → ⊥
-owner_no_unique_given types ty.Text o target c h = false≢true h
-owner_no_unique_given types (ty.Vector item) o target c h = false≢true h
-owner_no_unique_given types _ o target c h = false≢true o
+owner_no_unique_given types = by_owners types _ (λ target c h. false≢true h) (λ item target c h. false≢true h)
 
 -- no iterator and no span is given a unique_ptr
 pub walker_no_unique_given : (types : Types) (t : Ty) → is_walker_of_values types t ≡ true → (owned : TyId) (c : Category) → fits_at_all (fits types t (Of (ty.Unique owned)) c) ≡ true → ⊥
-walker_no_unique_given types (ty.Iterator item constant) w owned c h = false≢true h
-walker_no_unique_given types (ty.Span item constant) w owned c h = false≢true h
-walker_no_unique_given types _ w owned c h = false≢true w
+walker_no_unique_given types = by_walkers types _ (λ item constant owned c h. false≢true h) (λ item constant owned c h. false≢true h)
 
 pub unique_no_walker_given : (types : Types) (t : Ty) → is_walker_of_values types t ≡ true → (target : TyId) (c : Category) → fits_at_all (fits types (ty.Unique target) (Of t) c) ≡ true → ⊥
-unique_no_walker_given types (ty.Iterator item held) w target c h = false≢true h
-unique_no_walker_given types (ty.Span item held) w target c h = false≢true h
-unique_no_walker_given types _ w target c h = false≢true w
+unique_no_walker_given types = by_walkers types _ (λ item held target c h. false≢true h) (λ item held target c h. false≢true h)
 
 pub walker_no_raw : (types more : Types) (t : Ty) → is_walker_of_values types t ≡ true → (target : TyId) (constant : Bool) → takes_from more (ty.Raw target constant) (Of t) ≡ true → ⊥
 walker_no_raw types more (ty.Iterator item held) w target constant h = false≢true h
@@ -82,9 +77,7 @@ walker_no_raw types more (ty.Span item held) w target constant h = false≢true 
 walker_no_raw types more _ w target constant h = false≢true w
 
 pub walker_no_text : (types : Types) (t : Ty) → is_walker_of_values types t ≡ true → sees (Of t) ≡ true → ⊥
-walker_no_text types (ty.Iterator item held) w h = false≢true h
-walker_no_text types (ty.Span item held) w h = false≢true h
-walker_no_text types _ w h = false≢true w
+walker_no_text types = by_walkers types _ (λ item held. false≢true) (λ item held. false≢true)
 
 module _ (a : Around) (visible : List ℕ) (types : Types) (texts : ℕ) (fs : List Function) (f : Function) (setting : Setting a types fs f) where
   abbrev Stood : State → Type 0
@@ -118,9 +111,7 @@ module _ (a : Around) (visible : List ℕ) (types : Types) (texts : ℕ) (fs : L
       (pointer_part a visible types texts fs f setting (pointing (uses a e)) (Of t) t (uses a e).place s refl loc fits stands (gives_plainly made))
     where
       register_is : (u : Ty) → is_owner_of_values a.program.types u ≡ true → own (uses a e) ≡ u → register_type t (own (uses a e)) ≡ t
-      register_is ty.Text owner same = ap (register_type t) same
-      register_is (ty.Vector item) owner same = ap (register_type t) same
-      register_is _ owner same = absurd (false≢true owner)
+      register_is = by_owners a.program.types _ (λ same. ap (register_type t) same) (λ item same. ap (register_type t) same)
 
   pub owner_first : (e es : Form) (d : DelimitersForm) (id : TyId) (ids : List TyId) → IsOwning a visible types texts fs f setting e → ((s : State) → Stood s → Hands ids s (others_of es d ids s)) → IsHandedType a.program.types id
       → is_given a.program.types (type_at a.program.types id) (typed_in e) ≡ true → (s : State) → Stood s → Hands (id ∷ ids) s (giving.arguments a (all_uses a (e ⨟ es)) d (id ∷ ids) s)

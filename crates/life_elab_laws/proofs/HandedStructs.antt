@@ -1,7 +1,7 @@
 -- What a parameter is handed by a struct: a reference to it, or the whole of it, which is given over.
 use Rattle.std.proofs.Common.{◌≡◌, ℕ, true, List, ◌∷◌, Some, Option, slice_get, refl, sym, ap, ◌∙◌, subst, unwrap_or, inr}
 use Rattle.std.proofs.lemmas.Bool.{false≢true}
-use Rattle.life_elab_laws.proofs.FormKinds.{is_owner_of_values, is_walker_of_values}
+use Rattle.life_elab_laws.proofs.ObjectTypes.{is_owner_of_values, is_walker_of_values}
 use Rattle.life_types.specs.TypeTests.{is_value}
 use Rattle.life_types.specs.Types.{Types}
 use Rattle.life_types.specs.declared.ty.Ty.{Ty}
@@ -36,13 +36,12 @@ use Rattle.life_elab_laws.proofs.AdmittedTypes.{struct_built, struct_tabled}
 use Rattle.life_elab_laws.proofs.Setting.{Setting}
 use Rattle.life_elab_laws.proofs.StructReferences.{struct_aliased}
 use Rattle.life_elab_laws.proofs.Targets.{owner_target, struct_target, value_target}
+use Rattle.life_elab_laws.proofs.Values.{by_walkers}
 
 -- ---- what is handed to no such parameter
 
 pub struct_no_walker : (types : Types) (t : Ty) → is_walker_of_values types t ≡ true → (number : ℕ) (c : Category) → fits_at_all (fits types t (Of (ty.Struct number)) c) ≡ true → ⊥
-struct_no_walker types (ty.Iterator item held) w number c h = false≢true h
-struct_no_walker types (ty.Span item held) w number c h = false≢true h
-struct_no_walker types _ w number c h = false≢true w
+struct_no_walker types = by_walkers types _ (λ item held number c h. false≢true h) (λ item held number c h. false≢true h)
 
 module _ (a : Around) (visible : List ℕ) (types : Types) (texts : ℕ) (fs : List Function) (f : Function) (setting : Setting a types fs f) where
   abbrev Stood : State → Type 0

@@ -6,7 +6,7 @@ use Rattle.life_types.specs.Types.{Types}
 use Rattle.life_types.specs.declared.ty.Ty.{Ty}
 use Rattle.life_types.specs.declared.ty.Ty.TheVariants as ty
 use Rattle.life_types.specs.declared.ty.TyId.{TyId}
-use Rattle.life_elab_laws.proofs.FormKinds.{is_element, is_owner_of_values, is_owning, is_pointing, is_admitted_parameter, is_target, is_unique_of_element, is_walker_of_values, is_plain_struct, is_struct}
+use Rattle.life_elab_laws.proofs.ObjectTypes.{is_element, is_owner_of_values, is_owning, is_pointing, is_admitted_parameter, is_target, is_unique_of_element, is_walker_of_values, is_plain_struct, is_struct}
 use Rattle.life_typed.specs.BaseTypes.{type_at}
 use Rattle.life_proper.specs.OperandTypes.{is_composed}
 use Rattle.life_elab_laws.proofs.AdmittedTypes.{IsBuilt}
@@ -14,6 +14,7 @@ use Rattle.life_elab_laws.proofs.Fronts.{IsFront}
 use Rattle.life_elab_laws.proofs.Shaped.{value_later, walker_later, owner_later, target_later, element_later, PlainStays, plain_further}
 use Rattle.life_elab_laws.proofs.Targets.{IsTarget, owner_target, struct_target, target_is, target_type, to_owner, to_struct, to_value}
 use Rattle.life_elab_laws.proofs.OperandsThere.{type_either}
+use Rattle.life_elab_laws.proofs.Values.{by_owners}
 
 pub data IsHandedType (types : Types) (id : TyId) : Type 0 where
   a_value : is_value (type_at types id) ≡ true → IsHandedType types id
@@ -80,9 +81,7 @@ pub built_composed : (types : Types) (t : Ty) → IsBuilt types t → is_compose
 built_composed types t (inl o) = go t o
   where
     go : (t : Ty) → is_owner_of_values types t ≡ true → is_composed t ≡ true
-    go ty.Text o = refl
-    go (ty.Vector item) o = refl
-    go _ o = absurd (false≢true o)
+    go = by_owners types _ refl (λ item. refl)
 built_composed types t (inr (inl u)) = go t u
   where
     go : (t : Ty) → is_unique_of_element types t ≡ true → is_composed t ≡ true

@@ -6,7 +6,8 @@ use Rattle.life_types.specs.TypeTests.{is_value}
 use Rattle.life_types.specs.declared.ty.Ty.{Ty}
 use Rattle.life_types.specs.declared.ty.Ty.TheVariants as ty
 use Rattle.life_types.specs.declared.ty.TyId.{TyId}
-use Rattle.life_elab_laws.proofs.FormKinds.{is_owner_of_values, is_struct_type}
+use Rattle.life_elab_laws.proofs.ObjectTypes.{is_owner_of_values}
+use Rattle.life_elab_laws.proofs.TypeKinds.{is_struct_type}
 use Rattle.life_typed.specs.BaseTypes.{type_at}
 use Rattle.life_typed.specs.Conversions.{fits}
 use Rattle.life_typed.specs.Delimiters.{DelimitersForm, behind_first, behind_others}

@@ -1,6 +1,6 @@
 -- A reference that is declared with what isn't a place of its type: what is computed is saved in a temporary that lives as long as it, or a call gives its result there.
 use Rattle.std.proofs.Common.{◌≡◌, ℕ, Bool, true, false, ◌&&◌, cond, not, List, [], ◌∷◌, ◌++◌, length, slice_get, Option, Some, None, refl, sym, ap, ◌∙◌, subst, arith, append_assoc, inl, flat_map}
-use Rattle.life_elab_laws.proofs.FormKinds.{is_admitted_variable}
+use Rattle.life_elab_laws.proofs.ObjectTypes.{is_admitted_variable}
 use Rattle.life_types.specs.TypeTests.{is_value}
 use Rattle.life_types.specs.Types.{Types}
 use Rattle.life_types.specs.contracts.ty.TyPartialEq.TheImpl.{ghosts as compared}

@@ -7,12 +7,15 @@ use Rattle.life_types.specs.Types.{Types}
 use Rattle.life_types.specs.declared.ty.Ty.{Ty}
 use Rattle.life_types.specs.declared.ty.Ty.TheVariants as ty
 use Rattle.life_types.specs.declared.ty.TyId.{TyId}
-use Rattle.life_elab_laws.proofs.FormKinds.{is_element, is_owner_of_values, is_admitted_variable, is_struct, is_target, is_walker, owns_elements}
+use Rattle.life_elab_laws.proofs.ObjectTypes.{is_element, is_owner_of_values, is_admitted_variable, is_struct, is_target}
+use Rattle.life_elab_laws.proofs.TypeKinds.{is_walker, owns_elements}
 use Rattle.life_typed.specs.BaseTypes.{type_at}
 use Rattle.life_typed.specs.declared.basic.TheConstants.{CHAR}
 use Rattle.life_elab_laws.proofs.Elements.{element_held, element_target}
-use Rattle.life_elab_laws.proofs.AdmittedTypes.{IsAdmittedType, admitted_type_is, admits, type_admits, value_admits}
-use Rattle.life_elab_laws.proofs.Targets.{IsTarget, target_is, to_owner, to_struct, to_value}
+use Rattle.life_elab_laws.proofs.AdmittedTypes.{admits, type_admits, value_admits}
+use Rattle.life_elab_laws.proofs.Targets.{IsTarget, or_false, target_is, to_owner, to_struct, to_value}
+use Rattle.life_elab_laws.proofs.NoVoid.{no_void}
+use Rattle.life_elab_laws.proofs.Values.{by_owners}
 
 -- nothing, or what a variable may have
 abbrev pub is_known_type : Types → Ty → Bool
@@ -61,15 +64,12 @@ module _ (types : Types) where
 
   -- .. which isn't void
   pub admits_some : (t : Ty) → admits types t ≡ true → is_void t ≡ false
-  admits_some ty.Void s = absurd (false≢true s)
-  admits_some _ s = refl
+  admits_some = no_void (admits types) refl
 
   -- ---- owners and targets
 
   pub owner_elements : (t : Ty) → is_owner_of_values types t ≡ true → owns_elements t ≡ true
-  owner_elements ty.Text o = refl
-  owner_elements (ty.Vector item) o = refl
-  owner_elements _ o = absurd (false≢true o)
+  owner_elements = by_owners types _ refl (λ item. refl)
 
   pub target_no_reference : (t : Ty) → is_target types t ≡ true → is_reference t ≡ false
   target_no_reference (ty.Reference target constant) worth = absurd (false≢true worth)
@@ -88,69 +88,27 @@ module _ (types : Types) where
 
   -- a pointer is to a target
   pub raw_target : (target : TyId) (constant : Bool) → is_known_type types (ty.Raw target constant) ≡ true → is_target types (type_at types target) ≡ true
-  raw_target target constant k = go (admitted_type_is types (ty.Raw target constant) k)
-    where
-      go : IsAdmittedType types (ty.Raw target constant) → is_target types (type_at types target) ≡ true
-      go (inl b) = b
-      go (inr (inl o)) = absurd (false≢true o)
-      go (inr (inr (inl w))) = absurd (false≢true w)
-      go (inr (inr (inr (inl u)))) = absurd (false≢true u)
-      go (inr (inr (inr (inr s)))) = absurd (false≢true s)
+  raw_target target constant k = or_false (is_target types (type_at types target)) k
 
   -- .. and so is a reference
   pub reference_target : (target : TyId) (constant : Bool) → is_known_type types (ty.Reference target constant) ≡ true → is_target types (type_at types target) ≡ true
-  reference_target target constant k = go (admitted_type_is types (ty.Reference target constant) k)
-    where
-      go : IsAdmittedType types (ty.Reference target constant) → is_target types (type_at types target) ≡ true
-      go (inl b) = b
-      go (inr (inl o)) = absurd (false≢true o)
-      go (inr (inr (inl w))) = absurd (false≢true w)
-      go (inr (inr (inr (inl u)))) = absurd (false≢true u)
-      go (inr (inr (inr (inr s)))) = absurd (false≢true s)
+  reference_target target constant k = or_false (is_target types (type_at types target)) k
 
   pub known_refers : (t : Ty) → is_known_type types t ≡ true → (target : TyId) (constant : Bool) → t ≡ ty.Reference target constant → is_target types (type_at types target) ≡ true
   known_refers t known target constant is = reference_target target constant (ap (is_known_type types) (sym is) ∙ known)
 
   -- an iterator, a span, a unique_ptr and a vector have an element
   pub iterator_element : (item : TyId) (constant : Bool) → is_known_type types (ty.Iterator item constant) ≡ true → is_element types (type_at types item) ≡ true
-  iterator_element item constant k = go (admitted_type_is types (ty.Iterator item constant) k)
-    where
-      go : IsAdmittedType types (ty.Iterator item constant) → is_element types (type_at types item) ≡ true
-      go (inl b) = absurd (false≢true b)
-      go (inr (inl o)) = absurd (false≢true o)
-      go (inr (inr (inl w))) = w
-      go (inr (inr (inr (inl u)))) = absurd (false≢true u)
-      go (inr (inr (inr (inr s)))) = absurd (false≢true s)
+  iterator_element item constant k = or_false (is_element types (type_at types item)) k
 
   pub span_element : (item : TyId) (constant : Bool) → is_known_type types (ty.Span item constant) ≡ true → is_element types (type_at types item) ≡ true
-  span_element item constant k = go (admitted_type_is types (ty.Span item constant) k)
-    where
-      go : IsAdmittedType types (ty.Span item constant) → is_element types (type_at types item) ≡ true
-      go (inl b) = absurd (false≢true b)
-      go (inr (inl o)) = absurd (false≢true o)
-      go (inr (inr (inl w))) = w
-      go (inr (inr (inr (inl u)))) = absurd (false≢true u)
-      go (inr (inr (inr (inr s)))) = absurd (false≢true s)
+  span_element item constant k = or_false (is_element types (type_at types item)) k
 
   pub unique_element : (target : TyId) → is_known_type types (ty.Unique target) ≡ true → is_element types (type_at types target) ≡ true
-  unique_element target k = go (admitted_type_is types (ty.Unique target) k)
-    where
-      go : IsAdmittedType types (ty.Unique target) → is_element types (type_at types target) ≡ true
-      go (inl b) = absurd (false≢true b)
-      go (inr (inl o)) = absurd (false≢true o)
-      go (inr (inr (inl w))) = absurd (false≢true w)
-      go (inr (inr (inr (inl u)))) = u
-      go (inr (inr (inr (inr s)))) = absurd (false≢true s)
+  unique_element target k = or_false (is_element types (type_at types target)) k
 
   pub vector_element : (item : TyId) → is_known_type types (ty.Vector item) ≡ true → is_element types (type_at types item) ≡ true
-  vector_element item k = go (admitted_type_is types (ty.Vector item) k)
-    where
-      go : IsAdmittedType types (ty.Vector item) → is_element types (type_at types item) ≡ true
-      go (inl b) = absurd (false≢true b)
-      go (inr (inl o)) = element_held types (ty.Vector item) o
-      go (inr (inr (inl w))) = absurd (false≢true w)
-      go (inr (inr (inr (inl u)))) = absurd (false≢true u)
-      go (inr (inr (inr (inr s)))) = absurd (false≢true s)
+  vector_element item k = element_held types (ty.Vector item) (or_false (is_owner_of_values types (ty.Vector item)) k)
 
   -- ---- what is known is made
 

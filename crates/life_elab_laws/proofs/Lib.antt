@@ -20,6 +20,7 @@ pub mod CallParts
 pub mod CalledOwners
 pub mod CalledPointers
 pub mod CalledUniques
+pub mod CalledValues
 pub mod Callees
 pub mod Calls
 pub mod ChangeForms
@@ -106,8 +107,10 @@ pub mod MovedOwners
 pub mod NamedResults
 pub mod NamedTargets
 pub mod NewVariables
+pub mod NoVoid
 pub mod Nowhere
 pub mod ObjectForms
+pub mod ObjectTypes
 pub mod OpenedRanges
 pub mod Opens
 pub mod OperandsThere
@@ -123,6 +126,7 @@ pub mod Parts
 pub mod PartsUnder
 pub mod PassedNone
 pub mod Pending
+pub mod PendingEnds
 pub mod PendingTemporaries
 pub mod PlainActs
 pub mod PlainFills
@@ -163,6 +167,7 @@ pub mod SimpleTypes
 pub mod Simples
 pub mod SomeKnown
 pub mod SpanForms
+pub mod StatementKinds
 pub mod Statements
 pub mod StillThere
 pub mod Stopping
@@ -180,6 +185,8 @@ pub mod TakenOwners
 pub mod Targets
 pub mod TemporaryBirths
 pub mod TemporaryEnds
+pub mod ThrownAway
+pub mod TypeKinds
 pub mod TypedActs
 pub mod TypedAnswers
 pub mod TypedDoings

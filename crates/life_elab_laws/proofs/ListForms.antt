@@ -32,7 +32,7 @@ use Rattle.life_elab_laws.proofs.Parts.{Part, gives_part, keep_part, leaf_part, 
 use Rattle.life_elab_laws.proofs.Setting.{Setting}
 use Rattle.life_elab_laws.proofs.VariablePlaces.{stands_later}
 use Rattle.life_elab_laws.proofs.PushedElements.{AreGiving, given_pushed, taking_part}
-use Rattle.life_elab_laws.proofs.FormKinds.{is_element}
+use Rattle.life_elab_laws.proofs.ObjectTypes.{is_element}
 
 module _ (a : Around) (visible : List ℕ) (types : Types) (texts : ℕ) (fs : List Function) (f : Function) (setting : Setting a types fs f)
     (item : TyId) (worth : is_element a.program.types (type_at a.program.types item) ≡ true) where

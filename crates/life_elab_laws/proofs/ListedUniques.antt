@@ -1,6 +1,6 @@
 -- What a unique_ptr that is a member is given by what is listed for it: nothing, what is made, what is moved out of a variable, or what a call gives.
 use Rattle.std.proofs.Common.{◌≡◌, inl, inr, ℕ, true, false, List, [], ◌∷◌, Option, None, Some, slice_get, refl, sym, ap, ◌∙◌, subst, length, ◌<◌}
-use Rattle.life_elab_laws.proofs.FormKinds.{is_element}
+use Rattle.life_elab_laws.proofs.ObjectTypes.{is_element}
 use Rattle.life_types.specs.Trees.{members_at}
 use Rattle.life_types.specs.Types.{Types}
 use Rattle.life_types.specs.declared.place.Place.{Place}

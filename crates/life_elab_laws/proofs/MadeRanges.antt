@@ -1,6 +1,6 @@
 -- The hidden range of a loop over an owner that is made: a temporary that lives as long as the loop, and a reference to it (ISO/IEC 14882:2017 [stmt.ranged]).
 use Rattle.std.proofs.Common.{◌≡◌, ℕ, true, false, List, [], length, Option, Some, None, refl, sym, ap, ◌∙◌, subst, unwrap_or, arith, append-nil, inl}
-use Rattle.life_elab_laws.proofs.FormKinds.{is_owner_of_values}
+use Rattle.life_elab_laws.proofs.ObjectTypes.{is_owner_of_values}
 use Rattle.life_types.specs.Pointees.{or_void, ty_of}
 use Rattle.life_types.specs.Trees.{HasPartsBelow}
 use Rattle.life_types.specs.Types.{Types}

@@ -1,7 +1,8 @@
 -- unique_ptrs that are members of structs: each lies in the variable that its struct lies in.
 use Rattle.std.proofs.Common.{◌≡◌, ℕ, Bool, true, false, List, None, refl, sym, ap, ◌∙◌, subst}
 use Rattle.std.proofs.lemmas.Bool.{false≢true}
-use Rattle.life_elab_laws.proofs.FormKinds.{is_plain_struct, is_unique_type}
+use Rattle.life_elab_laws.proofs.ObjectTypes.{is_plain_struct}
+use Rattle.life_elab_laws.proofs.TypeKinds.{is_unique_type}
 use Rattle.life_types.specs.TypeTests.{is_unique}
 use Rattle.life_types.specs.Types.{Types}
 use Rattle.life_types.specs.declared.ty.Ty.{Ty}

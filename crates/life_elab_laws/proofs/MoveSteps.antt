@@ -1,7 +1,7 @@
 -- An owner is moved from an object to a place.
 use Rattle.std.proofs.Common.{◌≡◌, ℕ, Bool, true, false, not, if◌then◌else◌, List, [], ◌∷◌, None, refl, sym, ap, ◌∙◌, subst}
 use Rattle.std.proofs.lemmas.Bool.{and_from, false≢true}
-use Rattle.life_elab_laws.proofs.FormKinds.{is_owner_of_values}
+use Rattle.life_elab_laws.proofs.ObjectTypes.{is_owner_of_values}
 use Rattle.life_types.specs.Types.{Types}
 use Rattle.life_types.specs.declared.place.Place.{Place}
 use Rattle.life_types.specs.declared.ty.Ty.{Ty}
@@ -25,12 +25,11 @@ use Rattle.life_elab_laws.proofs.Making.{IsPlace, keeps_all}
 use Rattle.life_elab_laws.proofs.Types.{same_type}
 use Rattle.life_elab_laws.proofs.Parts.{Part}
 use Rattle.life_elab_laws.proofs.Shaping.{IsFineStep}
+use Rattle.life_elab_laws.proofs.Values.{by_owners}
 
 -- what may be moved
 pub owner_moves : (table : Types) (t : Ty) → is_owner_of_values table t ≡ true → is_owner t ≡ true
-owner_moves table ty.Text o = refl
-owner_moves table (ty.Vector item) o = refl
-owner_moves table _ o = absurd (false≢true o)
+owner_moves table = by_owners table _ refl (λ item. refl)
 
 owner_composed : (t : Ty) → is_owner t ≡ true → is_composed t ≡ true
 owner_composed ty.Text o = refl

@@ -1,6 +1,6 @@
 -- An owner that is moved out of a variable, as one that is made: wherever it stands, that builds a variable or a temporary.
 use Rattle.std.proofs.Common.{◌≡◌, ℕ, false, true, List, [], ◌∷◌, Contains, None, refl, sym, subst}
-use Rattle.life_elab_laws.proofs.FormKinds.{is_owner_of_values}
+use Rattle.life_elab_laws.proofs.ObjectTypes.{is_owner_of_values}
 use Rattle.life_types.specs.Types.{Types}
 use Rattle.life_types.specs.declared.place.Place.{Place}
 use Rattle.life_typed.specs.TypedForm.{Typed}

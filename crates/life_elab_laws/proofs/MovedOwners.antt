@@ -3,7 +3,8 @@ use Rattle.std.specs.Prelude.{◌==◌}
 use Rattle.std.proofs.Common.{◌≡◌, ℕ, Bool, true, false, if◌then◌else◌, arith, List, Contains, length, slice_get, Option, Some, None, Ok, refl, sym, ap, ◌∙◌, subst, unwrap_or, Err}
 use Rattle.std.proofs.lemmas.Bool.{false≢true}
 use Rattle.std.proofs.lemmas.Bool.Decides.{nat_tests}
-use Rattle.life_elab_laws.proofs.FormKinds.{is_owner_of_values, is_walker_of_values, owns_elements}
+use Rattle.life_elab_laws.proofs.ObjectTypes.{is_owner_of_values, is_walker_of_values}
+use Rattle.life_elab_laws.proofs.TypeKinds.{owns_elements}
 use Rattle.life_types.specs.Types.{Types, class}
 use Rattle.life_types.specs.declared.place.Place.{Place}
 use Rattle.life_types.specs.declared.ty.Ty.{Ty}
@@ -38,7 +39,7 @@ use Rattle.life_elab_laws.proofs.ObjectForms.{other_number}
 use Rattle.life_elab_laws.proofs.Parts.{Makes, Part, and_part, gives_part, leaf_part, then_part}
 use Rattle.life_elab_laws.proofs.Setting.{Setting}
 use Rattle.life_elab_laws.proofs.TypedKinds.{err_ok, none_some, ok_same}
-use Rattle.life_elab_laws.proofs.Values.{by_values}
+use Rattle.life_elab_laws.proofs.Values.{by_owners, by_values, by_walkers}
 use Rattle.life_elab_laws.proofs.FormedFits.{same_id, tested_as}
 use Rattle.life_elab_laws.proofs.VariablePlaces.{a_raw, a_reference, a_struct, a_unique, a_value, a_view, a_walker, an_alias, an_owner, IsVariableAt, IsVariableType, kind_is, place_is, variable_there, variable_type, a_struct_alias}
 use Rattle.life_proper.specs.OperandTypes.{is_owner}
@@ -91,14 +92,10 @@ module _ (a : Around) (visible : List ℕ) (types : Types) (texts : ℕ) (fs : L
           taken false is = ok_same is
 
           no_walker : (t : Ty) → is_walker_of_values a.program.types t ≡ true → Moves x e l (move_fault_of t l.constant) → ⊥
-          no_walker (ty.Iterator target constant) w is = refused l.constant kinds.Unsupported is
-          no_walker (ty.Span target constant) w is = refused l.constant kinds.Unsupported is
-          no_walker _ w is = false≢true w
+          no_walker = by_walkers a.program.types _ (λ target constant is. refused l.constant kinds.Unsupported is) (λ target constant is. refused l.constant kinds.Unsupported is)
 
           an_owner_taken : (t : Ty) → is_owner_of_values a.program.types t ≡ true → Moves x e l (move_fault_of t l.constant) → value_typed e.place (type_at a.program.types l.ty) (move x) ≡ e
-          an_owner_taken ty.Text o is = taken l.constant is
-          an_owner_taken (ty.Vector item) o is = taken l.constant is
-          an_owner_taken _ o is = absurd (false≢true o)
+          an_owner_taken = by_owners a.program.types _ (λ is. taken l.constant is) (λ item is. taken l.constant is)
 
           made : (t : Ty) → slice_get a.program.types.types l.ty.0 ≡ Some t → is_owner t ≡ true → (owns_elements t ≡ true → is_owner_of_values a.program.types t ≡ true) → value_typed e.place (type_at a.program.types l.ty) (move x) ≡ e → IsMovedFrom x e
           made t at o values same = record {

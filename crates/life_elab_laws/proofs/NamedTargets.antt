@@ -1,7 +1,8 @@
 -- What is assigned to is no variable but the one that it names, if it names one.
 use Rattle.std.proofs.Common.{ℕ, true, List, inl, inr, ap, ◌∙◌, ◌≡◌, ◌||◌, refl, sym}
 use Rattle.std.proofs.lemmas.Bool.{and_parts, false≢true, or_cases}
-use Rattle.life_elab_laws.proofs.FormKinds.{is_owner_type, is_read_either, is_read_form, is_read_object, is_read_owner, is_read_unique, is_read_walker, is_unique_type}
+use Rattle.life_elab_laws.proofs.FormKinds.{is_read_either, is_read_form, is_read_object, is_read_owner, is_read_unique, is_read_walker}
+use Rattle.life_elab_laws.proofs.TypeKinds.{is_owner_type, is_unique_type}
 use Rattle.life_types.specs.Types.{Types}
 use Rattle.life_types.specs.declared.place.Place.{Place}
 use Rattle.life_typed.specs.declared.typed_expr.Category.{Category}

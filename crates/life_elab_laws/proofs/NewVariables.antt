@@ -1,7 +1,7 @@
 -- The variable that is declared next: its kind and its type in the finished function, so it can live, and what it is given fits it.
 use Rattle.std.proofs.Common.{◌≡◌, ℕ, Bool, true, false, not, ◌&&◌, List, length, slice_get, Option, Some, refl, sym, ap, ◌∙◌}
 use Rattle.std.proofs.lemmas.Bool.{and_from, or_left, or_right}
-use Rattle.life_elab_laws.proofs.FormKinds.{is_owner_of_values, is_target}
+use Rattle.life_elab_laws.proofs.ObjectTypes.{is_owner_of_values, is_target}
 use Rattle.life_types.specs.Pointees.{ty_of}
 use Rattle.life_types.specs.TypeTests.{is_pointer, is_reference, is_value}
 use Rattle.life_types.specs.Types.{Types, class}

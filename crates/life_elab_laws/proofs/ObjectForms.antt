@@ -2,7 +2,8 @@
 use Rattle.std.proofs.Common.{◌≡◌, ℕ, Bool, true, false, nat_eq, arith, List, Contains, slice_get, Option, Some, None, refl, sym, ap, ◌∙◌, subst, unwrap_or, [], ◌∷◌}
 use Rattle.std.proofs.lemmas.Bool.{false≢true}
 use Rattle.std.proofs.lemmas.Bool.Decides.{nat_tests}
-use Rattle.life_elab_laws.proofs.FormKinds.{is_owner_of_values, is_owner_type, owns_elements, is_element, is_plain_type}
+use Rattle.life_elab_laws.proofs.ObjectTypes.{is_owner_of_values, is_element}
+use Rattle.life_elab_laws.proofs.TypeKinds.{is_owner_type, owns_elements, is_plain_type}
 use Rattle.life_types.specs.TypeTests.{is_value}
 use Rattle.life_types.specs.Types.{Types}
 use Rattle.life_types.specs.declared.place.Place.{Place}
@@ -46,7 +47,7 @@ use Rattle.life_elab_laws.proofs.Parts.{Makes, and_part, leaf_part, seen_part, t
 use Rattle.life_elab_laws.proofs.PointerForms.{own_typed, placed_operand, pointer_whole}
 use Rattle.life_elab_laws.proofs.Setting.{Setting}
 use Rattle.life_elab_laws.proofs.TypedKinds.{a_number as is_number_kind, owner_named, place_same, value_place, walker_named}
-use Rattle.life_elab_laws.proofs.Values.{by_values}
+use Rattle.life_elab_laws.proofs.Values.{by_owners, by_values}
 use Rattle.life_elab_laws.proofs.VariablePlaces.{a_raw, a_reference, a_struct, a_unique, a_value, a_view, a_walker, an_alias, an_owner, IsVariableType, kind_is, owner_kind, place_is, stands_later, variable_there, variable_type, walker_is, a_struct_alias}
 use Rattle.life_well_typed.specs.Given.{is_number}
 use Rattle.life_elab_laws.proofs.Targets.{owner_target, target_no_void}
@@ -236,9 +237,7 @@ module _ (a : Around) (visible : List ℕ) (types : Types) (texts : ℕ) (fs : L
       ∙ owned is.ty is.owner
     where
       owned : (t : Ty) → is_owner_of_values a.program.types t ≡ true → base_by t (uses a base) s ≡ mapped Owner (operand (uses a base) s)
-      owned ty.Text o = refl
-      owned (ty.Vector item) o = refl
-      owned _ o = absurd (false≢true o)
+      owned = by_owners a.program.types _ refl (λ item. refl)
 
   pub owner_asked : (base : Form) → (is : IsOwner base) → IsAsked base (element_type a.program.types is.ty) is.constant
   owner_asked base is = record {

@@ -1,6 +1,6 @@
 -- What is hidden in a loop over a range: the range and both iterators, which are there before the first turn.
 use Rattle.std.proofs.Common.{◌≡◌, ◌<◌, ℕ, Bool, true, List, [], ◌∷◌, length, length-append, Option, Some, None, refl, sym, subst, arith}
-use Rattle.life_elab_laws.proofs.FormKinds.{is_element}
+use Rattle.life_elab_laws.proofs.ObjectTypes.{is_element}
 use Rattle.life_types.specs.Pointees.{ty_of}
 use Rattle.life_types.specs.Types.{Types}
 use Rattle.life_types.specs.declared.place.Place.{Place}

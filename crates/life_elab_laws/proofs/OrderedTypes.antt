@@ -1,14 +1,18 @@
 -- A table stays ordered as the types of registers are added: each type comes behind its parts and stands once, and no struct comes in.
-use Rattle.std.proofs.Common.{◌≡◌, ◌≤◌, ◌⊎◌, inl, inr, ℕ, zero, suc, Bool, true, false, List, [], ◌∷◌, ◌++◌, length, slice_get, Some, if◌then◌else◌, refl, sym, ap, ◌∙◌, subst, arith, length-append, unwrap_or}
+use Rattle.std.proofs.Common.{◌≡◌, ◌≤◌, ◌⊎◌, inl, inr, ℕ, zero, suc, Bool, true, false, List, [], ◌∷◌, ◌++◌, length, slice_get, Option, None, Some, if◌then◌else◌, refl, sym, ap, ◌∙◌, subst, arith, length-append, unwrap_or}
 use Rattle.std.specs.List.{list_any}
 use Rattle.std.proofs.lemmas.Option.{none-some, same_Some}
-use Rattle.life_types.specs.Trees.{AllBelow, HasPartsBelow, IsOrdered, members_at}
+use Rattle.life_types.specs.Trees.{AllBelow, HasPartsBelow, IsOrdered, TypeTree, members_at, tree_at}
 use Rattle.life_types.specs.Types.{Types, HasEachOnce, with_type}
 use Rattle.life_types.specs.contracts.ty.TyPartialEq.TheImpl.{ghosts as compared}
 use Rattle.life_types.specs.declared.ty.Ty.{Ty}
 use Rattle.life_types.specs.declared.ty.Ty.TheVariants as ty
 use Rattle.life_types.specs.declared.ty.TyId.{TyId}
 use Rattle.life_well_typed.proofs.Once.{once_with}
+use Rattle.std.proofs.lemmas.Bool.{and_from, and_parts}
+use Rattle.life_types.proofs.TreeLemmas.{Grows, tree_stays}
+use Rattle.life_elab_laws.proofs.ObjectTypes.{have_trees}
+use Rattle.life_elab_laws.proofs.Fronts.{IsFront}
 
 pub record KeepsOrder (few more : Types) : Type 0 where
   pub structs : more.structs ≡ few.structs
@@ -24,6 +28,24 @@ order_then a b c first second = record { structs = second.structs ∙ first.stru
 -- structs have the members that they had
 pub members_later : (few more : Types) → KeepsOrder few more → (number : ℕ) → members_at more number ≡ members_at few number
 members_later few more order number = ap (λ (ss : List (List TyId)). unwrap_or (slice_get ss number) []) order.structs
+
+-- the trees of their members are what they were
+pub trees_later : (few more : Types) → IsFront few.types more.types → KeepsOrder few more → (test : TypeTree → Bool) → IsOrdered few → (number : ℕ) → have_trees test few (members_at few number) ≡ true → have_trees test more (members_at more number) ≡ true
+trees_later few more front order test ordered number have =
+    subst (λ (ids : List TyId). have_trees test more ids ≡ true) (sym (members_later few more order number)) (go (slice_get few.structs number) refl have)
+  where
+    grows : Grows few more
+    grows = record { types = front; structs = λ n ids at. ap (λ (structs : List (List TyId)). slice_get structs n) order.structs ∙ at }
+
+    each : (ids : List TyId) → AllBelow (length few.types) ids → have_trees test few ids ≡ true → have_trees test more ids ≡ true
+    each [] below have = refl
+    each (id ∷ ids) below have =
+        let parts = and_parts (test (tree_at few id)) (have_trees test few ids) have in
+        and_from (test (tree_at more id)) (have_trees test more ids) (ap test (tree_stays few more ordered grows id below.0) ∙ parts.0) (each ids below.1 parts.1)
+
+    go : (o : Option (List TyId)) → slice_get few.structs number ≡ o → have_trees test few (unwrap_or o []) ≡ true → have_trees test more (unwrap_or o []) ≡ true
+    go None at have = refl
+    go (Some ids) at have = each ids (ordered.members number ids at) have
 
 -- ---- one more type
 

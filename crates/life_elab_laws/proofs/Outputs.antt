@@ -1,7 +1,9 @@
 -- Output: a number, what a view sees, or the end of a line, which is the last text.
 use Rattle.std.proofs.Common.{◌≡◌, inl, inr, ℕ, Bool, true, false, cond, List, [], ◌∷◌, length, nat_lt, None, refl, sym, ap, ◌∙◌, subst}
 use Rattle.std.proofs.lemmas.Bool.{and_from, false≢true}
-use Rattle.life_elab_laws.proofs.FormKinds.{is_owner_of_values, is_read_expression, is_read_item, is_read_owner}
+use Rattle.life_elab_laws.proofs.FormKinds.{is_read_expression, is_read_owner}
+use Rattle.life_elab_laws.proofs.ObjectTypes.{is_owner_of_values}
+use Rattle.life_elab_laws.proofs.StatementKinds.{is_read_item}
 use Rattle.life_types.specs.TypeTests.{is_value, is_view}
 use Rattle.life_types.specs.Types.{Types}
 use Rattle.life_types.specs.declared.place.Place.{Place}
@@ -49,6 +51,7 @@ use Rattle.life_elab_laws.proofs.SeenForms.{Shows, a_shown, string_shows, viewed
 use Rattle.life_elab_laws.proofs.ObjectForms.{IsOwner}
 use Rattle.life_elab_laws.proofs.ElementForms.{either_read}
 use Rattle.life_typed.specs.Statements.{is_printed}
+use Rattle.life_elab_laws.proofs.Values.{by_owners}
 
 module _ (a : Around) (visible : List ℕ) (types : Types) (texts : ℕ) (fs : List Function) (f : Function) (setting : Setting a types fs f) where
   -- a view in a register
@@ -124,9 +127,7 @@ module _ (a : Around) (visible : List ℕ) (types : Types) (texts : ℕ) (fs : L
       seen_part e behind s (string_shows a visible types texts fs f setting (whole_form e) is text) (ap (λ (x : ExprType). is_value (own_type x)) is.is ∙ ap is_value text) stands
     where
       go : (t : Ty) → is_owner_of_values a.program.types t ≡ true → is_printed (Of t) ≡ true → t ≡ ty.Text
-      go ty.Text o p = refl
-      go (ty.Vector element) o p = absurd (false≢true p)
-      go _ o p = absurd (false≢true o)
+      go = by_owners a.program.types _ (λ p. refl) (λ element p. absurd (false≢true p))
 
   pub item_part : nat_lt (end_line a) texts ≡ true → (i : ItemForm) (behind : Place) (s : State) → is_read_item texts a.program i ≡ true → IsItem a.program a.function.locals a.function.result visible i → Stands a visible s → Acts a visible types texts fs f setting s (item a i behind s)
   item_part lines (printed e) behind s b h stands =

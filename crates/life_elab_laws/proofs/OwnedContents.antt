@@ -1,6 +1,6 @@
 -- What `std::make_unique` makes a unique_ptr own, whatever that is: what stands there at first or a number, which a part finds, or an owner or a struct, which is given over.
 use Rattle.std.proofs.Common.{◌≡◌, ℕ, true, false, List, [], ◌∷◌, refl, sym, ap, ◌∙◌, subst}
-use Rattle.life_elab_laws.proofs.FormKinds.{is_element}
+use Rattle.life_elab_laws.proofs.ObjectTypes.{is_element}
 use Rattle.life_types.specs.Pointees.{ty_of}
 use Rattle.life_types.specs.TypeTests.{is_value}
 use Rattle.life_types.specs.Types.{Types}

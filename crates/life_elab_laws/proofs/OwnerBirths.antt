@@ -2,7 +2,7 @@
 use Rattle.std.proofs.Common.{◌≡◌, ◌<◌, ◌++◌, ℕ, Bool, true, List, [], ◌∷◌, None, length, slice_get, slice_set, Some, refl, sym, ap, ◌∙◌, subst, arith, append_assoc}
 use Rattle.std.proofs.lemmas.Bool.{and_parts}
 use Rattle.std.specs.List.{list_all}
-use Rattle.life_elab_laws.proofs.FormKinds.{is_admitted_variable}
+use Rattle.life_elab_laws.proofs.ObjectTypes.{is_admitted_variable}
 use Rattle.life_types.specs.Types.{Types}
 use Rattle.life_types.specs.declared.place.Place.{Place}
 use Rattle.life_typed.specs.declared.typed_program.TypedLocal.{TypedLocal}

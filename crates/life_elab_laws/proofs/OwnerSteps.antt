@@ -1,7 +1,7 @@
 -- Copies of owners at a place, and views of the whole of a string.
 use Rattle.std.proofs.Common.{◌≡◌, ◌++◌, ℕ, Bool, true, false, not, if◌then◌else◌, List, [], None, Some, Option, refl, sym, ap, ◌∙◌, subst, slice_get, append_assoc, ◌∷◌}
 use Rattle.std.proofs.lemmas.Bool.{and_from, false≢true}
-use Rattle.life_elab_laws.proofs.FormKinds.{is_owner_of_values}
+use Rattle.life_elab_laws.proofs.ObjectTypes.{is_owner_of_values}
 use Rattle.life_types.specs.Pointees.{or_void}
 use Rattle.life_types.specs.Trees.{holds_unique, tree_at, tree_of, tree_within}
 use Rattle.life_types.specs.TypeTests.{is_pointer}
@@ -35,18 +35,15 @@ use Rattle.life_elab_laws.proofs.Shaping.{IsFineStep}
 use Rattle.life_elab_laws.proofs.Types.{same_type}
 use Rattle.life_elab_laws.proofs.ViewSteps.{view_taker}
 use Rattle.life_elab_laws.proofs.Filling.{only_uses}
+use Rattle.life_elab_laws.proofs.Values.{by_owners}
 
 -- ---- the types of owners
 
 pub owner_same : (table : Types) (t : Ty) → is_owner_of_values table t ≡ true → same t t ≡ true
-owner_same table ty.Text o = same_type ty.Text
-owner_same table (ty.Vector item) o = same_type (ty.Vector item)
-owner_same table _ o = absurd (false≢true o)
+owner_same table = by_owners table _ (same_type ty.Text) (λ item. same_type (ty.Vector item))
 
 owner_no_pointer : (table : Types) (t : Ty) → is_owner_of_values table t ≡ true → not (is_pointer t) ≡ true
-owner_no_pointer table ty.Text o = refl
-owner_no_pointer table (ty.Vector item) o = refl
-owner_no_pointer table _ o = absurd (false≢true o)
+owner_no_pointer table = by_owners table _ refl (λ item. refl)
 
 -- none holds a unique_ptr
 no_unique : (table types : Types) (b : Bool) (id : Option TyId) → is_owner_of_values table (if b then ty_if types id else ty.Void) ≡ true → holds_unique (tree_if types id) ≡ false

@@ -10,7 +10,7 @@ use Rattle.life_types.specs.Types.{Types}
 use Rattle.life_types.specs.declared.ty.Ty.{Ty}
 use Rattle.life_types.specs.declared.ty.Ty.TheVariants as ty
 use Rattle.life_types.specs.declared.ty.TyId.{TyId}
-use Rattle.life_elab_laws.proofs.FormKinds.{are_plain, is_plain_struct}
+use Rattle.life_elab_laws.proofs.ObjectTypes.{are_plain, is_plain_struct}
 use Rattle.life_typed.specs.BaseTypes.{type_at}
 use Rattle.life_elab_laws.proofs.Locations.{is_location}
 

@@ -1,7 +1,7 @@
 -- Variables, calls, pointers, places behind them, literals, and what is seen: how each is written.
 use Rattle.std.proofs.Common.{◌≡◌, ◌⊎◌, inl, inr, ℕ, Bool, true, List, [], ◌∷◌, Contains, length, nat_lt, slice_get, Option, Some, None, refl, sym, ap, ◌∙◌, subst, unwrap_or}
 use Rattle.std.proofs.lemmas.Bool.{and_from, false≢true}
-use Rattle.life_elab_laws.proofs.FormKinds.{is_plain_type}
+use Rattle.life_elab_laws.proofs.TypeKinds.{is_plain_type}
 use Rattle.life_types.specs.Pointees.{or_void, ty_of}
 use Rattle.life_types.specs.TypeTests.{is_raw, is_value}
 use Rattle.life_types.specs.Types.{Types}

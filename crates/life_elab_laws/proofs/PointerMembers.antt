@@ -1,7 +1,7 @@
 -- What a pointer that is a member is given by what is listed for it: another pointer, nothing, a literal, the whole of a string or a vector.
 use Rattle.std.proofs.Common.{◌≡◌, ℕ, Bool, true, List, Some, refl, subst}
 use Rattle.std.proofs.lemmas.Bool.{and_from, false≢true}
-use Rattle.life_elab_laws.proofs.FormKinds.{is_target, is_walker_of_values}
+use Rattle.life_elab_laws.proofs.ObjectTypes.{is_target, is_walker_of_values}
 use Rattle.life_types.specs.Pointees.{ty_of}
 use Rattle.life_types.specs.Types.{Types, class}
 use Rattle.life_types.specs.declared.ty.Class.TheVariants as classes

@@ -18,7 +18,8 @@ use Rattle.life_elab.specs.Over.{over_each, over_functions, over_structs, too_ma
 use Rattle.life_elab.specs.ProgramForms.{translated}
 use Rattle.life_elab.specs.Programs.{texts_of}
 use Rattle.life_elab_laws.proofs.AdmittedTables.{structs_admitted}
-use Rattle.life_elab_laws.proofs.FormKinds.{are_read_functions, is_read_form}
+use Rattle.life_elab_laws.proofs.FormKinds.{is_read_form}
+use Rattle.life_elab_laws.proofs.StatementKinds.{are_read_functions}
 use Rattle.life_elab_laws.proofs.PassedNone.{first_none}
 use Rattle.life_elab_laws.proofs.Programs.{program_breaks, program_checked, program_short}
 use Rattle.life_elab_laws.proofs.StructTypes.{IsAdmittedTable, structs_told}

@@ -1,7 +1,7 @@
 -- What a vector is given: a number is pushed as it is, and an owner or a struct is built and given over.
 use Rattle.std.proofs.Common.{◌≡◌, ◌⊎◌, inl, inr, ℕ, Bool, true, false, cond, List, [], ◌∷◌, None, Some, refl, sym, ap, ◌∙◌, subst}
 use Rattle.std.proofs.lemmas.Bool.{false≢true}
-use Rattle.life_elab_laws.proofs.FormKinds.{is_element, is_owner_of_values}
+use Rattle.life_elab_laws.proofs.ObjectTypes.{is_element, is_owner_of_values}
 use Rattle.life_types.specs.Pointees.{ty_of}
 use Rattle.life_types.specs.TypeTests.{is_value}
 use Rattle.life_types.specs.Types.{Types}
@@ -50,7 +50,7 @@ use Rattle.life_elab_laws.proofs.AdmittedTypes.{IsTabled, struct_tabled}
 use Rattle.life_elab_laws.proofs.Setting.{Setting}
 use Rattle.life_elab_laws.proofs.TakenOwners.{owner_plain}
 use Rattle.life_elab_laws.proofs.TypedKinds.{HasKind, a_null, a_number as is_number_kind, a_pointer as is_pointer_kind, a_text, a_view, no_value}
-use Rattle.life_elab_laws.proofs.Values.{by_values}
+use Rattle.life_elab_laws.proofs.Values.{by_owners, by_values}
 
 -- a struct is given a struct
 struct_fits : (types : Types) (number : ℕ) (u : Ty) (c : Category) → ((found : ℕ) → u ≡ ty.Struct found → ⊥) → fits_at_all (fits types (ty.Struct number) (Of u) c) ≡ true → ⊥
@@ -124,9 +124,7 @@ module _ (a : Around) (visible : List ℕ) (types : Types) (texts : ℕ) (fs : L
 
   -- an owner is built, and given over
   over_owner : (t : Ty) → is_owner_of_values a.program.types t ≡ true → (u : Uses) (behind : Place) (s : State) → given_over u t behind s ≡ (giving.given u t behind s >> λ rest r. rest (consumed u.place t) r)
-  over_owner ty.Text o u behind s = refl
-  over_owner (ty.Vector item) o u behind s = refl
-  over_owner _ o u behind s = absurd (false≢true o)
+  over_owner = by_owners a.program.types _ (λ u behind s. refl) (λ item u behind s. refl)
 
   pub owner_over : (e : Form) → IsGiving e → (t : Ty) → is_owner_of_values a.program.types t ≡ true → is_given_as a.program.types t (typed_in e) ≡ true → (behind : Place) (s : State) → Standing a visible types texts fs f setting s
       → (let v = given_over (uses a e) t behind s in HandingAlone types texts fs f (v.given ∷ []) s v (a_given types texts fs f t))

@@ -1,7 +1,7 @@
 -- The hidden range of a loop: a reference to an owner, or another view or span (ISO/IEC 14882:2017 [stmt.ranged]).
 use Rattle.std.proofs.Common.{◌≡◌, ℕ, Bool, true, not, List, [], ◌∷◌, ◌++◌, length, if◌then◌else◌, Option, Some, None, refl, sym, ap, ◌∙◌, subst}
 use Rattle.std.proofs.lemmas.Bool.{and_from, false≢true}
-use Rattle.life_elab_laws.proofs.FormKinds.{is_owner_of_values}
+use Rattle.life_elab_laws.proofs.ObjectTypes.{is_owner_of_values}
 use Rattle.life_types.specs.Pointees.{pointee, ty_of}
 use Rattle.life_types.specs.TypeTests.{is_constant, is_void}
 use Rattle.life_types.specs.Types.{Types}

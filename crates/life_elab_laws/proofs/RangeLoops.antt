@@ -1,6 +1,7 @@
 -- A loop over a range (ISO/IEC 14882:2017 [stmt.ranged]): what is hidden is there at each turn, in which the variable is given an element.
 use Rattle.std.proofs.Common.{◌≡◌, ◌<◌, ℕ, Bool, true, false, List, length, slice_get, Option, Some, sym, subst, arith}
-use Rattle.life_elab_laws.proofs.FormKinds.{is_element, is_admitted_variable, takes_element}
+use Rattle.life_elab_laws.proofs.ObjectTypes.{is_element, is_admitted_variable}
+use Rattle.life_elab_laws.proofs.TypeKinds.{takes_element}
 use Rattle.life_types.specs.Pointees.{ty_of}
 use Rattle.life_types.specs.Types.{Types}
 use Rattle.life_types.specs.declared.place.Place.{Place}

@@ -1,7 +1,7 @@
 -- The hidden range of a loop, by what that goes over: an owner that is named, a view or a span.
 use Rattle.std.proofs.Common.{◌≡◌, ℕ, Bool, true, List, [], ◌++◌, Option, Some, None, refl, sym, ap, ◌∙◌, subst}
 use Rattle.std.proofs.lemmas.Bool.{and_from, false≢true}
-use Rattle.life_elab_laws.proofs.FormKinds.{is_element, is_owner_of_values, is_target, is_walker_of_values}
+use Rattle.life_elab_laws.proofs.ObjectTypes.{is_element, is_owner_of_values, is_target, is_walker_of_values}
 use Rattle.life_types.specs.Pointees.{ty_of}
 use Rattle.life_types.specs.TypeTests.{is_constant as is_constant_type}
 use Rattle.life_types.specs.Types.{Types}
@@ -52,6 +52,7 @@ use Rattle.life_elab_laws.proofs.WalkerSteps.{keeps_itself}
 use Rattle.life_elab_laws.proofs.WrittenLocals.{fits_hidden, there_later}
 use Rattle.life_elab_laws.proofs.Shaped.{element_further, owner_later}
 use Rattle.life_elab_laws.proofs.Targets.{owner_target, target_type}
+use Rattle.life_elab_laws.proofs.Values.{by_owners}
 
 -- the elements of an owner
 abbrev pub element_number : Ty → TyId
@@ -113,9 +114,7 @@ module _ (a : Around) (visible : List ℕ) (types : Types) (texts : ℕ) (fs : L
   owner_range_element constant _ o = absurd (false≢true o)
 
   pub number_here : (t : Ty) → is_owner_of_values a.program.types t ≡ true → type_at a.program.types (element_number t) ≡ element_type a.program.types t
-  number_here ty.Text o = setting.chars
-  number_here (ty.Vector item) o = refl
-  number_here _ o = absurd (false≢true o)
+  number_here = by_owners a.program.types _ setting.chars (λ item. refl)
 
   pub number_element : (t : Ty) → is_owner_of_values a.program.types t ≡ true → is_element a.program.types (type_at a.program.types (element_number t)) ≡ true
   number_element t o = ap (is_element a.program.types) (number_here t o) ∙ element_held a.program.types t o

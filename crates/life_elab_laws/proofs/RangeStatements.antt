@@ -1,7 +1,10 @@
 -- Loops over ranges as statements: over an owner that is named, a view or a span.
 use Rattle.std.proofs.Common.{◌≡◌, ◌&&◌, ◌||◌, inl, inr, ℕ, Bool, true, List, slice_get, Option, Some, None, refl, sym, ap, ◌∙◌, subst}
 use Rattle.std.proofs.lemmas.Bool.{and_parts, false≢true, or_cases}
-use Rattle.life_elab_laws.proofs.FormKinds.{is_element, is_owner_type, is_read_expression, is_read_owner, is_read_owning, is_read_range, is_read_walker, is_view_type, is_walker_of_values, takes_elements, takes_elements_if}
+use Rattle.life_elab_laws.proofs.FormKinds.{is_read_expression, is_read_owner, is_read_owning, is_read_walker}
+use Rattle.life_elab_laws.proofs.ObjectTypes.{is_element, is_walker_of_values}
+use Rattle.life_elab_laws.proofs.StatementKinds.{is_read_range}
+use Rattle.life_elab_laws.proofs.TypeKinds.{is_owner_type, is_view_type, takes_elements, takes_elements_if}
 use Rattle.life_types.specs.Types.{Types}
 use Rattle.life_types.specs.declared.place.Place.{Place}
 use Rattle.life_types.specs.declared.ty.Ty.{Ty}

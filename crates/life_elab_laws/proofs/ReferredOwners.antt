@@ -1,7 +1,8 @@
 -- Owners behind pointers and references: what a raw pointer points to, what a call that gives a reference answers, and their addresses.
 use Rattle.std.proofs.Common.{◌≡◌, ℕ, Bool, true, false, List, Ok, Option, Some, None, refl, sym, ap, ◌∙◌, subst, slice_get, inl}
 use Rattle.std.proofs.lemmas.Bool.{false≢true}
-use Rattle.life_elab_laws.proofs.FormKinds.{is_owner_of_values, is_owner_type, owns_elements, is_walker, is_walker_of_values, is_walker_type}
+use Rattle.life_elab_laws.proofs.ObjectTypes.{is_owner_of_values, is_walker_of_values}
+use Rattle.life_elab_laws.proofs.TypeKinds.{is_owner_type, owns_elements, is_walker_type}
 use Rattle.life_types.specs.TypeTests.{is_value}
 use Rattle.life_types.specs.Types.{Types}
 use Rattle.life_types.specs.declared.place.Place.{Place}
@@ -37,7 +38,7 @@ use Rattle.life_elab_laws.proofs.Targets.{IsTarget, owner_target, target_is, to_
 use Rattle.life_elab_laws.proofs.TypedKinds.{value_place}
 use Rattle.life_elab_laws.proofs.Values.{by_values}
 use Rattle.life_elab_laws.proofs.VariablePlaces.{walker_is}
-use Rattle.life_elab_laws.proofs.WalkerForms.{IsWalkerAt}
+use Rattle.life_elab_laws.proofs.WalkerForms.{IsWalkerAt, owner_no_walker, value_no_walker}
 use Rattle.life_elab_laws.proofs.FormedFits.{walker_itself}
 use Rattle.life_elab_laws.proofs.PointedCalls.{gives_called}
 use Rattle.life_elab_laws.proofs.CalledOwners.{call_builds}
@@ -177,27 +178,17 @@ module _ (a : Around) (visible : List ℕ) (types : Types) (texts : ℕ) (fs : L
   -- no other answer is one
   walker_answered : (result : Ty) (t : ExprType) (k : Category) → IsAnswered a.program.types result t k → is_walker_type t ≡ true → (is_walker_of_values a.program.types result ≡ true) × (t ≡ Of result) × (k ≡ category.Value)
   walker_answered result t k (answers_nothing void own held) n = absurd (false≢true (sym (ap is_walker_type own) ∙ n))
-  walker_answered result t k (answers_value v own held) n = absurd (false≢true (sym (by_values (λ t. is_walker t ≡ false) refl refl refl refl refl result v) ∙ sym (ap is_walker_type own) ∙ n))
+  walker_answered result t k (answers_value v own held) n = absurd (false≢true (sym (value_no_walker result v) ∙ sym (ap is_walker_type own) ∙ n))
   walker_answered result t k (answers_raw target constant raw w own held) n = absurd (false≢true (sym (ap is_walker_type own) ∙ n))
   walker_answered result t k (answers_view view own held) n = absurd (false≢true (sym (ap is_walker_type own) ∙ n))
   walker_answered result t k (answers_walker w own held) n = (w, own, held)
   walker_answered result t k (answers_whole number whole own held) n = absurd (false≢true (sym (ap is_walker_type own) ∙ n))
   walker_answered result t k (answers_unique target unique w own held) n = absurd (false≢true (sym (ap is_walker_type own) ∙ n))
   walker_answered result t k (answers_struct target constant number refers structure pointless own held) n = absurd (false≢true (sym (ap is_walker_type own) ∙ n))
-  walker_answered result t k (answers_made o own held) n = absurd (false≢true (sym (made_alone result o) ∙ sym (ap is_walker_type own) ∙ n))
-    where
-      made_alone : (t : Ty) → is_owner_of_values a.program.types t ≡ true → is_walker t ≡ false
-      made_alone ty.Text o = refl
-      made_alone (ty.Vector item) o = refl
-      made_alone _ o = absurd (false≢true o)
+  walker_answered result t k (answers_made o own held) n = absurd (false≢true (sym (owner_no_walker a.program.types result o) ∙ sym (ap is_walker_type own) ∙ n))
   walker_answered result t k (answers_place target constant refers w own held) n =
-      absurd (false≢true (sym (by_values (λ t. is_walker t ≡ false) refl refl refl refl refl (type_at a.program.types target) w) ∙ sym (ap is_walker_type own) ∙ n))
-  walker_answered result t k (answers_owner target constant refers o own held) n = absurd (false≢true (sym (owner_alone (type_at a.program.types target) o) ∙ sym (ap is_walker_type own) ∙ n))
-    where
-      owner_alone : (t : Ty) → is_owner_of_values a.program.types t ≡ true → is_walker t ≡ false
-      owner_alone ty.Text o = refl
-      owner_alone (ty.Vector item) o = refl
-      owner_alone _ o = absurd (false≢true o)
+      absurd (false≢true (sym (value_no_walker (type_at a.program.types target) w) ∙ sym (ap is_walker_type own) ∙ n))
+  walker_answered result t k (answers_owner target constant refers o own held) n = absurd (false≢true (sym (owner_no_walker a.program.types (type_at a.program.types target) o) ∙ sym (ap is_walker_type own) ∙ n))
 
   -- .. and it is a value
   pub walker_value : (g : ℕ) (e : Typed) → is_walker_type e.ty ≡ true → HasResult a.program.types (slice_get a.program.functions g) e → e.category ≡ category.Value

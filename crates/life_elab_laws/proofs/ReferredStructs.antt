@@ -1,7 +1,8 @@
 -- Structs behind pointers and references: what a raw pointer points to, what a call that gives a reference answers, and their addresses.
 use Rattle.std.proofs.Common.{◌≡◌, ◌⊎◌, inl, inr, ℕ, Bool, true, List, Ok, Option, Some, None, refl, sym, ap, ◌∙◌, subst, slice_get}
 use Rattle.std.proofs.lemmas.Bool.{false≢true}
-use Rattle.life_elab_laws.proofs.FormKinds.{is_struct, is_struct_type, is_plain_struct}
+use Rattle.life_elab_laws.proofs.ObjectTypes.{is_struct, is_plain_struct}
+use Rattle.life_elab_laws.proofs.TypeKinds.{is_struct_type}
 use Rattle.life_types.specs.Types.{Types}
 use Rattle.life_types.specs.declared.place.Place.{Place}
 use Rattle.life_types.specs.declared.ty.Ty.{Ty}

@@ -1,7 +1,8 @@
 -- What an owner that is a value is assigned by: it is moved from a temporary, but for one that is moved out of a variable, which needs none.
 use Rattle.std.proofs.Common.{◌≡◌, ◌⊎◌, inl, inr, ℕ, true, List, Contains, Option, Some, None, refl, sym, ap, ◌∙◌, subst, false}
 use Rattle.std.proofs.lemmas.Bool.{and_parts, false≢true}
-use Rattle.life_elab_laws.proofs.FormKinds.{is_edge, is_owner_type, is_read_form, is_read_owner, is_plain_type}
+use Rattle.life_elab_laws.proofs.FormKinds.{is_edge, is_read_form, is_read_owner}
+use Rattle.life_elab_laws.proofs.TypeKinds.{is_owner_type, is_plain_type}
 use Rattle.life_types.specs.TypeTests.{is_text}
 use Rattle.life_types.specs.Types.{Types}
 use Rattle.life_types.specs.declared.place.Place.{Place}

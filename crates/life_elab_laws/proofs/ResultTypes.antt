@@ -6,7 +6,7 @@ use Rattle.life_types.specs.Types.{Types}
 use Rattle.life_types.specs.declared.ty.Ty.{Ty}
 use Rattle.life_types.specs.declared.ty.Ty.TheVariants as ty
 use Rattle.life_types.specs.declared.ty.TyId.{TyId}
-use Rattle.life_elab_laws.proofs.FormKinds.{is_element, is_owner_of_values, is_owning, is_pointing, is_target, is_walker_of_values, is_plain_struct}
+use Rattle.life_elab_laws.proofs.ObjectTypes.{is_element, is_owner_of_values, is_owning, is_pointing, is_target, is_walker_of_values, is_plain_struct}
 use Rattle.life_typed.specs.BaseTypes.{type_at}
 use Rattle.life_type_stmt.specs.Bodies.{return_fault}
 use Rattle.life_elab_laws.proofs.Targets.{IsTarget, target_is, to_owner, to_struct, to_value, or_false}

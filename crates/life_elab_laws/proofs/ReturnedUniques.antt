@@ -10,7 +10,9 @@ use Rattle.life_types.specs.declared.ty.Class.TheVariants as classes
 use Rattle.life_types.specs.declared.ty.Ty.{Ty}
 use Rattle.life_types.specs.declared.ty.Ty.TheVariants as ty
 use Rattle.life_types.specs.declared.ty.TyId.{TyId}
-use Rattle.life_elab_laws.proofs.FormKinds.{is_element, is_read_fresh, is_unique_of_element, is_unique_type}
+use Rattle.life_elab_laws.proofs.FormKinds.{is_read_fresh}
+use Rattle.life_elab_laws.proofs.ObjectTypes.{is_element, is_unique_of_element}
+use Rattle.life_elab_laws.proofs.TypeKinds.{is_unique_type}
 use Rattle.life_typed.specs.BaseTypes.{type_at}
 use Rattle.life_typed.specs.Conversions.{fits}
 use Rattle.life_typed.specs.TypedForm.{Form, Typed, call, local, make_unique, move, paren, typed, whole as whole_form}

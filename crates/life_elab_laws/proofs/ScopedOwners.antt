@@ -2,7 +2,7 @@
 use Rattle.std.proofs.Common.{◌≡◌, ◌<◌, ◌⊎◌, inl, inr, ℕ, true, false, List, [], ◌∷◌, ◌++◌, Contains, drop, length, reverse, slice_get, slice_set, take, Some, None, refl, sym, ap, ◌∙◌, subst, arith, append_assoc, length-append}
 use Rattle.std.proofs.lemmas.List.Elements.{Contains-push_cases}
 use Rattle.std.proofs.lemmas.Option.{slice_get_within}
-use Rattle.life_elab_laws.proofs.FormKinds.{is_owner_of_values}
+use Rattle.life_elab_laws.proofs.ObjectTypes.{is_owner_of_values}
 use Rattle.life_types.specs.Types.{Types}
 use Rattle.life_types.specs.declared.place.Place.{Place}
 use Rattle.life_types.specs.declared.ty.Ty.{Ty}
@@ -19,7 +19,7 @@ use Rattle.life_writer.specs.Around.{Around}
 use Rattle.life_writer.specs.Uses.{Remaining}
 use Rattle.life_writer.specs.Variables.{end_pending}
 use Rattle.life_writer.specs.Writing.{Gives, State, gives, with_code}
-use Rattle.life_elab_laws.proofs.Among.{Among, all_among, among_contains, among_drop, among_left, among_or, among_reverse, among_right, among_take, apart_reverse, ascend_apart, ascend_drop, reverse_among}
+use Rattle.life_elab_laws.proofs.Among.{Among, all_among, among_contains, among_left, among_or, among_right, among_take, apart_reverse, ascend_apart, ascend_drop}
 use Rattle.life_elab_laws.proofs.BoundVariables.{adds_temporary, begins_before_it, follows_temporary, kept_none, kept_place, temporary_lives, temporary_local, temporary_written, with_temporary}
 use Rattle.life_elab_laws.proofs.Conditions.{Spares}
 use Rattle.life_elab_laws.proofs.Emitting.{keeps_set}
@@ -38,6 +38,7 @@ use Rattle.life_elab_laws.proofs.Making.{Alive, IsOpen, opened_later}
 use Rattle.life_elab_laws.proofs.Opens.{Opening, Opens}
 use Rattle.life_elab_laws.proofs.OrderedTypes.{HasPartsIn, order_then, type_ordered}
 use Rattle.life_elab_laws.proofs.Parts.{Goes, Part, Runs, gives_part, keep_part, then_part, under_part}
+use Rattle.life_elab_laws.proofs.PendingEnds.{ends_pending, none_kept, pending_ends}
 use Rattle.life_elab_laws.proofs.PendingTemporaries.{ArePending, temporary_later}
 use Rattle.life_elab_laws.proofs.Setting.{Setting}
 use Rattle.life_elab_laws.proofs.Shaped.{is_passing, owner_later}
@@ -150,23 +151,11 @@ module _ (a : Around) (types : Types) (texts : ℕ) (fs : List Function) (f : Fu
     abbrev n : ℕ
     n = length s.pending
 
-    no_more : n ≡ 0
-    no_more = ap length h.pending
-
-    none_left : (xs : List ℕ) → take n xs ≡ []
-    none_left xs = ap (λ (k : ℕ). take k xs) no_more
-
     abbrev over : List ℕ
     over = reverse (drop n last.state.pending)
 
-    pending_over : (y : ℕ) → Among y last.state.pending → Among y over
-    pending_over y m = among_reverse (drop n last.state.pending) y (subst (λ (k : ℕ). Among y (drop k last.state.pending)) (sym no_more) m)
-
-    over_pending : (y : ℕ) → Among y over → Among y last.state.pending
-    over_pending y m = among_drop n last.state.pending y (reverse_among (drop n last.state.pending) y m)
-
     same_pending : take n last.state.pending ≡ take n w.state.pending
-    same_pending = none_left last.state.pending ∙ sym (none_left w.state.pending)
+    same_pending = none_kept s.pending last.state.pending h.pending ∙ sym (none_kept s.pending w.state.pending h.pending)
 
     e : IsEnded types texts fs f over closing last.state
     e = ended types texts fs f over closing last.state
@@ -227,7 +216,7 @@ module _ (a : Around) (types : Types) (texts : ℕ) (fs : List Function) (f : Fu
 
       ends_fine : IsFine types texts fs f e.code
       ends_fine =
-          e.fine (all_among (ends_here types texts fs f) over (λ z m. temporary_ends types texts fs f (first_own a) setting.own z (temporary_later _ last.state.locals f.locals last.state.types.types types.types z b.locals b.table (pends.each z (over_pending z m)))))
+          e.fine (all_among (ends_here types texts fs f) over (λ z m. temporary_ends types texts fs f (first_own a) setting.own z (temporary_later _ last.state.locals f.locals last.state.types.types types.types z b.locals b.table (pends.each z (ends_pending s.pending last.state.pending z m)))))
 
       all_fine : IsFine types texts fs f all_code
       all_fine =
@@ -279,7 +268,7 @@ module _ (a : Around) (types : Types) (texts : ℕ) (fs : List Function) (f : Fu
         ready : can_leave r.after over ≡ true
         ready =
             ends_there over r.after (apart_reverse (drop n last.state.pending) (ascend_apart 0 (drop n last.state.pending) (ascend_drop n 0 last.state.pending pends.ascend)))
-            (λ z m. r.alive.pending z (over_pending z m))
+            (λ z m. r.alive.pending z (ends_pending s.pending last.state.pending z m))
 
         falls : Falls types f all_code k final
         falls =
@@ -291,19 +280,19 @@ module _ (a : Around) (types : Types) (texts : ℕ) (fs : List Function) (f : Fu
         known_there : Knows f last.state.living final
         known_there = record {
           sized = blank_length over r.after ∙ r.alive.sized;
-          alive = λ z m. let c = among_contains last.state.living z m in blank_beside over r.after z (λ p. pends.beside z (over_pending z p) c) ∙ r.alive.living z c;
+          alive = λ z m. let c = among_contains last.state.living z m in blank_beside over r.after z (λ p. pends.beside z (ends_pending s.pending last.state.pending z p) c) ∙ r.alive.living z c;
           blank = gone;
         }
           where
             gone : (z : ℕ) (q : Local) → slice_get f.locals z ≡ Some q → is_passing q ≡ false → (Among z last.state.living → ⊥) → known_at final z ≡ known.Blank
             gone z q there lasts out = elim (among_or z over) [
               | inl m ↦ blank_in over r.after z (omega (arith, r.alive.sized, slice_get_within f.locals z q there)) m
-              | inr none ↦ blank_beside over r.after z none ∙ r.alive.blank z q there lasts out (λ m. none (pending_over z m))
+              | inr none ↦ blank_beside over r.after z none ∙ r.alive.blank z q there lasts out (λ m. none (pending_ends s.pending last.state.pending h.pending z m))
             ]
 
         -- what isn't a temporary is known as before its ends
         spares : Spares types texts fs f r.after final
-        spares z none = blank_beside over r.after z (λ m. none _ (temporary_later _ last.state.locals f.locals last.state.types.types types.types z b.locals b.table (pends.each z (over_pending z m))))
+        spares z none = blank_beside over r.after z (λ m. none _ (temporary_later _ last.state.locals f.locals last.state.types.types types.types z b.locals b.table (pends.each z (ends_pending s.pending last.state.pending z m))))
 
         all_apart : Apart f s finished (trees all_code)
         all_apart under =

@@ -8,7 +8,7 @@ use Rattle.life_types.specs.declared.ty.Class.TheVariants.{Value}
 use Rattle.life_types.specs.declared.ty.Ty.{Ty}
 use Rattle.life_types.specs.declared.ty.Ty.TheVariants as ty
 use Rattle.life_types.specs.declared.ty.TyId.{TyId}
-use Rattle.life_elab_laws.proofs.FormKinds.{are_admitted_variables, is_admitted_result}
+use Rattle.life_elab_laws.proofs.ObjectTypes.{are_admitted_variables, is_admitted_result}
 use Rattle.life_typed.specs.BaseTypes.{type_at}
 use Rattle.life_typed.specs.Ends.{ends}
 use Rattle.life_typed.specs.Programs.{FunctionForm}

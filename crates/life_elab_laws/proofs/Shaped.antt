@@ -7,7 +7,7 @@ use Rattle.life_types.specs.declared.ty.NameId.{NameId}
 use Rattle.life_types.specs.declared.ty.Ty.{Ty}
 use Rattle.life_types.specs.declared.ty.Ty.TheVariants as ty
 use Rattle.life_types.specs.declared.ty.TyId.{TyId}
-use Rattle.life_elab_laws.proofs.FormKinds.{is_element, is_owner_of_values, is_owner_within, is_pointing, is_admitted_variable, is_target, is_unique_of_element, is_walker_of_values, is_plain_struct}
+use Rattle.life_elab_laws.proofs.ObjectTypes.{is_element, is_owner_of_values, is_owner_within, is_pointing, is_admitted_variable, is_target, is_unique_of_element, is_walker_of_values, is_plain_struct}
 use Rattle.life_typed.specs.BaseTypes.{type_at}
 use Rattle.life_core.specs.declared.program.Local.{Local}
 use Rattle.life_elab_laws.proofs.Fronts.{IsFront, each_at, front_length}

@@ -6,7 +6,7 @@ use Rattle.life_types.specs.Types.{Types}
 use Rattle.life_types.specs.declared.ty.NameId.{NameId}
 use Rattle.life_types.specs.declared.ty.Ty.{Ty}
 use Rattle.life_types.specs.declared.ty.Ty.TheVariants as ty
-use Rattle.life_elab_laws.proofs.FormKinds.{are_admitted_variables, is_pointing, is_admitted_variable, is_struct}
+use Rattle.life_elab_laws.proofs.ObjectTypes.{are_admitted_variables, is_pointing, is_admitted_variable, is_struct}
 use Rattle.life_core.specs.Kinds.{is_object}
 use Rattle.life_core.specs.declared.program.Local.{Local}
 use Rattle.life_core.specs.declared.program.LocalKind.{LocalKind}

@@ -1,7 +1,7 @@
 -- The places of a function that is translated have eight steps at most, since no path of its locals' types has more, into an object or into what is behind a parameter.
 use Rattle.std.proofs.Common.{◌≡◌, length, ◌<◌, ◌≤◌, ◌+◌, inl, ℕ, zero, suc, Bool, true, false, ◌&&◌, ◌||◌, List, [], ◌∷◌, ◌++◌, if◌then◌else◌, flat_map, map, nat_lt, slice_get, Option, Some, None, is_none, not, refl, ap, ◌∙◌, subst, sym, unwrap_or, arith, inr}
 use Rattle.std.proofs.lemmas.Bool.Decides.{nat_tests}
-use Rattle.life_elab_laws.proofs.FormKinds.{is_admitted_variable, is_target}
+use Rattle.life_elab_laws.proofs.ObjectTypes.{is_admitted_variable, is_target}
 use Rattle.life_types.specs.Pointees.{or_void, ty_of}
 use Rattle.life_types.proofs.TreeLemmas.{tree_made}
 use Rattle.life_types.specs.Trees.{TypeTree, members_at, struct_of, tree_at, tree_of, tree_within}

@@ -1,7 +1,7 @@
 -- Assignments, steps, calls and output as statements.
 use Rattle.std.proofs.Common.{◌≡◌, ℕ, Bool, true, List, [], ◌∷◌, None, nat_lt, drop, length, reverse, ◌∙◌}
 use Rattle.std.proofs.lemmas.Bool.{and_parts}
-use Rattle.life_elab_laws.proofs.FormKinds.{are_read_items, is_read_item, is_read_simple}
+use Rattle.life_elab_laws.proofs.StatementKinds.{are_read_items, is_read_item, is_read_simple}
 use Rattle.life_types.specs.Types.{Types}
 use Rattle.life_types.specs.declared.place.Place.{Place}
 use Rattle.life_typed.specs.TypedStatement.{ItemForm, SimpleForm}

@@ -11,7 +11,10 @@ use Rattle.life_types.specs.declared.ty.Ty.{Ty}
 use Rattle.life_types.specs.declared.ty.Ty.TheVariants as ty
 use Rattle.life_tree.specs.declared.operator.CompoundOperator.{CompoundOperator}
 use Rattle.life_tree.specs.declared.operator.StepOperator.{StepOperator}
-use Rattle.life_elab_laws.proofs.FormKinds.{are_read_elements, is_owner_of_values, is_owner_type, is_read_any, is_read_either, is_read_expression, is_read_object, is_read_owner, is_read_owning, is_read_renewed, is_read_simple, is_read_struct, is_read_unique, is_read_walker, is_vector, is_vector_type, is_view_type, is_walker_of_values, is_read_fresh, are_read_arguments}
+use Rattle.life_elab_laws.proofs.FormKinds.{are_read_elements, is_read_any, is_read_either, is_read_expression, is_read_object, is_read_owner, is_read_owning, is_read_struct, is_read_unique, is_read_walker, is_read_fresh, are_read_arguments}
+use Rattle.life_elab_laws.proofs.ObjectTypes.{is_owner_of_values, is_walker_of_values}
+use Rattle.life_elab_laws.proofs.StatementKinds.{is_read_renewed, is_read_simple}
+use Rattle.life_elab_laws.proofs.TypeKinds.{is_owner_type, is_vector, is_vector_type, is_view_type}
 use Rattle.life_typed.specs.Operators.{promoted}
 use Rattle.life_typed.specs.Statements.{can_step, compounded}
 use Rattle.life_typed.specs.TypedForm.{Typed, forms, whole as whole_form}
@@ -63,7 +66,7 @@ use Rattle.life_elab_laws.proofs.RowTypes.{promoted_is}
 use Rattle.life_elab_laws.proofs.Setting.{Setting}
 use Rattle.life_elab_laws.proofs.SimpleTypes.{IsFree, compound_answer, compounded_numbers, free_place, own_counts, own_same, step_answer, step_value}
 use Rattle.life_elab_laws.proofs.TypedKinds.{HasKind, a_null, a_number as of_number, a_pointer as of_pointer, a_text, a_view as of_view, no_value, promoted_value, value_place}
-use Rattle.life_elab_laws.proofs.Values.{by_values}
+use Rattle.life_elab_laws.proofs.Values.{by_owners}
 use Rattle.life_elab_laws.proofs.VariablePlaces.{Stands, stands_later, walker_is}
 use Rattle.life_elab_laws.proofs.ElementForms.{either_read}
 use Rattle.life_elab_laws.proofs.AppendForms.{appended_part, text_gains}
@@ -97,9 +100,7 @@ use Rattle.life_elab_laws.proofs.MadeStructs.{with_target}
 use Rattle.life_elab_laws.proofs.AliasForms.{given_literal, literal_object}
 use Rattle.life_elab_laws.proofs.AnsweredTargets.{answered_renewed_part}
 use Rattle.life_elab_laws.proofs.Discarded.{discarded_part}
-
-value_class : (t : Ty) → is_value t ≡ true → class (Some t) ≡ classes.Value
-value_class = by_values (λ t. class (Some t) ≡ classes.Value) refl refl refl refl refl
+use Rattle.life_elab_laws.proofs.Types.{owner_class, value_class, walker_class}
 
 module _ (a : Around) (visible : List ℕ) (types : Types) (texts : ℕ) (fs : List Function) (f : Function) (setting : Setting a types fs f) where
   abbrev Whole : Typed → Type 0
@@ -299,11 +300,6 @@ module _ (a : Around) (visible : List ℕ) (types : Types) (texts : ℕ) (fs : L
   to_free : (c : Category) (constant : Bool) → is_constant c ≡ constant → not (is_constant c) ≡ true → constant ≡ false
   to_free c constant is h = sym is ∙ not_true (is_constant c) h
 
-  owner_class : (t : Ty) → is_owner_of_values a.program.types t ≡ true → class (Some t) ≡ classes.Owner
-  owner_class ty.Text o = refl
-  owner_class (ty.Vector item) o = refl
-  owner_class _ o = absurd (false≢true o)
-
   -- a copy
   copied_part : (target e : Typed) (equals behind : Place) (s : State) → (to : IsAssignable a visible types texts fs f setting (whole_form target)) → (from : IsObject a visible types texts fs f setting (whole_form e)) → from.ty ≡ to.ty → Standing s
       → Acts s (assigned a target equals (one e) behind s)
@@ -315,7 +311,7 @@ module _ (a : Around) (visible : List ℕ) (types : Types) (texts : ℕ) (fs : L
       let first = subst (λ (t : Ty). Makes types texts fs f None s w (a_place types texts fs f t from.constant)) alike (from.names s stands) in
       let second = to.placed w.state (stands_later a visible s w.state first.grown stands) in
       subst (Acts s)
-      (sym (ap (λ (k : Class). assigned_by k (uses a (whole_form e)) (own_type target.ty) (target_of (uses a (whole_form target))) equals behind s) (ap (λ (t : Ty). class (Some t)) (ap own_type to.is) ∙ owner_class to.ty to.owner)
+      (sym (ap (λ (k : Class). assigned_by k (uses a (whole_form e)) (own_type target.ty) (target_of (uses a (whole_form target))) equals behind s) (ap (λ (t : Ty). class (Some t)) (ap own_type to.is) ∙ owner_class a.program.types to.ty to.owner)
       ∙ ap (λ (c : Category). acted (owner_by c (uses a (whole_form e)) (own_type target.ty) s) (target_of (uses a (whole_form target))) equals) from.place))
       (then_part types texts fs f no_gift tt None s (gives (w.given, o.given) o.state) _ (both_of P Q) no_gift stands.opened
       (and_part types texts fs f no_gift tt s w o P Q stands.opened first second)
@@ -335,7 +331,7 @@ module _ (a : Around) (visible : List ℕ) (types : Types) (texts : ℕ) (fs : L
       to.apart w.state later w.given (temporary_below a visible types texts fs f setting to.ty u.place s (u.object s) (inl to.owner) builds stands)
       (temporary_dead a visible types texts fs f setting to.ty u.place s (u.object s) (inl to.owner) builds stands) in
       subst (Acts s)
-      (sym (ap (λ (k : Class). assigned_by k u (own_type target.ty) (target_of (uses a (whole_form target))) equals behind s) (ap (λ (t : Ty). class (Some t)) (ap own_type to.is) ∙ owner_class to.ty to.owner)
+      (sym (ap (λ (k : Class). assigned_by k u (own_type target.ty) (target_of (uses a (whole_form target))) equals behind s) (ap (λ (t : Ty). class (Some t)) (ap own_type to.is) ∙ owner_class a.program.types to.ty to.owner)
       ∙ ap (λ (t : Ty). acted (owner_by u.category u t s) (target_of (uses a (whole_form target))) equals) (ap own_type to.is)
       ∙ ap (λ (c : Category). acted (owner_by c u to.ty s) (target_of (uses a (whole_form target))) equals) held
       ∙ ap (λ (r : Option (State → Gives Act)). acted (replaced_by r (temporary_of u to.ty) s) (target_of (uses a (whole_form target))) equals) plain))
@@ -357,15 +353,10 @@ module _ (a : Around) (visible : List ℕ) (types : Types) (texts : ℕ) (fs : L
   walker_assigned_part : (target e : Typed) (equals behind : Place) (s : State) → (to : IsWalker a visible types texts fs f setting (whole_form target)) → (from : IsWalker a visible types texts fs f setting (whole_form e)) → is_given a.program.types to.ty e ≡ true → Standing s
       → Acts s (assigned a target equals (one e) behind s)
   walker_assigned_part target e equals behind s to from given stands =
-      subst (λ (k : Class). Acts s (assigned_by k (uses a (whole_form e)) (own_type target.ty) (target_of (uses a (whole_form target))) equals behind s)) (sym (ap (λ (t : Ty). class (Some t)) (ap own_type to.is) ∙ walker_class to.ty to.walker))
+      subst (λ (k : Class). Acts s (assigned_by k (uses a (whole_form e)) (own_type target.ty) (target_of (uses a (whole_form target))) equals behind s)) (sym (ap (λ (t : Ty). class (Some t)) (ap own_type to.is) ∙ walker_class a.program.types to.ty to.walker))
       (pointer_given_part target e equals behind s to.ty (Of from.ty) (walker_is a.program.types to.ty to.walker).location
       (λ s stands. walker_pointer a visible types texts fs f setting (whole_form target) to (own (uses a (whole_form target))) s stands)
       (walker_points a visible types texts fs f setting (whole_form e) from s stands) (given_walker a.program.types types setting.front to.ty from.ty e to.walker from.walker from.is given) stands)
-    where
-      walker_class : (t : Ty) → is_walker_of_values a.program.types t ≡ true → class (Some t) ≡ classes.Pointer
-      walker_class (ty.Iterator item constant) w = refl
-      walker_class (ty.Span item constant) w = refl
-      walker_class _ w = absurd (false≢true w)
 
   -- a span of the whole of a vector
   span_assigned_part : (target e : Typed) (equals behind : Place) (s : State) → (to : IsWalker a visible types texts fs f setting (whole_form target)) → (from : IsOwner a visible types texts fs f setting (whole_form e)) → is_given a.program.types to.ty e ≡ true → Standing s
@@ -385,9 +376,7 @@ module _ (a : Around) (visible : List ℕ) (types : Types) (texts : ℕ) (fs : L
       go (ty.Iterator item constant) span worth h = absurd (false≢true (sym (no_iterator from.ty from.owner) ∙ subst (λ (x : ExprType). fits_at_all (fits a.program.types (ty.Iterator item constant) x e.category) ≡ true) from.is h))
         where
           no_iterator : (u : Ty) → is_owner_of_values a.program.types u ≡ true → fits_at_all (fits a.program.types (ty.Iterator item constant) (Of u) e.category) ≡ false
-          no_iterator ty.Text o = refl
-          no_iterator (ty.Vector found) o = refl
-          no_iterator _ o = absurd (false≢true o)
+          no_iterator = by_owners a.program.types _ refl (λ found. refl)
       go _ span worth h = absurd (false≢true worth)
 
   -- an owner, by a copy of another one, or by one that is made

@@ -1,7 +1,8 @@
 -- What asks a span: its size, whether it is empty, and its elements.
 use Rattle.std.proofs.Common.{◌≡◌, ℕ, Bool, true, List, Some, None, Ok, refl, sym, ap, ◌∙◌, subst}
 use Rattle.std.proofs.lemmas.Bool.{false≢true}
-use Rattle.life_elab_laws.proofs.FormKinds.{is_asking, is_walker_of_values}
+use Rattle.life_elab_laws.proofs.FormKinds.{is_asking}
+use Rattle.life_elab_laws.proofs.ObjectTypes.{is_walker_of_values}
 use Rattle.life_types.specs.Types.{Types}
 use Rattle.life_types.specs.declared.place.Place.{Place}
 use Rattle.life_types.specs.declared.ty.Ty.{Ty}

@@ -2,7 +2,9 @@
 use Rattle.std.specs.Prelude.{pos}
 use Rattle.std.proofs.Common.{◌≡◌, ℕ, Bool, true, false, ◌&&◌, List, [], ◌∷◌, drop, length, nat_lt, reverse, slice_get, Option, Some, None, refl}
 use Rattle.std.proofs.lemmas.Bool.{and_from, and_parts, false≢true, or_left}
-use Rattle.life_elab_laws.proofs.FormKinds.{is_read_condition, is_read_condition_if, is_read_range, is_read_start, is_read_statement, is_read_step, takes_elements}
+use Rattle.life_elab_laws.proofs.FormKinds.{is_read_condition, is_read_condition_if}
+use Rattle.life_elab_laws.proofs.StatementKinds.{is_read_range, is_read_start, is_read_statement, is_read_step}
+use Rattle.life_elab_laws.proofs.TypeKinds.{takes_elements}
 use Rattle.life_types.specs.Types.{Types}
 use Rattle.life_types.specs.declared.place.Place.{Place}
 use Rattle.life_types.specs.declared.ty.Ty.TheVariants as ty

@@ -1,7 +1,7 @@
 -- Expressions that make a string: texts that are joined, and a string of a string, a view or a literal.
 use Rattle.std.proofs.Common.{◌≡◌, ◌⊎◌, inl, inr, ℕ, Bool, true, false, if◌then◌else◌, List, Ok, refl, sym, ap, ◌∙◌, subst}
 use Rattle.std.proofs.lemmas.Bool.{false≢true}
-use Rattle.life_elab_laws.proofs.FormKinds.{is_owner_of_values}
+use Rattle.life_elab_laws.proofs.ObjectTypes.{is_owner_of_values}
 use Rattle.life_types.specs.Types.{Types}
 use Rattle.life_types.specs.declared.place.Place.{Place}
 use Rattle.life_types.specs.declared.ty.Ty.{Ty}
@@ -38,6 +38,7 @@ use Rattle.life_elab_laws.proofs.RowTypes.{Fits, row_fits_between, sees}
 use Rattle.life_elab_laws.proofs.Setting.{Setting}
 use Rattle.life_elab_laws.proofs.TypedKinds.{IsCombined, err_ok, ok_same}
 use Rattle.life_elab_laws.proofs.EqualityRows.{concatenates}
+use Rattle.life_elab_laws.proofs.Values.{by_owners}
 
 -- what a string is made of
 pub record MakesText (inner e : Typed) : Type 0 where
@@ -63,9 +64,7 @@ text_seen (Of _) m = absurd (false≢true m)
 text_seen NullPointer m = absurd (false≢true m)
 
 owner_text : (types : Types) (t : Ty) → is_owner_of_values types t ≡ true → makes_text (Of t) ≡ true → t ≡ ty.Text
-owner_text types ty.Text o m = refl
-owner_text types (ty.Vector item) o m = absurd (false≢true m)
-owner_text types _ o m = absurd (false≢true o)
+owner_text types = by_owners types _ (λ m. refl) (λ item m. absurd (false≢true m))
 
 module _ (a : Around) (visible : List ℕ) (types : Types) (texts : ℕ) (fs : List Function) (f : Function) (setting : Setting a types fs f) where
   abbrev Stood : State → Type 0

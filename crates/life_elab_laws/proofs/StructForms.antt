@@ -1,7 +1,8 @@
 -- Structs at a place, such as variables, and their members.
 use Rattle.std.proofs.Common.{◌≡◌, ℕ, Bool, true, false, List, Contains, length, slice_get, Option, Some, None, refl, sym, ap, ◌∙◌, subst, unwrap_or}
 use Rattle.std.proofs.lemmas.Bool.{false≢true}
-use Rattle.life_elab_laws.proofs.FormKinds.{is_owner_of_values, is_owner_type, is_plain_type, is_struct, is_struct_member, is_struct_type, is_walker_of_values, is_plain_struct, is_walker_type, is_element}
+use Rattle.life_elab_laws.proofs.ObjectTypes.{is_owner_of_values, is_struct, is_struct_member, is_walker_of_values, is_plain_struct, is_element}
+use Rattle.life_elab_laws.proofs.TypeKinds.{is_owner_type, is_plain_type, is_struct_type, is_walker_type}
 use Rattle.life_types.specs.Trees.{members_at}
 use Rattle.life_types.specs.TypeTests.{is_value}
 use Rattle.life_types.specs.declared.place.Place.{Place}
@@ -41,7 +42,7 @@ use Rattle.life_elab_laws.proofs.ObjectForms.{IsObjectAt, IsReached}
 use Rattle.life_elab_laws.proofs.StructSteps.{member_apart, member_placed, member_there, at_member, member_pointer}
 use Rattle.life_elab_laws.proofs.StructTypes.{IsHeld, a_struct_held, a_value_held, an_owner_held, has_member, held_is, member_type_there, a_raw_held, a_unique_held, a_view_held, a_walker_held}
 use Rattle.life_elab_laws.proofs.TypedKinds.{a_number, kind_of_place, owner_named, place_same, value_place, walker_named, HasKind, a_pointer, a_view as a_view_kind}
-use Rattle.life_elab_laws.proofs.Values.{by_values}
+use Rattle.life_elab_laws.proofs.Values.{by_owners, by_values, by_walkers}
 use Rattle.life_elab_laws.proofs.VariableParts.{LiesIn, lies_named, member_within, variable_lies}
 use Rattle.life_elab_laws.proofs.VariablePlaces.{IsVariableAt, IsVariableType, a_raw, a_reference, a_struct, a_unique, a_value, a_view, a_walker, an_alias, an_owner, kind_is, place_is, variable_there, variable_type, a_struct_alias, walker_is}
 use Rattle.life_elab_laws.proofs.Targets.{struct_target, struct_named}
@@ -56,14 +57,10 @@ pub value_no_struct : (t : Ty) → is_value t ≡ true → is_struct t ≡ false
 value_no_struct = by_values (λ t. is_struct t ≡ false) refl refl refl refl refl
 
 pub owner_no_struct : (types : Types) (t : Ty) → is_owner_of_values types t ≡ true → is_struct t ≡ false
-owner_no_struct types ty.Text o = refl
-owner_no_struct types (ty.Vector item) o = refl
-owner_no_struct types _ o = absurd (false≢true o)
+owner_no_struct types = by_owners types _ refl (λ item. refl)
 
 pub walker_no_struct : (types : Types) (t : Ty) → is_walker_of_values types t ≡ true → is_struct t ≡ false
-walker_no_struct types (ty.Iterator target constant) w = refl
-walker_no_struct types (ty.Span target constant) w = refl
-walker_no_struct types _ w = absurd (false≢true w)
+walker_no_struct types = by_walkers types _ (λ target constant. refl) (λ target constant. refl)
 
 module _ (a : Around) (visible : List ℕ) (types : Types) (texts : ℕ) (fs : List Function) (f : Function) (setting : Setting a types fs f) where
   abbrev Stood : State → Type 0

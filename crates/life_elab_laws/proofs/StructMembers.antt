@@ -2,7 +2,7 @@
 use Rattle.std.proofs.Common.{◌≡◌, ◌+◌, ℕ, zero, suc, Bool, true, false, List, [], ◌∷◌, None, Some, Option, inl, inr, slice_get, refl, sym, ap, ◌∙◌, subst, arith, ◌<◌, length}
 use Rattle.std.specs.Prelude.{◌&&◌}
 use Rattle.std.proofs.lemmas.Bool.{and_parts, false≢true}
-use Rattle.life_elab_laws.proofs.FormKinds.{is_owner_of_values}
+use Rattle.life_elab_laws.proofs.ObjectTypes.{is_owner_of_values}
 use Rattle.life_types.specs.Trees.{members_at}
 use Rattle.life_types.specs.TypeTests.{is_value}
 use Rattle.life_types.specs.Types.{Types, class}
@@ -57,7 +57,7 @@ use Rattle.life_elab_laws.proofs.Saving.{saved_part}
 use Rattle.life_elab_laws.proofs.Setting.{Setting}
 use Rattle.life_elab_laws.proofs.StructSteps.{member_apart, member_placed, member_there, struct_copies_part, type_in_member}
 use Rattle.life_elab_laws.proofs.StructTypes.{IsHeld, a_struct_held, a_value_held, an_owner_held, has_member, held_is, member_type_there, a_raw_held, a_unique_held, a_view_held, a_walker_held}
-use Rattle.life_elab_laws.proofs.Types.{value_class}
+use Rattle.life_elab_laws.proofs.Types.{value_class, owner_class}
 use Rattle.life_elab_laws.proofs.VariablePlaces.{stands_later, walker_is}
 use Rattle.life_elab_laws.proofs.MadeStructs.{IsAnyStruct, as_struct, struct_at, struct_by_at, struct_typed}
 use Rattle.life_elab_laws.proofs.AdmittedTypes.{struct_tabled}
@@ -193,14 +193,9 @@ module _ (a : Around) (visible : List ℕ) (types : Types) (texts : ℕ) (fs : L
     -- ---- an owner
 
     module _ (owner : is_owner_of_values a.program.types t ≡ true) where
-      owner_class : (w : Ty) → is_owner_of_values a.program.types w ≡ true → class (Some w) ≡ classes.Owner
-      owner_class ty.Text o = refl
-      owner_class (ty.Vector item) o = refl
-      owner_class _ o = absurd (false≢true o)
-
       as_owner : (c : Category) → (typed_in e).category ≡ c → Writes s (acted (owner_by c u t s) (member_target m to) at) → Writes s (assigned u t (member_target m to) at behind s)
       as_owner c is w =
-          as_class classes.Owner (owner_class t owner)
+          as_class classes.Owner (owner_class a.program.types t owner)
           (subst (λ (c : Category). Writes s (acted (owner_by c u t s) (member_target m to) at)) (sym is ∙ held_typed a visible types texts fs f setting e) w)
 
       -- one that is made is moved there out of its temporary

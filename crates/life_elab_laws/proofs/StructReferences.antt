@@ -1,7 +1,8 @@
 -- References to structs: each is given a struct, at a place or made, and nothing else; no other reference is given one.
 use Rattle.std.proofs.Common.{◌≡◌, ℕ, Bool, true, false, List, refl, sym, ap, ◌∙◌, subst}
 use Rattle.std.proofs.lemmas.Bool.{false≢true}
-use Rattle.life_elab_laws.proofs.FormKinds.{is_struct_type, is_target}
+use Rattle.life_elab_laws.proofs.ObjectTypes.{is_target}
+use Rattle.life_elab_laws.proofs.TypeKinds.{is_struct_type}
 use Rattle.life_types.specs.Types.{Types}
 use Rattle.life_types.specs.declared.ty.Ty.{Ty}
 use Rattle.life_types.specs.declared.ty.Ty.TheVariants as ty

@@ -5,20 +5,19 @@ use Rattle.std.proofs.lemmas.Bool.{and_from, and_parts, false≢true, or_left}
 use Rattle.std.proofs.lemmas.Bool.Decides.{nat_tests}
 use Rattle.std.proofs.lemmas.Option.{none-some, same_Some}
 use Rattle.life_types.specs.Pointees.{or_void, ty_of}
-use Rattle.life_types.specs.Trees.{IsOrdered, members_at, AllBelow, is_plain, tree_at}
+use Rattle.life_types.specs.Trees.{IsOrdered, members_at, is_plain}
 use Rattle.life_types.specs.TypeTests.{is_value}
 use Rattle.life_types.specs.Types.{HasEachOnce, Types}
 use Rattle.life_types.specs.declared.ty.Ty.{Ty}
 use Rattle.life_types.specs.declared.ty.Ty.TheVariants as ty
 use Rattle.life_types.specs.declared.ty.TyId.{TyId}
-use Rattle.life_elab_laws.proofs.FormKinds.{are_struct_members, has_fine_structs, have_each, hold_members, is_owner_of_values, is_struct_member, are_plain, is_element, is_target, is_walker_of_values}
+use Rattle.life_elab_laws.proofs.ObjectTypes.{are_struct_members, has_fine_structs, have_each, hold_members, is_owner_of_values, is_struct_member, is_element, is_target, is_walker_of_values}
 use Rattle.life_typed.specs.BaseTypes.{type_at}
 use Rattle.life_typed.specs.declared.basic.TheConstants.{CHAR}
 use Rattle.life_elab_laws.proofs.Fronts.{IsFront}
-use Rattle.life_elab_laws.proofs.OrderedTypes.{KeepsOrder, members_later}
+use Rattle.life_elab_laws.proofs.OrderedTypes.{KeepsOrder, members_later, trees_later}
 use Rattle.life_elab_laws.proofs.Shaped.{target_later, PlainStays, element_later, owner_later}
 use Rattle.life_elab_laws.proofs.Targets.{or_false}
-use Rattle.life_types.proofs.TreeLemmas.{Grows, tree_stays}
 
 -- each type stands once, behind its parts, and a struct has few members, each of which is a value, a pointer, an owner, a unique_ptr or such a struct
 pub record HasStructs (types : Types) : Type 0 where
@@ -108,21 +107,7 @@ module _ (few more : Types) (front : IsFront few.types more.types) where
   module _ (order : KeepsOrder few more) where
     -- a struct without pointers is one there too
     pub plain_later : HasStructs few → PlainStays few more
-    plain_later has number pointless =
-        subst (λ (ids : List TyId). are_plain more ids ≡ true) (sym (members_later few more order number)) (go (slice_get few.structs number) refl pointless)
-      where
-        grows : Grows few more
-        grows = record { types = front; structs = λ n ids at. ap (λ (structs : List (List TyId)). slice_get structs n) order.structs ∙ at }
-
-        each : (ids : List TyId) → AllBelow (length few.types) ids → are_plain few ids ≡ true → are_plain more ids ≡ true
-        each [] below plain = refl
-        each (id ∷ ids) below plain =
-            let parts = and_parts (is_plain (tree_at few id)) (are_plain few ids) plain in
-            and_from (is_plain (tree_at more id)) (are_plain more ids) (ap is_plain (tree_stays few more has.ordered grows id below.0) ∙ parts.0) (each ids below.1 parts.1)
-
-        go : (o : Option (List TyId)) → slice_get few.structs number ≡ o → are_plain few (unwrap_or o []) ≡ true → are_plain more (unwrap_or o []) ≡ true
-        go None at plain = refl
-        go (Some ids) at plain = each ids (has.ordered.members number ids at) plain
+    plain_later has number pointless = trees_later few more front order is_plain has.ordered number pointless
 
     -- .. and so is a member
     member_further : PlainStays few more → (t : Ty) → is_struct_member few t ≡ true → is_struct_member more t ≡ true

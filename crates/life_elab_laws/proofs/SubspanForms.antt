@@ -1,7 +1,7 @@
 -- A part of a span, from an index on and so many.
 use Rattle.std.proofs.Common.{◌≡◌, ◌++◌, ℕ, Bool, true, List, [], ◌∷◌, Option, Some, None, refl, ap, ◌∙◌, subst, append_assoc, sym}
 use Rattle.std.proofs.lemmas.Bool.{and_from, and_parts, false≢true}
-use Rattle.life_elab_laws.proofs.FormKinds.{is_walker_of_values, is_element}
+use Rattle.life_elab_laws.proofs.ObjectTypes.{is_walker_of_values, is_element}
 use Rattle.life_types.specs.Pointees.{ty_of}
 use Rattle.life_types.specs.Types.{Types}
 use Rattle.life_types.specs.declared.place.Place.{Place}

@@ -1,12 +1,10 @@
 -- An instruction that takes an owner which is given over to it: the owner stands before it, and is gone behind it.
 use Rattle.std.proofs.Common.{◌≡◌, inl, ℕ, Bool, true, false, List, [], ◌∷◌, ◌++◌, refl, sym, ap, ◌∙◌, subst, arith, if◌then◌else◌}
-use Rattle.std.proofs.lemmas.Bool.{false≢true}
-use Rattle.life_elab_laws.proofs.FormKinds.{is_owner_of_values}
+use Rattle.life_elab_laws.proofs.ObjectTypes.{is_owner_of_values}
 use Rattle.life_types.specs.TypeTests.{is_value}
 use Rattle.life_types.specs.Types.{Types}
 use Rattle.life_types.specs.declared.place.Place.{Place}
 use Rattle.life_types.specs.declared.ty.Ty.{Ty}
-use Rattle.life_types.specs.declared.ty.Ty.TheVariants as ty
 use Rattle.life_core.specs.Function.{Function}
 use Rattle.life_core.specs.Kinds.{is_object_at}
 use Rattle.life_core.specs.Operands.{Location, Operand}
@@ -31,12 +29,11 @@ use Rattle.life_elab_laws.proofs.Making.{IsPlace}
 use Rattle.life_elab_laws.proofs.Shaping.{fine_gives, step_keeps}
 use Rattle.life_elab_laws.proofs.UnseenLocals.{all_leave, used_there}
 use Rattle.life_elab_laws.proofs.WrittenMembers.{StoresOver}
+use Rattle.life_elab_laws.proofs.Values.{by_owners}
 
 -- what is no value is consumed as what is given over
 pub owner_plain : (few : Types) (t : Ty) → is_owner_of_values few t ≡ true → is_value t ≡ false
-owner_plain few ty.Text o = refl
-owner_plain few (ty.Vector item) o = refl
-owner_plain few _ o = absurd (false≢true o)
+owner_plain few = by_owners few _ refl (λ item. refl)
 
 pub object_consumed : (types : Types) (f : Function) (t u : Ty) (x : ℕ) → is_value t ≡ false → u ≡ t → is_given types f t x ≡ true → is_consumed types f u x ≡ true
 object_consumed types f t u x plain holds given =

@@ -8,12 +8,13 @@ use Rattle.life_types.specs.Types.{Types, is_slot_target, is_slot_type}
 use Rattle.life_types.specs.declared.ty.Ty.{Ty}
 use Rattle.life_types.specs.declared.ty.Ty.TheVariants as ty
 use Rattle.life_types.specs.declared.ty.TyId.{TyId}
-use Rattle.life_elab_laws.proofs.FormKinds.{is_owner_of_values, is_plain_struct, is_target, is_struct}
+use Rattle.life_elab_laws.proofs.ObjectTypes.{is_owner_of_values, is_plain_struct, is_target, is_struct}
 use Rattle.life_typed.specs.BaseTypes.{type_at}
 use Rattle.life_proper.specs.OperandTypes.{same}
 use Rattle.life_pset.specs.Shapes.{referred}
 use Rattle.life_elab_laws.proofs.Fronts.{IsFront}
 use Rattle.life_elab_laws.proofs.Types.{same_type}
+use Rattle.life_elab_laws.proofs.NoVoid.{no_void}
 
 pub or_false : (b : Bool) → (b || false) ≡ true → b ≡ true
 or_false true e = refl
@@ -51,8 +52,7 @@ struct_target types t pointless = or_right (is_value t) (is_owner_of_values type
 -- ---- its type
 
 pub target_no_void : (types : Types) (t : Ty) → is_target types t ≡ true → not (is_void t) ≡ true
-target_no_void types ty.Void h = absurd (false≢true h)
-target_no_void types _ h = refl
+target_no_void types t h = ap not (no_void (is_target types) refl t h)
 
 pub target_same : (types : Types) (t : Ty) → is_target types t ≡ true → same t t ≡ true
 target_same types ty.Void h = absurd (false≢true h)

@@ -3,7 +3,7 @@ use Rattle.std.proofs.Common.{◌≡◌, ◌<◌, ◌⊎◌, inl, inr, ℕ, true
 use Rattle.std.proofs.lemmas.Bool.{and_parts, false≢true, or_left}
 use Rattle.std.specs.List.{list_all}
 use Rattle.std.proofs.lemmas.Option.{slice_get_within}
-use Rattle.life_elab_laws.proofs.FormKinds.{is_owner_of_values, is_unique_of_element}
+use Rattle.life_elab_laws.proofs.ObjectTypes.{is_owner_of_values, is_unique_of_element}
 use Rattle.life_types.specs.TypeTests.{is_pointer, is_reference}
 use Rattle.life_types.specs.Types.{Types}
 use Rattle.life_types.specs.declared.place.Place.{Place}
@@ -45,7 +45,7 @@ use Rattle.life_elab_laws.proofs.PendingTemporaries.{ArePending, ArePendingIn, I
 use Rattle.life_elab_laws.proofs.Saving.{live_fills}
 use Rattle.life_elab_laws.proofs.Shaping.{IsFineStep, fine_acts, is_no_object, step_keeps}
 use Rattle.life_elab_laws.proofs.Types.{type_added, types_before}
-use Rattle.life_elab_laws.proofs.Values.{by_values}
+use Rattle.life_elab_laws.proofs.Values.{by_owners, by_values}
 use Rattle.life_elab_laws.proofs.WrittenLocals.{AddsRegisters, FitsTemporary, register_pushed}
 
 -- a temporary is no pointer
@@ -54,9 +54,7 @@ temporary_plain types t (inl value) = by_values (λ u. is_pointer u ≡ false) r
 temporary_plain types t (inr (inl owner)) = go t owner
   where
     go : (u : Ty) → is_owner_of_values types u ≡ true → is_pointer u ≡ false
-    go ty.Text o = refl
-    go (ty.Vector item) o = refl
-    go _ o = absurd (false≢true o)
+    go = by_owners types _ refl (λ item. refl)
 temporary_plain types t (inr (inr (inr structure))) = ap is_pointer structure.is
 temporary_plain types t (inr (inr (inl unique))) = go t unique
   where

@@ -6,7 +6,9 @@ use Rattle.life_types.specs.Types.{Types}
 use Rattle.life_types.specs.declared.ty.Ty.{Ty}
 use Rattle.life_types.specs.declared.ty.Ty.TheVariants as ty
 use Rattle.life_types.specs.declared.ty.TyId.{TyId}
-use Rattle.life_elab_laws.proofs.FormKinds.{are_read_arguments, are_read_elements, are_read_items, is_owner_type, is_plain_type, is_read_any, is_read_assigned, is_read_compound, is_read_condition, is_read_condition_if, is_read_expression, is_read_fresh, is_read_owning, is_read_renewed, is_read_returned, is_read_stepped, is_read_struct, is_read_target, is_read_unique, is_read_walker, is_struct_type, is_unique_type, is_vector_type, is_view_type, is_walker_type}
+use Rattle.life_elab_laws.proofs.FormKinds.{are_read_arguments, are_read_elements, is_read_any, is_read_condition, is_read_condition_if, is_read_expression, is_read_fresh, is_read_owning, is_read_struct, is_read_unique, is_read_walker}
+use Rattle.life_elab_laws.proofs.StatementKinds.{are_read_items, is_read_assigned, is_read_compound, is_read_renewed, is_read_returned, is_read_stepped, is_read_target}
+use Rattle.life_elab_laws.proofs.TypeKinds.{is_owner_type, is_plain_type, is_struct_type, is_unique_type, is_vector_type, is_view_type, is_walker_type, is_void_type}
 use Rattle.life_tree.specs.declared.operator.CompoundOperator.{CompoundOperator}
 use Rattle.life_tree.specs.declared.operator.CompoundOperator.TheVariants as operator
 use Rattle.life_typed.specs.Operators.{is_condition}
@@ -26,7 +28,7 @@ use Rattle.life_well_typed.specs.Members.{is_listed}
 use Rattle.life_well_typed.specs.Statements.{AreItems, Decides, DecidesIfAny, IsGiven, IsTarget}
 use Rattle.life_elab_laws.proofs.KnownTypes.{vector_element}
 use Rattle.life_elab_laws.proofs.TypedFits.{IsTakenAs, as_owner, as_struct, as_unique, as_value, as_walker, value_plain, value_some}
-use Rattle.life_elab_laws.proofs.TypedReadings.{is_known, is_void_type}
+use Rattle.life_elab_laws.proofs.TypedReadings.{is_known}
 use Rattle.life_elab_laws.proofs.TypedSimples.{HasReadings, Read, any_owner, any_value, made_type, owning, read, taken, target_owner, target_type}
 
 -- ---- kinds of types

@@ -7,7 +7,7 @@ use Rattle.life_types.specs.declared.ty.Ty.TheVariants as ty
 use Rattle.life_typed.specs.Operators.{added, are_equated, are_iterators_of_one, arithmetic, concatenated, equated, is_condition, is_joined, is_nullable, is_text_like, joined_conditions, moved, multiplied, ordered, promoted, subtracted}
 use Rattle.life_typed.specs.declared.typed_expr.ExprType.{ExprType}
 use Rattle.life_typed.specs.declared.typed_expr.ExprType.TheVariants.{NullPointer, Of, TextLiteral}
-use Rattle.life_elab_laws.proofs.FormKinds.{is_walker_type}
+use Rattle.life_elab_laws.proofs.TypeKinds.{is_walker_type}
 use Rattle.life_elab_laws.proofs.TypedKinds.{given_true, none_some, promoted_value}
 use Rattle.life_elab_laws.proofs.TypedOperands.{HasValue, IsAsked, IsDeciding, asks_owner, asks_value, decides_unique, decides_value, value_has}
 

@@ -8,7 +8,10 @@ use Rattle.life_types.specs.declared.place.Place.{Place}
 use Rattle.life_types.specs.declared.ty.Ty.{Ty}
 use Rattle.life_types.specs.declared.ty.Ty.TheVariants as ty
 use Rattle.life_types.specs.declared.ty.TyId.{TyId}
-use Rattle.life_elab_laws.proofs.FormKinds.{are_read_elements, form_type, gives_nothing, is_changing, is_owner_type, is_reset, is_read_alone, is_read_any, is_read_doing, is_read_either, is_read_expression, is_read_owner, is_read_struct, is_read_unique, is_read_walker, is_target, is_unique_type}
+use Rattle.life_elab_laws.proofs.FormKinds.{are_read_elements, is_changing, is_reset, is_read_any, is_read_either, is_read_expression, is_read_owner, is_read_struct, is_read_unique, is_read_walker}
+use Rattle.life_elab_laws.proofs.ObjectTypes.{is_target}
+use Rattle.life_elab_laws.proofs.StatementKinds.{is_read_alone, is_read_doing, is_read_change}
+use Rattle.life_elab_laws.proofs.TypeKinds.{form_type, gives_nothing, is_owner_type, is_unique_type, is_void_type}
 use Rattle.life_typed.specs.BaseTypes.{type_at}
 use Rattle.life_typed.specs.Members.{method_answer, method_parameters, place as typed_place, value as typed_value}
 use Rattle.life_typed.specs.Operators.{added, added_types, answer, are_equated, arithmetic, concatenated, given, is_condition, is_joined, is_nullable, is_text_like, moved as moved_by, negated, promoted, subtracted_types}
@@ -38,9 +41,10 @@ use Rattle.life_elab_laws.proofs.Elements.{element_target}
 use Rattle.life_elab_laws.proofs.KnownTypes.{admits_some, target_known, target_no_unique, target_no_walker, vector_element}
 use Rattle.life_elab_laws.proofs.TypedFits.{IsTakenAs, as_owner, as_struct, as_unique, as_value, as_walker}
 use Rattle.life_elab_laws.proofs.TypedKinds.{combined_as, err_ok, given_true, none_some, ok_same, some_same}
-use Rattle.life_elab_laws.proofs.TypedReadings.{IsRead, is_known, is_void_type}
+use Rattle.life_elab_laws.proofs.TypedReadings.{IsRead, is_known}
 use Rattle.life_elab_laws.proofs.TypedActs.{IsKindOf, kind_of}
 use Rattle.life_elab_laws.proofs.TypedSimples.{HasReadings, Read, any_owner, any_value, read, taken}
+use Rattle.life_elab_laws.proofs.NoVoid.{no_void}
 
 -- ---- what has a type
 
@@ -71,12 +75,8 @@ given_some b t u some h = sym (ap is_void (given_true b t u h).1) ∙ some
 arithmetic_some : (a b t : Ty) → arithmetic a b ≡ Some t → is_void t ≡ false
 arithmetic_some a b t h = given_some (is_value a && is_value b) (promoted a b) t (promoted_some a b) h
 
-iterator_some : (a : Ty) → is_iterator a ≡ true → is_void a ≡ false
-iterator_some (ty.Iterator target constant) h = refl
-iterator_some _ h = absurd (false≢true h)
-
 moved_some : (a b t : Ty) → is_iterator a ≡ true → moved_by a b ≡ Some t → is_void t ≡ false
-moved_some a b t i h = given_some (is_value b) a t (iterator_some a i) h
+moved_some a b t i h = given_some (is_value b) a t (no_void is_iterator refl a i) h
 
 walked_some : (a b t : Ty) → subtracted_types a b ≡ Some t → is_void t ≡ false
 walked_some a b t h = go (is_iterator a) refl h
@@ -108,40 +108,25 @@ equated_some (Of a) TextLiteral t h = given_some (is_text_like a) ty.Bool t refl
 equated_some (Of a) NullPointer t h = given_some (is_nullable a) ty.Bool t refl h
 equated_some TextLiteral (Of b) t h = given_some (is_text_like b) ty.Bool t refl h
 equated_some NullPointer (Of b) t h = given_some (is_nullable b) ty.Bool t refl h
-equated_some TextLiteral TextLiteral t h = absurd (none_some h)
-equated_some TextLiteral NullPointer t h = absurd (none_some h)
-equated_some NullPointer TextLiteral t h = absurd (none_some h)
-equated_some NullPointer NullPointer t h = absurd (none_some h)
+equated_some _ _ t h = absurd (none_some h)
 
 ordered_some : (a b : ExprType) (t : Ty) → operators.ordered a b ≡ Some t → is_void t ≡ false
 ordered_some (Of a) (Of b) t h = given_some (is_value a && is_value b) ty.Bool t refl h
-ordered_some (Of a) TextLiteral t h = absurd (none_some h)
-ordered_some (Of a) NullPointer t h = absurd (none_some h)
-ordered_some TextLiteral b t h = absurd (none_some h)
-ordered_some NullPointer b t h = absurd (none_some h)
+ordered_some _ _ t h = absurd (none_some h)
 
 multiplied_some : (a b : ExprType) (t : Ty) → operators.multiplied a b ≡ Some t → is_void t ≡ false
 multiplied_some (Of a) (Of b) t h = arithmetic_some a b t h
-multiplied_some (Of a) TextLiteral t h = absurd (none_some h)
-multiplied_some (Of a) NullPointer t h = absurd (none_some h)
-multiplied_some TextLiteral b t h = absurd (none_some h)
-multiplied_some NullPointer b t h = absurd (none_some h)
+multiplied_some _ _ t h = absurd (none_some h)
 
 sum_some : (a b : ExprType) (t : Ty) → added a b ≡ Some t → is_void t ≡ false
 sum_some (Of a) (Of b) t h = added_some a b t h
 sum_some (Of a) TextLiteral t h = given_some (is_text a) ty.Text t refl h
-sum_some (Of a) NullPointer t h = absurd (none_some h)
 sum_some TextLiteral (Of b) t h = given_some (is_text b) ty.Text t refl h
-sum_some TextLiteral TextLiteral t h = absurd (none_some h)
-sum_some TextLiteral NullPointer t h = absurd (none_some h)
-sum_some NullPointer b t h = absurd (none_some h)
+sum_some _ _ t h = absurd (none_some h)
 
 less_some : (a b : ExprType) (t : Ty) → operators.subtracted a b ≡ Some t → is_void t ≡ false
 less_some (Of a) (Of b) t h = walked_some a b t h
-less_some (Of a) TextLiteral t h = absurd (none_some h)
-less_some (Of a) NullPointer t h = absurd (none_some h)
-less_some TextLiteral b t h = absurd (none_some h)
-less_some NullPointer b t h = absurd (none_some h)
+less_some _ _ t h = absurd (none_some h)
 
 answer_some : (o : BinaryOperator) (a b : ExprType) (t : Ty) → answer o a b ≡ Some t → is_void t ≡ false
 answer_some operator.Or a b t h = joined_some a b t h
@@ -283,10 +268,10 @@ module _ (p : ProgramForm) (locals : List TypedLocal) (result : TyId) (texts : �
     base = typed place x c form
 
     abbrev Does : Method → Type 0
-    Does m = ((is_changing m && (is_owner_type (form_type base) && (is_read_owner texts p base && are_read_elements texts p es))) || (is_reset m && is_read_unique texts p base)) ≡ true
+    Does m = (is_read_change texts p base m es || (is_reset m && is_read_unique texts p base)) ≡ true
 
-    gives : {X : Type 0} (y : ExprType × Category) (t : Ty) → Some y ≡ Some (e.ty, e.category) → y.0 ≡ Of t → is_void t ≡ false → X
-    gives y t h is some = absurd (refused e.ty t (sym (ap (λ (z : ExprType × Category). z.0) (some_same h)) ∙ is) some none)
+    gives : {X : Type 0} (t : Ty) → Some (typed_value t) ≡ Some (e.ty, e.category) → is_void t ≡ false → X
+    gives t h some = absurd (refused e.ty t (sym (ap (λ (z : ExprType × Category). z.0) (some_same h))) some none)
 
     stands : {X : Type 0} (id : TyId) (constant : Bool) → Some (typed_place types id constant) ≡ Some (e.ty, e.category) → X
     stands id constant h =
@@ -300,48 +285,48 @@ module _ (p : ProgramForm) (locals : List TypedLocal) (result : TyId) (texts : �
 
     changed : (m : Method) → is_changing m ≡ true → (t : Ty) → x ≡ Of t → is_owner_type (Of t) ≡ true → are_read_elements texts p es ≡ true → Does m
     changed m able t is o elements =
-        or_left (is_changing m && (is_owner_type (form_type base) && (is_read_owner texts p base && are_read_elements texts p es))) (is_reset m && is_read_unique texts p base)
+        or_left (is_read_change texts p base m es) (is_reset m && is_read_unique texts p base)
         (and_from (is_changing m) (is_owner_type (form_type base) && (is_read_owner texts p base && are_read_elements texts p es)) able (changes t is o elements))
 
     of_vector : (item : TyId) → x ≡ Of (ty.Vector item) → (m : Method) → are_passed types (method_parameters types (ty.Vector item) m) es ≡ true
         → method_answer types (ty.Vector item) (is_constant c) m ≡ Some (e.ty, e.category) → Does m
-    of_vector item is methods.Size h a = gives (typed_value ty.Size) ty.Size a refl refl
-    of_vector item is methods.Empty h a = gives (typed_value ty.Bool) ty.Bool a refl refl
+    of_vector item is methods.Size h a = gives ty.Size a refl
+    of_vector item is methods.Empty h a = gives ty.Bool a refl
     of_vector item is methods.Front h a = stands item (is_constant c) a
     of_vector item is methods.Back h a = stands item (is_constant c) a
-    of_vector item is methods.Begin h a = gives (typed_value (ty.Iterator item (is_constant c))) (ty.Iterator item (is_constant c)) a refl refl
-    of_vector item is methods.End h a = gives (typed_value (ty.Iterator item (is_constant c))) (ty.Iterator item (is_constant c)) a refl refl
+    of_vector item is methods.Begin h a = gives (ty.Iterator item (is_constant c)) a refl
+    of_vector item is methods.End h a = gives (ty.Iterator item (is_constant c)) a refl
     of_vector item is methods.PushBack h a =
         changed methods.PushBack refl (ty.Vector item) is refl
         (one_taken (type_at types item) (element_target types (type_at types item) (vector_element types item (subst (λ (y : ExprType). is_known types y ≡ true) is k.known))) es h are)
     of_vector item is methods.PopBack h a = changed methods.PopBack refl (ty.Vector item) is refl (none_taken es h)
     of_vector item is methods.Clear h a = changed methods.Clear refl (ty.Vector item) is refl (none_taken es h)
     of_vector item is methods.Reserve h a = changed methods.Reserve refl (ty.Vector item) is refl (one_taken ty.Size refl es h are)
-    of_vector item is methods.Erase h a = gives (typed_value (ty.Iterator item false)) (ty.Iterator item false) a refl refl
+    of_vector item is methods.Erase h a = gives (ty.Iterator item false) a refl
     of_vector item is _ h a = absurd (none_some a)
 
     of_text : x ≡ Of ty.Text → (m : Method) → are_passed types (method_parameters types ty.Text m) es ≡ true → method_answer types ty.Text (is_constant c) m ≡ Some (e.ty, e.category) → Does m
-    of_text is methods.Size h a = gives (typed_value ty.Size) ty.Size a refl refl
-    of_text is methods.Empty h a = gives (typed_value ty.Bool) ty.Bool a refl refl
+    of_text is methods.Size h a = gives ty.Size a refl
+    of_text is methods.Empty h a = gives ty.Bool a refl
     of_text is methods.PushBack h a = changed methods.PushBack refl ty.Text is refl (one_taken ty.Char refl es h are)
     of_text is methods.Clear h a = changed methods.Clear refl ty.Text is refl (none_taken es h)
     of_text is _ h a = absurd (none_some a)
 
     of_unique : (target : TyId) → x ≡ Of (ty.Unique target) → (m : Method) → method_answer types (ty.Unique target) (is_constant c) m ≡ Some (e.ty, e.category) → Does m
-    of_unique target is methods.Get a = gives (typed_value (ty.Raw target false)) (ty.Raw target false) a refl refl
+    of_unique target is methods.Get a = gives (ty.Raw target false) a refl
     of_unique target is methods.Reset a = k.unique (ap is_unique_type is)
     of_unique target is _ a = absurd (none_some a)
 
     of_span : (target : TyId) (constant : Bool) (m : Method) → method_answer types (ty.Span target constant) (is_constant c) m ≡ Some (e.ty, e.category) → Does m
-    of_span target constant methods.Size a = gives (typed_value ty.Size) ty.Size a refl refl
-    of_span target constant methods.Empty a = gives (typed_value ty.Bool) ty.Bool a refl refl
-    of_span target constant methods.Subspan a = gives (typed_value (ty.Span target constant)) (ty.Span target constant) a refl refl
+    of_span target constant methods.Size a = gives ty.Size a refl
+    of_span target constant methods.Empty a = gives ty.Bool a refl
+    of_span target constant methods.Subspan a = gives (ty.Span target constant) a refl
     of_span target constant _ a = absurd (none_some a)
 
     of_view : (m : Method) → method_answer types ty.View (is_constant c) m ≡ Some (e.ty, e.category) → Does m
-    of_view methods.Size a = gives (typed_value ty.Size) ty.Size a refl refl
-    of_view methods.Empty a = gives (typed_value ty.Bool) ty.Bool a refl refl
-    of_view methods.Substr a = gives (typed_value ty.View) ty.View a refl refl
+    of_view methods.Size a = gives ty.Size a refl
+    of_view methods.Empty a = gives ty.Bool a refl
+    of_view methods.Substr a = gives ty.View a refl
     of_view _ a = absurd (none_some a)
 
     called : (m : Method) → IsCalled types x c m es e → Does m

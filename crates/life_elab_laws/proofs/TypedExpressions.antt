@@ -21,7 +21,9 @@ use Rattle.life_type_expr.specs.Operands.{move_fault_of, moved_unless, number_ty
 use Rattle.life_well_typed.specs.Expressions.{AreExpressions, IsExpression, IsExpressionIfAny, IsMadeOf, IsMoved, are_given, parameter_types, typed_in}
 use Rattle.life_well_typed.specs.Given.{is_given}
 use Rattle.life_well_typed.specs.Members.{are_each, are_elements, are_members, are_taken, can_be_listed, is_optional}
-use Rattle.life_elab_laws.proofs.FormKinds.{are_read_arguments, are_read_elements, are_admitted_variables, is_element, is_plain_type, is_read_content, is_read_form, is_read_fresh, is_read_struct, is_read_walker}
+use Rattle.life_elab_laws.proofs.FormKinds.{are_read_arguments, are_read_elements, is_read_content, is_read_form, is_read_fresh, is_read_struct, is_read_walker}
+use Rattle.life_elab_laws.proofs.ObjectTypes.{are_admitted_variables, is_element}
+use Rattle.life_elab_laws.proofs.TypeKinds.{is_plain_type}
 use Rattle.life_elab_laws.proofs.ExpressionKinds.{number_value}
 use Rattle.life_elab_laws.proofs.KnownTypes.{HasKnownTypes, is_known_type, unique_known}
 use Rattle.life_elab_laws.proofs.TypedGivens.{element_read, given_read, parameter_read, position_read}

@@ -7,7 +7,8 @@ use Rattle.life_types.specs.contracts.ty.TyIdPartialEq.TheImpl.{ghosts as id}
 use Rattle.life_types.specs.declared.ty.Ty.{Ty}
 use Rattle.life_types.specs.declared.ty.Ty.TheVariants as ty
 use Rattle.life_types.specs.declared.ty.TyId.{TyId}
-use Rattle.life_elab_laws.proofs.FormKinds.{is_owner_type, is_plain_type, is_struct, is_struct_type, is_target, is_unique_type, is_walker, is_walker_type, takes_owner, takes_struct, takes_value}
+use Rattle.life_elab_laws.proofs.ObjectTypes.{is_struct, is_target}
+use Rattle.life_elab_laws.proofs.TypeKinds.{is_owner_type, is_plain_type, is_struct_type, is_unique_type, is_walker, is_walker_type, owns_elements, takes_owner, takes_struct, takes_value, is_void_type}
 use Rattle.life_typed.specs.BaseTypes.{type_at}
 use Rattle.life_typed.specs.Conversions.{fits, is_place, unless}
 use Rattle.life_typed.specs.TypedForm.{Typed}
@@ -21,8 +22,8 @@ use Rattle.life_well_typed.specs.Given.{is_given}
 use Rattle.life_elab_laws.proofs.FormedFits.{IsBound, at_place, by_temporary, given_bound, tested_as}
 use Rattle.life_elab_laws.proofs.KnownTypes.{owner_elements, target_no_reference, target_no_unique, target_no_walker}
 use Rattle.life_elab_laws.proofs.Targets.{IsTarget, target_is, to_owner, to_struct, to_value}
-use Rattle.life_elab_laws.proofs.TypedReadings.{is_void_type}
 use Rattle.life_elab_laws.proofs.Values.{by_values}
+use Rattle.life_elab_laws.proofs.NoVoid.{no_void, type_no_void}
 
 pub data IsTakenAs (t : Ty) (s : ExprType) (c : Category) : Type 0 where
   as_value : takes_value t ≡ true → is_plain_type s ≡ true → is_void_type s ≡ false → IsTakenAs t s c
@@ -37,7 +38,7 @@ pub value_plain : (u : Ty) → is_value u ≡ true → is_plain_type (Of u) ≡ 
 value_plain = by_values (λ u. is_plain_type (Of u) ≡ true) refl refl refl refl refl
 
 pub value_some : (u : Ty) → is_value u ≡ true → is_void u ≡ false
-value_some = by_values (λ u. is_void u ≡ false) refl refl refl refl refl
+value_some = no_void is_value refl
 
 of_value : (t u : Ty) (c : Category) → takes_value t ≡ true → fits_at_all (unless (not (is_value u)) General) ≡ true → IsTakenAs t (Of u) c
 of_value t u c takes h = let v = tested_as (is_value u) h in as_value takes (value_plain u v) (value_some u v)
@@ -56,55 +57,26 @@ fit_taken types ty.Void (Of u) c plain h = absurd (false≢true h)
 fit_taken types ty.Void NullPointer c plain h = absurd (false≢true h)
 fit_taken types ty.Void TextLiteral c plain h = absurd (false≢true h)
 fit_taken types ty.Bool (Of u) c plain h = of_value ty.Bool u c refl h
-fit_taken types ty.Bool NullPointer c plain h = absurd (false≢true h)
-fit_taken types ty.Bool TextLiteral c plain h = absurd (false≢true h)
 fit_taken types ty.Char (Of u) c plain h = of_value ty.Char u c refl h
-fit_taken types ty.Char NullPointer c plain h = absurd (false≢true h)
-fit_taken types ty.Char TextLiteral c plain h = absurd (false≢true h)
 fit_taken types ty.Int (Of u) c plain h = of_value ty.Int u c refl h
-fit_taken types ty.Int NullPointer c plain h = absurd (false≢true h)
-fit_taken types ty.Int TextLiteral c plain h = absurd (false≢true h)
 fit_taken types ty.Long (Of u) c plain h = of_value ty.Long u c refl h
-fit_taken types ty.Long NullPointer c plain h = absurd (false≢true h)
-fit_taken types ty.Long TextLiteral c plain h = absurd (false≢true h)
 fit_taken types ty.Size (Of u) c plain h = of_value ty.Size u c refl h
-fit_taken types ty.Size NullPointer c plain h = absurd (false≢true h)
-fit_taken types ty.Size TextLiteral c plain h = absurd (false≢true h)
 fit_taken types ty.Text (Of ty.Text) c plain h = as_owner refl refl
-fit_taken types ty.Text (Of _) c plain h = absurd (false≢true h)
-fit_taken types ty.Text NullPointer c plain h = absurd (false≢true h)
 fit_taken types ty.Text TextLiteral c plain h = as_value refl refl refl
 fit_taken types ty.View (Of ty.Text) c plain h = as_owner refl refl
 fit_taken types ty.View (Of ty.View) c plain h = as_value refl refl refl
-fit_taken types ty.View (Of _) c plain h = absurd (false≢true h)
-fit_taken types ty.View NullPointer c plain h = absurd (false≢true h)
 fit_taken types ty.View TextLiteral c plain h = as_value refl refl refl
 fit_taken types (ty.Vector item) (Of (ty.Vector found)) c plain h = as_owner refl refl
-fit_taken types (ty.Vector item) (Of _) c plain h = absurd (false≢true h)
-fit_taken types (ty.Vector item) NullPointer c plain h = absurd (false≢true h)
-fit_taken types (ty.Vector item) TextLiteral c plain h = absurd (false≢true h)
 fit_taken types (ty.Unique target) (Of (ty.Unique found)) c plain h = as_unique refl refl (made_alone (id.eq found target) (is_place c) h)
-fit_taken types (ty.Unique target) (Of _) c plain h = absurd (false≢true h)
 fit_taken types (ty.Unique target) NullPointer c plain h = as_value refl refl refl
-fit_taken types (ty.Unique target) TextLiteral c plain h = absurd (false≢true h)
 fit_taken types (ty.Raw target constant) (Of (ty.Raw found held)) c plain h = as_value refl refl refl
-fit_taken types (ty.Raw target constant) (Of _) c plain h = absurd (false≢true h)
 fit_taken types (ty.Raw target constant) NullPointer c plain h = as_value refl refl refl
-fit_taken types (ty.Raw target constant) TextLiteral c plain h = absurd (false≢true h)
 fit_taken types (ty.Reference target constant) s c plain h = absurd (false≢true (sym plain))
 fit_taken types (ty.Iterator target constant) (Of (ty.Iterator found held)) c plain h = as_walker refl refl
-fit_taken types (ty.Iterator target constant) (Of _) c plain h = absurd (false≢true h)
-fit_taken types (ty.Iterator target constant) NullPointer c plain h = absurd (false≢true h)
-fit_taken types (ty.Iterator target constant) TextLiteral c plain h = absurd (false≢true h)
 fit_taken types (ty.Span target constant) (Of (ty.Span found held)) c plain h = as_walker refl refl
 fit_taken types (ty.Span target constant) (Of (ty.Vector found)) c plain h = as_owner refl refl
-fit_taken types (ty.Span target constant) (Of _) c plain h = absurd (false≢true h)
-fit_taken types (ty.Span target constant) NullPointer c plain h = absurd (false≢true h)
-fit_taken types (ty.Span target constant) TextLiteral c plain h = absurd (false≢true h)
 fit_taken types (ty.Struct number) (Of (ty.Struct found)) c plain h = as_struct refl refl
-fit_taken types (ty.Struct number) (Of _) c plain h = absurd (false≢true h)
-fit_taken types (ty.Struct number) NullPointer c plain h = absurd (false≢true h)
-fit_taken types (ty.Struct number) TextLiteral c plain h = absurd (false≢true h)
+fit_taken types _ _ c plain h = absurd (false≢true h)
 
 -- ---- .. or a reference, which is to a value, an owner or a struct
 
@@ -150,31 +122,7 @@ given_taken types t e refers place given = go t refl
 
 pub taken_some : (t : Ty) (s : ExprType) (c : Category) → IsTakenAs t s c → is_void_type s ≡ false
 taken_some t s c (as_value takes plain some) = some
-taken_some t s c (as_owner takes o) = go s o
-  where
-    go : (s : ExprType) → is_owner_type s ≡ true → is_void_type s ≡ false
-    go (Of ty.Void) o = absurd (false≢true o)
-    go (Of _) o = refl
-    go NullPointer o = refl
-    go TextLiteral o = refl
-taken_some t s c (as_walker takes w) = go s w
-  where
-    go : (s : ExprType) → is_walker_type s ≡ true → is_void_type s ≡ false
-    go (Of ty.Void) w = absurd (false≢true w)
-    go (Of _) w = refl
-    go NullPointer w = refl
-    go TextLiteral w = refl
-taken_some t s c (as_unique takes u made) = go s u
-  where
-    go : (s : ExprType) → is_unique_type s ≡ true → is_void_type s ≡ false
-    go (Of ty.Void) u = absurd (false≢true u)
-    go (Of _) u = refl
-    go NullPointer u = refl
-    go TextLiteral u = refl
-taken_some t s c (as_struct takes structure) = go s structure
-  where
-    go : (s : ExprType) → is_struct_type s ≡ true → is_void_type s ≡ false
-    go (Of ty.Void) u = absurd (false≢true u)
-    go (Of _) u = refl
-    go NullPointer u = refl
-    go TextLiteral u = refl
+taken_some t s c (as_owner takes o) = type_no_void owns_elements refl s o
+taken_some t s c (as_walker takes w) = type_no_void is_walker refl s w
+taken_some t s c (as_unique takes u made) = type_no_void is_unique refl s u
+taken_some t s c (as_struct takes structure) = type_no_void is_struct refl s structure

@@ -12,7 +12,9 @@ use Rattle.life_typed.specs.declared.members.MethodParameters.{MethodParameters}
 use Rattle.life_type_expr.specs.Lists.{is_taken}
 use Rattle.life_well_typed.specs.Given.{is_given}
 use Rattle.life_well_typed.specs.Members.{typed_in}
-use Rattle.life_elab_laws.proofs.FormKinds.{is_element, is_read_form, is_read_fresh, is_read_struct, is_read_walker, is_target, is_walker, takes_owner, takes_struct}
+use Rattle.life_elab_laws.proofs.FormKinds.{is_read_form, is_read_fresh, is_read_struct, is_read_walker}
+use Rattle.life_elab_laws.proofs.ObjectTypes.{is_element, is_target}
+use Rattle.life_elab_laws.proofs.TypeKinds.{is_walker, takes_owner, takes_struct}
 use Rattle.life_elab_laws.proofs.Elements.{element_target}
 use Rattle.life_elab_laws.proofs.KnownTypes.{element_admits, is_known_type, known_refers, admits_known, target_no_unique, target_no_walker, value_known}
 use Rattle.life_elab_laws.proofs.TypedFits.{IsTakenAs, as_owner, as_struct, as_unique, as_value, as_walker, given_taken}

@@ -8,7 +8,8 @@ use Rattle.life_types.specs.declared.place.Place.{Place}
 use Rattle.life_types.specs.declared.ty.Ty.{Ty}
 use Rattle.life_types.specs.declared.ty.Ty.TheVariants as ty
 use Rattle.life_types.specs.declared.ty.TyId.{TyId}
-use Rattle.life_elab_laws.proofs.FormKinds.{is_owner_of_values, is_plain_type, is_pointing, is_target, is_walker_of_values}
+use Rattle.life_elab_laws.proofs.ObjectTypes.{is_owner_of_values, is_pointing, is_target, is_walker_of_values}
+use Rattle.life_elab_laws.proofs.TypeKinds.{is_plain_type}
 use Rattle.life_typed.specs.BaseTypes.{type_at}
 use Rattle.life_typed.specs.Operators.{answer, answered, given, misfit, promoted}
 use Rattle.life_typed.specs.TypedForm.{Form, Typed}
@@ -20,7 +21,7 @@ use Rattle.life_type_expr.specs.Operands.{answer_of, combination, combined_to, p
 use Rattle.life_elab_laws.proofs.AdmittedTypes.{IsAdmittedType}
 use Rattle.life_elab_laws.proofs.ResultTypes.{IsResultType, gives_alias, gives_walker, gives_nothing, gives_raw, gives_reference, gives_struct, gives_value, gives_view, gives_owner, gives_unique, gives_whole}
 use Rattle.life_elab_laws.proofs.Targets.{IsTarget, target_is, to_owner, to_struct, to_value}
-use Rattle.life_elab_laws.proofs.Values.{by_values}
+use Rattle.life_elab_laws.proofs.Values.{by_owners, by_values, by_walkers}
 use Rattle.life_typed.specs.declared.typed_expr.ExprType.{ExprType}
 
 -- ---- what equations say
@@ -204,9 +205,7 @@ owner_named types e id c form _ o is = absurd (false≢true o)
 
 -- .. and no value
 pub owner_refused : (types : Types) (t : Ty) → is_owner_of_values types t ≡ true → is_plain_type (Of t) ≡ true → ⊥
-owner_refused types ty.Text o n = false≢true n
-owner_refused types (ty.Vector element) o n = false≢true n
-owner_refused types _ o n = false≢true o
+owner_refused types = by_owners types _ false≢true (λ element. false≢true)
 
 -- nor is a struct
 pub struct_refused : (t : Ty) (number : ℕ) → t ≡ ty.Struct number → is_plain_type (Of t) ≡ true → ⊥
@@ -219,9 +218,7 @@ walker_named types e id c form (ty.Span target constant) w is = is
 walker_named types e id c form _ w is = absurd (false≢true w)
 
 walker_refused : (types : Types) (t : Ty) → is_walker_of_values types t ≡ true → is_plain_type (Of t) ≡ true → ⊥
-walker_refused types (ty.Iterator target constant) w n = false≢true n
-walker_refused types (ty.Span target constant) w n = false≢true n
-walker_refused types _ w n = false≢true w
+walker_refused types = by_walkers types _ (λ target constant. false≢true) (λ target constant. false≢true)
 
 pub kind_of_variable : (types : Types) (e : Typed) (id : TyId) (c : Bool) (form : Form) (t : Ty) → type_at types id ≡ t → IsAdmittedType types t
     → is_plain_type e.ty ≡ true → e ≡ variable_of t types id c e.place form → IsKind types e

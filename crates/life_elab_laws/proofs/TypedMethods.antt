@@ -20,13 +20,14 @@ use Rattle.life_typed.specs.declared.typed_expr.Method.{Method}
 use Rattle.life_typed.specs.declared.typed_expr.Method.TheVariants as methods
 use Rattle.life_type_expr.specs.Operands.{is_constant}
 use Rattle.life_well_typed.specs.Members.{IsCalled, are_taken, typed_in}
-use Rattle.life_elab_laws.proofs.FormKinds.{form_type, is_asking, is_edge, is_end, is_erase, is_get, is_owner_type, is_plain_type, is_read_form, is_read_owner, is_read_unique, is_read_walker, is_subspan, is_unique_type, is_walker_type}
+use Rattle.life_elab_laws.proofs.FormKinds.{is_asking, is_edge, is_end, is_erase, is_get, is_read_form, is_read_owner, is_read_unique, is_read_walker, is_subspan}
+use Rattle.life_elab_laws.proofs.TypeKinds.{form_type, is_owner_type, is_plain_type, is_unique_type, is_walker_type, is_void_type}
 use Rattle.life_elab_laws.proofs.ElementForms.{operand_typed}
 use Rattle.life_elab_laws.proofs.Elements.{element_target}
 use Rattle.life_elab_laws.proofs.KnownTypes.{is_known_type, iterator_known, raw_known, unique_element, vector_element}
 use Rattle.life_elab_laws.proofs.TypedKinds.{none_some, some_same}
 use Rattle.life_elab_laws.proofs.TypedOperands.{IsRanged, IsReadOperand, is_either, ranged_read, ranges_owner, ranges_value, ranges_walker}
-use Rattle.life_elab_laws.proofs.TypedReadings.{IsRead, behind_read, is_known, is_void_type, nothing_read, number_read, plain_read, walker_read}
+use Rattle.life_elab_laws.proofs.TypedReadings.{IsRead, behind_read, is_known, nothing_read, number_read, plain_read, walker_read}
 
 -- each parameter takes a value
 abbrev pub TakesValues : MethodParameters → Type 0

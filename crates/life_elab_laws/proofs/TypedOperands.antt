@@ -9,9 +9,10 @@ use Rattle.life_typed.specs.TypedForm.{Form}
 use Rattle.life_typed.specs.declared.typed_expr.ExprType.{ExprType}
 use Rattle.life_typed.specs.declared.typed_expr.ExprType.TheVariants.{NullPointer, Of, TextLiteral}
 use Rattle.life_well_typed.specs.Members.{typed_in}
-use Rattle.life_elab_laws.proofs.FormKinds.{is_owner_type, is_plain_type, is_read_either, is_read_form, is_read_fresh, is_read_owner, is_read_struct, is_read_unique, is_read_walker, is_unique_type, is_walker_type}
+use Rattle.life_elab_laws.proofs.FormKinds.{is_read_either, is_read_form, is_read_fresh, is_read_owner, is_read_struct, is_read_unique, is_read_walker}
+use Rattle.life_elab_laws.proofs.TypeKinds.{is_owner_type, is_plain_type, is_unique_type, is_walker_type, is_void_type}
 use Rattle.life_elab_laws.proofs.ElementForms.{operand_typed}
-use Rattle.life_elab_laws.proofs.TypedReadings.{IsRead, is_void_type}
+use Rattle.life_elab_laws.proofs.TypedReadings.{IsRead}
 use Rattle.life_elab_laws.proofs.Values.{by_values}
 
 -- ---- kinds

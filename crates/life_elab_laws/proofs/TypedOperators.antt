@@ -22,7 +22,9 @@ use Rattle.life_typed.specs.declared.typed_expr.ExprType.TheVariants.{NullPointe
 use Rattle.life_type_expr.specs.Operands.{inverted, makes_text, negated_to, text_made, value}
 use Rattle.life_well_typed.specs.Expressions.{IsAddress}
 use Rattle.life_well_typed.specs.Members.{typed_in}
-use Rattle.life_elab_laws.proofs.FormKinds.{is_element, is_equality, is_owner_type, is_plain_type, is_read_either, is_read_form, is_read_object, is_read_struct, is_read_unique, is_admitted_variable, is_read_walker, is_struct, is_struct_type, is_testing, is_walker_type}
+use Rattle.life_elab_laws.proofs.FormKinds.{is_equality, is_read_either, is_read_form, is_read_object, is_read_struct, is_read_unique, is_read_walker, is_testing}
+use Rattle.life_elab_laws.proofs.ObjectTypes.{is_element, is_admitted_variable, is_struct}
+use Rattle.life_elab_laws.proofs.TypeKinds.{is_owner_type, is_plain_type, is_struct_type, is_walker_type}
 use Rattle.life_elab_laws.proofs.Elements.{IsElement, element_is, element_target, has_owner, has_struct, has_value, inner_owner}
 use Rattle.life_elab_laws.proofs.KnownTypes.{HasKnownTypes, owner_elements, raw_known, admits_some}
 use Rattle.life_elab_laws.proofs.TypedAnswers.{AreAdded, AreEquated, AreValues, added_as, adds_texts, adds_to, adds_values, condition_decides, equal_nulls, equal_texts, equal_values, equal_walkers, equated_as, joined_decide, literal_has, multiplied_values, ordered_values, subtracted_as}

@@ -21,7 +21,8 @@ use Rattle.life_type_expr.specs.Members.{indexed_at, indexed_to, is_position}
 use Rattle.life_type_expr.specs.Operands.{answer_of, dereferenced_to, is_constant, place_of, pointed_to, variable_of}
 use Rattle.life_well_typed.specs.Expressions.{HasResult, IsVariable}
 use Rattle.life_well_typed.specs.Members.{IsMember, IsMemberAt}
-use Rattle.life_elab_laws.proofs.FormKinds.{are_admitted_variables, is_admitted_variable, is_struct_type, is_target}
+use Rattle.life_elab_laws.proofs.ObjectTypes.{are_admitted_variables, is_admitted_variable, is_target}
+use Rattle.life_elab_laws.proofs.TypeKinds.{is_struct_type}
 use Rattle.life_elab_laws.proofs.Elements.{element_target}
 use Rattle.life_elab_laws.proofs.ExpressionKinds.{variable_built}
 use Rattle.life_elab_laws.proofs.KnownTypes.{HasKnownTypes, iterator_element, raw_target, reference_target, admits_known, span_element, unique_element, vector_element}

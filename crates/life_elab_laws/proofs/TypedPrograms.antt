@@ -1,7 +1,9 @@
 -- Each function of a well typed program is of the kinds that the laws read.
 use Rattle.std.proofs.Common.{◌≡◌, ℕ, true, false, ◌&&◌, List, [], ◌∷◌, length, refl, take}
 use Rattle.std.proofs.lemmas.Bool.{and_from}
-use Rattle.life_elab_laws.proofs.FormKinds.{are_read_functions, are_admitted_parameters, are_admitted_variables, is_read_form, is_read_function, is_admitted_result, is_read_statement}
+use Rattle.life_elab_laws.proofs.FormKinds.{is_read_form}
+use Rattle.life_elab_laws.proofs.ObjectTypes.{are_admitted_parameters, are_admitted_variables, is_admitted_result}
+use Rattle.life_elab_laws.proofs.StatementKinds.{are_read_functions, is_read_function, is_read_statement}
 use Rattle.life_typed.specs.Programs.{FunctionForm, ProgramForm}
 use Rattle.life_typed.specs.TypedForm.{text}
 use Rattle.life_typed.specs.TypedStatement.{StmtForm, block}

@@ -8,7 +8,10 @@ use Rattle.life_types.specs.contracts.ty.TyIdPartialEq.TheImpl.{ghosts as id}
 use Rattle.life_types.specs.declared.ty.Ty.{Ty}
 use Rattle.life_types.specs.declared.ty.Ty.TheVariants as ty
 use Rattle.life_types.specs.declared.ty.TyId.{TyId}
-use Rattle.life_elab_laws.proofs.FormKinds.{is_element, is_owner_type, is_plain_type, is_read_expression, is_read_owning, is_read_range, is_read_walker, is_target, is_view_type, is_walker_type, takes_as, takes_element, takes_elements, takes_elements_if, takes_whole}
+use Rattle.life_elab_laws.proofs.FormKinds.{is_read_expression, is_read_owning, is_read_walker}
+use Rattle.life_elab_laws.proofs.ObjectTypes.{is_element, is_target}
+use Rattle.life_elab_laws.proofs.StatementKinds.{is_read_range}
+use Rattle.life_elab_laws.proofs.TypeKinds.{is_owner_type, is_plain_type, is_view_type, is_walker_type, takes_as, takes_element, takes_elements, takes_elements_if, takes_whole, is_void_type}
 use Rattle.life_typed.specs.BaseTypes.{type_at}
 use Rattle.life_typed.specs.Conversions.{copied, fits, is_const_place}
 use Rattle.life_typed.specs.Programs.{ProgramForm}
@@ -30,8 +33,9 @@ use Rattle.life_elab_laws.proofs.FormedFits.{IsBound, at_place, by_temporary, gi
 use Rattle.life_elab_laws.proofs.KnownTypes.{known_refers, vector_element}
 use Rattle.life_elab_laws.proofs.Targets.{or_false}
 use Rattle.life_elab_laws.proofs.TypedKinds.{none_some, some_same}
-use Rattle.life_elab_laws.proofs.TypedReadings.{is_known, is_void_type}
+use Rattle.life_elab_laws.proofs.TypedReadings.{is_known}
 use Rattle.life_elab_laws.proofs.TypedSimples.{HasReadings, Read, owning}
+use Rattle.life_elab_laws.proofs.NoVoid.{no_void}
 
 -- ---- no type has two numbers
 
@@ -107,10 +111,6 @@ alike types (ty.Struct number) (ty.Struct found) c worth h = inr (go (nat_eq fou
 alike types (ty.Struct number) _ c worth h = absurd (false≢true h)
 alike types _ u c worth h = absurd (false≢true worth)
 
-target_some : (types : Types) (t : Ty) → is_target types t ≡ true → is_void t ≡ false
-target_some types ty.Void worth = absurd (false≢true worth)
-target_some types _ worth = refl
-
 module _ (types : Types) (once : HasEachOnce types) (element : TyId × Bool) (worth : is_element types (type_at types element.0) ≡ true) where
   abbrev u : Ty
   u = type_at types element.0
@@ -133,7 +133,7 @@ module _ (types : Types) (once : HasEachOnce types) (element : TyId × Bool) (wo
       go (at_place b) = or_left (id.eq element.0 target) values b.here
       go (by_temporary none given) = elim (alike types (type_at types target) u (category.Place element.0 element.1) served given) [
         | inl both ↦ or_right (id.eq element.0 target) values both
-        | inr same ↦ or_left (id.eq element.0 target) values (one_number types once element.0 target same (target_some types (type_at types target) served))
+        | inr same ↦ or_left (id.eq element.0 target) values (one_number types once element.0 target same (no_void (is_target types) refl (type_at types target) served))
       ]
 
   pub taken_as : (t : Ty) → is_known types (Of t) ≡ true → is_given types t e ≡ true → takes_element types t element ≡ true

@@ -1,7 +1,7 @@
 -- How a well typed expression is read, by the kind of its type: as one that has a value or points, as an owner, an iterator or a span, a unique_ptr, or a struct.
 use Rattle.std.proofs.Common.{◌≡◌, ℕ, Bool, true, false, refl, sym, ap, ◌∙◌, subst}
 use Rattle.std.proofs.lemmas.Bool.{and_from, false≢true}
-use Rattle.life_types.specs.TypeTests.{is_reference, is_unique, is_value, is_void}
+use Rattle.life_types.specs.TypeTests.{is_reference, is_unique, is_value}
 use Rattle.life_types.specs.Types.{Types}
 use Rattle.life_types.specs.declared.place.Place.{Place}
 use Rattle.life_types.specs.declared.ty.Ty.{Ty}
@@ -15,14 +15,12 @@ use Rattle.life_typed.specs.declared.typed_expr.Category.{Category}
 use Rattle.life_typed.specs.declared.typed_expr.Category.TheVariants as category
 use Rattle.life_typed.specs.declared.typed_expr.ExprType.{ExprType}
 use Rattle.life_typed.specs.declared.typed_expr.ExprType.TheVariants.{NullPointer, Of, TextLiteral}
-use Rattle.life_elab_laws.proofs.FormKinds.{is_owner_type, is_plain_type, is_read_form, is_read_fresh, is_read_object, is_read_owner, is_read_struct, is_read_unique, is_admitted_variable, is_read_walker, is_struct, is_struct_type, is_target, is_unique_type, is_walker, is_walker_type, owns_elements}
+use Rattle.life_elab_laws.proofs.FormKinds.{is_read_form, is_read_fresh, is_read_object, is_read_owner, is_read_struct, is_read_unique, is_read_walker}
+use Rattle.life_elab_laws.proofs.ObjectTypes.{is_admitted_variable, is_struct, is_target}
+use Rattle.life_elab_laws.proofs.TypeKinds.{is_void_type, is_owner_type, is_plain_type, is_struct_type, is_unique_type, is_walker, is_walker_type, owns_elements}
 use Rattle.life_elab_laws.proofs.KnownTypes.{is_known_type, target_no_reference, target_no_unique, target_no_walker, target_admits, admits_known}
 use Rattle.life_elab_laws.proofs.TypedKinds.{place_same, value_place}
 use Rattle.life_elab_laws.proofs.Values.{by_values}
-
-abbrev pub is_void_type : ExprType → Bool
-is_void_type (Of t) = is_void t
-is_void_type _ = false
 
 abbrev pub is_known : Types → ExprType → Bool
 is_known types (Of t) = is_known_type types t

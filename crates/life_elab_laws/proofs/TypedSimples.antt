@@ -6,7 +6,10 @@ use Rattle.life_types.specs.Types.{Types}
 use Rattle.life_types.specs.declared.ty.Ty.{Ty}
 use Rattle.life_types.specs.declared.ty.Ty.TheVariants as ty
 use Rattle.life_types.specs.declared.ty.TyId.{TyId}
-use Rattle.life_elab_laws.proofs.FormKinds.{are_read_arguments, are_read_elements, are_read_listed, is_element, is_listed as is_listed_type, is_owner_type, is_plain_type, is_read_any, is_read_expression, is_read_fresh, is_read_given, is_read_object, is_read_owned, is_read_owner, is_read_owning, is_read_struct, is_read_target, is_read_walker, is_struct, is_walker, lists_members, takes_list, takes_owner, takes_struct, takes_value}
+use Rattle.life_elab_laws.proofs.FormKinds.{are_read_arguments, are_read_elements, are_read_listed, is_read_any, is_read_expression, is_read_fresh, is_read_object, is_read_owner, is_read_owning, is_read_struct, is_read_walker}
+use Rattle.life_elab_laws.proofs.ObjectTypes.{is_element, is_struct}
+use Rattle.life_elab_laws.proofs.StatementKinds.{is_read_given, is_read_owned, is_read_target}
+use Rattle.life_elab_laws.proofs.TypeKinds.{is_listed as is_listed_type, is_owner_type, is_plain_type, is_walker, lists_members, takes_list, takes_owner, takes_struct, takes_value, is_void_type}
 use Rattle.life_typed.specs.BaseTypes.{type_at}
 use Rattle.life_typed.specs.Conversions.{is_place as is_place_category}
 use Rattle.life_typed.specs.Programs.{ProgramForm}
@@ -23,7 +26,7 @@ use Rattle.life_well_typed.specs.Members.{are_elements, are_members, is_listed, 
 use Rattle.life_elab_laws.proofs.KnownTypes.{admits_some, known_refers, target_known, vector_element}
 use Rattle.life_elab_laws.proofs.TypedFits.{IsTakenAs, as_owner, as_struct, as_unique, as_value, as_walker, given_taken}
 use Rattle.life_elab_laws.proofs.TypedOperands.{plain_no_owner}
-use Rattle.life_elab_laws.proofs.TypedReadings.{IsRead, is_known, is_void_type}
+use Rattle.life_elab_laws.proofs.TypedReadings.{IsRead, is_known}
 
 -- what is known of the expressions of a function
 pub record HasReadings (p : ProgramForm) (locals : List TypedLocal) (texts : ℕ) : Type 0 where
@@ -32,16 +35,6 @@ pub record HasReadings (p : ProgramForm) (locals : List TypedLocal) (texts : ℕ
   pub members : (visible : List ℕ) (ids : List TyId) (form : Form) → are_members p.types ids form ≡ true → AreExpressions p locals visible form → are_read_arguments texts p form ≡ true
   pub elements : (visible : List ℕ) (id : TyId) (form : Form) → is_element p.types (type_at p.types id) ≡ true → are_elements p.types id form ≡ true → AreExpressions p locals visible form
       → are_read_elements texts p form ≡ true
-
--- ---- kinds of types
-
--- an owner is no value
-owner_some : (t : ExprType) → is_owner_type t ≡ true → is_void_type t ≡ false
-owner_some (Of ty.Text) h = refl
-owner_some (Of (ty.Vector item)) h = refl
-owner_some (Of _) h = absurd (false≢true h)
-owner_some NullPointer h = refl
-owner_some TextLiteral h = refl
 
 module _ (p : ProgramForm) (locals : List TypedLocal) (texts : ℕ) (r : HasReadings p locals texts) (visible : List ℕ) where
   abbrev types : Types

@@ -5,7 +5,9 @@ use Rattle.life_types.specs.Types.{HasEachOnce, Types}
 use Rattle.life_types.specs.declared.ty.Ty.{Ty}
 use Rattle.life_types.specs.declared.ty.Ty.TheVariants as ty
 use Rattle.life_types.specs.declared.ty.TyId.{TyId}
-use Rattle.life_elab_laws.proofs.FormKinds.{is_read_condition, is_read_condition_if, is_read_declaration, is_read_declared, is_read_initial, is_read_range, is_read_returned, is_read_simple, is_read_start, is_read_statement, is_read_step, takes_elements}
+use Rattle.life_elab_laws.proofs.FormKinds.{is_read_condition, is_read_condition_if}
+use Rattle.life_elab_laws.proofs.StatementKinds.{is_read_declaration, is_read_declared, is_read_initial, is_read_range, is_read_returned, is_read_simple, is_read_start, is_read_statement, is_read_step}
+use Rattle.life_elab_laws.proofs.TypeKinds.{takes_elements, is_void_type}
 use Rattle.life_typed.specs.BaseTypes.{type_at}
 use Rattle.life_typed.specs.Conversions.{is_const_place}
 use Rattle.life_typed.specs.Programs.{ProgramForm}
@@ -27,7 +29,7 @@ use Rattle.life_elab_laws.proofs.TypedDoings.{alone_read, variable_stands}
 use Rattle.life_elab_laws.proofs.TypedFits.{taken_some}
 use Rattle.life_elab_laws.proofs.TypedKinds.{none_some, ok_same}
 use Rattle.life_elab_laws.proofs.TypedRanges.{range_read}
-use Rattle.life_elab_laws.proofs.TypedReadings.{is_known, is_void_type}
+use Rattle.life_elab_laws.proofs.TypedReadings.{is_known}
 use Rattle.life_elab_laws.proofs.TypedSimples.{HasReadings, Read, given_read, listed_read, read, taken}
 
 module _ (p : ProgramForm) (locals : List TypedLocal) (result : TyId) (texts : ℕ) (r : HasReadings p locals texts)

@@ -3,15 +3,16 @@ use Rattle.std.proofs.Common.{◌≡◌, Bool, true, false, List, [], ◌∷◌,
 use Rattle.std.specs.List.{list_any}
 use Rattle.std.proofs.lemmas.Bool.{false≢true}
 use Rattle.life_types.specs.TypeTests.{is_value}
-use Rattle.life_types.specs.Types.{class, with_type}
+use Rattle.life_types.specs.Types.{Types, class, with_type}
 use Rattle.life_types.specs.contracts.ty.TyPartialEq.TheImpl.{ghosts as compared}
-use Rattle.life_types.specs.declared.ty.Class.TheVariants.{Value}
+use Rattle.life_types.specs.declared.ty.Class.TheVariants.{Owner, Pointer, Value}
 use Rattle.life_types.specs.declared.ty.Ty.{Ty}
 use Rattle.life_core.specs.declared.program.LocalKind.TheVariants.{Object}
 use Rattle.life_writer.specs.Registers.{number_of}
 use Rattle.life_writer.specs.Variables.{kind}
 use Rattle.life_elab_laws.proofs.Fronts.{IsFront, front_append, front_itself}
-use Rattle.life_elab_laws.proofs.Values.{by_values}
+use Rattle.life_elab_laws.proofs.Values.{by_values, by_owners, by_walkers}
+use Rattle.life_elab_laws.proofs.ObjectTypes.{is_owner_of_values, is_walker_of_values}
 
 -- ---- numbers
 
@@ -56,6 +57,12 @@ types_before xs t = go (list_any (compared.eq t) xs)
 
 pub value_class : (t : Ty) → is_value t ≡ true → class (Some t) ≡ Value
 value_class = by_values (λ t. class (Some t) ≡ Value) refl refl refl refl refl
+
+pub owner_class : (types : Types) (t : Ty) → is_owner_of_values types t ≡ true → class (Some t) ≡ Owner
+owner_class types = by_owners types _ refl (λ item. refl)
+
+pub walker_class : (types : Types) (t : Ty) → is_walker_of_values types t ≡ true → class (Some t) ≡ Pointer
+walker_class types = by_walkers types _ (λ item constant. refl) (λ item constant. refl)
 
 pub value_kind : (t : Ty) → is_value t ≡ true → kind (class (Some t)) ≡ Object
 value_kind t e = ap kind (value_class t e)

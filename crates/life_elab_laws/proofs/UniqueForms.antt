@@ -32,7 +32,7 @@ use Rattle.life_types.specs.Types.{Types}
 use Rattle.life_elab_laws.proofs.Gifts.{IsPlaceOf, a_place, a_pointing, nothing as no_gift}
 use Rattle.life_writer.specs.Pointers.{aimed}
 use Rattle.life_writer.specs.Bases.{base_by, element}
-use Rattle.life_elab_laws.proofs.Values.{by_values}
+use Rattle.life_elab_laws.proofs.Values.{by_owners, by_values, by_walkers}
 use Rattle.life_typed.specs.Operators.{dereferenced}
 use Rattle.life_type_expr.specs.Operands.{dereferenced_to, pointed_to, variable_of}
 use Rattle.life_elab_laws.proofs.ObjectForms.{IsReached}
@@ -42,7 +42,8 @@ use Rattle.life_proper.specs.WellFormed.{is_itself}
 use Rattle.life_writer.specs.ExpressionForms.{target_at, uses}
 use Rattle.life_elab_laws.proofs.ViewForms.{gives_as}
 use Rattle.life_well_typed.specs.Given.{is_number}
-use Rattle.life_elab_laws.proofs.FormKinds.{is_element, is_owner_of_values, is_unique_type, is_walker_of_values}
+use Rattle.life_elab_laws.proofs.ObjectTypes.{is_element, is_owner_of_values, is_walker_of_values}
+use Rattle.life_elab_laws.proofs.TypeKinds.{is_unique_type}
 use Rattle.life_types.specs.TypeTests.{is_unique}
 use Rattle.life_elab_laws.proofs.FormedVariables.{object_formed}
 use Rattle.life_elab_laws.proofs.TypedKinds.{a_pointer, ok_same, owner_named, value_place, value_simple, walker_named}
@@ -56,14 +57,10 @@ use Rattle.life_elab_laws.proofs.ExpressionKinds.{variable_built}
 
 -- no owner of elements is one, and no iterator or span
 pub owner_no_unique : (types : Types) (t : Ty) → is_owner_of_values types t ≡ true → is_unique t ≡ false
-owner_no_unique types ty.Text o = refl
-owner_no_unique types (ty.Vector item) o = refl
-owner_no_unique types _ o = absurd (false≢true o)
+owner_no_unique types = by_owners types _ refl (λ item. refl)
 
 pub walker_no_unique : (types : Types) (t : Ty) → is_walker_of_values types t ≡ true → is_unique t ≡ false
-walker_no_unique types (ty.Iterator target constant) w = refl
-walker_no_unique types (ty.Span target constant) w = refl
-walker_no_unique types _ w = absurd (false≢true w)
+walker_no_unique types = by_walkers types _ (λ target constant. refl) (λ target constant. refl)
 
 module _ (a : Around) (visible : List ℕ) (types : Types) (texts : ℕ) (fs : List Function) (f : Function) (setting : Setting a types fs f) where
   abbrev Stood : State → Type 0

@@ -48,7 +48,7 @@ use Rattle.life_elab_laws.proofs.OwnerSteps.{place_held}
 use Rattle.life_elab_laws.proofs.Parts.{Part}
 use Rattle.life_elab_laws.proofs.Shaped.{element_further, PlainStays}
 use Rattle.life_elab_laws.proofs.Shaping.{IsFineStep, is_no_object}
-use Rattle.life_elab_laws.proofs.FormKinds.{is_element, is_target}
+use Rattle.life_elab_laws.proofs.ObjectTypes.{is_element, is_target}
 use Rattle.life_elab_laws.proofs.Targets.{target_no_void, target_same, target_no_slot}
 use Rattle.life_elab_laws.proofs.Types.{type_added}
 use Rattle.life_elab_laws.proofs.WrittenLocals.{fits_below, fits_register}

@@ -49,7 +49,7 @@ use Rattle.life_type_expr.specs.Operands.{inverted}
 use Rattle.life_elab_laws.proofs.ExpressionKinds.{inverted_as}
 use Rattle.life_types.specs.TypeTests.{is_iterator, is_raw, is_unique, is_value}
 use Rattle.life_well_typed.specs.Given.{is_number}
-use Rattle.life_elab_laws.proofs.FormKinds.{is_unique_type}
+use Rattle.life_elab_laws.proofs.TypeKinds.{is_unique_type}
 use Rattle.life_elab_laws.proofs.UniqueSteps.{lying_type}
 use Rattle.life_writer.specs.Conditions.{not_null, on}
 use Rattle.life_elab_laws.proofs.Held.{one_there}

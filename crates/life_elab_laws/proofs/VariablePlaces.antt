@@ -2,7 +2,8 @@
 use Rattle.std.proofs.Common.{◌≡◌, ◌<◌, inl, inr, ℕ, Bool, true, false, List, [], ◌∷◌, Contains, length, slice_get, Option, Some, refl, sym, ap, ◌∙◌, subst, unwrap_or, arith}
 use Rattle.std.proofs.lemmas.Bool.{false≢true}
 use Rattle.std.proofs.lemmas.Option.{slice_get_within}
-use Rattle.life_elab_laws.proofs.FormKinds.{is_element, is_owner_of_values, is_admitted_variable, is_target, is_walker, is_walker_of_values, owns_elements, is_plain_struct}
+use Rattle.life_elab_laws.proofs.ObjectTypes.{is_element, is_owner_of_values, is_admitted_variable, is_target, is_walker_of_values, is_plain_struct}
+use Rattle.life_elab_laws.proofs.TypeKinds.{is_walker, owns_elements}
 use Rattle.life_types.specs.TypeTests.{is_value, is_pointer, is_reference, is_view}
 use Rattle.life_types.specs.Types.{Types, class, class_at}
 use Rattle.life_types.specs.declared.ty.Ty.{Ty}
@@ -29,7 +30,7 @@ use Rattle.life_elab_laws.proofs.Locations.{is_location}
 use Rattle.life_elab_laws.proofs.Making.{Alive, IsOpen, IsPlace, IsPointer}
 use Rattle.life_elab_laws.proofs.AdmittedTypes.{IsAdmittedType, variable_found}
 use Rattle.life_elab_laws.proofs.Targets.{IsTarget, target_is, to_owner, to_struct, to_value}
-use Rattle.life_elab_laws.proofs.Values.{by_values}
+use Rattle.life_elab_laws.proofs.Values.{by_owners, by_values}
 use Rattle.life_elab_laws.proofs.TypedKinds.{owner_named, walker_named}
 use Rattle.life_elab_laws.proofs.PendingTemporaries.{ArePending}
 use Rattle.life_elab_laws.proofs.OwnLocals.{first_own}
@@ -75,9 +76,7 @@ variable_type types id b = let found = variable_found types id b in go found.0 f
     go _ at (inl b) = absurd (false≢true b)
 
 pub owner_is : (types : Types) (t : Ty) → is_owner_of_values types t ≡ true → owns_elements t ≡ true
-owner_is types ty.Text o = refl
-owner_is types (ty.Vector element) o = refl
-owner_is types _ o = absurd (false≢true o)
+owner_is types = by_owners types _ refl (λ element. refl)
 
 -- what an iterator or a span is
 pub record IsWalking (types : Types) (t : Ty) : Type 0 where
@@ -97,9 +96,7 @@ walker_is types _ w = absurd (false≢true w)
 
 -- an owner is an object
 pub owner_kind : (types : Types) (t : Ty) → is_owner_of_values types t ≡ true → kind (class (Some t)) ≡ Object
-owner_kind types ty.Text o = refl
-owner_kind types (ty.Vector element) o = refl
-owner_kind types _ o = absurd (false≢true o)
+owner_kind types = by_owners types _ refl (λ element. refl)
 
 -- ---- where it lies
 

@@ -1,7 +1,8 @@
 -- Iterators and spans: how each expression that is one is written.
 use Rattle.std.proofs.Common.{◌≡◌, ℕ, Bool, true, false, List, Contains, slice_get, Option, Some, None, refl, sym, ap, ◌∙◌, subst, unwrap_or, [], ◌∷◌}
 use Rattle.std.proofs.lemmas.Bool.{false≢true}
-use Rattle.life_elab_laws.proofs.FormKinds.{is_owner_of_values, is_walker, is_walker_of_values, is_walker_type, is_element}
+use Rattle.life_elab_laws.proofs.ObjectTypes.{is_owner_of_values, is_walker_of_values, is_element}
+use Rattle.life_elab_laws.proofs.TypeKinds.{is_walker, is_walker_type}
 use Rattle.life_types.specs.TypeTests.{is_value, is_constant}
 use Rattle.life_types.specs.Types.{Types}
 use Rattle.life_types.specs.declared.ty.Ty.{Ty}
@@ -39,7 +40,7 @@ use Rattle.life_elab_laws.proofs.Parts.{Makes, leaf_part, seen_part}
 use Rattle.life_elab_laws.proofs.PointerForms.{own_typed}
 use Rattle.life_elab_laws.proofs.Setting.{Setting}
 use Rattle.life_elab_laws.proofs.TypedKinds.{owner_named, walker_named, place_same, value_place}
-use Rattle.life_elab_laws.proofs.Values.{by_values}
+use Rattle.life_elab_laws.proofs.Values.{by_owners, by_values}
 use Rattle.life_elab_laws.proofs.VariablePlaces.{a_raw, a_reference, a_struct, a_unique, a_value, a_view, a_walker, an_alias, an_owner, IsVariableType, pointer_there, variable_type, walker_is, a_struct_alias}
 use Rattle.life_elab_laws.proofs.WalkerSteps.{cursor_filling, cursor_given, keeps_itself, span_given}
 use Rattle.life_elab_laws.proofs.WrittenLocals.{fits_register}
@@ -64,6 +65,12 @@ pub walker_type : (t : ExprType) → is_walker_type t ≡ true → IsWalkerType 
 walker_type NullPointer n = absurd (false≢true n)
 walker_type TextLiteral n = absurd (false≢true n)
 walker_type (Of t) n = record { ty = t; is = refl; walker = n }
+
+pub value_no_walker : (t : Ty) → is_value t ≡ true → is_walker t ≡ false
+value_no_walker = by_values (λ t. is_walker t ≡ false) refl refl refl refl refl
+
+pub owner_no_walker : (types : Types) (t : Ty) → is_owner_of_values types t ≡ true → is_walker t ≡ false
+owner_no_walker types = by_owners types _ refl (λ item. refl)
 
 pub walker_fits : (types : Types) (t : Ty) → is_walker_of_values types t ≡ true → fits_register types t ≡ true
 walker_fits types (ty.Iterator target constant) w = w
@@ -120,28 +127,20 @@ module _ (a : Around) (visible : List ℕ) (types : Types) (texts : ℕ) (fs : L
           other : (t : Ty) → e.ty ≡ Of t → is_walker t ≡ false → IsWalkerAt e (λ s. gives (As (whole (variable s x))) s)
           other t at none = absurd (false≢true (sym none ∙ ap is_walker (same (sym at ∙ own_one.is)) ∙ own_one.walker))
 
-          value_alone : (t : Ty) → is_value t ≡ true → is_walker t ≡ false
-          value_alone = by_values (λ t. is_walker t ≡ false) refl refl refl refl refl
-
-          owner_alone : (t : Ty) → is_owner_of_values a.program.types t ≡ true → is_walker t ≡ false
-          owner_alone ty.Text o = refl
-          owner_alone (ty.Vector item) o = refl
-          owner_alone _ o = absurd (false≢true o)
-
           kind : IsVariableType a.program.types l.ty → IsWalkerAt e (λ s. gives (As (whole (variable s x))) s)
           kind (a_value t at v) =
               other t
               (by_values (λ u. e ≡ variable_of u a.program.types l.ty l.constant e.place (local x) → e.ty ≡ Of (type_at a.program.types l.ty)) (λ is. ap (λ (y : Typed). y.ty) is) (λ is. ap (λ (y : Typed). y.ty) is) (λ is. ap (λ (y : Typed). y.ty) is) (λ is. ap (λ (y : Typed). y.ty) is) (λ is. ap (λ (y : Typed). y.ty) is) t v (named t at)
               ∙ ap Of (typed t at))
-              (value_alone t v)
+              (value_no_walker t v)
           kind (a_raw target constant at v) = other (ty.Raw target constant) (ap (λ (y : Typed). y.ty) (named (ty.Raw target constant) at) ∙ ap Of (typed (ty.Raw target constant) at)) refl
           kind (a_view at) = other ty.View (ap (λ (y : Typed). y.ty) (named ty.View at) ∙ ap Of (typed ty.View at)) refl
-          kind (a_reference target constant at v) = other (type_at a.program.types target) (ap (λ (y : Typed). y.ty) (named (ty.Reference target constant) at)) (value_alone (type_at a.program.types target) v)
-          kind (an_alias target constant at o) = other (type_at a.program.types target) (ap (λ (y : Typed). y.ty) (named (ty.Reference target constant) at)) (owner_alone (type_at a.program.types target) o)
+          kind (a_reference target constant at v) = other (type_at a.program.types target) (ap (λ (y : Typed). y.ty) (named (ty.Reference target constant) at)) (value_no_walker (type_at a.program.types target) v)
+          kind (an_alias target constant at o) = other (type_at a.program.types target) (ap (λ (y : Typed). y.ty) (named (ty.Reference target constant) at)) (owner_no_walker a.program.types (type_at a.program.types target) o)
           kind (a_unique target at w) = other (ty.Unique target) (ap (λ (y : Typed). y.ty) (named (ty.Unique target) at) ∙ ap Of (typed (ty.Unique target) at)) refl
           kind (a_struct number at) = other (ty.Struct number) (ap (λ (y : Typed). y.ty) (named (ty.Struct number) at) ∙ ap Of (typed (ty.Struct number) at)) refl
           kind (a_struct_alias target constant number at structure pointless) = other (ty.Struct number) (ap (λ (y : Typed). y.ty) (named (ty.Reference target constant) at) ∙ ap Of structure) refl
-          kind (an_owner t at o) = other t (ap (λ (y : Typed). y.ty) (owner_named a.program.types e l.ty l.constant (local x) t o (named t at)) ∙ ap Of (typed t at)) (owner_alone t o)
+          kind (an_owner t at o) = other t (ap (λ (y : Typed). y.ty) (owner_named a.program.types e l.ty l.constant (local x) t o (named t at)) ∙ ap Of (typed t at)) (owner_no_walker a.program.types t o)
           kind (a_walker t at w) = record {
             ty = t;
             is = ap (λ (y : Typed). y.ty) (walker_named a.program.types e l.ty l.constant (local x) t w (named t at)) ∙ ap Of (typed t at);

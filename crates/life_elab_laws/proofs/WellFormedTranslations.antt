@@ -5,7 +5,8 @@ use Rattle.std.proofs.lemmas.Bool.{and_from}
 use Rattle.life_types.specs.Trees.{IsOrdered}
 use Rattle.life_types.specs.Types.{HasEachOnce, Types}
 use Rattle.life_types.specs.declared.ty.TyId.{TyId}
-use Rattle.life_elab_laws.proofs.FormKinds.{are_read_functions, is_struct}
+use Rattle.life_elab_laws.proofs.ObjectTypes.{is_struct}
+use Rattle.life_elab_laws.proofs.StatementKinds.{are_read_functions}
 use Rattle.life_typed.specs.Programs.{FunctionForm, ProgramForm}
 use Rattle.life_core.specs.Function.{Function}
 use Rattle.life_core_served.specs.Served.{is_served, is_served_local, is_served_program}

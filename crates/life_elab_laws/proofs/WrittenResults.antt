@@ -2,7 +2,7 @@
 -- written, but for the int of main.
 use Rattle.std.proofs.Common.{◌≡◌, ℕ, Bool, true, false, length, slice_get, Some, None, refl, sym, ap, ◌∙◌}
 use Rattle.std.proofs.lemmas.Bool.{false≢true}
-use Rattle.life_elab_laws.proofs.FormKinds.{are_read_functions}
+use Rattle.life_elab_laws.proofs.StatementKinds.{are_read_functions}
 use Rattle.life_types.specs.TypeTests.{is_void}
 use Rattle.life_types.specs.declared.ty.NameId.{NameId}
 use Rattle.life_types.specs.declared.ty.Ty.{Ty}
@@ -23,15 +23,12 @@ use Rattle.life_elab_laws.proofs.GivingBack.{GivesResult}
 use Rattle.life_elab_laws.proofs.StructTypes.{IsAdmittedTable}
 use Rattle.life_elab_laws.proofs.Programs.{IsWritten, int_at, of_all, of_program, one_body, whole, written_result}
 use Rattle.life_elab_laws.proofs.ResultTypes.{past_end}
+use Rattle.life_elab_laws.proofs.NoVoid.{no_void}
 
 -- ---- what must be written is given back, and control doesn't run past the end
 
-written_some : (main : Bool) (t : Ty) → is_written_by main (Some t) ≡ true → is_void t ≡ false
-written_some main ty.Void w = absurd (false≢true w)
-written_some main _ w = refl
-
 needs : (main : Bool) (t : Ty) (over : Bool) → (main ≡ true → t ≡ ty.Int) → return_fault main (is_void t) over ≡ None → is_written_by main (Some t) ≡ true → (is_void t ≡ false) × (over ≡ true)
-needs main t over int e w = let some = written_some main t w in (some, past_end main (is_void t) over some unwritten e)
+needs main t over int e w = let some = no_void (λ (u : Ty). is_written_by main (Some u)) refl t w in (some, past_end main (is_void t) over some unwritten e)
   where
     -- the int of main needn't be
     unwritten : main ≡ true → ⊥

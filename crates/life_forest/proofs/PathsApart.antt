@@ -32,25 +32,25 @@ trichotomy (suc m) zero = inr (inr (omega arith))
 trichotomy (suc m) (suc n) = ⊎_elim (λ e. inl (ap suc e)) (λ h. inr (⊎_elim (λ lt. inl (omega (arith, lt))) (λ lt. inr (omega (arith, lt))) h)) (trichotomy m n)
 
 module _ (types : Types) (ordered : IsOrdered types) where
-  nowhere : (ns : List ℕ) (a : TyId) → type_within types None ns ≡ Some a → ⊥
-  nowhere [] a k = none_some k
-  nowhere (n ∷ ns) a k = none_some k
+  pub no_path : (ns : List ℕ) (a : TyId) → type_within types None ns ≡ Some a → ⊥
+  no_path [] a k = none_some k
+  no_path (n ∷ ns) a k = none_some k
 
   -- what has no members has no path into it
   no_way : (id b : TyId) (n : ℕ) (ns : List ℕ) → members_of types id ≡ [] → type_within types (Some id) (n ∷ ns) ≡ Some b → ⊥
-  no_way id b n ns none e = nowhere ns b (subst (λ (xs : List TyId). type_within types (slice_get xs n) ns ≡ Some b) none e)
+  no_way id b n ns none e = no_path ns b (subst (λ (xs : List TyId). type_within types (slice_get xs n) ns ≡ Some b) none e)
 
   -- an earlier member lies before a later one
-  before : (id a b : TyId) (m : ℕ) (ms : List ℕ) (n : ℕ) (ns : List ℕ) → m < n → 1 ≤ width_at types a → type_within types (Some id) (m ∷ ms) ≡ Some a → word_within types (Some id) (m ∷ ms) < word_within types (Some id) (n ∷ ns)
-  before id a b m ms n ns lt wide e = go (slice_get (members_of types id) m) refl e
+  pub lies_before : (id a : TyId) (m : ℕ) (ms : List ℕ) (n : ℕ) (ns : List ℕ) → m < n → type_within types (Some id) (m ∷ ms) ≡ Some a → word_within types (Some id) (m ∷ ms) + width_at types a ≤ word_within types (Some id) (n ∷ ns)
+  lies_before id a m ms n ns lt e = go (slice_get (members_of types id) m) refl e
     where
       go : (x : Option TyId) → slice_get (members_of types id) m ≡ x → type_within types x ms ≡ Some a
-          → sum_by (width_at types) (take m (members_of types id)) + word_within types x ms < sum_by (width_at types) (take n (members_of types id)) + word_within types (slice_get (members_of types id) n) ns
-      go None there h = absurd (nowhere ms a h)
+          → (sum_by (width_at types) (take m (members_of types id)) + word_within types x ms) + width_at types a ≤ sum_by (width_at types) (take n (members_of types id)) + word_within types (slice_get (members_of types id) n) ns
+      go None there h = absurd (no_path ms a h)
       go (Some x) there h =
           let fits = (path_within types ordered x a ms h).fits in
           let sums = sums_apart (width_at types) (members_of types id) m n x lt there in
-          omega (arith, fits, sums, wide)
+          omega (arith, fits, sums)
 
   pub words_apart : (ms ns : List ℕ) (id a b : TyId) → type_within types (Some id) ms ≡ Some a → type_within types (Some id) ns ≡ Some b → members_of types a ≡ [] → members_of types b ≡ [] → 1 ≤ width_at types a → 1 ≤ width_at types b
       → (ms ≡ ns → ⊥) → word_within types (Some id) ms ≡ word_within types (Some id) ns → ⊥
@@ -59,7 +59,7 @@ module _ (types : Types) (ordered : IsOrdered types) where
   words_apart (m ∷ ms) [] id a b at_a at_b leaf_a leaf_b wide_a wide_b other same = no_way id a m ms (ap (members_of types) (some_same at_b) ∙ leaf_b) at_a
   words_apart (m ∷ ms) (n ∷ ns) id a b at_a at_b leaf_a leaf_b wide_a wide_b other same =
       ⊎_elim (equal (λ x h k different alike. words_apart ms ns x a b h k leaf_a leaf_b wide_a wide_b different alike))
-      (λ h. ⊎_elim (λ lt. let l = before id a b m ms n ns lt wide_a at_a in omega (arith, l, same)) (λ lt. let l = before id b a n ns m ms lt wide_b at_b in omega (arith, l, same)) h)
+      (λ h. ⊎_elim (λ lt. let l = lies_before id a m ms n ns lt at_a in omega (arith, l, wide_a, same)) (λ lt. let l = lies_before id b n ns m ms lt at_b in omega (arith, l, wide_b, same)) h)
       (trichotomy m n)
     where
       equal : ((x : TyId) → type_within types (Some x) ms ≡ Some a → type_within types (Some x) ns ≡ Some b → (ms ≡ ns → ⊥) → word_within types (Some x) ms ≡ word_within types (Some x) ns → ⊥) → m ≡ n → ⊥
@@ -69,7 +69,7 @@ module _ (types : Types) (ordered : IsOrdered types) where
           there = ap (slice_get (members_of types id)) (sym e)
 
           go : (x : Option TyId) → slice_get (members_of types id) m ≡ x → type_within types x ms ≡ Some a → ⊥
-          go None is h = nowhere ms a h
+          go None is h = no_path ms a h
           go (Some x) is h =
               let one = ap (λ (y : Option TyId). word_within types y ms) is in
               let two = ap (λ (y : Option TyId). word_within types y ns) (there ∙ is) in
