@@ -37,7 +37,9 @@ def blocks_file():
 
 
 def usual_file():
-    """Usual functions of the whole grammar up to the largest size: all of it is parsed and typed, and they are too many."""
+    """Usual functions of the whole grammar up to the largest size, with what they include, so that clang++ takes them whole: all of it is
+    parsed and typed, and they are too many."""
+    head = "#include <cassert>\n#include <string>\n#include <vector>\n"
     function = """
 [[life::ret(values)]] const int* largest{n}(const std::vector<int>& values, long limit) {{
   const int* best = nullptr;
@@ -56,7 +58,7 @@ def usual_file():
   return best;
 }}
 """
-    text, number = "", 0
+    text, number = head, 0
     while len(text) + len(function) < FILE_LIMIT - 10:
         text += function.format(n=number)
         number += 1
