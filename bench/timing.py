@@ -2,12 +2,14 @@
 import os
 import subprocess
 import sys
+import threading
 import time
 
 HERE = os.path.dirname(os.path.abspath(__file__))
 DEFAULT = os.path.join(HERE, "..", "crates", "lifecheck", "out", "lifecheck")
-# A program that takes longer than this, in seconds, is run once, and stopped after the second time.
+# A program that takes longer than this, in seconds, is run so many times at most, and stopped after the second time.
 SLOW = 2
+SLOW_RUNS = 3
 LONGEST = 60
 
 
@@ -16,17 +18,27 @@ def program_to_time():
     return os.path.abspath(sys.argv[1] if len(sys.argv) > 1 else DEFAULT)
 
 
+def timed(words):
+    """How long one run takes, in seconds, and its status; `LONGEST` and none for a run that was stopped."""
+    begin = time.perf_counter()
+    # It waits for the end itself: `wait(timeout=..)` looks every twentieth of a second, and so tells no less.
+    with subprocess.Popen(words, stdout=subprocess.DEVNULL, stderr=subprocess.DEVNULL) as run:
+        watch = threading.Timer(LONGEST, run.kill)
+        watch.start()
+        status = run.wait()
+        taken = time.perf_counter() - begin
+        watch.cancel()
+    return (taken, status) if taken < LONGEST else (LONGEST, None)
+
+
 def least_time(words, runs):
     """The least time of so many runs, in seconds, and the status of the last; `LONGEST` and none for a run that was stopped."""
-    best = None
-    for _ in range(runs):
-        begin = time.perf_counter()
-        try:
-            done = subprocess.run(words, stdout=subprocess.DEVNULL, stderr=subprocess.DEVNULL, timeout=LONGEST)
-        except subprocess.TimeoutExpired:
+    best, done = LONGEST, 0
+    while done < runs:
+        taken, status = timed(words)
+        if status is None:
             return LONGEST, None
-        taken = time.perf_counter() - begin
-        best = taken if best is None else min(best, taken)
+        best, done = min(best, taken), done + 1
         if taken > SLOW:
-            break
-    return best, done.returncode
+            runs = min(runs, SLOW_RUNS)
+    return best, status
