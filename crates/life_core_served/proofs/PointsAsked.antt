@@ -5,7 +5,7 @@ use Rattle.life_types.specs.Types.{Types}
 use Rattle.life_core.specs.Function.{Function, Program}
 use Rattle.life_core.specs.Linked.{Linked, code_of, numbered}
 use Rattle.life_core.specs.Proper.{HasReadyWays, HaveReadyWays}
-use Rattle.life_core_served.specs.Served.{is_served}
+use Rattle.life_core_served.specs.Served.{lacks_slots}
 use Rattle.life_proper.specs.GivenOver.{all_keep_given}
 use Rattle.life_core_served.specs.ProperFunctions.{AreProperFunctions, IsProperFunction}
 use Rattle.life_core_served.specs.ProperPrograms.{IsProperProgram, IsServedProgram}
@@ -31,8 +31,8 @@ proper_functions p proper n f at = record {
 }
 
 -- .. and of one that is served
-pub served_functions : (p : Program) → IsServedProgram p → (n : ℕ) (f : Function) → slice_get p.functions n ≡ Some f → is_served p.types f ≡ true
-served_functions p served n f at = all_at (is_served p.types) p.functions n f served.serves at
+pub served_functions : (p : Program) → IsServedProgram p → (n : ℕ) (f : Function) → slice_get p.functions n ≡ Some f → lacks_slots p.types f ≡ true
+served_functions p served n f at = all_at (lacks_slots p.types) p.functions n f served.serves at
 
 -- ---- each point of a proper function
 

@@ -3,7 +3,7 @@ use Rattle.std.specs.Prelude.{◌≡◌, Bool, true, false}
 use Rattle.std.specs.List.{list_all}
 use Rattle.life_core.specs.Function.{Function, Program}
 use Rattle.life_core.specs.Proper.{IsReadyProgram}
-use Rattle.life_core_served.specs.Served.{is_served_program}
+use Rattle.life_core_served.specs.Served.{has_no_slots}
 use Rattle.life_core.specs.Shape.{breaks_inside}
 use Rattle.life_pset.specs.Limits.{IsProgramWithinLimits}
 use Rattle.life_proper.specs.GivenOver.{keeps_all_given}
@@ -34,4 +34,4 @@ pub record IsProperProgram (p : Program) : Type 0 where
 
 -- of which programs it is proved so far that no run of theirs faults where nothing is diagnosed: of those none of whose locals is a slot
 pub record IsServedProgram (p : Program) : Type 0 where
-  pub serves : is_served_program p ≡ true
+  pub serves : has_no_slots p ≡ true

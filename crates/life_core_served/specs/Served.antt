@@ -5,11 +5,11 @@ use Rattle.life_types.specs.Types.{Types, is_slot_at}
 use Rattle.life_core.specs.declared.program.Local.{Local}
 use Rattle.life_core.specs.Function.{Function, Program}
 
-abbrev pub is_served_local : Types → Local → Bool
-is_served_local types l = not (is_slot_at types l.ty)
+abbrev pub is_no_slot : Types → Local → Bool
+is_no_slot types l = not (is_slot_at types l.ty)
 
-abbrev pub is_served : Types → Function → Bool
-is_served types f = list_all (is_served_local types) f.locals
+abbrev pub lacks_slots : Types → Function → Bool
+lacks_slots types f = list_all (is_no_slot types) f.locals
 
-abbrev pub is_served_program : Program → Bool
-is_served_program p = list_all (is_served p.types) p.functions
+abbrev pub has_no_slots : Program → Bool
+has_no_slots p = list_all (lacks_slots p.types) p.functions

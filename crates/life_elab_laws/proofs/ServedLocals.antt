@@ -5,7 +5,7 @@ use Rattle.std.specs.List.{list_all}
 use Rattle.life_types.specs.Types.{Types, is_slot_type}
 use Rattle.life_types.specs.declared.ty.Ty.{Ty}
 use Rattle.life_types.specs.declared.ty.Ty.TheVariants as ty
-use Rattle.life_core_served.specs.Served.{is_served_local}
+use Rattle.life_core_served.specs.Served.{is_no_slot}
 use Rattle.life_core.specs.declared.program.Local.{Local}
 use Rattle.life_elab_laws.proofs.Targets.{reference_no_slot}
 use Rattle.life_elab_laws.proofs.WrittenLocals.{fits_local}
@@ -20,5 +20,5 @@ module _ (types : Types) where
   no_slot (ty.Reference target constant) h = reference_no_slot types target constant h
   no_slot _ h = refl
 
-  pub local_served : (l : Local) (t : Ty) → slice_get types.types l.ty.0 ≡ Some t → fits_local types t ≡ true → is_served_local types l ≡ true
+  pub local_served : (l : Local) (t : Ty) → slice_get types.types l.ty.0 ≡ Some t → fits_local types t ≡ true → is_no_slot types l ≡ true
   local_served l t at fits = ap (λ (o : Option Ty). not (is_slot_type types o)) at ∙ ap not (no_slot t fits)

@@ -9,7 +9,7 @@ use Rattle.life_elab_laws.proofs.ObjectTypes.{is_struct}
 use Rattle.life_elab_laws.proofs.StatementKinds.{are_read_functions}
 use Rattle.life_typed.specs.Programs.{FunctionForm, ProgramForm}
 use Rattle.life_core.specs.Function.{Function}
-use Rattle.life_core_served.specs.Served.{is_served, is_served_local, is_served_program}
+use Rattle.life_core_served.specs.Served.{has_no_slots, is_no_slot, lacks_slots}
 use Rattle.life_core.specs.declared.program.Local.{Local}
 use Rattle.life_proper.specs.GivenOver.{all_keep_given, keeps_all_given}
 use Rattle.life_proper.specs.WellFormed.{is_well_formed_tree}
@@ -48,7 +48,7 @@ module _ (p : ProgramForm) (typed : IsWellTyped p) (built : are_read_functions (
   -- ---- one function
 
   module _ (n : ℕ) (f : FunctionForm) (at : slice_get p.functions n ≡ Some f) (core : Function) (w : IsWritten p types f core) where
-    served_local : (x : ℕ) (l : Local) → slice_get core.locals x ≡ Some l → is_served_local types l ≡ true
+    served_local : (x : ℕ) (l : Local) → slice_get core.locals x ≡ Some l → is_no_slot types l ≡ true
     served_local x l there = go ((grows p typed built results told n f at w.before w.table).own x l (subst (λ (c : Function). slice_get c.locals x ≡ Some l) w.is there))
       where
         stays : PlainStays p.types types
@@ -57,7 +57,7 @@ module _ (p : ProgramForm) (typed : IsWellTyped p) (built : are_read_functions (
         front_is : IsFront p.types.types types.types
         front_is = front p typed built results told n f at core w
 
-        go : IsIntermediate p.types (written (around p f) w.before).types l ⊎ IsOwn (around p f) l → is_served_local types l ≡ true
+        go : IsIntermediate p.types (written (around p f) w.before).types l ⊎ IsOwn (around p f) l → is_no_slot types l ≡ true
         go (inl is) = elim is.fits [
           | inl register ↦ local_served types l is.ty (w.later l.ty.0 is.ty is.typed) (register_local types is.ty (fits_later p.types types front_is stays is.ty register.1))
           | inr other ↦ local_served types l is.ty (w.later l.ty.0 is.ty is.typed) (elim other [
@@ -79,8 +79,8 @@ module _ (p : ProgramForm) (typed : IsWellTyped p) (built : are_read_functions (
             local_served types l found.0 (ap (λ (id : TyId). slice_get types.types id.0) is.of.typed ∙ front_is is.variable.ty.0 found.0 found.1)
             (local_later p.types types front_is stays found.0 (variable_fits p.types found.0 found.2))
 
-    one_served : is_served types core ≡ true
-    one_served = all_pass (is_served_local types) core.locals served_local
+    one_served : lacks_slots types core ≡ true
+    one_served = all_pass (is_no_slot types) core.locals served_local
 
     body_formed : is_well_formed_tree types texts functions core core.body ≡ true
     body_formed = (one_body p typed built results told n f at core w mains).stated.formed
@@ -103,8 +103,8 @@ module _ (p : ProgramForm) (typed : IsWellTyped p) (built : are_read_functions (
   pub program_keeps : keeps_all_given (translated p) ≡ true
   program_keeps = passed_by_all p typed built results told (all_keep_given types) (list_all (all_keep_given types)) refl (λ core cores. refl) one_keeps
 
-  pub program_serves : is_served_program (translated p) ≡ true
-  program_serves = passed_by_all p typed built results told (is_served types) (list_all (is_served types)) refl (λ core cores. refl) one_served
+  pub program_serves : has_no_slots (translated p) ≡ true
+  program_serves = passed_by_all p typed built results told (lacks_slots types) (list_all (lacks_slots types)) refl (λ core cores. refl) one_served
 
   pub program_formed : HasNames p → IsOrdered p.types → HasEachOnce p.types → HaveMembers p.structs p.types.structs → IsWellFormedProgram (translated p)
   program_formed named ordered once structs =

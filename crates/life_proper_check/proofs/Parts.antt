@@ -3,7 +3,7 @@ use Rattle.std.proofs.Common.{◌≡◌, subst, sym, true}
 use Rattle.life_types.specs.Trees.{IsOrdered}
 use Rattle.life_types.specs.Types.{HasEachOnce}
 use Rattle.life_core.specs.Function.{Program}
-use Rattle.life_core_served.specs.Served.{is_served_program}
+use Rattle.life_core_served.specs.Served.{has_no_slots}
 use Rattle.life_pset.specs.Limits.{IsProgramWithinLimits}
 use Rattle.life_proper.specs.Checking.{checked}
 use Rattle.life_proper.specs.GivenOver.{keeps_all_given}
@@ -25,7 +25,7 @@ parts_proper p ordered once formed given breaks within ready results = record {
 }
 
 -- .. and of one whose verdict is proved
-pub parts_served : (p : Program) → is_served_program p ≡ true → IsServedProgram p
+pub parts_served : (p : Program) → has_no_slots p ≡ true → IsServedProgram p
 parts_served p slotless = record { serves = slotless }
 
 -- a proper program stays as it was

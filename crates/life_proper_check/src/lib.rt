@@ -16,4 +16,4 @@ mod standing;
 mod types;
 
 pub use check::{Part, unmet_part};
-pub use served::is_served;
+pub use served::is_slotless;

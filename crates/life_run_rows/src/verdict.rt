@@ -6,7 +6,7 @@ ghost use Rattle.life_core_served.specs.ProperPrograms.{IsProperProgram, IsServe
 use life_base::Steps;
 use life_core::CoreProgram;
 use life_fix::program_diagnostics;
-use life_proper_check::is_served;
+use life_proper_check::is_slotless;
 use life_sound::accept;
 use life_types::NoMemory;
 use std::alloc::Global;
@@ -17,7 +17,7 @@ use std::sync::ledger::{Blank, Ledger};
 pub fn verdict(alloc: Global, program: CoreProgram) -> Result<String, NoMemory>
     requires { IsProperProgram (program_of program) }
 {
-    if is_served(&program) {
+    if is_slotless(&program) {
         verdict_on::<Brand>(alloc, program, Blank::new(1))
     } else {
         Ok(String::from_str(alloc, "not proved")?)

@@ -10,7 +10,7 @@ use Rattle.life_core.specs.declared.program.FnId.{FnId}
 use Rattle.life_core.specs.declared.program.Local.{Local}
 use Rattle.life_core.specs.Function.{Function, Program}
 use Rattle.life_core.specs.Operands.{Argument, Location, Slot}
-use Rattle.life_core_served.specs.Served.{is_served, is_served_local}
+use Rattle.life_core_served.specs.Served.{is_no_slot, lacks_slots}
 use Rattle.life_core.specs.Step.{Call, Step}
 use Rattle.life_core.specs.Tree.{Node}
 use Rattle.life_proper.specs.Placed.{is_slot_local, slot_at}
@@ -32,11 +32,11 @@ use Rattle.life_cover.proofs.SafeRuns.{HandsPointerSlots}
 -- ---- no slot is there
 
 -- among the first locals, which are those that a call gives
-no_slots : (types : Types) (n : ℕ) (ls : List Local) → list_all (is_served_local types) ls ≡ true → ArePointerSlots types (map local_type (take n ls))
+no_slots : (types : Types) (n : ℕ) (ls : List Local) → list_all (is_no_slot types) ls ≡ true → ArePointerSlots types (map local_type (take n ls))
 no_slots types zero ls e = tt
 no_slots types (suc n) [] e = tt
 no_slots types (suc n) (l ∷ ls) e =
-    let both = and_parts (is_served_local types l) (list_all (is_served_local types) ls) e in
+    let both = and_parts (is_no_slot types l) (list_all (is_no_slot types) ls) e in
     (λ slot. absurd (false≢true (sym (not_slot types l both.0) ∙ slot)), no_slots types n ls both.1)
 
 -- ---- each instruction
@@ -54,13 +54,13 @@ module _ (types : Types) (texts : ℕ) (fs : List Function) (f : Function) where
       let both = and_parts (is_argument_for types texts fs f id x) (are_arguments_for types texts fs f ids xs) e in
       (argument_spoken id x slotless.0 both.0, arguments_spoken ids xs slotless.1 both.1)
 
-  module _ (slotless : (n : ℕ) (g : Function) → slice_get fs n ≡ Some g → is_served types g ≡ true) (locals : is_served types f ≡ true) where
+  module _ (slotless : (n : ℕ) (g : Function) → slice_get fs n ≡ Some g → lacks_slots types g ≡ true) (locals : lacks_slots types f ≡ true) where
     no_slot : (x : ℕ) → slot_at types f x ≡ false
     no_slot x = go (slice_get f.locals x) refl
       where
         go : (o : Option Local) → slice_get f.locals x ≡ o → is_slot_local types f o ≡ false
         go None at = refl
-        go (Some l) at = not_slot types l (all_at (is_served_local types) f.locals x l locals at)
+        go (Some l) at = not_slot types l (all_at (is_no_slot types) f.locals x l locals at)
 
     target_spoken : (n : ℕ) (g : Function) → slice_get fs n ≡ Some g → (target : Option Location) → goes_to types texts fs f (ty_of types g.result) target ≡ true → IsPlainTarget types f target
     target_spoken n g at None e = tt
