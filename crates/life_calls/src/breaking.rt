@@ -7,7 +7,7 @@ ghost use Rattle.life_calls.specs.Breaks as spec;
 
 use crate::found::{Found, add_all};
 use crate::given::{ArgFact, ArgRows, CallBreak};
-use life_contract::{Signature, admits_null, breaks_apart, inputs_of, parameter_in};
+use life_contract::{Callee, Signature, admits_null, breaks_apart, parameter_in};
 use life_pset::{Cause, Element, InputPointer};
 use life_types::{NoMemory, TypeTable};
 
@@ -37,14 +37,15 @@ fn breaks_of(
     ensures { IfOk result (λ all. all.items ≡ spec.breaks types.now sig.now facts.now) }
 {
     let alloc = found.alloc();
-    let inputs = inputs_of(alloc, sig, types)?;
+    let callee = Callee::of(alloc, sig, types)?;
+    let inputs = callee.inputs();
     // More inputs than have numbers would fill more memory than there is.
     if inputs.len() > u32::MAX as usize {
         return Err(NoMemory);
     }
     let mut all = Vec::new(alloc);
-    push_single_breaks(sig, types, facts, &inputs, &mut all)?;
-    push_pair_breaks(sig, types, facts, &inputs, &mut all)?;
+    push_single_breaks(sig, types, facts, inputs, &mut all)?;
+    push_pair_breaks(sig, types, facts, inputs, &mut all)?;
     Ok(all)
 }
 

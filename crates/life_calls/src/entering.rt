@@ -4,8 +4,8 @@ ghost use Rattle.life_contract.specs.Inputs.{parameter_local};
 ghost use Rattle.life_core.specs.Function.{function_of};
 ghost use Rattle.life_calls.specs.Facts.{fact_of, head_function, is_of, pre_of};
 
-use life_contract::{Param, Signature, is_rooted};
-use life_core::{CoreFn, Local, LocalKind, Promise, Stmt};
+use life_contract::{Param, Signature, is_rooted, parameter_local};
+use life_core::{CoreFn, Local, Promise, Stmt};
 use life_pset::{AbsPlace, Element, Fact};
 use life_rules::entry_facts;
 use life_types::{NoMemory, Place, TypeTable};
@@ -56,19 +56,6 @@ fn parameter_locals(
         all.push(parameter_local(place, *parameter))?;
     }
     Ok(all)
-}
-
-fn parameter_local(place: Place, parameter: Param) -> Local
-    ensures { result ≡ parameter_local place parameter }
-{
-    Local {
-        name: parameter.name,
-        ty: parameter.ty,
-        kind: LocalKind::Object,
-        place,
-        nonnull: parameter.nonnull,
-        keeps: parameter.keeps,
-    }
 }
 
 // Those facts that are of a parameter.

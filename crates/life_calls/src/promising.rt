@@ -5,7 +5,9 @@ ghost use Rattle.life_contract.specs.Promises.{post_of, promised_elements, promi
 ghost use Rattle.life_pset.specs.declared.element.Element.TheVariants as element;
 ghost use Rattle.life_calls.specs.Facts.{fact_of, found_at};
 
-use life_contract::{Signature, fixed_elements, promised_places, result_locations, result_type};
+use life_contract::{
+    Callee, Signature, fixed_elements, promised_places, result_locations, result_type,
+};
 use life_pset::{AbsPlace, Element};
 use life_types::{NoMemory, Ty, TypeTable};
 use std::alloc::Global;
@@ -19,53 +21,50 @@ pub fn post_of(
 ) -> Result<Vec<(AbsPlace, Element)>, NoMemory>
     ensures { IfOk result (λ all. map fact_of all.items ≡ post_of types.now sig.now) }
 {
+    let callee = Callee::of(alloc, sig, types)?;
     let locations = result_locations(alloc, sig, types)?;
     let mut all = Vec::new(alloc);
-    push_promised_at_all(alloc, sig, types, &locations, &mut all)?;
+    push_promised_at_all(alloc, &callee, &locations, &mut all)?;
     Ok(all)
 }
 
 fn push_promised_at_all(
     alloc: Global,
-    sig: &Signature,
-    types: &TypeTable,
+    callee: &Callee<'_>,
     locations: &[AbsPlace],
     out: &mut Vec<(AbsPlace, Element)>,
 ) -> Result<(), NoMemory>
     ensures { OnOk result
-        (map fact_of out.new.items ≡ map fact_of out.old.items ++ flat_map (promised_facts types.now sig.now) locations.now) }
+        (map fact_of out.new.items
+        ≡ map fact_of out.old.items ++ flat_map (promised_facts callee.now.types.now callee.now.sig.now) locations.now) }
 {
     for location in locations {
-        push_promised_at(alloc, sig, types, location, out)?;
+        push_promised_at(alloc, callee, location, out)?;
     }
     Ok(())
 }
 
 fn push_promised_at(
     alloc: Global,
-    sig: &Signature,
-    types: &TypeTable,
+    callee: &Callee<'_>,
     location: &AbsPlace,
     out: &mut Vec<(AbsPlace, Element)>,
 ) -> Result<(), NoMemory>
     ensures { OnOk result
-        (map fact_of out.new.items ≡ map fact_of out.old.items ++ promised_facts types.now sig.now location.now) }
+        (map fact_of out.new.items
+        ≡ map fact_of out.old.items ++ promised_facts callee.now.types.now callee.now.sig.now location.now) }
 {
-    let elements = promised_elements(alloc, sig, types, result_type(sig, types, location))?;
+    let ty = result_type(callee.sig, callee.types, location);
+    let elements = promised_elements(alloc, callee, ty)?;
     push_elements(*location, &elements, out)
 }
 
 // What a location of this type may hold.
-fn promised_elements(
-    alloc: Global,
-    sig: &Signature,
-    types: &TypeTable,
-    ty: Ty,
-) -> Result<Vec<Element>, NoMemory>
-    ensures { IfOk result (λ all. all.items ≡ promised_elements types.now sig.now ty) }
+fn promised_elements(alloc: Global, callee: &Callee<'_>, ty: Ty) -> Result<Vec<Element>, NoMemory>
+    ensures { IfOk result (λ all. all.items ≡ promised_elements callee.now.types.now callee.now.sig.now ty) }
 {
-    let mut all = fixed_elements(alloc, sig, types, ty)?;
-    let places = promised_places(alloc, sig, types, ty)?;
+    let mut all = fixed_elements(alloc, callee, ty)?;
+    let places = promised_places(alloc, callee, ty)?;
     push_places(&places, &mut all)?;
     Ok(all)
 }

@@ -14,7 +14,7 @@ use std::alloc::Global;
 
 /// The pointers that a caller hands over, by themselves or in structs, in the order of the parameters
 /// and then of their members, depth first. The only error is the want of memory.
-pub fn inputs_of(
+pub(crate) fn inputs_of(
     alloc: Global,
     sig: &Signature,
     types: &TypeTable,
@@ -46,8 +46,8 @@ fn push_inputs(
     Ok(())
 }
 
-// A parameter as a local of its function.
-fn parameter_local(place: Place, parameter: Param) -> Local
+/// A parameter as a local of its function.
+pub fn parameter_local(place: Place, parameter: Param) -> Local
     ensures { result ≡ parameter_local place parameter }
 {
     Local {

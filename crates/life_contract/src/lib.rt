@@ -14,7 +14,9 @@ mod signature;
 pub use arguments::{is_argument_of, is_in_arguments};
 pub use breaking::breaks_apart;
 pub use callee::Callee;
-pub use inputs::{admits_null, input_parameter, inputs_of, is_mutating, may_be_null, parameter_in};
+pub use inputs::{
+    admits_null, input_parameter, is_mutating, may_be_null, parameter_in, parameter_local,
+};
 pub use locating::{is_location, is_rooted, located};
 pub use param::Param;
 pub use positions::{pointed_type, step_type, steps_place};

@@ -6,7 +6,8 @@ ghost use Rattle.life_core.specs.Function.{promise_of};
 ghost use Rattle.life_pset.specs.Inputs.{input_seen};
 ghost use Rattle.life_contract.specs.Promises.{admits_static, agrees, element_if, fits, fitting, fixed_elements, is_listed, lists_null, lists_static, owner_elements, place_if, pointer_elements, promised_behind, promised_places, promises_null, promises_static, result_locations, result_type};
 
-use crate::inputs::{inputs_of, parameter_number};
+use crate::callee::Callee;
+use crate::inputs::parameter_number;
 use crate::positions::{pointed_type, position_type};
 use crate::signature::Signature;
 use life_core::{LocalKind, Promise};
@@ -136,15 +137,20 @@ fn push_promised_behind_all(
 /// .. behind all inputs.
 pub fn promised_places(
     alloc: Global,
-    sig: &Signature,
-    types: &TypeTable,
+    callee: &Callee<'_>,
     ty: Ty,
 ) -> Result<Vec<AbsPlace>, NoMemory>
-    ensures { IfOk result (λ all. all.items ≡ promised_places types.now sig.now ty) }
+    ensures { IfOk result (λ all. all.items ≡ promised_places callee.now.types.now callee.now.sig.now ty) }
 {
-    let inputs = inputs_of(alloc, sig, types)?;
     let mut all = Vec::new(alloc);
-    push_promised_behind_all(alloc, sig, types, ty, &inputs, &mut all)?;
+    push_promised_behind_all(
+        alloc,
+        callee.sig,
+        callee.types,
+        ty,
+        callee.inputs(),
+        &mut all,
+    )?;
     Ok(all)
 }
 
@@ -160,29 +166,21 @@ fn lists_static(promise: &Promise, none: bool) -> bool
 }
 
 // Whether a pointer of this type may be what never ends.
-fn promises_static(
-    alloc: Global,
-    sig: &Signature,
-    types: &TypeTable,
-    ty: Ty,
-) -> Result<bool, NoMemory>
-    ensures { IfOk result (λ answer. answer ≡ promises_static types.now sig.now ty) }
+fn promises_static(alloc: Global, callee: &Callee<'_>, ty: Ty) -> Result<bool, NoMemory>
+    ensures { IfOk result (λ answer. answer ≡ promises_static callee.now.types.now callee.now.sig.now ty) }
 {
-    let places = promised_places(alloc, sig, types, ty)?;
+    let sig = callee.sig;
+    let places = promised_places(alloc, callee, ty)?;
     Ok(lists_static(&sig.promise, places.is_empty()))
 }
 
 /// Whether what a function returns for a pointer of this type may be what never ends: it may wherever
 /// it may be anything. The only error is the want of memory.
-pub fn admits_static(
-    alloc: Global,
-    sig: &Signature,
-    types: &TypeTable,
-    ty: Ty,
-) -> Result<bool, NoMemory>
-    ensures { IfOk result (λ answer. answer ≡ admits_static types.now sig.now ty) }
+pub fn admits_static(alloc: Global, callee: &Callee<'_>, ty: Ty) -> Result<bool, NoMemory>
+    ensures { IfOk result (λ answer. answer ≡ admits_static callee.now.types.now callee.now.sig.now ty) }
 {
-    let places = promised_places(alloc, sig, types, ty)?;
+    let sig = callee.sig;
+    let places = promised_places(alloc, callee, ty)?;
     Ok(lists_static(&sig.promise, places.is_empty()) || !places.is_empty())
 }
 
@@ -231,46 +229,41 @@ fn push_owner_elements(ty: Ty, out: &mut Vec<Element>) -> Result<(), NoMemory>
 #[tactic(auto, using(std::proofs::Common::append_assoc))]
 fn push_pointer_elements(
     alloc: Global,
-    sig: &Signature,
-    types: &TypeTable,
+    callee: &Callee<'_>,
     ty: Ty,
     out: &mut Vec<Element>,
 ) -> Result<(), NoMemory>
-    ensures { OnOk result (out.new.items ≡ out.old.items ++ pointer_elements types.now sig.now ty) }
+    ensures { OnOk result
+        (out.new.items ≡ out.old.items ++ pointer_elements callee.now.types.now callee.now.sig.now ty) }
 {
-    push_element_if(promises_null(sig, ty), Element::Null, out)?;
-    let fixed = promises_static(alloc, sig, types, ty)?;
+    push_element_if(promises_null(callee.sig, ty), Element::Null, out)?;
+    let fixed = promises_static(alloc, callee, ty)?;
     push_element_if(fixed, Element::Static, out)
 }
 
 fn push_pointer_elements_if(
     alloc: Global,
-    sig: &Signature,
-    types: &TypeTable,
+    callee: &Callee<'_>,
     ty: Ty,
     out: &mut Vec<Element>,
 ) -> Result<(), NoMemory>
-    ensures { OnOk result (out.new.items ≡ out.old.items ++ cond (is_pointer ty) (pointer_elements types.now sig.now ty) []) }
+    ensures { OnOk result
+        (out.new.items ≡ out.old.items ++ cond (is_pointer ty) (pointer_elements callee.now.types.now callee.now.sig.now ty) []) }
 {
     if is_pointer(ty) {
-        push_pointer_elements(alloc, sig, types, ty, out)?;
+        push_pointer_elements(alloc, callee, ty, out)?;
     }
     Ok(())
 }
 
 /// What a location of this type in the result may hold that is no place: what an owner holds, and of a
 /// pointer null and what never ends. The only error is the want of memory.
-pub fn fixed_elements(
-    alloc: Global,
-    sig: &Signature,
-    types: &TypeTable,
-    ty: Ty,
-) -> Result<Vec<Element>, NoMemory>
-    ensures { IfOk result (λ all. all.items ≡ fixed_elements types.now sig.now ty) }
+pub fn fixed_elements(alloc: Global, callee: &Callee<'_>, ty: Ty) -> Result<Vec<Element>, NoMemory>
+    ensures { IfOk result (λ all. all.items ≡ fixed_elements callee.now.types.now callee.now.sig.now ty) }
 {
     let mut all = Vec::new(alloc);
     push_owner_elements(ty, &mut all)?;
-    push_pointer_elements_if(alloc, sig, types, ty, &mut all)?;
+    push_pointer_elements_if(alloc, callee, ty, &mut all)?;
     Ok(all)
 }
 

@@ -5,6 +5,7 @@ ghost use Rattle.std.specs.Prelude.{◌≡◌, ◌++◌, ◌⊎◌, ◌↔◌, C
 ghost use Rattle.life_core.specs.Function.{function_of};
 ghost use Rattle.life_core.specs.Linked.{points_of};
 ghost use Rattle.life_core.specs.Node.{spot_seen};
+ghost use Rattle.life_contract.specs.Signatures.{signature_of};
 ghost use Rattle.life_pset.specs.Causes.{AreSpotsOf};
 ghost use Rattle.life_pset.specs.Elements.{IsWithinLimits};
 ghost use Rattle.life_rules.specs.Diagnosing.{diags_at, diags_of_two, IsDiagnosed};
@@ -18,7 +19,7 @@ ghost use Rattle.life_fix.specs.Solution.{IsSolution};
 use crate::listing::{listed, push_candidates};
 use crate::solution::Solution;
 use crate::told::told_facts;
-use life_contract::Signatures;
+use life_contract::{Callee, Signatures, signature_of};
 use life_core::{CoreFn, FnId, Names, Point, SpotRef, spots};
 use life_pset::{ElementTable, Fact};
 use life_rules::{
@@ -73,6 +74,8 @@ pub(crate) fn found<R: Rows>(
     ensures { IfOk result
         (λ all. (d : Diag) → Contains all.items d ↔ IsDiagnosed sigs.now types.now id.0 (function_of f.now) d) }
 {
+    let sig = signature_of(alloc, f)?;
+    let own = Callee::of(alloc, &sig, types)?;
     let table = sol.table();
     let mut elements = NumberSet::empty(alloc, table.element_count())?;
     let mut all = Vec::new(alloc);
@@ -84,6 +87,7 @@ pub(crate) fn found<R: Rows>(
             types,
             id.0,
             f,
+            &own,
             *spot,
             table,
             sol.row(point),
@@ -101,12 +105,15 @@ fn push_row<R: Rows>(
     types: &TypeTable,
     function: u32,
     f: &CoreFn,
+    own: &Callee<'_>,
     spot: SpotRef,
     table: &ElementTable,
     row: Option<&R>,
     elements: &mut NumberSet,
     out: &mut Vec<Diag>,
 ) -> Result<(), NoMemory>
+    requires own_sig { own.now.sig.now ≡ signature_of (function_of f.now) }
+    requires own_types { own.now.types.now ≡ types.now }
     requires locations { IfSome row (λ row. R.location_limit row.now ≡ length table.now.locations) }
     requires elements { IfSome row (λ row. R.element_limit row.now ≡ length table.now.elements) }
     requires limit { elements.old.limit ≡ length table.now.elements }
@@ -121,7 +128,7 @@ fn push_row<R: Rows>(
                 return Ok(());
             }
             push_wrong_by(
-                alloc, sigs, types, function, f, spot, table, row, elements, out,
+                alloc, sigs, types, function, f, own, spot, table, row, elements, out,
             )?;
         }
     }
@@ -134,12 +141,15 @@ fn push_wrong_by<R: Rows>(
     types: &TypeTable,
     function: u32,
     f: &CoreFn,
+    own: &Callee<'_>,
     spot: SpotRef,
     table: &ElementTable,
     row: &R,
     elements: &mut NumberSet,
     out: &mut Vec<Diag>,
 ) -> Result<(), NoMemory>
+    requires own_sig { own.now.sig.now ≡ signature_of (function_of f.now) }
+    requires own_types { own.now.types.now ≡ types.now }
     requires locations { R.location_limit row.now ≡ length table.now.locations }
     requires elements { R.element_limit row.now ≡ length table.now.elements }
     requires limit { elements.old.limit ≡ length table.now.elements }
@@ -148,7 +158,7 @@ fn push_wrong_by<R: Rows>(
         ↔ (Contains out.old.items d ⊎ IsWrongBy sigs.now types.now function (function_of f.now) table.now (R.has row.now) (spot_seen spot.entry) d)) }
 {
     let facts = told_facts(alloc, types, f, spot, table, row, elements)?;
-    let at = PointContext::of(alloc, sigs, types, function, f, spot)?;
+    let at = PointContext::of(alloc, sigs, types, function, f, own, spot)?;
     push_all_wrong(&at, &facts, out)?;
     Ok(())
 }

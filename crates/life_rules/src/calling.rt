@@ -70,41 +70,43 @@ fn push_fixed_into(
     match target {
         None => Ok(()),
         Some(target) => {
+            let callee = Callee::of(alloc, sig, types)?;
             let locations = result_locations(alloc, sig, types)?;
-            push_all_fixed(alloc, types, sig, located(target), &locations, out)
+            push_all_fixed(alloc, &callee, located(target), &locations, out)
         }
     }
 }
 
 fn push_all_fixed(
     alloc: Global,
-    types: &TypeTable,
-    sig: &Signature,
+    callee: &Callee<'_>,
     target: AbsPlace,
     locations: &[AbsPlace],
     out: &mut Vec<Fact>,
 ) -> Result<(), NoMemory>
     ensures { OnOk result
-        (out.new.items ≡ out.old.items ++ flat_map (fixed_facts types.now sig.now target) locations.now) }
+        (out.new.items
+        ≡ out.old.items ++ flat_map (fixed_facts callee.now.types.now callee.now.sig.now target) locations.now) }
 {
     for location in locations {
-        push_fixed_facts(alloc, types, sig, target, *location, out)?;
+        push_fixed_facts(alloc, callee, target, *location, out)?;
     }
     Ok(())
 }
 
 fn push_fixed_facts(
     alloc: Global,
-    types: &TypeTable,
-    sig: &Signature,
+    callee: &Callee<'_>,
     target: AbsPlace,
     location: AbsPlace,
     out: &mut Vec<Fact>,
 ) -> Result<(), NoMemory>
     ensures { OnOk result
-        (out.new.items ≡ out.old.items ++ fixed_facts types.now sig.now target location) }
+        (out.new.items
+        ≡ out.old.items ++ fixed_facts callee.now.types.now callee.now.sig.now target location) }
 {
-    let elements = fixed_elements(alloc, sig, types, result_type(sig, types, &location))?;
+    let ty = result_type(callee.sig, callee.types, &location);
+    let elements = fixed_elements(alloc, callee, ty)?;
     push_elements(result_at(target, &location), &elements, out)
 }
 

@@ -1,6 +1,8 @@
 // A point of a function, where it is asked what is wrong.
 ghost use Rattle.std.specs.Prelude.{◌≡◌, IfOk};
+ghost use Rattle.life_core.specs.Function.{function_of};
 ghost use Rattle.life_core.specs.Node.{node_seen};
+ghost use Rattle.life_contract.specs.Signatures.{signature_of};
 ghost use Rattle.life_rules.specs.Callees.{callee_at, IsCallee};
 
 use crate::callees::callee_at;
@@ -10,8 +12,8 @@ use life_types::{NoMemory, TypeTable};
 use std::alloc::Global;
 
 /// A point of a function, and what the rules say what is wrong there by: the signatures of the program's
-/// functions, its types, the function with its number, what stands at the point, and the function that
-/// is called there, if one is.
+/// functions, its types, the function with its number and as its own callers see it, what stands at the
+/// point, and the function that is called there, if one is.
 #[derive(Drop)]
 pub struct PointContext<'a> {
     pub sigs: &'a Signatures,
@@ -20,21 +22,27 @@ pub struct PointContext<'a> {
     pub f: &'a CoreFn,
     pub spot: SpotRef<'a>,
     pub(crate) alloc: Global,
+    pub(crate) own: &'a Callee<'a>,
     pub(crate) callee: Option<Callee<'a>>,
+    ghost own_sig: { own.now.sig.now ≡ signature_of (function_of f.now) },
+    ghost own_types: { own.now.types.now ≡ types.now },
     ghost called: { IsCallee types.now (callee_at sigs.now (node_seen spot.node)) callee },
 }
 
 impl<'a> PointContext<'a> {
-    /// The point where this stands, in the function with this number. The only error is the want of
-    /// memory.
+    /// The point where this stands, in the function with this number, which its callers see as `own`. The
+    /// only error is the want of memory.
     pub fn of(
         alloc: Global,
         sigs: &'a Signatures,
         types: &'a TypeTable,
         function: u32,
         f: &'a CoreFn,
+        own: &'a Callee<'a>,
         spot: SpotRef<'a>,
     ) -> Result<PointContext<'a>, NoMemory>
+        requires own_sig { own.now.sig.now ≡ signature_of (function_of f.now) }
+        requires own_types { own.now.types.now ≡ types.now }
         ensures sigs { IfOk result (λ at. at.sigs.now ≡ sigs.now) }
         ensures types { IfOk result (λ at. at.types.now ≡ types.now) }
         ensures function { IfOk result (λ at. at.function ≡ function) }
@@ -49,6 +57,7 @@ impl<'a> PointContext<'a> {
             f,
             spot,
             alloc,
+            own,
             callee,
         })
     }

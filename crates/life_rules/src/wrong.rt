@@ -34,15 +34,7 @@ pub fn push_diags(at: &PointContext<'_>, fact: &Fact, out: &mut Vec<Diag>) -> Re
     match at.spot.node {
         NodeRef::Action(instr) => push_step_diags(at, instr, fact, out),
         NodeRef::Question(_) => Ok(()),
-        NodeRef::Return => push_return_diags(
-            at.alloc,
-            at.types,
-            at.function,
-            at.f,
-            at.spot.place,
-            fact,
-            out,
-        ),
+        NodeRef::Return => push_return_diags(at, fact, out),
         NodeRef::Stop => Ok(()),
     }
 }

@@ -1,4 +1,4 @@
-use Rattle.std.proofs.Common.{◌≡◌, ◌⊎◌, ◌↔◌, ◌∙◌, Contains, Some, slice_get, ap, subst, sym}
+use Rattle.std.proofs.Common.{◌≡◌, ◌+◌, ◌⊎◌, ◌↔◌, ◌∙◌, Contains, Some, length, slice_get, ap, subst, sym}
 use Rattle.std.specs.Option.{option_copied}
 use Rattle.std.proofs.lemmas.Option.{slice_get-get_or}
 use Rattle.life_core.specs.Function.{function_of}
@@ -6,8 +6,24 @@ use Rattle.life_core.specs.Node.{spot_seen}
 use Rattle.life_pset.specs.Table.{Table}
 use Rattle.life_rules.specs.declared.diag.Diag.{Diag}
 use Rattle.life_fix.specs.Finding.{IsWrongIn}
+use Rattle.life_fix.specs.Solution.{AllLimited}
 use Rattle.life_fix.proofs.Finding.{found_all, found_more}
+use Rattle.life_fix.proofs.PointRows.{limit_at}
 use Rattle.life_fix.proofs.diagnosis.found.Goals as goal
+
+pub push_row-requires-clause-locations : goal.push_row-requires-clause-locations
+push_row-requires-clause-locations g c =
+    let limit = g.R.Rows.location_limit in
+    let rows = c.args.sol.now.rows in
+    limit_at limit (length c.table-table.result.now.locations) rows (c.loop-index.index + 1) c.row.result c.row.ensures
+    (subst (λ (t : Table). AllLimited limit (length t.locations) rows) (sym c.table-table.ensures) c.requires.solution.locations)
+
+pub push_row-requires-clause-elements : goal.push_row-requires-clause-elements
+push_row-requires-clause-elements g c =
+    let limit = g.R.Rows.element_limit in
+    let rows = c.args.sol.now.rows in
+    limit_at limit (length c.table-table.result.now.elements) rows (c.loop-index.index + 1) c.row.result c.row.ensures
+    (subst (λ (t : Table). AllLimited limit (length t.elements) rows) (sym c.table-table.ensures) c.requires.solution.elements)
 
 pub loop-index-preserved : goal.loop-index-preserved
 loop-index-preserved g c =

@@ -6,5 +6,5 @@ use Rattle.life_rules.proofs.calling.push_all_fixed.Given as goal
 -- what was added, and what is left to add
 abbrev pub invariant-loop-location : goal.invariant-loop-location
 invariant-loop-location l =
-    let facts = fixed_facts l.types l.sig l.target in
+    let facts = fixed_facts l.callee.types.now l.callee.sig.now l.target in
     l.out.items ++ flat_map facts (drop l.location-index l.locations) ≡ l.fn.out.items ++ flat_map facts l.locations
