@@ -40,10 +40,10 @@ fn bears_no_location(alloc: Global, context: &EdgeContext) -> Result<bool, NoMem
     let mut born = Vec::new(alloc);
     push_none(
         alloc,
-        context.sigs,
         context.types,
         context.f,
         context.spot,
+        context.callee,
         &mut born,
     )?;
     Ok(born.is_empty())

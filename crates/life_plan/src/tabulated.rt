@@ -127,10 +127,10 @@ fn start<R: Rows>(
     let mut facts = Vec::new(alloc);
     push_none(
         alloc,
-        context.sigs,
         context.types,
         context.f,
         context.spot,
+        context.callee,
         &mut facts,
     )?;
     add_facts(context.table, &facts, into, gained)

@@ -44,35 +44,34 @@ fn result_at(target: AbsPlace, location: &AbsPlace) -> AbsPlace
 pub fn push_called_none(
     alloc: Global,
     types: &TypeTable,
-    sig: Option<&Signature>,
+    callee: Option<&Callee<'_>>,
     target: &Option<Location>,
     out: &mut Vec<Fact>,
 ) -> Result<(), NoMemory>
-    ensures { OnOk result
-        (out.new.items ≡ out.old.items ++ called_none types.now (option_copied sig.entry) (option_map location_of target.now)) }
+    ensures { (sig : Option Signature) → IsCallee types.now sig (option_copied callee.entry) → OnOk result
+        (out.new.items ≡ out.old.items ++ called_none types.now sig (option_map location_of target.now)) }
 {
-    match sig {
+    match callee {
         None => Ok(()),
-        Some(sig) => push_fixed_into(alloc, types, sig, target, out),
+        Some(callee) => push_fixed_into(alloc, callee, target, out),
     }
 }
 
 fn push_fixed_into(
     alloc: Global,
-    types: &TypeTable,
-    sig: &Signature,
+    callee: &Callee<'_>,
     target: &Option<Location>,
     out: &mut Vec<Fact>,
 ) -> Result<(), NoMemory>
     ensures { OnOk result
-        (out.new.items ≡ out.old.items ++ fixed_into types.now sig.now (option_map location_of target.now)) }
+        (out.new.items
+        ≡ out.old.items ++ fixed_into callee.now.types.now callee.now.sig.now (option_map location_of target.now)) }
 {
     match target {
         None => Ok(()),
         Some(target) => {
-            let callee = Callee::of(alloc, sig, types)?;
-            let locations = result_locations(alloc, sig, types)?;
-            push_all_fixed(alloc, &callee, located(target), &locations, out)
+            let locations = result_locations(alloc, callee.sig, callee.types)?;
+            push_all_fixed(alloc, callee, located(target), &locations, out)
         }
     }
 }

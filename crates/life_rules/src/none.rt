@@ -1,18 +1,20 @@
 // What an instruction makes of no fact.
 ghost use Rattle.std.specs.List.{flat_map};
 ghost use Rattle.std.specs.Option.{option_copied};
-ghost use Rattle.std.specs.Prelude.{◌≡◌, ◌++◌, ◌∷◌, option_map, IfOk, OnOk};
+ghost use Rattle.std.specs.Prelude.{◌≡◌, ◌++◌, ◌∷◌, option_map, IfOk, List, OnOk};
 ghost use Rattle.life_core.specs.Function.{function_of};
 ghost use Rattle.life_core.specs.Node.{spot_seen};
 ghost use Rattle.life_core.specs.Operands.{base_of, operand_of, source_of};
 ghost use Rattle.life_core.specs.Step.{change_of, step_of};
 ghost use Rattle.life_pset.specs.Elements.{local_place, moved};
+ghost use Rattle.life_contract.specs.Signatures.{Signature};
+ghost use Rattle.life_rules.specs.Callees.{callee_in, callee_of, IsCallee};
 ghost use Rattle.life_rules.specs.Carrying.{born, born_facts, born_raw, fact_at, from_none, locations_at, locations_of_local, made_element, named_element, named_in, named_position, named_target, none_at, own_type, whole_facts};
 
 use crate::calling::push_called_none;
 use crate::matching::{located, part_of};
 use crate::push::{push_at, push_if};
-use life_contract::Signatures;
+use life_contract::Callee;
 use life_core::{
     Base, Change, CoreFn, Form, Instr, Local, Made, NodeRef, Operand, Source, SpotRef,
 };
@@ -23,23 +25,23 @@ use life_pset::{
 use life_types::{NoMemory, Place, Ty, TyId, TypeTable};
 use std::alloc::Global;
 
-/// Adds what a point makes of no fact.
+/// Adds what a point makes of no fact. `callee` is the function that the point calls, if it calls one.
 pub fn push_none(
     alloc: Global,
-    sigs: &Signatures,
     types: &TypeTable,
     f: &CoreFn,
     spot: Option<SpotRef>,
+    callee: Option<&Callee<'_>>,
     out: &mut Vec<Fact>,
 ) -> Result<(), NoMemory>
-    ensures { OnOk result
-        (out.new.items ≡ out.old.items ++ none_at sigs.now types.now (function_of f.now) (option_map spot_seen spot.entry)) }
+    ensures { (sigs : List Signature) → IsCallee types.now (callee_in sigs (option_map spot_seen spot.entry)) (option_copied callee.entry) → OnOk result
+        (out.new.items ≡ out.old.items ++ none_at sigs types.now (function_of f.now) (option_map spot_seen spot.entry)) }
 {
     match spot {
         None => {}
         Some(spot) => match spot.node {
             NodeRef::Action(instr) => push_from_none(
-                alloc, sigs, types, f, spot.place, instr, out,
+                alloc, types, f, spot.place, instr, callee, out,
             )?,
             NodeRef::Question(_) => {}
             NodeRef::Return => {}
@@ -55,15 +57,15 @@ pub fn push_none(
 // that is no place.
 fn push_from_none(
     alloc: Global,
-    sigs: &Signatures,
     types: &TypeTable,
     f: &CoreFn,
     place: Place,
     instr: &Instr,
+    callee: Option<&Callee<'_>>,
     out: &mut Vec<Fact>,
 ) -> Result<(), NoMemory>
-    ensures { OnOk result
-        (out.new.items ≡ out.old.items ++ from_none sigs.now types.now (function_of f.now) place (step_of instr.now)) }
+    ensures { (sigs : List Signature) → IsCallee types.now (callee_of sigs (step_of instr.now)) (option_copied callee.entry) → OnOk result
+        (out.new.items ≡ out.old.items ++ from_none sigs types.now (function_of f.now) place (step_of instr.now)) }
 {
     match instr {
         Instr::Live { local, form } => {
@@ -86,11 +88,7 @@ fn push_from_none(
             location: located(owner),
             element: made_element(*made),
         })?,
-        Instr::Call {
-            target,
-            function,
-            ..
-        } => push_called_none(alloc, types, sigs.get(*function), target, out)?,
+        Instr::Call { target, .. } => push_called_none(alloc, types, callee, target, out)?,
         _ => {}
     }
     Ok(())

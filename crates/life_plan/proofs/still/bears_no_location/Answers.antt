@@ -11,5 +11,5 @@ pub returns : goal.returns
 returns c =
     let x = crossing_in c.args.context.now in
     let made = none_at x.sigs x.types x.f x.spot in
-    let all : c.push_none.new.out.items ≡ made = c.in_ok-push_none.ensures ∙ ap (λ (xs : List Fact). xs ++ made) c.new-born.ensures.items in
+    let all : c.push_none.new.out.items ≡ made = c.in_ok-push_none.ensures x.sigs c.args.context.now.called ∙ ap (λ (xs : List Fact). xs ++ made) c.new-born.ensures.items in
     λ t. bears_still x (sym all ∙ empty_list c.push_none.new.out.items (sym c.push_none.new.out.ok.0 ∙ eqb-true (vec_len c.push_none.new.out) 0 (sym c.is_empty.ensures ∙ t))) (c.writes_some.ensures c.if-writes_some.false) c.requires
