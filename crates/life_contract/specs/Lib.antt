@@ -5,4 +5,5 @@ pub mod Located
 pub mod Positions
 pub mod Promises
 pub mod Signatures
+pub mod Targets
 pub mod ValueSignatures

@@ -10,6 +10,7 @@ mod param;
 mod positions;
 mod promises;
 mod signature;
+mod targets;
 
 pub use arguments::{is_argument_of, is_in_arguments};
 pub use breaking::breaks_apart;
@@ -25,3 +26,4 @@ pub use promises::{
     result_type,
 };
 pub use signature::{Signature, Signatures, signature_of};
+pub use targets::Targets;
