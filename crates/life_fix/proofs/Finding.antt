@@ -2,19 +2,14 @@
 use Rattle.std.proofs.Common.{◌≡◌, ◌⊎◌, ◌↔◌, ℕ, zero, suc, ◌+◌, ◌<◌, ◌≤◌, refl, ap, sym, ◌∙◌, inl, inr, Bool, true, false, arith, subst, List, [], ◌∷◌, ◌++◌, length, map, option_map, Option, Some, None, Contains, slice_get, add-one}
 use Rattle.std.specs.List.{flat_map}
 use Rattle.std.proofs.lemmas.Bool.{cases_eq, cases_lt}
-use Rattle.std.proofs.lemmas.List.{append-nil, length-map}
+use Rattle.std.proofs.lemmas.List.{length-map}
 use Rattle.std.proofs.lemmas.List.Elements.{Contains-append_cases, Contains-append_left, Contains-append_right}
 use Rattle.std.proofs.lemmas.Option.{slice_get-map, slice_get_past, slice_get_within}
 use Rattle.life_types.specs.Types.{Types}
 use Rattle.life_core.specs.Function.{Function}
 use Rattle.life_core.specs.Linked.{Linked, code_of, numbered, points_of, spot_of, spot_of_linked}
 use Rattle.life_core.specs.Node.{spot_seen}
-use Rattle.life_core.specs.Operands.{Base, Name, Operand, Source, Through}
-use Rattle.life_core.specs.Operands as named
-use Rattle.life_core.specs.Step.{Step, Copy, Aim, Cursor, Size, Changes, Call}
-use Rattle.life_core.specs.Step as step
-use Rattle.life_core.specs.Tree.{Node, Action, Question, Return, Stop, Spot}
-use Rattle.life_types.specs.declared.place.Place.{Place}
+use Rattle.life_core.specs.Tree.{Spot}
 use Rattle.life_core.specs.declared.node.SpotRef.{SpotRef}
 use Rattle.life_core.specs.declared.stmt.Point.{Point}
 use Rattle.life_contract.specs.Signatures.{Signature}
@@ -22,16 +17,13 @@ use Rattle.life_pset.proofs.Members.{none_in_empty, cons_cases}
 use Rattle.std.specs.Prelude.{IsTrue}
 use Rattle.life_pset.specs.Table.{Table, IsOf, Names, table_of}
 use Rattle.life_pset.specs.declared.element.Fact.{Fact}
-use Rattle.life_rules.proofs.Giving.{at_head, cond_none, in_tail, flat_map_empty, flat_map_from, flat_map_into, one_premise, two_premises, AllIn}
-use Rattle.life_rules.proofs.Calls.{broken_by_two_none}
-use Rattle.life_rules.specs.Along.{base_tells_first, is_target_of, node_tells_first, source_tells_first, tells_first}
-use Rattle.life_rules.specs.Arguing.{argument_diags_of_two}
-use Rattle.life_rules.specs.Carrying.{is_location}
+use Rattle.life_rules.proofs.Giving.{at_head, in_tail, flat_map_from, flat_map_into, one_premise, two_premises, AllIn}
 use Rattle.life_rules.specs.Deriving.{Derives, entry, along}
-use Rattle.life_rules.specs.Diagnosing.{diags_at, diags_of_two, moved_target, moved_through, node_diags_of_two, owner_of_base, owner_of_source, owners, IsDiagnosed, Tells}
+use Rattle.life_rules.specs.Diagnosing.{diags_at, diags_of_two, IsDiagnosed, Tells}
 use Rattle.life_rules.specs.FactSets.{Holds}
 use Rattle.life_rules.specs.Lines.{Line}
 use Rattle.life_rules.specs.Listing.{IsListing}
+use Rattle.life_rules.specs.Pairs.{Adds, IsOfPair}
 use Rattle.life_rules.specs.declared.diag.Diag.{Diag}
 use Rattle.life_fix.specs.Finding.{all_wrong, IsWrongBy, IsWrongIn}
 use Rattle.life_rules.specs.ToldAt.{spot_tells}
@@ -120,72 +112,54 @@ module _ (sigs : List Signature) (types : Types) (function : ℕ) (f : Function)
       ]
   all_told (a ∷ b ∷ c ∷ more) d h x in_premises = absurd h
 
-pub wrong_in_facts : (sigs : List Signature) (types : Types) (function : ℕ) (f : Function) (t : Table) (has : ℕ → ℕ → Bool) (spot : Spot) (facts : List Fact) (old new : List Diag) → AreTold types f spot t has facts
-    → new ≡ old ++ all_wrong sigs types function f spot facts → (d : Diag) → Contains new d ↔ (Contains old d ⊎ IsWrongBy sigs types function f t has spot d)
-wrong_in_facts sigs types function f t has spot facts old new held is d =
-    let all = all_wrong sigs types function f spot facts in (
+-- what each fact makes wrong, and then what each two do, is all
+pub all_added : (sigs : List Signature) (types : Types) (function : ℕ) (f : Function) (spot : Spot) (facts : List Fact) (old between new : List Diag) → between ≡ old ++ flat_map (diags_at sigs types function f (Some spot)) facts
+    → Adds (IsOfPair (diags_of_two sigs types function f (Some spot)) facts) between new → Adds (Contains (all_wrong sigs types function f spot facts)) old new
+all_added sigs types function f spot facts old between new is added d =
+    let one = diags_at sigs types function f (Some spot) in
+    let two = diags_of_two sigs types function f (Some spot) in
+    let each = flat_map one facts in
+    let pairs = flat_map (λ a. flat_map (two a) facts) facts in (
       λ h.
-          elim (Contains-append_cases old all d (subst (λ (ds : List Diag). Contains ds d) is h)) [
-            | inl was ↦ inl was
-            | inr wrong ↦
-                let told = told_of_all sigs types function f spot facts d wrong in
-                inr (told.0, ((λ x k. ((held x).0 (told.1.0 x k)).0), told.1.1))
+          elim ((added d).0 h) [
+            | inl earlier ↦ elim (Contains-append_cases old each d (subst (λ (ds : List Diag). Contains ds d) is earlier)) [ inl was ↦ inl was | inr wrong ↦ inr (Contains-append_left each pairs d wrong) ]
+            | inr wrong ↦ inr (Contains-append_right each pairs d (flat_map_into (λ a. flat_map (two a) facts) facts wrong.0 d wrong.1.1.0 (flat_map_into (two wrong.0) facts wrong.1.0 d wrong.1.1.1.0 wrong.1.1.1.1)))
           ],
       λ h.
-          subst (λ (ds : List Diag). Contains ds d) (sym is)
-          (elim h [
-            | inl was ↦ Contains-append_left old all d was
-            | inr told ↦ Contains-append_right old all d (all_of_told sigs types function f spot facts told.0 d (λ x k. (held x).1 (told.1.0 x k, all_told sigs types function f spot told.0 d told.1.1 x k)) told.1.1)
+          (added d).1 (elim h [
+            | inl was ↦ inl (subst (λ (ds : List Diag). Contains ds d) (sym is) (Contains-append_left old each d was))
+            | inr wrong ↦ elim (Contains-append_cases each pairs d wrong) [
+              | inl by_one ↦ inl (subst (λ (ds : List Diag). Contains ds d) (sym is) (Contains-append_right old each d by_one))
+              | inr by_two ↦
+                  let a = flat_map_from (λ x. flat_map (two x) facts) facts d by_two in
+                  let b = flat_map_from (two a.0) facts d a.1.1 in
+                  inr (a.0, (b.0, (a.1.0, (b.1.0, b.1.1))))
+            ]
           ]),
     )
 
--- where the first fact and another one make nothing wrong, none do
-one_none : {A B : Type 0} (g : A → List B) (x : A) → g x ≡ [] → flat_map g (x ∷ []) ≡ []
-one_none g x none = flat_map_empty_one (g x) none
-  where
-    flat_map_empty_one : {B : Type 0} (ys : List B) → ys ≡ [] → ys ++ [] ≡ []
-    flat_map_empty_one ys none = append-nil ys ∙ none
+-- all that is told makes wrong what all facts of the set do
+pub wrong_by_told : (sigs : List Signature) (types : Types) (function : ℕ) (f : Function) (t : Table) (has : ℕ → ℕ → Bool) (spot : Spot) (facts : List Fact) (old new : List Diag) → AreTold types f spot t has facts → Adds (Contains (all_wrong sigs types function f spot facts)) old new
+    → Adds (IsWrongBy sigs types function f t has spot) old new
+wrong_by_told sigs types function f t has spot facts old new held added d = (
+  λ h.
+      elim ((added d).0 h) [
+        | inl was ↦ inl was
+        | inr wrong ↦
+            let told = told_of_all sigs types function f spot facts d wrong in
+            inr (told.0, ((λ x k. ((held x).0 (told.1.0 x k)).0), told.1.1))
+      ],
+  λ h.
+      (added d).1 (elim h [
+        | inl was ↦ inl was
+        | inr told ↦ inr (all_of_told sigs types function f spot facts told.0 d (λ x k. (held x).1 (told.1.0 x k, all_told sigs types function f spot told.0 d told.1.1 x k)) told.1.1)
+      ]),
+)
 
-through_none : (types : Types) (function : ℕ) (f : Function) (place : Place) (a b : Fact) (o : Operand) → is_target_of o a ≡ false → moved_through types function f place a b o ≡ []
-through_none types function f place a b (Name l) h = refl
-through_none types function f place a b (Through p members) h = cond_none (is_location p a.location) (moved_target types function f place p members a.element b) h
-
-module _ (sigs : List Signature) (types : Types) (function : ℕ) (f : Function) (place : Place) (a b : Fact) where
-  abbrev told : Operand → List Diag
-  told = moved_through types function f place a b
-
-  base_none : (base : Base) → base_tells_first base a ≡ false → flat_map told (owner_of_base base) ≡ []
-  base_none (named.Owner o) h = one_none told o (through_none types function f place a b o h)
-  base_none (named.Pointer l) h = refl
-
-  source_none : (s : Source) → source_tells_first s a ≡ false → flat_map told (owner_of_source s) ≡ []
-  source_none (named.Whole o) h = one_none told o (through_none types function f place a b o h)
-  source_none _ h = refl
-
-  step_none : (i : Step) → tells_first i a ≡ false → flat_map told (owners i) ≡ []
-  step_none (Copy to from) h = one_none told from (through_none types function f place a b from h)
-  step_none (Aim p s) h = source_none s h
-  step_none (step.Element p base which) h = base_none base h
-  step_none (Cursor p base end) h = base_none base h
-  step_none (Size r base) h = base_none base h
-  step_none (Changes o change) h = one_none told o (through_none types function f place a b o h)
-  step_none _ h = refl
-
-  arguments_none : (i : Step) → tells_first i a ≡ false → argument_diags_of_two sigs types function f place i a b ≡ []
-  arguments_none (Call target g xs) h = broken_by_two_none types function f place g.0 (slice_get sigs g.0) xs a b h
-  arguments_none _ h = refl
-
-  node_none : (n : Node) → node_tells_first n a ≡ false → node_diags_of_two sigs types function f place n a b ≡ []
-  node_none (Action i) h = rw (step_none i h) (arguments_none i h)
-  node_none (Question t) h = refl
-  node_none Return h = refl
-  node_none Stop h = refl
-
-pub none_told_of_first : (sigs : List Signature) (types : Types) (function : ℕ) (f : Function) (spot : Spot) (a : Fact) (facts : List Fact) (out : List Diag) → node_tells_first spot.node a ≡ false
-    → out ≡ out ++ flat_map (diags_of_two sigs types function f (Some spot) a) facts
-none_told_of_first sigs types function f spot a facts out h =
-    let none = flat_map_empty (diags_of_two sigs types function f (Some spot) a) facts (λ b. node_none sigs types function f spot.place a b spot.node h) in
-    sym (ap (λ (ds : List Diag). out ++ ds) none ∙ append-nil out)
+-- .. and where nothing is told, nothing is wrong
+pub wrong_by_none : (sigs : List Signature) (types : Types) (function : ℕ) (f : Function) (t : Table) (has : ℕ → ℕ → Bool) (spot : Spot) (old : List Diag) → AreTold types f spot t has [] → Adds (IsWrongBy sigs types function f t has spot) old old
+wrong_by_none sigs types function f t has spot old held =
+    wrong_by_told sigs types function f t has spot [] old old held (λ d. (λ h. inl h, λ h. elim h [ inl was ↦ was | inr none ↦ absurd (none_in_empty d none) ]))
 
 -- ---- the points one by one
 

@@ -8,9 +8,10 @@ ghost use Rattle.life_core.specs.Node.{spot_seen};
 ghost use Rattle.life_contract.specs.Signatures.{signature_of};
 ghost use Rattle.life_pset.specs.Causes.{AreSpotsOf};
 ghost use Rattle.life_pset.specs.Elements.{IsWithinLimits};
-ghost use Rattle.life_rules.specs.Diagnosing.{diags_at, diags_of_two, IsDiagnosed};
+ghost use Rattle.life_rules.specs.Diagnosing.{diags_at, IsDiagnosed};
 ghost use Rattle.life_rules.specs.Lines.{line_of};
 ghost use Rattle.life_rules.specs.Listing.{AreDiagnostics, HaveLines, listed_diag};
+ghost use Rattle.life_rules.specs.Pairs.{Adds};
 ghost use Rattle.life_rules.specs.Texts.{naming_of};
 ghost use Rattle.life_rules.specs.declared.diag.Diag.{Diag};
 ghost use Rattle.life_fix.specs.Finding.{all_wrong, IsWrongBy, IsWrongIn};
@@ -22,9 +23,7 @@ use crate::told::told_facts;
 use life_contract::{Callee, Signatures, signature_of};
 use life_core::{CoreFn, FnId, Names, Point, SpotRef, spots};
 use life_pset::{ElementTable, Fact};
-use life_rules::{
-    Diag, ListedDiag, PointContext, push_diags, push_diags_of_two, tells_first, tells_some,
-};
+use life_rules::{Diag, ListedDiag, PointContext, push_diags, push_diags_of_pairs, tells_some};
 use life_sets::{NumberSet, Rows};
 use life_types::{NoMemory, TypeTable};
 use std::alloc::Global;
@@ -163,19 +162,17 @@ fn push_wrong_by<R: Rows>(
     Ok(())
 }
 
-// Adds what each fact makes wrong, and each two.
-#[tactic(auto, using(std::proofs::Common::append_assoc))]
+// Adds what each fact makes wrong, and each two, in any order.
 fn push_all_wrong(
     at: &PointContext<'_>,
     facts: &[Fact],
     out: &mut Vec<Diag>,
 ) -> Result<(), NoMemory>
     ensures { OnOk result
-        (out.new.items
-        ≡ out.old.items ++ all_wrong at.now.sigs.now at.now.types.now at.now.function (function_of at.now.f.now) (spot_seen at.now.spot) facts.now) }
+        (Adds (Contains (all_wrong at.now.sigs.now at.now.types.now at.now.function (function_of at.now.f.now) (spot_seen at.now.spot) facts.now)) out.old.items out.new.items) }
 {
     push_facts(at, facts, out)?;
-    push_pairs(at, facts, out)
+    push_diags_of_pairs(at, facts, out)
 }
 
 fn push_facts(at: &PointContext<'_>, facts: &[Fact], out: &mut Vec<Diag>) -> Result<(), NoMemory>
@@ -185,37 +182,6 @@ fn push_facts(at: &PointContext<'_>, facts: &[Fact], out: &mut Vec<Diag>) -> Res
 {
     for fact in facts {
         push_diags(at, fact, out)?;
-    }
-    Ok(())
-}
-
-fn push_pairs(at: &PointContext<'_>, facts: &[Fact], out: &mut Vec<Diag>) -> Result<(), NoMemory>
-    ensures { OnOk result
-        (out.new.items
-        ≡ out.old.items ++ flat_map (λ first. flat_map (diags_of_two at.now.sigs.now at.now.types.now at.now.function (function_of at.now.f.now) (Some (spot_seen at.now.spot)) first) facts.now) facts.now) }
-{
-    for first in facts {
-        push_seconds(at, first, facts, out)?;
-    }
-    Ok(())
-}
-
-// Adds what the first fact and each other make wrong, if they may.
-fn push_seconds(
-    at: &PointContext<'_>,
-    first: &Fact,
-    facts: &[Fact],
-    out: &mut Vec<Diag>,
-) -> Result<(), NoMemory>
-    ensures { OnOk result
-        (out.new.items
-        ≡ out.old.items ++ flat_map (diags_of_two at.now.sigs.now at.now.types.now at.now.function (function_of at.now.f.now) (Some (spot_seen at.now.spot)) first.now) facts.now) }
-{
-    if !tells_first(at.spot, first) {
-        return Ok(());
-    }
-    for second in facts {
-        push_diags_of_two(at, first, second, out)?;
     }
     Ok(())
 }

@@ -1,10 +1,16 @@
+pub mod ArgumentPairs
 pub mod Calls
+pub mod EachTwo
+pub mod FirstFacts
+pub mod GivenInputs
+pub mod GivenPlaces
 pub mod Giving
 pub mod Kept
 pub mod Nothing
 pub mod OneFact
 pub mod OneFunction
 pub mod PointCalls
+pub mod PointPairs
 pub mod PrintedLines
 pub mod Spots
 pub mod TwoFacts

@@ -2,20 +2,18 @@
 use Rattle.std.specs.Prelude.{Bool, false}
 use Rattle.life_core.specs.Operands.{Operand, Name, Through, Source, Base}
 use Rattle.life_core.specs.Operands as named
-use Rattle.life_core.specs.Step.{Step, Copy, Aim, Cursor, Size, Changes, Call}
+use Rattle.life_core.specs.Step.{Step, Copy, Aim, Cursor, Size, Changes}
 use Rattle.life_core.specs.Step as step
-use Rattle.life_core.specs.Tree.{Node, Action, Question, Return, Stop}
 use Rattle.life_pset.specs.declared.element.Fact.{Fact}
-use Rattle.life_contract.specs.Arguments.{is_in_arguments}
 use Rattle.life_rules.specs.Carrying.{is_location}
 
--- ---- the first of two facts: a target of the pointer that an instruction goes through, or of an argument
+-- ---- the first of two facts: a target of the pointer that an instruction goes through
 
 abbrev pub is_target_of : Operand → Fact → Bool
 is_target_of (Name l) a = false
 is_target_of (Through p members) a = is_location p a.location
 
--- whether the fact and another one may make something wrong: where an instruction uses an owner through a pointer, or hands one over
+-- whether the fact and another one may make something wrong: where an instruction uses an owner through a pointer
 abbrev pub source_tells_first : Source → Fact → Bool
 source_tells_first (named.Whole o) a = is_target_of o a
 source_tells_first _ a = false
@@ -31,11 +29,4 @@ tells_first (step.Element p b which) a = base_tells_first b a
 tells_first (Cursor p b end) a = base_tells_first b a
 tells_first (Size r b) a = base_tells_first b a
 tells_first (Changes o change) a = is_target_of o a
-tells_first (Call target g xs) a = is_in_arguments xs a.location
 tells_first _ a = false
-
-abbrev pub node_tells_first : Node → Fact → Bool
-node_tells_first (Action i) a = tells_first i a
-node_tells_first (Question t) a = false
-node_tells_first Return a = false
-node_tells_first Stop a = false

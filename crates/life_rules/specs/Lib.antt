@@ -7,10 +7,12 @@ pub mod Carrying
 pub mod Deriving
 pub mod Diagnosing
 pub mod FactSets
+pub mod Given
 pub mod Keeping
 pub mod Lines
 pub mod Listing
 pub mod Matching
+pub mod Pairs
 pub mod Returning
 pub mod Staying
 pub mod Telling

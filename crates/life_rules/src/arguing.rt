@@ -8,25 +8,28 @@ ghost use Rattle.life_core.specs.Step.{step_of};
 ghost use Rattle.life_core.specs.Tree.{Action};
 ghost use Rattle.life_pset.specs.Inputs.{input_seen};
 ghost use Rattle.life_contract.specs.Breaking.{breaks_at, of_pairs};
-ghost use Rattle.life_rules.specs.Arguing.{argument_diags, argument_diags_of_two, known_name, moved_argument, moved_behind, told_break};
-ghost use Rattle.life_rules.specs.CallsAt.{broken_in, moved_in, overlapping_in};
+ghost use Rattle.life_rules.specs.Arguing.{argument_diags, argument_diags_of_two, known_name, told_break};
+ghost use Rattle.life_rules.specs.CallsAt.{broken_in};
+ghost use Rattle.life_rules.specs.Given.{broken_by_two_in, moved_by, moved_given, overlapping_given};
+ghost use Rattle.life_rules.specs.Pairs.{Adds, IsOfPair};
 ghost use Rattle.life_rules.specs.Telling.{told_of};
 
 use crate::context::PointContext;
 use crate::diag::{Diag, DiagKind, Why};
+use crate::given::{Given, given_for};
 use crate::telling::push_told_of;
-use life_contract::{Callee, Param, admits_null, breaks_apart, input_parameter, is_argument_of};
+use life_contract::{Callee, Param, admits_null, input_parameter, is_argument_of};
 use life_core::{Argument, Instr};
-use life_pset::{Element, Fact, InputPointer, is_variable_place};
+use life_pset::{AbsPlace, Element, Fact, InputPointer, is_variable_place};
 use life_types::{NameId, NoMemory};
 
 /// A call at a point of a function: what is called, with its number, and what is handed over.
 #[derive(Drop)]
 pub struct CallAt<'a> {
-    at: &'a PointContext<'a>,
-    callee: &'a Callee<'a>,
+    pub(crate) at: &'a PointContext<'a>,
+    pub(crate) callee: &'a Callee<'a>,
     number: u32,
-    arguments: &'a [Argument],
+    pub(crate) arguments: &'a [Argument],
 }
 
 // Adds that something is wrong with what is given for an input.
@@ -146,20 +149,18 @@ fn push_breaks(
 
 // ---- two facts
 
-/// Adds what is wrong with two facts, the first about an argument of the instruction at the point: a
-/// whole vector or string to which it points may be moved from, by the second, or that is about another
-/// argument and they overlap.
-pub fn push_argument_diags_of_two(
+/// Adds what each two of these facts make wrong with the arguments of the instruction at the point: a
+/// whole vector or string to which one points may be moved from, or two of them overlap. Each argument is
+/// asked once where it may point.
+pub fn push_argument_diags_of_pairs(
     at: &PointContext<'_>,
     instr: &Instr,
-    first: &Fact,
-    second: &Fact,
+    facts: &[Fact],
     out: &mut Vec<Diag>,
 ) -> Result<(), NoMemory>
     requires { node_seen at.now.spot.node ≡ Action (step_of instr.now) }
     ensures { OnOk result
-        (out.new.items
-        ≡ out.old.items ++ argument_diags_of_two at.now.sigs.now at.now.types.now at.now.function (function_of at.now.f.now) at.now.spot.place (step_of instr.now) first.now second.now) }
+        (Adds (IsOfPair (argument_diags_of_two at.now.sigs.now at.now.types.now at.now.function (function_of at.now.f.now) at.now.spot.place (step_of instr.now)) facts.now) out.old.items out.new.items) }
 {
     match instr {
         Instr::Call {
@@ -175,101 +176,78 @@ pub fn push_argument_diags_of_two(
                     number: function.0,
                     arguments,
                 };
-                push_broken_by_two(&call, first, second, callee.inputs(), out)
+                push_broken_by_pairs(&call, facts, out)
             }
         },
         _ => Ok(()),
     }
 }
 
-#[tactic(auto, using(std::proofs::Common::append_assoc))]
-fn push_broken_by_two(
+fn push_broken_by_pairs(
     call: &CallAt<'_>,
-    first: &Fact,
-    second: &Fact,
-    inputs: &[InputPointer],
+    facts: &[Fact],
     out: &mut Vec<Diag>,
 ) -> Result<(), NoMemory>
-    ensures { OnOk result
-        (out.new.items
-        ≡ out.old.items ++ (flat_map (moved_in call.now first.now second.now) (map input_seen inputs.now) ++ of_pairs (overlapping_in call.now first.now second.now) (map input_seen inputs.now))) }
+    ensures { OnOk result (Adds (IsOfPair (broken_by_two_in call.now) facts.now) out.old.items out.new.items) }
 {
-    push_moved(call, first, second, inputs, out)?;
-    push_overlapping(call, first, second, inputs, out)
+    let given = given_for(call, facts)?;
+    push_moved(call, facts, &given, out)?;
+    push_overlapping(call, &given, out)
 }
 
 // ---- an owner that is moved from
 
 fn push_moved(
     call: &CallAt<'_>,
-    argument: &Fact,
-    owner: &Fact,
-    inputs: &[InputPointer],
+    facts: &[Fact],
+    given: &[Given],
     out: &mut Vec<Diag>,
 ) -> Result<(), NoMemory>
     ensures { OnOk result
-        (out.new.items
-        ≡ out.old.items ++ flat_map (moved_in call.now argument.now owner.now) (map input_seen inputs.now)) }
+        (out.new.items ≡ out.old.items ++ flat_map (λ g. flat_map (moved_given call.now g) facts.now) given.now) }
 {
-    for input in inputs {
-        push_moved_at(call, argument, owner, *input, out)?;
+    for one in given {
+        push_moved_at(call, one, facts, out)?;
     }
     Ok(())
 }
 
 fn push_moved_at(
     call: &CallAt<'_>,
-    argument: &Fact,
-    owner: &Fact,
-    input: InputPointer,
+    given: &Given,
+    owners: &[Fact],
     out: &mut Vec<Diag>,
 ) -> Result<(), NoMemory>
     ensures { OnOk result
-        (out.new.items
-        ≡ out.old.items ++ moved_in call.now argument.now owner.now (input_seen input)) }
+        (out.new.items ≡ out.old.items ++ flat_map (moved_given call.now given.now) owners.now) }
 {
-    if is_argument_of(call.arguments, input, &argument.location) {
-        push_moved_behind(call, input, argument.element, owner, out)?;
+    for owner in owners {
+        push_moved_by(call, given, &owner.location, owner.element, out)?;
     }
     Ok(())
 }
 
-fn push_moved_behind(
+fn push_moved_by(
     call: &CallAt<'_>,
-    input: InputPointer,
-    argument: Element,
-    owner: &Fact,
-    out: &mut Vec<Diag>,
-) -> Result<(), NoMemory>
-    ensures { OnOk result
-        (out.new.items
-        ≡ out.old.items ++ moved_behind call.now.callee.now.types.now call.now.at.now.function (function_of call.now.at.now.f.now) call.now.at.now.spot.place call.now.number (input_seen input) argument owner.now) }
-{
-    let types = call.callee.types;
-    match argument {
-        Element::At(target) => {
-            if owner.location == target && is_variable_place(types, call.at.f, &owner.location) {
-                push_moved_argument(call, input, owner.element, out)?;
-            }
-        }
-        _ => {}
-    }
-    Ok(())
-}
-
-fn push_moved_argument(
-    call: &CallAt<'_>,
-    input: InputPointer,
+    given: &Given,
+    owner: &AbsPlace,
     element: Element,
     out: &mut Vec<Diag>,
 ) -> Result<(), NoMemory>
     ensures { OnOk result
-        (out.new.items
-        ≡ out.old.items ++ moved_argument call.now.at.now.function call.now.at.now.spot.place call.now.number (input_seen input) element) }
+        (out.new.items ≡ out.old.items ++ moved_by call.now given.now owner.now element) }
 {
     match element {
         Element::Moved(cause) => {
-            push_told_of_call(call, DiagKind::ArgDangling, input, Why::Cause(cause), out)?
+            if given.may_be_at(owner) && is_variable_place(call.callee.types, call.at.f, owner) {
+                push_told_of_call(
+                    call,
+                    DiagKind::ArgDangling,
+                    given.input,
+                    Why::Cause(cause),
+                    out,
+                )?;
+            }
         }
         _ => {}
     }
@@ -278,65 +256,51 @@ fn push_moved_argument(
 
 // ---- arguments that overlap
 
-// Adds what is wrong for each input and each behind it.
-fn push_overlapping(
-    call: &CallAt<'_>,
-    first: &Fact,
-    second: &Fact,
-    inputs: &[InputPointer],
-    out: &mut Vec<Diag>,
-) -> Result<(), NoMemory>
+// Adds what is wrong with each argument and each behind it.
+fn push_overlapping(call: &CallAt<'_>, given: &[Given], out: &mut Vec<Diag>) -> Result<(), NoMemory>
     ensures { OnOk result
-        (out.new.items ≡ out.old.items ++ of_pairs (overlapping_in call.now first.now second.now) (map input_seen inputs.now)) }
+        (out.new.items ≡ out.old.items ++ of_pairs (overlapping_given call.now) given.now) }
 {
-    for (number, input) in inputs.iter().enumerate() {
-        push_overlapping_with(call, first, second, *input, &inputs[number + 1..], out)?;
+    for (number, first) in given.iter().enumerate() {
+        push_overlapping_with(call, first, &given[number + 1..], out)?;
     }
     Ok(())
 }
 
-// .. where the first fact is about what is given for the input, for each other input.
 fn push_overlapping_with(
     call: &CallAt<'_>,
-    first: &Fact,
-    second: &Fact,
-    input: InputPointer,
-    others: &[InputPointer],
+    first: &Given,
+    others: &[Given],
     out: &mut Vec<Diag>,
 ) -> Result<(), NoMemory>
     ensures { OnOk result
-        (out.new.items
-        ≡ out.old.items ++ flat_map (overlapping_in call.now first.now second.now (input_seen input)) (map input_seen others.now)) }
+        (out.new.items ≡ out.old.items ++ flat_map (overlapping_given call.now first.now) others.now) }
 {
-    if !is_argument_of(call.arguments, input, &first.location) {
-        return Ok(());
-    }
-    for other in others {
-        push_overlapping_at(call, first, second, input, *other, out)?;
+    for second in others {
+        push_overlapping_at(call, first, second, out)?;
     }
     Ok(())
 }
 
 fn push_overlapping_at(
     call: &CallAt<'_>,
-    first: &Fact,
-    second: &Fact,
-    input: InputPointer,
-    other: InputPointer,
+    first: &Given,
+    second: &Given,
     out: &mut Vec<Diag>,
 ) -> Result<(), NoMemory>
     ensures { OnOk result
-        (out.new.items
-        ≡ out.old.items ++ overlapping_in call.now first.now second.now (input_seen input) (input_seen other)) }
+        (out.new.items ≡ out.old.items ++ overlapping_given call.now first.now second.now) }
 {
     let sig = call.callee.sig;
-    let types = call.callee.types;
-    if is_argument_of(call.arguments, input, &first.location)
-        && is_argument_of(call.arguments, other, &second.location)
-        && breaks_apart(sig, types, input, other, first.element, second.element)
-    {
-        let name = known_name(sig.name, input_parameter(sig, other));
-        push_told_of_call(call, DiagKind::ArgOverlap, input, Why::Overlap(name), out)?;
+    if (first.is_mutating || second.is_mutating) && first.may_overlap(second) {
+        let name = known_name(sig.name, input_parameter(sig, second.input));
+        push_told_of_call(
+            call,
+            DiagKind::ArgOverlap,
+            first.input,
+            Why::Overlap(name),
+            out,
+        )?;
     }
     Ok(())
 }

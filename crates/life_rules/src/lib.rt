@@ -8,6 +8,7 @@ mod calling;
 mod context;
 mod diag;
 mod entry;
+mod given;
 mod keeping;
 mod kill;
 mod laws;
@@ -15,6 +16,7 @@ mod marks;
 mod matching;
 mod none;
 mod one;
+mod pairs;
 mod push;
 mod reads;
 mod returning;
@@ -37,6 +39,7 @@ pub use laws::{
     targets_mark_elements, value_calls_are_right, value_calls_make_nothing,
 };
 pub use none::push_none;
+pub use pairs::push_diags_of_pairs;
 pub use spot::spot_in;
 pub use staying::{
     is_marked, is_read_at, is_removed, is_target_at, is_written_at, keeps_all, mark_at,
@@ -45,4 +48,3 @@ pub use staying::{
 pub use texts::{element_text, kind_name, line_of, place_text};
 pub use told_at::{is_told_at, tells_some};
 pub use wrong::push_diags;
-pub use wrong_two::{push_diags_of_two, tells_first};

@@ -1,64 +1,23 @@
-// What two facts make wrong at a point.
+// Owners that are used through a pointer, and moved from.
 ghost use Rattle.std.specs.List.{flat_map};
-ghost use Rattle.std.specs.Prelude.{◌≡◌, ◌++◌, OnOk, Some};
+ghost use Rattle.std.specs.Prelude.{◌≡◌, ◌++◌, OnOk};
 ghost use Rattle.life_core.specs.Function.{function_of};
-ghost use Rattle.life_core.specs.Node.{node_seen, spot_seen};
 ghost use Rattle.life_core.specs.Operands.{base_of, location_of, operand_of, source_of};
 ghost use Rattle.life_core.specs.Step.{step_of};
-ghost use Rattle.life_core.specs.Tree.{Action};
-ghost use Rattle.life_rules.specs.Along.{base_tells_first, is_target_of, node_tells_first, source_tells_first, tells_first};
-ghost use Rattle.life_rules.specs.Diagnosing.{diags_of_two, moved_target, moved_through, owner_of_base, owner_of_source, owners, step_diags_of_two};
+ghost use Rattle.life_rules.specs.Along.{base_tells_first, is_target_of, source_tells_first, tells_first};
+ghost use Rattle.life_rules.specs.Diagnosing.{moved_target, moved_through, owner_of_base, owner_of_source, owners};
 
-use crate::arguing::push_argument_diags_of_two;
 use crate::context::PointContext;
 use crate::diag::Diag;
 use crate::matching::{is_location, located};
 use crate::wrong::push_moved_use;
-use life_contract::is_in_arguments;
-use life_core::{Base, Instr, Location, NodeRef, Operand, Source, SpotRef};
+use life_core::{Base, Instr, Location, Operand, Source};
 use life_pset::{Element, Fact, is_variable_place};
 use life_types::NoMemory;
 
-/// Adds what two facts make wrong at a point before which both hold: a vector or a string that a pointer
-/// points to may not be used, or handed over, where it may be moved from, and two arguments may not
-/// overlap where the callee may change an owner behind one of them. The only error is the want of
-/// memory.
-pub fn push_diags_of_two(
-    at: &PointContext<'_>,
-    target: &Fact,
-    owner: &Fact,
-    out: &mut Vec<Diag>,
-) -> Result<(), NoMemory>
-    ensures { OnOk result
-        (out.new.items
-        ≡ out.old.items ++ diags_of_two at.now.sigs.now at.now.types.now at.now.function (function_of at.now.f.now) (Some (spot_seen at.now.spot)) target.now owner.now) }
-{
-    match at.spot.node {
-        NodeRef::Action(instr) => push_step_of_two(at, instr, target, owner, out),
-        NodeRef::Question(_) => Ok(()),
-        NodeRef::Return => Ok(()),
-        NodeRef::Stop => Ok(()),
-    }
-}
-
-#[tactic(auto, using(std::proofs::Common::append_assoc))]
-fn push_step_of_two(
-    at: &PointContext<'_>,
-    instr: &Instr,
-    target: &Fact,
-    owner: &Fact,
-    out: &mut Vec<Diag>,
-) -> Result<(), NoMemory>
-    requires { node_seen at.now.spot.node ≡ Action (step_of instr.now) }
-    ensures { OnOk result
-        (out.new.items
-        ≡ out.old.items ++ step_diags_of_two at.now.sigs.now at.now.types.now at.now.function (function_of at.now.f.now) at.now.spot.place (step_of instr.now) target.now owner.now) }
-{
-    push_moved_uses_of_two(at, instr, target, owner, out)?;
-    push_argument_diags_of_two(at, instr, target, owner, out)
-}
-
-fn push_moved_uses_of_two(
+/// Adds that an instruction uses, through the pointer that the first fact is about, a vector or a string
+/// that the second says is moved from.
+pub(crate) fn push_moved_uses_of_two(
     at: &PointContext<'_>,
     instr: &Instr,
     target: &Fact,
@@ -167,20 +126,9 @@ fn push_moved_target(
     Ok(())
 }
 
-/// Whether the fact and another one may make something wrong at a point: it uses an owner through the
-/// pointer that the fact is about, or hands that over.
-pub fn tells_first(spot: SpotRef, fact: &Fact) -> bool
-    ensures { result ≡ node_tells_first (spot_seen spot.entry).node fact.now }
-{
-    match spot.node {
-        NodeRef::Action(instr) => step_tells_first(instr, fact),
-        NodeRef::Question(_) => false,
-        NodeRef::Return => false,
-        NodeRef::Stop => false,
-    }
-}
-
-fn step_tells_first(instr: &Instr, fact: &Fact) -> bool
+/// Whether the fact and another one may make the use of an owner wrong: the instruction uses it through the
+/// pointer that the fact is about.
+pub(crate) fn tells_first(instr: &Instr, fact: &Fact) -> bool
     ensures { result ≡ tells_first (step_of instr.now) fact.now }
 {
     match instr {
@@ -190,7 +138,6 @@ fn step_tells_first(instr: &Instr, fact: &Fact) -> bool
         Instr::Cursor { base, .. } => base_tells_first(base, fact),
         Instr::Size { base, .. } => base_tells_first(base, fact),
         Instr::Change { place, .. } => is_target_of(place, fact),
-        Instr::Call { arguments, .. } => is_in_arguments(arguments, &fact.location),
         _ => false,
     }
 }

@@ -1,10 +1,10 @@
-use Rattle.std.proofs.Common.{◌≡◌, ◌⊎◌, ◌↔◌, [], Contains, Some, ap, append-nil, subst, sym}
+use Rattle.std.proofs.Common.{◌≡◌, ◌⊎◌, ◌↔◌, Contains, Some, ap, subst, sym}
 use Rattle.std.specs.Option.{option_copied}
 use Rattle.life_core.specs.Function.{function_of}
 use Rattle.life_core.specs.Node.{spot_seen}
 use Rattle.life_rules.specs.declared.diag.Diag.{Diag}
 use Rattle.life_fix.specs.Finding.{IsWrongIn}
-use Rattle.life_fix.proofs.Finding.{wrong_in_facts}
+use Rattle.life_fix.proofs.Finding.{wrong_by_none}
 use Rattle.life_fix.proofs.ToldFacts.{untold_all}
 use Rattle.life_fix.proofs.diagnosis.push_row.Goals as goal
 
@@ -27,4 +27,4 @@ returns-then-not-tells_some-clause-wrong g c =
     let out = c.args.out.now.items in
     let told = untold_all types f spot table has (c.tells_some.ensures.none c.if-not-tells_some.true) in
     subst (λ row. (d : Diag) → Contains out d ↔ (Contains out d ⊎ IsWrongIn sigs types c.args.function f table g.R.Rows.has spot row d)) (sym is)
-    (wrong_in_facts sigs types c.args.function f table has spot [] out out told (sym (append-nil out)))
+    (wrong_by_none sigs types c.args.function f table has spot out told)

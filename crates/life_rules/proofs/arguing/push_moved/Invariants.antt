@@ -1,11 +1,9 @@
-use Rattle.life_pset.specs.Inputs.{input_seen}
-use Rattle.life_rules.specs.CallsAt.{moved_in}
-use Rattle.std.proofs.Common.{◌≡◌, ◌++◌, drop, map}
+use Rattle.life_rules.specs.Given.{moved_given}
+use Rattle.std.proofs.Common.{◌≡◌, ◌++◌, drop}
 use Rattle.std.specs.List.{flat_map}
 use Rattle.life_rules.proofs.arguing.push_moved.Given as goal
 
 -- what was added, and what is left to add
-abbrev pub invariant-loop-input : goal.invariant-loop-input
-invariant-loop-input l =
-    let diags = moved_in l.call l.argument l.owner in
-    l.out.items ++ flat_map diags (map input_seen (drop l.input-index l.inputs)) ≡ l.fn.out.items ++ flat_map diags (map input_seen l.inputs)
+abbrev pub invariant-loop-one : goal.invariant-loop-one
+invariant-loop-one l =
+    l.out.items ++ flat_map (λ g. flat_map (moved_given l.call g) l.facts) (drop l.one-index l.given) ≡ l.fn.out.items ++ flat_map (λ g. flat_map (moved_given l.call g) l.facts) l.given
