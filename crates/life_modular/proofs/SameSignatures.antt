@@ -1,18 +1,16 @@
 -- What is derived in a function, and what is wrong with it, where what it calls has the same signatures.
-use Rattle.std.proofs.Common.{◌≡◌, ◌++◌, slice_get, ℕ, Bool, List, [], ◌∷◌, Option, Some, None, Contains, refl, sym, ap, subst, ◌∙◌}
+use Rattle.std.proofs.Common.{◌≡◌, ◌++◌, ℕ, Bool, List, [], ◌∷◌, Option, Some, None, Contains, refl, ap, subst, ◌∙◌}
 use Rattle.std.specs.List.{flat_map}
-use Rattle.std.proofs.lemmas.Option.{same_Some}
 use Rattle.life_types.specs.Types.{Types}
 use Rattle.life_types.specs.declared.place.Place.{Place}
-use Rattle.life_types.specs.declared.ty.NameId.{NameId}
-use Rattle.life_core.specs.Function.{Function, Program}
+use Rattle.life_core.specs.Function.{Function}
 use Rattle.life_core.specs.Linked.{spot_of}
 use Rattle.life_core.specs.Step.{Step, Call}
 use Rattle.life_core.specs.Tree.{Node, Action, Spot}
 use Rattle.life_core.specs.declared.stmt.Edge.{Edge}
 use Rattle.life_core.specs.declared.stmt.Point.{Point}
 use Rattle.life_pset.specs.declared.element.Fact.{Fact}
-use Rattle.life_contract.specs.Signatures.{Signature, signatures_of}
+use Rattle.life_contract.specs.Signatures.{Signature}
 use Rattle.life_rules.specs.Arguing.{argument_diags, argument_diags_of_two, broken_by, broken_by_two}
 use Rattle.life_rules.specs.Callees.{callee_at, callee_of}
 use Rattle.life_rules.specs.Calling.{called_none, called_one, called_two}
@@ -20,11 +18,8 @@ use Rattle.life_rules.specs.Carrying.{Gives, drops, from_none, from_one, from_tw
 use Rattle.life_rules.specs.Deriving.{Derives, along, entry}
 use Rattle.life_rules.specs.Diagnosing.{IsDiagnosed, Tells, diags_at, diags_of_two, moved_through, node_diags, node_diags_of_two, owners, step_diags, use_diags}
 use Rattle.life_rules.specs.Keeping.{kept_by_call, keeping_diags}
-use Rattle.life_rules.specs.Lines.{line_of}
-use Rattle.life_rules.specs.Listing.{IsProgramDiagnosed, line_in, program_line}
-use Rattle.life_rules.specs.Texts.{Naming, naming_in}
 use Rattle.life_rules.specs.declared.diag.Diag.{Diag}
-use Rattle.life_modular.specs.Modular.{AreAlikeAt, CallsAlike, HaveSameHeads}
+use Rattle.life_modular.specs.Modular.{CallsAlike}
 
 module _ (these those : List Signature) (types : Types) (function : ℕ) (f : Function) where
   -- ---- of an instruction
@@ -136,31 +131,3 @@ module _ (these those : List Signature) (types : Types) (function : ℕ) (f : Fu
     pub diagnosed_same : (d : Diag) → IsDiagnosed these types function f d → IsDiagnosed those types function f d
     diagnosed_same d (point, (facts, (held, told))) =
         (point, (facts, ((λ x has. derives_same (held x has)), tells_same (spot_of f point) facts d (alike point) told)))
-
--- ---- in two programs
-
-pub alike_diagnosed : (p q : Program) (n : ℕ) (f : Function) → AreAlikeAt p q n f → (d : Diag) → d.function ≡ n → IsProgramDiagnosed p d → IsProgramDiagnosed q d
-alike_diagnosed p q n f alike d at (g, (there, wrong)) =
-    let same : g ≡ f = same_Some g f (sym there ∙ ap (slice_get p.functions) at ∙ alike.one) in
-    let here : IsDiagnosed (signatures_of p.functions) p.types d.function f d = subst (λ (h : Function). IsDiagnosed (signatures_of p.functions) p.types d.function h d) same wrong in
-    let typed : IsDiagnosed (signatures_of p.functions) q.types d.function f d = subst (λ (t : Types). IsDiagnosed (signatures_of p.functions) t d.function f d) alike.types here in (
-      f,
-      (
-        ap (slice_get q.functions) at ∙ alike.other,
-        diagnosed_same (signatures_of p.functions) (signatures_of q.functions) q.types d.function f alike.calls d typed,
-      ),
-    )
-
--- ---- the line that is printed
-
-pub same_line : (p q : Program) (n : ℕ) (f : Function) → HaveSameHeads p q → slice_get p.functions n ≡ Some f → slice_get q.functions n ≡ Some f
-    → (d : Diag) → d.function ≡ n → program_line p d ≡ program_line q d
-same_line p q n f heads one other d at =
-    let named : naming_in p ≡ naming_in q =
-    ap (λ (texts : List (List ℕ)). record { spelling = record { texts = texts; members = p.members }; sigs = signatures_of p.functions }) heads.names
-    ∙ ap (λ (members : List (List NameId)). record { spelling = record { texts = q.names; members = members }; sigs = signatures_of p.functions }) heads.members
-    ∙ ap (λ (sigs : List Signature). record { spelling = record { texts = q.names; members = q.members }; sigs = sigs }) heads.signatures in
-    ap (λ (o : Option Function). line_in p o d) (ap (slice_get p.functions) at ∙ one)
-    ∙ ap (λ (names : Naming). line_of names p.types f d) named
-    ∙ ap (λ (types : Types). line_of (naming_in q) types f d) heads.types
-    ∙ sym (ap (λ (o : Option Function). line_in q o d) (ap (slice_get q.functions) at ∙ other))
