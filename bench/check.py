@@ -182,6 +182,21 @@ def dense_file(pointers, objects, turns):
     return "\n".join(lines).encode() + b"\n"
 
 
+def calls_file(arguments, places, calls):
+    """So many calls that hand over as many pointers to strings, each of which may point to so many."""
+    parameters = ", ".join(f"std::string* a{n}" for n in range(arguments))
+    lines = ["#include <string>", f"void take({parameters}) {{ return; }}", "int main() {", "  int choice = 0;"]
+    lines += [f"  std::string x{n};" for n in range(arguments * places)]
+    for n in range(arguments):
+        lines += [f"  std::string* p{n} = &x{n * places};"]
+        lines += [f"  if (choice == {k}) {{ p{n} = &x{n * places + k}; }}" for k in range(1, places)]
+    for call in range(calls):
+        handed = ", ".join(f"p{(n + call) % arguments}" for n in range(arguments))
+        lines += [f"  take({handed});"]
+    lines += ["  return 0;", "}"]
+    return "\n".join(lines).encode() + b"\n"
+
+
 FILES = [
     ("200 small functions", partial(functions_file, 200)),
     ("1,000 small functions", partial(functions_file, 1000)),
@@ -192,6 +207,8 @@ FILES = [
     ("empty blocks, 1 MiB", blocks_file),
     ("250 variables, 1,000 points", limits_file),
     ("250 diagnostics", faults_file),
+    ("100 calls of 8 pointers", partial(calls_file, 8, 4, 100)),
+    ("100 calls of 32 pointers", partial(calls_file, 32, 4, 100)),
     ("60 pointers that move on", partial(moving_file, 60, 60)),
     ("250 pointers, 100 objects", partial(moving_file, 250, 100)),
     ("60 pointers, 450 reasons", partial(dense_file, 60, 15, 30)),
